@@ -1,0 +1,132 @@
+-- What holds of the definitions.
+use Rattle.std.specs.Prelude.{◌≡◌, ℕ, ◌↔◌, Bool, true, Some, List, [], ◌∷◌, ◌++◌, length, slice_get}
+use Rattle.std.specs.List.Sorted.{IsStrictlyIncreasing}
+use Rattle.rcv_tree.specs.declared.event.Event.{Event}
+use Rattle.rcv_tree.specs.declared.entry.Entry.{Entry}
+use Rattle.rcv_tree.specs.declared.entry.Entry.TheVariants.{Recover}
+use Rattle.rcv_tree.specs.declared.role.RoleSet.{RoleSet}
+use Rattle.rcv_model.specs.Net.{Net, IsIn, HasTwoEnds}
+use Rattle.rcv_model.specs.Run.{Act, acts, IsQueued, IsRun, channel, joint_of, IsReachedState}
+use Rattle.rcv_model.specs.Table.{IsRestart, IsConcerned}
+use Rattle.rcv_model.specs.Act.{IsNotStuck}
+use Rattle.rcv_model.specs.Undo.{is_blocked, scanned, keep, IsUndone, IsQueuedByPlaces, picked, IsLatestCut}
+use Rattle.rcv_model.specs.Next.{IsProper, IsAccepted, AreNext, IsEnabledAt, IsEnabledBy}
+use Rattle.rcv_model.specs.Places.{Spot, Offers, offers_at, spot_of, net_of, IsFull, IsEndIn}
+use Rattle.rcv_model.specs.Text.{Body}
+use Rattle.rcv_model.specs.Accept.{HasSubjects, Fails, IsDecided, IsRefusal}
+use Rattle.rcv_model.specs.Form.{HasForm}
+use Rattle.rcv_model.specs.Final.{IsFinal, IsStep, IsOneThread}
+use Rattle.rcv_model.specs.Journal.{Rules, State, MaySend, MayRecv, May, reading, events_of, IsLegal, KeepsRuns}
+
+-- After each entry of a legal journal of an accepted protocol the kept events are a run.
+abbrev pub LegalJournalsKeepRuns : Type 0
+LegalJournalsKeepRuns =
+    (rules : Rules) (journal : List Entry) → IsProper rules.net rules.roles → IsAccepted rules.net rules.roles → IsLegal rules journal → KeepsRuns rules journal
+
+-- The scan leaves out exactly the events that are lost or depend on a lost one.
+abbrev pub UndoneIsLeftOut : Type 0
+UndoneIsLeftOut =
+    (net : Net) (p c : ℕ) (h : List Event) → IsQueued net h → (front back : List Event) (e : Event) → front ++ e ∷ back ≡ h → (is_blocked net p c (scanned net p c front) e ≡ true) ↔ IsUndone net h p c (length front)
+
+-- The list of offered points has those that the relation has.
+abbrev pub OffersAreListed : Type 0
+OffersAreListed = (s : Spot) (p : ℕ) → IsIn p (offers_at s) ↔ Offers s.left s.frames p
+
+-- In a run of an accepted protocol some role can make a step, or all roles are done.
+abbrev pub RunsAreNotStuck : Type 0
+RunsAreNotStuck =
+    (net : Net) (roles : ℕ) (h : List Event) → IsProper net roles → IsAccepted net roles → IsRun net h → IsNotStuck net roles h
+
+-- A role that loses events in a recovery of p restarts at a point of the table.
+abbrev pub LosersRestartByTheTable : Type 0
+LosersRestartByTheTable =
+    (net : Net) (p c q : ℕ) (h : List Event) (first own : Act) → HasTwoEnds net → IsRun net h → slice_get (acts p h) c ≡ Some first → (q ≡ p → ⊥) → slice_get (acts q h) (length (acts q (keep net p c h))) ≡ Some own → IsRestart net p first.point q own.point
+
+-- The channels are queues exactly where the k-th Recv of each stands behind its k-th Send and answers it.
+abbrev pub QueuesByPlaces : Type 0
+QueuesByPlaces = (net : Net) (h : List Event) → IsQueued net h ↔ IsQueuedByPlaces net h
+
+-- The kept events stand at the positions of the latest cut that lacks what is lost.
+abbrev pub KeepIsTheLatestCut : Type 0
+KeepIsTheLatestCut =
+    (net : Net) (p c : ℕ) (h : List Event) → IsQueued net h → (has : ℕ → Bool) × IsLatestCut net h p c has × (keep net p c h ≡ picked has h)
+
+-- The points that a text offers at a place are ascending.
+abbrev pub OffersAscend : Type 0
+OffersAscend = (body : Body) (k : ℕ) → IsStrictlyIncreasing ((net_of body).offers k)
+
+-- There is one list of next points.
+abbrev pub NextIsOneList : Type 0
+NextIsOneList = (net : Net) (r k : ℕ) (xs ys : List ℕ) → AreNext net r k xs → AreNext net r k ys → xs ≡ ys
+
+-- The rule on enabled choices says the same without lists and with them.
+abbrev pub EnabledByLists : Type 0
+EnabledByLists =
+    (net : Net) (r k : ℕ) (zs : List ℕ) → ((j : ℕ) → IsStrictlyIncreasing (net.offers j)) → AreNext net r k zs → IsEnabledAt net r k ↔ IsEnabledBy net r k zs
+
+-- At most one Recover of a role may come.
+abbrev pub RecoveryIsUnique : Type 0
+RecoveryIsUnique =
+    (rules : Rules) (s : State) (p : ℕ) (c d : RoleSet) (k l : List ℕ) (m n : ℕ) → May rules s (Recover p c k m) → May rules s (Recover p d l n) → Recover p c k m ≡ Recover p d l n
+
+-- At most one Send or Recv of a role may come.
+pub record AreUnique (rules : Rules) (s : State) (e f : Event) : Type 0 where
+  pub sends : MaySend rules s e → MaySend rules s f → e ≡ f
+  pub recvs : MayRecv rules s e → MayRecv rules s f → e ≡ f
+  pub apart : HasTwoEnds rules.net → MaySend rules s e → MayRecv rules s f → ⊥
+
+abbrev pub StepsAreUnique : Type 0
+StepsAreUnique = (rules : Rules) (s : State) (e f : Event) → e.role ≡ f.role → AreUnique rules s e f
+
+-- A protocol is accepted, its choices' subjects included, exactly where no rule fails; so far as a search tells what is reached.
+abbrev pub AcceptedIsFaultless : Type 0
+AcceptedIsFaultless =
+    (body : Body) (roles : ℕ) → IsDecided body roles → ((c r n : ℕ) → Fails body roles c r n → ⊥) ↔ (IsAccepted (net_of body) roles × HasSubjects body)
+
+-- There is one refusal.
+abbrev pub RefusalIsUnique : Type 0
+RefusalIsUnique =
+    (body : Body) (roles c r n d q m : ℕ) → IsRefusal body roles c r n → IsRefusal body roles d q m → (c ≡ d) × (r ≡ q) × (n ≡ m)
+
+-- One thread has one entry to add: one that may come, and none where the state is final.
+pub record OneStep (rules : Rules) (s : State) (d e : Entry) : Type 0 where
+  pub same : HasTwoEnds rules.net → IsStep rules s d → IsStep rules s e → d ≡ e
+  pub may : IsStep rules s d → May rules s d
+  pub none : IsFinal rules s → IsStep rules s d → ⊥
+
+abbrev pub ThereIsOneStep : Type 0
+ThereIsOneStep = (rules : Rules) (s : State) (d e : Entry) → OneStep rules s d e
+
+-- There is one journal of one thread; it is legal, and its end is final.
+pub record OneJournal (rules : Rules) (journal other : List Entry) : Type 0 where
+  pub same : HasTwoEnds rules.net → IsOneThread rules journal → IsOneThread rules other → journal ≡ other
+  pub legal : IsOneThread rules journal → IsLegal rules journal
+  pub final : IsOneThread rules journal → IsFinal rules (reading rules journal)
+
+abbrev pub ThereIsOneJournal : Type 0
+ThereIsOneJournal = (rules : Rules) (journal other : List Entry) → OneJournal rules journal other
+
+-- A body in the reader's form says a proper protocol, as the laws ask of it.
+abbrev pub FormIsProper : Type 0
+FormIsProper = (body : Body) (roles : ℕ) → HasForm body roles → IsProper (net_of body) roles
+
+-- The headline: after each entry of a legal journal of an accepted text, the joint state, messages in flight included,
+-- is one that the protocol reaches.
+abbrev pub LegalJournalsReachStates : Type 0
+LegalJournalsReachStates =
+    (rules : Rules) (body : Body) (front back : List Entry) → rules.net ≡ net_of body → HasForm body rules.roles → IsAccepted (net_of body) rules.roles → IsLegal rules (front ++ back) → IsReachedState rules.net (joint_of rules.net (reading rules front).kept)
+
+-- A role that isn't concerned by a recovery loses no event.
+abbrev pub BystandersLoseNothing : Type 0
+BystandersLoseNothing =
+    (net : Net) (p c q : ℕ) (h : List Event) (first : Act) → HasTwoEnds net → IsRun net h → slice_get (acts p h) c ≡ Some first → (q ≡ p → ⊥) → (IsConcerned net p first.point q → ⊥) → events_of q (keep net p c h) ≡ events_of q h
+
+-- In a full text a place offers nothing exactly where it is the end.
+abbrev pub EndOffersNothing : Type 0
+EndOffersNothing =
+    (body : Body) (k : ℕ) (s : Spot) → IsFull [] [] body → spot_of body k ≡ Some s → (offers_at s ≡ []) ↔ IsEndIn s.frames s.left
+
+-- Each channel to such a role holds after the recovery what it held before: no undone message lies in it.
+abbrev pub ChannelsToBystandersStay : Type 0
+ChannelsToBystandersStay =
+    (net : Net) (p c q : ℕ) (h : List Event) (first : Act) → HasTwoEnds net → IsRun net h → slice_get (acts p h) c ≡ Some first → (q ≡ p → ⊥) → (IsConcerned net p first.point q → ⊥) → (s : ℕ) → channel net s q (keep net p c h) ≡ channel net s q h

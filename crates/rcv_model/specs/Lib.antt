@@ -1,0 +1,15 @@
+pub mod Net
+pub mod Run
+pub mod Undo
+pub mod Next
+pub mod Table
+pub mod Journal
+pub mod Text
+pub mod Places
+pub mod Form
+pub mod Plain
+pub mod Script
+pub mod Final
+pub mod Accept
+pub mod Laws
+pub mod Act
