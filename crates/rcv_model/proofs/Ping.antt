@@ -6,6 +6,8 @@ use Rattle.rcv_model.specs.Next.{IsOf, HasNone, IsNext, AreNext, Chain, here, Is
 use Rattle.rcv_model.specs.Net.{last_of}
 use Rattle.rcv_model.specs.Places.{net_of}
 use Rattle.rcv_model.specs.Accept.{HasSubjects}
+use Rattle.rcv_model.specs.Form.{HasForm}
+use Rattle.rcv_model.proofs.PlainNets.{plain_accepted}
 use Rattle.rcv_model.proofs.Forms.{proper}
 use Rattle.std.specs.Prelude.{pos, max, false, Some, slice_get, slice_index}
 use Rattle.rcv_tree.specs.declared.event.Message.{Message}
@@ -16,8 +18,15 @@ use Rattle.rcv_model.proofs.Cases.{ping, plain, sent, got}
 abbrev net : Net
 net = net_of ping
 
+pub ping_form : HasForm ping 2
+ping_form = record { numbered = (refl, (refl, tt)); ends = (omega arith, omega arith, (λ e. omega arith), (omega arith, omega arith, (λ e. omega arith), tt)); few_roles = omega arith; few_points = omega arith }
+
 pub ping_proper : IsProper net 2
-ping_proper = proper ping 2 (record { numbered = (refl, (refl, tt)); ends = (omega arith, omega arith, (λ e. omega arith), (omega arith, omega arith, (λ e. omega arith), tt)); few_roles = omega arith; few_points = omega arith })
+ping_proper = proper ping 2 ping_form
+
+-- ping is plain, so it is accepted; below that is shown by hand too
+ping_plain : IsAccepted net 2 × HasSubjects ping
+ping_plain = plain_accepted ping 2 tt ping_form
 
 -- both roles are at both points
 abbrev Either : ℕ → Type 0

@@ -15,6 +15,7 @@ use Rattle.rcv_model.specs.Places.{Spot, Offers, offers_at, spot_of, net_of, IsF
 use Rattle.rcv_model.specs.Text.{Body}
 use Rattle.rcv_model.specs.Accept.{HasSubjects, Fails, IsDecided, IsRefusal}
 use Rattle.rcv_model.specs.Form.{HasForm}
+use Rattle.rcv_model.specs.Plain.{IsPlain, bare_rules}
 use Rattle.rcv_model.specs.Final.{IsFinal, IsStep, IsOneThread}
 use Rattle.rcv_model.specs.Journal.{Rules, State, MaySend, MayRecv, May, reading, events_of, IsLegal, KeepsRuns}
 
@@ -130,3 +131,13 @@ EndOffersNothing =
 abbrev pub ChannelsToBystandersStay : Type 0
 ChannelsToBystandersStay =
     (net : Net) (p c q : ℕ) (h : List Event) (first : Act) → HasTwoEnds net → IsRun net h → slice_get (acts p h) c ≡ Some first → (q ≡ p → ⊥) → (IsConcerned net p first.point q → ⊥) → (s : ℕ) → channel net s q (keep net p c h) ≡ channel net s q h
+
+-- Each plain text in the reader's form is accepted.
+abbrev pub PlainIsAccepted : Type 0
+PlainIsAccepted =
+    (body : Body) (roles : ℕ) → IsPlain body → HasForm body roles → IsAccepted (net_of body) roles × HasSubjects body
+
+-- So after each entry of a legal journal of a plain text the protocol reaches the joint state.
+abbrev pub PlainJournalsReachStates : Type 0
+PlainJournalsReachStates =
+    (body : Body) (roles : ℕ) (front back : List Entry) → IsPlain body → HasForm body roles → IsLegal (bare_rules body roles) (front ++ back) → IsReachedState (net_of body) (joint_of (net_of body) (reading (bare_rules body roles) front).kept)
