@@ -1,5 +1,5 @@
 -- What holds of the definitions.
-use Rattle.std.specs.Prelude.{◌≡◌, ℕ, ◌↔◌, Bool, true, Some, List, [], ◌∷◌, ◌++◌, length, slice_get}
+use Rattle.std.specs.Prelude.{◌≡◌, ℕ, ◌*◌, ◌≤◌, ◌↔◌, Bool, true, Some, List, [], ◌∷◌, ◌++◌, length, slice_get}
 use Rattle.std.specs.List.Sorted.{IsStrictlyIncreasing}
 use Rattle.rcv_tree.specs.declared.event.Event.{Event}
 use Rattle.rcv_tree.specs.declared.entry.Entry.{Entry}
@@ -16,6 +16,7 @@ use Rattle.rcv_model.specs.Text.{Body}
 use Rattle.rcv_model.specs.Accept.{HasSubjects, Fails, IsDecided, IsRefusal}
 use Rattle.rcv_model.specs.Form.{HasForm}
 use Rattle.rcv_model.specs.Plain.{IsPlain, bare_rules}
+use Rattle.rcv_model.specs.Numbers.{IsBounded}
 use Rattle.rcv_model.specs.Final.{IsFinal, IsStep, IsOneThread}
 use Rattle.rcv_model.specs.Journal.{Rules, State, MaySend, MayRecv, May, reading, events_of, IsLegal, KeepsRuns}
 
@@ -141,3 +142,13 @@ PlainIsAccepted =
 abbrev pub PlainJournalsReachStates : Type 0
 PlainJournalsReachStates =
     (body : Body) (roles : ℕ) (front back : List Entry) → IsPlain body → HasForm body roles → IsLegal (bare_rules body roles) (front ++ back) → IsReachedState (net_of body) (joint_of (net_of body) (reading (bare_rules body roles) front).kept)
+
+-- A legal journal has at most so many entries, and its numbers are bounded.
+abbrev pub JournalsAreBounded : Type 0
+JournalsAreBounded =
+    (rules : Rules) (journal : List Entry) → IsLegal rules journal → IsBounded rules journal (reading rules journal)
+
+-- Without crash lines each role has at most 10,000 entries.
+abbrev pub BareJournalsAreShort : Type 0
+BareJournalsAreShort =
+    (body : Body) (roles : ℕ) (journal : List Entry) → IsLegal (bare_rules body roles) journal → length journal ≤ roles * 10000
