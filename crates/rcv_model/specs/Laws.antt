@@ -9,7 +9,7 @@ use Rattle.rcv_model.specs.Net.{Net, IsIn, HasTwoEnds}
 use Rattle.rcv_model.specs.Run.{Act, acts, IsQueued, IsRun, channel, joint_of, IsReachedState}
 use Rattle.rcv_model.specs.Table.{IsRestart, IsConcerned}
 use Rattle.rcv_model.specs.Act.{IsNotStuck}
-use Rattle.rcv_model.specs.Undo.{is_blocked, scanned, keep, IsUndone, IsQueuedByPlaces, picked, IsLatestCut}
+use Rattle.rcv_model.specs.Undo.{is_blocked, scanned, keep, IsUndone, IsQueuedByPlaces, picked, IsLatestCut, UndoesExactly}
 use Rattle.rcv_model.specs.Next.{IsProper, IsAccepted, AreNext, IsEnabledAt, IsEnabledBy}
 use Rattle.rcv_model.specs.Places.{Spot, Offers, offers_at, spot_of, net_of, IsFull, IsEndIn}
 use Rattle.rcv_model.specs.Text.{Body}
@@ -152,3 +152,8 @@ JournalsAreBounded =
 abbrev pub BareJournalsAreShort : Type 0
 BareJournalsAreShort =
     (body : Body) (roles : ℕ) (journal : List Entry) → IsLegal (bare_rules body roles) journal → length journal ≤ roles * 10000
+
+-- Each recovery undoes exactly the failed role's lost events and what depends on them.
+abbrev pub RecoveriesUndoExactly : Type 0
+RecoveriesUndoExactly =
+    (net : Net) (p c : ℕ) (h : List Event) → IsQueued net h → (has : ℕ → Bool) × UndoesExactly net h p c has
