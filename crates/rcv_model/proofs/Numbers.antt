@@ -110,10 +110,10 @@ length_clocks bits clock r [] = refl
 length_clocks bits clock r (c ∷ cs) = ap suc (length_clocks bits clock (r + 1) cs)
 
 -- one more at a declared role
-bump_at : (xs : List ℕ) (r : ℕ) → r < length xs → slice_index (bump xs r) r ≡ slice_index xs r + 1
+pub bump_at : (xs : List ℕ) (r : ℕ) → r < length xs → slice_index (bump xs r) r ≡ slice_index xs r + 1
 bump_at xs r lt = get_or-set_same xs r (slice_index xs r + 1) 0 lt
 
-bump_other : (xs : List ℕ) (p r : ℕ) → (p ≡ r → ⊥) → slice_index (bump xs p) r ≡ slice_index xs r
+pub bump_other : (xs : List ℕ) (p r : ℕ) → (p ≡ r → ⊥) → slice_index (bump xs p) r ≡ slice_index xs r
 bump_other xs p r n = get_or-set_other xs p r (slice_index xs p + 1) 0 (λ e. n (sym e))
 
 bump_sum : (xs : List ℕ) (r : ℕ) → r < length xs → sum (bump xs r) ≡ sum xs + 1

@@ -15,9 +15,9 @@ use Rattle.rcv_model.specs.Places.{Spot, Offers, offers_at, spot_of, net_of, IsF
 use Rattle.rcv_model.specs.Text.{Body}
 use Rattle.rcv_model.specs.Accept.{HasSubjects, Fails, IsDecided, IsRefusal}
 use Rattle.rcv_model.specs.Form.{HasForm}
-use Rattle.rcv_model.specs.Plain.{IsPlain, bare_rules}
+use Rattle.rcv_model.specs.Plain.{IsPlain, bare_rules, HasNoCrashes}
 use Rattle.rcv_model.specs.Numbers.{IsBounded}
-use Rattle.rcv_model.specs.Final.{IsFinal, IsStep, IsOneThread}
+use Rattle.rcv_model.specs.Final.{IsFinal, IsCompleted, IsStep, IsOneThread}
 use Rattle.rcv_model.specs.Journal.{Rules, State, MaySend, MayRecv, May, reading, events_of, IsLegal, KeepsRuns}
 
 -- After each entry of a legal journal of an accepted protocol the kept events are a run.
@@ -157,3 +157,13 @@ BareJournalsAreShort =
 abbrev pub RecoveriesUndoExactly : Type 0
 RecoveriesUndoExactly =
     (net : Net) (p c : ℕ) (h : List Event) → IsQueued net h → (has : ℕ → Bool) × UndoesExactly net h p c has
+
+-- In a session without a plan nobody crashes, and nobody is to.
+abbrev pub BareJournalsHaveNoCrashes : Type 0
+BareJournalsHaveNoCrashes =
+    (body : Body) (roles : ℕ) (journal : List Entry) → IsLegal (bare_rules body roles) journal → HasNoCrashes (bare_rules body roles) journal
+
+-- A legal journal of a plain text that is final is completed.
+abbrev pub PlainJournalsComplete : Type 0
+PlainJournalsComplete =
+    (body : Body) (roles : ℕ) (journal : List Entry) → IsPlain body → HasForm body roles → IsLegal (bare_rules body roles) journal → IsFinal (bare_rules body roles) (reading (bare_rules body roles) journal) → IsCompleted (bare_rules body roles) (reading (bare_rules body roles) journal)
