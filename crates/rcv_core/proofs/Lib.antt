@@ -1,2 +1,5 @@
 pub mod Statements
 pub mod Nexts
+pub mod Following
+pub mod Acting
+pub mod Books

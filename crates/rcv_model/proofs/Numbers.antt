@@ -58,7 +58,7 @@ is_picked : (net : Net) (p c : ℕ) (h : List Event) → keep net p c h ≡ pick
 is_picked net p c h = picked_are_kept net p c (record { events = []; stopped = [] }) h
 
 -- a message in a channel has the stamp of an event
-put_stamps : (net : Net) (s r n : ℕ) (h : List Event) → All (λ (e : Event). e.stamp ≤ n) h → All (λ (m : Message). m.stamp ≤ n) (put net s r h)
+pub put_stamps : (net : Net) (s r n : ℕ) (h : List Event) → All (λ (e : Event). e.stamp ≤ n) h → All (λ (m : Message). m.stamp ≤ n) (put net s r h)
 put_stamps net s r n [] all = All-nil (λ (m : Message). m.stamp ≤ n)
 put_stamps net s r n (e ∷ h) all = go (puts_on net s r e) (put_stamps net s r n h (All-tail (λ (e : Event). e.stamp ≤ n) e h all))
   where

@@ -1,0 +1,397 @@
+-- What a book's standings and channels tell of the state that its entries leave.
+use Rattle.std.proofs.Common.{◌≡◌, ◌≢◌, ℕ, zero, suc, ◌+◌, ◌-◌, ◌<◌, ◌≤◌, Bool, true, false, Some, None, Option, List, [], ◌∷◌, ◌++◌, length, drop, get_or, replicate, refl, sym, ◌∙◌, ap, subst, inl, ⊎_elim, arith}
+use Rattle.std.specs.Prelude.{ℤ, slice_get, slice_index, max, pos, IsTrue, ◌↔◌, is_some, not, MatchOption, Result, Ok, Err, OnOk, OnErr}
+use Rattle.std.specs.List.{All, filter_map, cons_option}
+use Rattle.std.proofs.Math.ListN.{drop_of_length-le}
+use Rattle.std.proofs.Math.Seq.{drop-cons}
+use Rattle.std.proofs.lemmas.List.{length-drop, length-replicate, get_or-replicate, get_or_default}
+use Rattle.std.proofs.lemmas.List.Elements.{All-replicate, All-get_or, All-set}
+use Rattle.std.proofs.lemmas.Option.{get_or_from_slice_get}
+use Rattle.rcv_tree.specs.declared.event.Event.{Event}
+use Rattle.rcv_tree.specs.declared.event.Message.{Message}
+use Rattle.rcv_tree.specs.declared.event.Dir.TheVariants.{Sent, Got}
+use Rattle.rcv_tree.specs.declared.entry.Entry.{Entry}
+use Rattle.rcv_tree.specs.declared.entry.Entry.TheVariants.{Send, Recv, Crash, Recover}
+use Rattle.rcv_model.specs.Net.{Net, IsIn, HasTwoEnds, last_of}
+use Rattle.rcv_model.specs.Run.{put_by, put, taken, channel}
+use Rattle.rcv_model.specs.Next.{IsNext, AreNext, IsProper}
+use Rattle.rcv_model.specs.Journal.{Rules, State, IsDue, start, place, after, after_event, reading_from, reading, MaySend, MayRecv, May, IsLegal}
+use Rattle.rcv_model.specs.Final.{IsActOf, CanAct, IsFinal, IsStep}
+use Rattle.rcv_model.proofs.OneThread.{one_step}
+use Rattle.rcv_model.proofs.Forms.{proper}
+use Rattle.rcv_model.proofs.Walks.{walk_back}
+use Rattle.rcv_model.proofs.Numbers.{bounded, bare_bounded, put_stamps}
+use Rattle.rcv_core.specs.declared.standing.Standing.{Standing}
+use Rattle.rcv_core.specs.Setup.{SetupView, IsPlainProtocol, text_of, roles_of, net_for, rules_of, IsNextPoint}
+use Rattle.rcv_core.specs.Book.{BookView, state_of, ChannelView, empty, between, channel_at, Carry, with_put, with_taken, at_start, moved, StandsAt, Stand, IsBook, IsNextStep, IsNextSend, IsNextRecv}
+use Rattle.rcv_model.proofs.Legal.{legal_more}
+use Rattle.rcv_core.proofs.Following.{stand_more, carry_put, carry_take}
+use Rattle.rcv_core.proofs.Acting.{can_send, can_recv, none_at_limit, none_without_next, none_without_room, none_without_message}
+
+-- a point of the text, between roles of the protocol
+pub record IsOfText (setup : SetupView) (p : ℕ) : Type 0 where
+  pub first : 1 ≤ p
+  pub last : p ≤ (net_for setup).count
+  pub sender : (net_for setup).sender p < 8
+  pub receiver : (net_for setup).receiver p < 8
+
+pub of_next : (setup : SetupView) (r k p : ℕ) → IsPlainProtocol setup.protocol → IsNext (net_for setup) r k p → IsOfText setup p
+of_next setup r k p plain next = record {
+  first = (known.in_text (last_of k next.way) p offered).0;
+  last = (known.in_text (last_of k next.way) p offered).1;
+  sender = let a = known.senders (last_of k next.way) p offered in let b = plain.form.few_roles in omega arith;
+  receiver = let a = known.receivers (last_of k next.way) p offered in let b = plain.form.few_roles in omega arith;
+}
+  where
+    known : IsProper (net_for setup) (roles_of setup)
+    known = proper (text_of setup) (roles_of setup) plain.form
+
+    offered : IsIn p ((net_for setup).offers (last_of k next.way))
+    offered = (walk_back (net_for setup) k next.way (p ∷ []) next.walk).0
+
+pub two_ends : (setup : SetupView) → IsPlainProtocol setup.protocol → HasTwoEnds (net_for setup)
+two_ends setup plain = (proper (text_of setup) (roles_of setup) plain.form).two_ends
+
+pub of_step : (book : BookView) (r p clock : ℕ) → IsPlainProtocol book.setup.protocol → IsNextStep book r p clock → IsOfText book.setup p
+of_step book r p clock plain step = of_next book.setup r (place (state_of book) r) p plain (step.next.sound p (inl refl))
+
+inside : (xs : List Message) (i : ℕ) (m : Message) → slice_get xs i ≡ Some m → i < length xs
+inside [] i m e = absurd (cc)
+inside (x ∷ xs) zero m e = omega arith
+inside (x ∷ xs) (suc i) m e = let r = inside xs i m e in omega arith
+
+-- clocks and stamps stay far below the range of their type
+pub small_clock : (setup : SetupView) (entries : List Entry) (r : ℕ) → IsPlainProtocol setup.protocol → IsLegal (rules_of setup) entries → slice_index (reading (rules_of setup) entries).clocks r ≤ 80000
+small_clock setup entries r plain legal =
+    let a = (bounded (rules_of setup) entries legal).clocks r in
+    let b = bare_bounded (text_of setup) (roles_of setup) entries legal in
+    let c = plain.form.few_roles in
+    omega arith
+
+pub small_stamp : (setup : SetupView) (entries : List Entry) (a b i : ℕ) (m : Message) → IsPlainProtocol setup.protocol → IsLegal (rules_of setup) entries → slice_get (put (net_for setup) a b (reading (rules_of setup) entries).kept) i ≡ Some m → m.stamp ≤ 80000
+small_stamp setup entries a b i m plain legal at =
+    let h = (reading (rules_of setup) entries).kept in
+    let all = put_stamps (net_for setup) a b (length entries) h (bounded (rules_of setup) entries legal).stamps in
+    let s : m.stamp ≤ length entries = subst (λ (x : Message). x.stamp ≤ length entries) (get_or_from_slice_get (put (net_for setup) a b h) i m m at) (all i m (inside (put (net_for setup) a b h) i m at)) in
+    let t = bare_bounded (text_of setup) (roles_of setup) entries legal in
+    let c = plain.form.few_roles in
+    omega arith
+
+-- how much lies in a channel, and what is in front
+pub lies : (net : Net) (a b : ℕ) (h : List Event) → length (channel net a b h) ≡ length (put net a b h) - length (taken net a b h)
+lies net a b h = length-drop (length (taken net a b h)) (put net a b h)
+
+pub front_of : (net : Net) (a b : ℕ) (h : List Event) (m : Message) → slice_get (put net a b h) (length (taken net a b h)) ≡ Some m → (rest : List Message) × (channel net a b h ≡ m ∷ rest)
+front_of net a b h m at = (
+  drop (suc (length (taken net a b h))) (put net a b h),
+  drop-cons (put net a b h) (length (taken net a b h)) m (inside (put net a b h) (length (taken net a b h)) m at) ∙ ap (λ x. x ∷ drop (suc (length (taken net a b h))) (put net a b h)) (get_or_from_slice_get (put net a b h) (length (taken net a b h)) m m at),
+)
+
+pub no_front : (net : Net) (a b : ℕ) (h : List Event) → length (put net a b h) ≤ length (taken net a b h) → channel net a b h ≡ []
+no_front net a b h few = drop_of_length-le (put net a b h) few
+
+-- what a book's channel says
+pub told : (setup : SetupView) (entries : List Entry) (standings : List Standing) (channels : List ChannelView) (a b : ℕ) → IsBook setup entries standings channels → a < 8 → b < 8 → channel_at channels a b ≡ record { put = put (net_for setup) a b (reading (rules_of setup) entries).kept; taken = length (taken (net_for setup) a b (reading (rules_of setup) entries).kept) }
+told setup entries standings channels a b book la lb = book.carry.each a b la lb
+
+-- how much lies in the channel of a Send, by the book's counts
+pub send_lies : (setup : SetupView) (entries : List Entry) (standings : List Standing) (channels : List ChannelView) (a b put_ taken_ : ℕ) → IsBook setup entries standings channels → a < 8 → b < 8 → put_ ≡ length (channel_at channels a b).put → taken_ ≡ (channel_at channels a b).taken → length (channel (net_for setup) a b (reading (rules_of setup) entries).kept) ≡ put_ - taken_
+send_lies setup entries standings channels a b put_ taken_ book la lb p t =
+    let e = told setup entries standings channels a b book la lb in
+    lies (net_for setup) a b (reading (rules_of setup) entries).kept
+    ∙ ap (λ c. length c.put - c.taken) (sym e)
+    ∙ ap (λ n. n - (channel_at channels a b).taken) (sym p)
+    ∙ ap (λ n. put_ - n) (sym t)
+
+-- the book of no entry
+pub nothing_yet : (setup : SetupView) (entries : List Entry) (standings : List Standing) (channels : List ChannelView) → IsPlainProtocol setup.protocol → entries ≡ [] → standings ≡ replicate (roles_of setup) at_start → channels ≡ replicate 64 empty → IsBook setup entries standings channels
+nothing_yet setup entries standings channels plain none all lanes = record {
+  protocol = plain;
+  legal = subst (λ j. IsLegal (rules_of setup) j) (sym none) tt;
+  stand = subst (λ j. Stand (roles_of setup) (reading (rules_of setup) j) standings) (sym none) (subst (λ l. Stand (roles_of setup) (start (roles_of setup)) l) (sym all) first);
+  carry = subst (λ j. Carry (net_for setup) (reading (rules_of setup) j).kept channels) (sym none) (subst (λ l. Carry (net_for setup) [] l) (sym lanes) bare);
+  inside = subst (All (λ (x : Standing). x.place ≤ (net_for setup).count)) (sym all) (All-replicate (λ (x : Standing). x.place ≤ (net_for setup).count) (roles_of setup) at_start (omega arith));
+  running = ap (λ j. (reading (rules_of setup) j).crashed) none;
+}
+  where
+    zero_at : (r : ℕ) → r < roles_of setup → slice_index (replicate (roles_of setup) 0) r ≡ 0
+    zero_at r lt = get_or-replicate (roles_of setup) r 0 0 lt
+
+    first : Stand (roles_of setup) (start (roles_of setup)) (replicate (roles_of setup) at_start)
+    first = record {
+      all = length-replicate (roles_of setup) at_start;
+      raws = length-replicate (roles_of setup) 0;
+      clocks = length-replicate (roles_of setup) 0;
+      each = λ r lt. subst (StandsAt (start (roles_of setup)) r) (sym (get_or-replicate (roles_of setup) r at_start at_start lt)) (record { place = refl; kept = refl; raw = sym (zero_at r lt); clock = sym (zero_at r lt); few = omega arith });
+    }
+
+    bare : Carry (net_for setup) [] (replicate 64 empty)
+    bare = record {
+      all = length-replicate 64 empty;
+      each = λ a b la lb. get_or-replicate 64 (between a b) empty empty (omega arith);
+    }
+
+abbrev whole : SetupView → List Entry → BookView
+whole setup entries = record { setup = setup; entries = entries }
+
+-- a role's standing, as the book has it
+pub standing_of : (book : BookView) (entries : List Entry) (standings : List Standing) (channels : List ChannelView) (setup : SetupView) (r : ℕ) (x : Standing) → IsBook setup entries standings channels → record { setup = setup; entries = entries } ≡ book → r < roles_of book.setup → x ≡ get_or standings r x → StandsAt (state_of book) r x
+standing_of book entries standings channels setup r x kept view lt at =
+    let low : r < roles_of setup = subst (λ (b : BookView). r < roles_of b.setup) (sym view) lt in
+    let same : x ≡ get_or standings r at_start = at ∙ get_or_default standings r x at_start (omega (arith, kept.stand.all)) in
+    subst (λ (b : BookView). StandsAt (state_of b) r x) view (subst (StandsAt (reading (rules_of setup) entries) r) (sym same) (kept.stand.each r low))
+
+-- where a role stands, a place of the text
+pub place_inside : (setup : SetupView) (entries : List Entry) (standings : List Standing) (channels : List ChannelView) (r : ℕ) (x : Standing) → IsBook setup entries standings channels → r < roles_of setup → x ≡ get_or standings r x → x.place ≤ (net_for setup).count
+place_inside setup entries standings channels r x book lt at =
+    subst (λ (y : Standing). y.place ≤ (net_for setup).count) (sym at) (All-get_or (λ (y : Standing). y.place ≤ (net_for setup).count) standings r x (omega (arith, book.stand.all)) book.inside)
+
+-- the same, as a reader of the book sees it
+pub inside_of : (book : BookView) (entries : List Entry) (standings : List Standing) (channels : List ChannelView) (setup : SetupView) (r : ℕ) (x : Standing) → IsBook setup entries standings channels → record { setup = setup; entries = entries } ≡ book → r < roles_of book.setup → x ≡ get_or standings r x → x.place ≤ (net_for setup).count
+inside_of book entries standings channels setup r x kept view lt at = place_inside setup entries standings channels r x kept (subst (λ (b : BookView). r < roles_of b.setup) (sym view) lt) at
+
+-- no next point, nothing comes next; a next point comes
+pub done_by_next : (net : Net) (r k : ℕ) (o : Option ℕ) (none : Bool) → IsNextPoint net r k o → is_some o ≡ not none → IsTrue none ↔ ((z : ℕ) → IsNext net r k z → ⊥)
+done_by_next net r k None true next e = ((λ t z n. next.complete z n), λ f. refl)
+done_by_next net r k None false next e = absurd (cc)
+done_by_next net r k (Some p) true next e = absurd (cc)
+done_by_next net r k (Some p) false next e = ((λ t. absurd (cc)), λ f. absurd (f p (next.sound p (inl refl))))
+
+-- a role can act where it has a step
+pub able_by_step : (book : BookView) (r : ℕ) (o : Option Entry) (able : Bool) → MatchOption o (CanAct (rules_of book.setup) (state_of book) r → ⊥) (λ e. IsActOf (rules_of book.setup) (state_of book) r e) → able ≡ is_some o → IsTrue able ↔ CanAct (rules_of book.setup) (state_of book) r
+able_by_step book r None able none e = ((λ t. absurd (cc)), λ a. absurd (none a))
+able_by_step book r (Some x) able act e = ((λ t. (x, act)), λ a. e)
+
+-- one entry more
+pub reading_more : (rules : Rules) (s : State) (journal : List Entry) (e : Entry) → reading_from rules s (journal ++ e ∷ []) ≡ after rules (reading_from rules s journal) e
+reading_more rules s [] e = refl
+reading_more rules s (d ∷ journal) e = reading_more rules (after rules s d) journal e
+
+-- the ends of an event that may come
+pub of_send : (setup : SetupView) (entries : List Entry) (e : Event) → IsPlainProtocol setup.protocol → MaySend (rules_of setup) (reading (rules_of setup) entries) e → IsOfText setup e.point
+of_send setup entries e plain may = of_next setup e.role (place (reading (rules_of setup) entries) e.role) e.point plain (may.next.sound e.point may.among)
+
+pub of_recv : (setup : SetupView) (entries : List Entry) (e : Event) → IsPlainProtocol setup.protocol → MayRecv (rules_of setup) (reading (rules_of setup) entries) e → IsOfText setup e.point
+of_recv setup entries e plain may = of_next setup e.role (place (reading (rules_of setup) entries) e.role) e.point plain (may.next.sound e.point may.among)
+
+pub low_role : (setup : SetupView) (r : ℕ) → IsPlainProtocol setup.protocol → r < roles_of setup → r < 8
+low_role setup r plain lt = let a = plain.form.few_roles in omega arith
+
+-- the book with one event more
+with_event : (setup : SetupView) (entries : List Entry) (standings : List Standing) (channels channels' : List ChannelView) (e : Event) (x : Entry) → IsBook setup entries standings channels → May (rules_of setup) (reading (rules_of setup) entries) x → after (rules_of setup) (reading (rules_of setup) entries) x ≡ after_event (reading (rules_of setup) entries) e → e.role < roles_of setup → e.point ≤ (net_for setup).count → Carry (net_for setup) ((reading (rules_of setup) entries).kept ++ e ∷ []) channels' → IsBook setup (entries ++ x ∷ []) (moved standings e) channels'
+with_event setup entries standings channels channels' e x book may is lt inside carry = record {
+  protocol = book.protocol;
+  legal = legal_more (rules_of setup) (start (roles_of setup)) entries x book.legal may;
+  stand = subst (λ s. Stand (roles_of setup) s (moved standings e)) (sym next) (stand_more (roles_of setup) (reading (rules_of setup) entries) standings e lt book.stand);
+  carry = subst (λ s. Carry (net_for setup) s.kept channels') (sym next) carry;
+  inside = All-set (λ (y : Standing). y.place ≤ (net_for setup).count) standings e.role _ inside book.inside;
+  running = ap (λ s. s.crashed) next ∙ book.running;
+}
+  where
+    next : reading (rules_of setup) (entries ++ x ∷ []) ≡ after_event (reading (rules_of setup) entries) e
+    next = reading_more (rules_of setup) (start (roles_of setup)) entries x ∙ is
+
+pub with_send : (setup : SetupView) (entries entries' : List Entry) (standings standings' : List Standing) (channels channels' : List ChannelView) (e : Event) (to : ℕ) → IsBook setup entries standings channels → MaySend (rules_of setup) (reading (rules_of setup) entries) e → to ≡ (net_for setup).receiver e.point → entries' ≡ entries ++ Send e ∷ [] → channels' ≡ with_put channels e.role to (record { point = e.point; value = e.value; stamp = e.stamp }) → standings' ≡ moved standings e → IsBook setup entries' standings' channels'
+with_send setup entries entries' standings standings' channels channels' e to book may which j c t =
+    let of = of_send setup entries e book.protocol may in
+    let carry = carry_put (net_for setup) (reading (rules_of setup) entries).kept channels e may.is_send (low_role setup e.role book.protocol may.free.declared) of.receiver book.carry in
+    let new = with_event setup entries standings channels (with_put channels e.role ((net_for setup).receiver e.point) (record { point = e.point; value = e.value; stamp = e.stamp })) e (Send e) book may refl may.free.declared of.last carry in
+    let same : with_put channels e.role ((net_for setup).receiver e.point) (record { point = e.point; value = e.value; stamp = e.stamp }) ≡ channels' = ap (λ q. with_put channels e.role q (record { point = e.point; value = e.value; stamp = e.stamp })) (sym which) ∙ sym c in
+    subst (λ x. IsBook setup x standings' channels') (sym j) (subst (λ x. IsBook setup (entries ++ Send e ∷ []) x channels') (sym t) (subst (λ x. IsBook setup (entries ++ Send e ∷ []) (moved standings e) x) same new))
+
+-- the message of a Recv waits in its channel
+pub waits : (setup : SetupView) (entries : List Entry) (standings : List Standing) (channels : List ChannelView) (e : Event) (from : ℕ) → IsBook setup entries standings channels → MayRecv (rules_of setup) (reading (rules_of setup) entries) e → from ≡ (net_for setup).sender e.point → (channel_at channels from e.role).taken < length (channel_at channels from e.role).put
+waits setup entries standings channels e from book may which =
+    let of = of_recv setup entries e book.protocol may in
+    let sender : may.from ≡ from = sym (may.receives e.point may.among).1 ∙ sym which in
+    let low : from < 8 = subst (λ q. q < 8) (sym which) of.sender in
+    let here = told setup entries standings channels from e.role book low (low_role setup e.role book.protocol may.free.declared) in
+    let h = (reading (rules_of setup) entries).kept in
+    let front : channel (net_for setup) from e.role h ≡ record { point = e.point; value = e.value; stamp = e.sent } ∷ may.front.0 = subst (λ q. channel (net_for setup) q e.role h ≡ record { point = e.point; value = e.value; stamp = e.sent } ∷ may.front.0) sender may.front.1 in
+    let some : length (put (net_for setup) from e.role h) - length (taken (net_for setup) from e.role h) ≡ suc (length may.front.0) = sym (lies (net_for setup) from e.role h) ∙ ap length front in
+    let more : length (taken (net_for setup) from e.role h) < length (put (net_for setup) from e.role h) = omega arith in
+    subst (λ (c : ChannelView). c.taken < length c.put) (sym here) more
+
+pub with_recv : (setup : SetupView) (entries entries' : List Entry) (standings standings' : List Standing) (channels channels' : List ChannelView) (e : Event) (from : ℕ) → IsBook setup entries standings channels → MayRecv (rules_of setup) (reading (rules_of setup) entries) e → from ≡ (net_for setup).sender e.point → entries' ≡ entries ++ Recv e ∷ [] → channels' ≡ with_taken channels from e.role → standings' ≡ moved standings e → IsBook setup entries' standings' channels'
+with_recv setup entries entries' standings standings' channels channels' e from book may which j c t =
+    let of = of_recv setup entries e book.protocol may in
+    let carry = carry_take (net_for setup) (reading (rules_of setup) entries).kept channels e may.is_recv of.sender (low_role setup e.role book.protocol may.free.declared) book.carry in
+    let new = with_event setup entries standings channels (with_taken channels ((net_for setup).sender e.point) e.role) e (Recv e) book may refl may.free.declared of.last carry in
+    let same : with_taken channels ((net_for setup).sender e.point) e.role ≡ channels' = ap (λ q. with_taken channels q e.role) (sym which) ∙ sym c in
+    subst (λ x. IsBook setup x standings' channels') (sym j) (subst (λ x. IsBook setup (entries ++ Recv e ∷ []) x channels') (sym t) (subst (λ x. IsBook setup (entries ++ Recv e ∷ []) (moved standings e) x) same new))
+
+same_book : (setup : SetupView) (entries entries' : List Entry) (standings standings' : List Standing) (channels channels' : List ChannelView) → IsBook setup entries standings channels → entries' ≡ entries → channels' ≡ channels → standings' ≡ standings → IsBook setup entries' standings' channels'
+same_book setup entries entries' standings standings' channels channels' book j c t =
+    subst (λ x. IsBook setup x standings' channels') (sym j) (subst (λ x. IsBook setup entries x channels') (sym t) (subst (λ x. IsBook setup entries standings x) (sym c) book))
+
+-- an event that was recorded, or that found no memory
+pub after_send : {T E : Type 0} (result : Result T E) (setup : SetupView) (entries entries' : List Entry) (standings standings' : List Standing) (channels channels' : List ChannelView) (e : Event) (to : ℕ) → IsBook setup entries standings channels → MaySend (rules_of setup) (reading (rules_of setup) entries) e → to ≡ (net_for setup).receiver e.point → OnOk result (entries' ≡ entries ++ Send e ∷ []) → OnOk result (channels' ≡ with_put channels e.role to (record { point = e.point; value = e.value; stamp = e.stamp })) → OnOk result (standings' ≡ moved standings e) → OnErr result (entries' ≡ entries) → OnErr result (channels' ≡ channels) → OnErr result (standings' ≡ standings) → IsBook setup entries' standings' channels'
+after_send (Ok x) setup entries entries' standings standings' channels channels' e to book may which j c t nj nc nt = with_send setup entries entries' standings standings' channels channels' e to book may which j c t
+after_send (Err x) setup entries entries' standings standings' channels channels' e to book may which j c t nj nc nt = same_book setup entries entries' standings standings' channels channels' book nj nc nt
+
+pub after_recv : {T E : Type 0} (result : Result T E) (setup : SetupView) (entries entries' : List Entry) (standings standings' : List Standing) (channels channels' : List ChannelView) (e : Event) (from : ℕ) → IsBook setup entries standings channels → MayRecv (rules_of setup) (reading (rules_of setup) entries) e → from ≡ (net_for setup).sender e.point → OnOk result (entries' ≡ entries ++ Recv e ∷ []) → OnOk result (channels' ≡ with_taken channels from e.role) → OnOk result (standings' ≡ moved standings e) → OnErr result (entries' ≡ entries) → OnErr result (channels' ≡ channels) → OnErr result (standings' ≡ standings) → IsBook setup entries' standings' channels'
+after_recv (Ok x) setup entries entries' standings standings' channels channels' e from book may which j c t nj nc nt = with_recv setup entries entries' standings standings' channels channels' e from book may which j c t
+after_recv (Err x) setup entries entries' standings standings' channels channels' e from book may which j c t nj nc nt = same_book setup entries entries' standings standings' channels channels' book nj nc nt
+
+-- clocks of a step are small
+pub small_step_clock : (book : BookView) (setup : SetupView) (entries : List Entry) (standings : List Standing) (channels : List ChannelView) (r p clock : ℕ) → IsBook setup entries standings channels → record { setup = setup; entries = entries } ≡ book → IsNextStep book r p clock → clock ≤ 80000
+small_step_clock book setup entries standings channels r p clock kept view step =
+    let low = small_clock setup entries r kept.protocol kept.legal in
+    let here : slice_index (state_of book).clocks r ≤ 80000 = subst (λ (b : BookView). slice_index (state_of b).clocks r ≤ 80000) view low in
+    let is = step.clock_is in
+    omega arith
+
+-- a Send without room, and with room
+pub no_send : (book : BookView) (setup : SetupView) (entries : List Entry) (standings : List Standing) (channels : List ChannelView) (r p clock to put_ taken_ : ℕ) → IsBook setup entries standings channels → record { setup = setup; entries = entries } ≡ book → IsNextSend book r p clock → to ≡ (net_for setup).receiver p → put_ ≡ length (channel_at channels r to).put → taken_ ≡ (channel_at channels r to).taken → 64 ≤ put_ - taken_ → CanAct (rules_of book.setup) (state_of book) r → ⊥
+no_send book setup entries standings channels r p clock to put_ taken_ kept view step which in_all out_all full = subst (λ (b : BookView). CanAct (rules_of b.setup) (state_of b) r → ⊥) view
+    (let here = subst (λ (b : BookView). IsNextSend b r p clock) (sym view) step in
+    let of = of_step (record { setup = setup; entries = entries }) r p clock kept.protocol here.0 in
+    let low : to < 8 = subst (λ q. q < 8) (sym which) of.receiver in
+    let lies_ = send_lies setup entries standings channels r to put_ taken_ kept (low_role setup r kept.protocol here.0.declared) low in_all out_all in
+    let many : 64 ≤ length (channel (net_for setup) r to (reading (rules_of setup) entries).kept) = omega arith in
+    none_without_room (text_of setup) (roles_of setup) (reading (rules_of setup) entries) r p (two_ends setup kept.protocol) here.0.next here.1 (subst (λ q. 64 ≤ length (channel (net_for setup) r q (reading (rules_of setup) entries).kept)) which many))
+
+pub some_send : (book : BookView) (setup : SetupView) (entries : List Entry) (standings : List Standing) (channels : List ChannelView) (r p clock to put_ taken_ : ℕ) → IsBook setup entries standings channels → record { setup = setup; entries = entries } ≡ book → IsNextSend book r p clock → to ≡ (net_for setup).receiver p → put_ ≡ length (channel_at channels r to).put → taken_ ≡ (channel_at channels r to).taken → put_ - taken_ < 64 → IsActOf (rules_of book.setup) (state_of book) r (Send (record { role = r; dir = Sent; point = p; value = pos 0; stamp = clock + 1; sent = clock + 1 }))
+some_send book setup entries standings channels r p clock to put_ taken_ kept view step which in_all out_all room = subst (λ (b : BookView). IsActOf (rules_of b.setup) (state_of b) r (Send (record { role = r; dir = Sent; point = p; value = pos 0; stamp = clock + 1; sent = clock + 1 }))) view
+    (let here = subst (λ (b : BookView). IsNextSend b r p clock) (sym view) step in
+    let of = of_step (record { setup = setup; entries = entries }) r p clock kept.protocol here.0 in
+    let low : to < 8 = subst (λ q. q < 8) (sym which) of.receiver in
+    let lies_ = send_lies setup entries standings channels r to put_ taken_ kept (low_role setup r kept.protocol here.0.declared) low in_all out_all in
+    let few : length (channel (net_for setup) r to (reading (rules_of setup) entries).kept) < 64 = omega arith in
+    can_send (text_of setup) (roles_of setup) (reading (rules_of setup) entries) r p (clock + 1) kept.running here.0.declared here.0.below_limit here.0.next here.1 (ap (λ n. n + 1) here.0.clock_is) (subst (λ q. length (channel (net_for setup) r q (reading (rules_of setup) entries).kept) < 64) which few))
+
+-- without a plan nobody recovers
+pub no_recovery : (book : BookView) (setup : SetupView) (entries : List Entry) (standings : List Standing) (channels : List ChannelView) (p : ℕ) → IsBook setup entries standings channels → record { setup = setup; entries = entries } ≡ book → slice_get (state_of book).crashed p ≡ Some true → ⊥
+no_recovery book setup entries standings channels p kept view crashed =
+    let calm : (state_of book).crashed ≡ replicate (roles_of setup) false = subst (λ (b : BookView). (state_of b).crashed ≡ replicate (roles_of setup) false) view kept.running in
+    none (roles_of setup) p (ap (λ l. slice_get l p) (sym calm) ∙ crashed)
+  where
+    none : (n p : ℕ) → slice_get (replicate n false) p ≡ Some true → ⊥
+    none zero p e = absurd (cc)
+    none (suc n) zero e = absurd (cc)
+    none (suc n) (suc p) e = none n p e
+
+-- a map that may leave out elements makes a list no longer
+no_longer : {A B : Type 0} (f : A → Option B) (xs : List A) → length (filter_map f xs) ≤ length xs
+no_longer f [] = omega arith
+no_longer {A} {B} f (x ∷ xs) = go (f x) (no_longer f xs)
+  where
+    go : (o : Option B) → length (filter_map f xs) ≤ length xs → length (cons_option o (filter_map f xs)) ≤ suc (length xs)
+    go None h = omega arith
+    go (Some y) h = omega arith
+
+-- how much is on a channel of a book is small
+pub few_put : (book : BookView) (setup : SetupView) (entries : List Entry) (standings : List Standing) (channels : List ChannelView) (a b n : ℕ) → IsBook setup entries standings channels → record { setup = setup; entries = entries } ≡ book → a < roles_of book.setup → b < roles_of book.setup → n ≡ length (channel_at channels a b).put → n ≤ 80000
+few_put book setup entries standings channels a b n kept view la lb is =
+    let low = subst (λ (x : BookView). a < roles_of x.setup) (sym view) la in
+    let lower = subst (λ (x : BookView). b < roles_of x.setup) (sym view) lb in
+    let here = ap (λ c. length c.put) (told setup entries standings channels a b kept (low_role setup a kept.protocol low) (low_role setup b kept.protocol lower)) in
+    let shorter = no_longer (put_by (net_for setup) a b) (reading (rules_of setup) entries).kept in
+    let events = (bounded (rules_of setup) entries kept.legal).events in
+    let short = bare_bounded (text_of setup) (roles_of setup) entries kept.legal in
+    let few = kept.protocol.form.few_roles in
+    omega arith
+
+-- what is in front of a channel of a book
+pub front_told : (setup : SetupView) (entries : List Entry) (standings : List Standing) (channels : List ChannelView) (a b : ℕ) (m : Message) → IsBook setup entries standings channels → a < 8 → b < 8 → slice_get (channel_at channels a b).put (channel_at channels a b).taken ≡ Some m → slice_get (put (net_for setup) a b (reading (rules_of setup) entries).kept) (length (taken (net_for setup) a b (reading (rules_of setup) entries).kept)) ≡ Some m
+front_told setup entries standings channels a b m kept la lb at = subst (λ (c : ChannelView). slice_get c.put c.taken ≡ Some m) (told setup entries standings channels a b kept la lb) at
+
+-- the stamp of a message in front is small
+pub small_front : (book : BookView) (setup : SetupView) (entries : List Entry) (standings : List Standing) (channels : List ChannelView) (r p clock from : ℕ) (m : Message) → IsBook setup entries standings channels → record { setup = setup; entries = entries } ≡ book → IsNextRecv book r p clock → from ≡ (net_for setup).sender p → slice_get (channel_at channels from r).put (channel_at channels from r).taken ≡ Some m → m.stamp ≤ 80000
+small_front book setup entries standings channels r p clock from m kept view step which at =
+    let here = subst (λ (b : BookView). IsNextRecv b r p clock) (sym view) step in
+    let of = of_step (record { setup = setup; entries = entries }) r p clock kept.protocol here.0 in
+    let low : from < 8 = subst (λ q. q < 8) (sym which) of.sender in
+    small_stamp setup entries from r (length (taken (net_for setup) from r (reading (rules_of setup) entries).kept)) m kept.protocol kept.legal (front_told setup entries standings channels from r m kept low (low_role setup r kept.protocol here.0.declared) at)
+
+-- no Recv: nothing waits
+pub no_recv : (book : BookView) (setup : SetupView) (entries : List Entry) (standings : List Standing) (channels : List ChannelView) (r p clock from : ℕ) → IsBook setup entries standings channels → record { setup = setup; entries = entries } ≡ book → IsNextRecv book r p clock → from ≡ (net_for setup).sender p → length (channel_at channels from r).put ≤ (channel_at channels from r).taken → CanAct (rules_of book.setup) (state_of book) r → ⊥
+no_recv book setup entries standings channels r p clock from kept view step which few = subst (λ (b : BookView). CanAct (rules_of b.setup) (state_of b) r → ⊥) view
+    (let here = subst (λ (b : BookView). IsNextRecv b r p clock) (sym view) step in
+    let of = of_step (record { setup = setup; entries = entries }) r p clock kept.protocol here.0 in
+    let low : from < 8 = subst (λ q. q < 8) (sym which) of.sender in
+    let all = subst (λ (c : ChannelView). length c.put ≤ c.taken) (told setup entries standings channels from r kept low (low_role setup r kept.protocol here.0.declared)) few in
+    let bare = no_front (net_for setup) from r (reading (rules_of setup) entries).kept all in
+    let gone : channel (net_for setup) ((net_for setup).sender p) r (reading (rules_of setup) entries).kept ≡ [] = ap (λ q. channel (net_for setup) q r (reading (rules_of setup) entries).kept) (sym which) ∙ bare in
+    none_without_message (text_of setup) (roles_of setup) (reading (rules_of setup) entries) r p here.0.next here.1 (λ m rest e at. not_both m rest (sym gone ∙ e)))
+  where
+    not_both : (m : Message) (rest : List Message) → [] ≡ m ∷ rest → ⊥
+    not_both m rest e = cc
+
+-- no Recv: another message is in front
+pub other_recv : (book : BookView) (setup : SetupView) (entries : List Entry) (standings : List Standing) (channels : List ChannelView) (r p clock from : ℕ) (m : Message) → IsBook setup entries standings channels → record { setup = setup; entries = entries } ≡ book → IsNextRecv book r p clock → from ≡ (net_for setup).sender p → slice_get (channel_at channels from r).put (channel_at channels from r).taken ≡ Some m → m.point ≢ p → CanAct (rules_of book.setup) (state_of book) r → ⊥
+other_recv book setup entries standings channels r p clock from m kept view step which at other = subst (λ (b : BookView). CanAct (rules_of b.setup) (state_of b) r → ⊥) view
+    (let here = subst (λ (b : BookView). IsNextRecv b r p clock) (sym view) step in
+    let of = of_step (record { setup = setup; entries = entries }) r p clock kept.protocol here.0 in
+    let low : from < 8 = subst (λ q. q < 8) (sym which) of.sender in
+    let front = front_of (net_for setup) from r (reading (rules_of setup) entries).kept m (front_told setup entries standings channels from r m kept low (low_role setup r kept.protocol here.0.declared) at) in
+    let lies_ : channel (net_for setup) ((net_for setup).sender p) r (reading (rules_of setup) entries).kept ≡ m ∷ front.0 = ap (λ q. channel (net_for setup) q r (reading (rules_of setup) entries).kept) (sym which) ∙ front.1 in
+    none_without_message (text_of setup) (roles_of setup) (reading (rules_of setup) entries) r p here.0.next here.1 (λ n rest e same. other (let f : m ≡ n = first m n front.0 rest (sym lies_ ∙ e) in ap (λ x. x.point) f ∙ same)))
+  where
+    first : (m n : Message) (xs ys : List Message) → m ∷ xs ≡ n ∷ ys → m ≡ n
+    first m n xs ys e = cc
+
+pub some_recv : (book : BookView) (setup : SetupView) (entries : List Entry) (standings : List Standing) (channels : List ChannelView) (r p clock from stamp : ℕ) (m : Message) (value : ℤ) → IsBook setup entries standings channels → record { setup = setup; entries = entries } ≡ book → IsNextRecv book r p clock → from ≡ (net_for setup).sender p → slice_get (channel_at channels from r).put (channel_at channels from r).taken ≡ Some m → m.point ≡ p → stamp ≡ max clock m.stamp + 1 → value ≡ m.value → IsActOf (rules_of book.setup) (state_of book) r (Recv (record { role = r; dir = Got; point = p; value = value; stamp = stamp; sent = m.stamp }))
+some_recv book setup entries standings channels r p clock from stamp m value kept view step which at same time number = subst (λ (z : ℤ). IsActOf (rules_of book.setup) (state_of book) r (Recv (record { role = r; dir = Got; point = p; value = z; stamp = stamp; sent = m.stamp }))) (sym number) (subst (λ (b : BookView). IsActOf (rules_of b.setup) (state_of b) r (Recv (record { role = r; dir = Got; point = p; value = m.value; stamp = stamp; sent = m.stamp }))) view
+    (let here = subst (λ (b : BookView). IsNextRecv b r p clock) (sym view) step in
+    let of = of_step (record { setup = setup; entries = entries }) r p clock kept.protocol here.0 in
+    let low : from < 8 = subst (λ q. q < 8) (sym which) of.sender in
+    let front = front_of (net_for setup) from r (reading (rules_of setup) entries).kept m (front_told setup entries standings channels from r m kept low (low_role setup r kept.protocol here.0.declared) at) in
+    let lies_ : channel (net_for setup) ((net_for setup).sender p) r (reading (rules_of setup) entries).kept ≡ m ∷ front.0 = ap (λ q. channel (net_for setup) q r (reading (rules_of setup) entries).kept) (sym which) ∙ front.1 in
+    let own : (net_for setup).receiver p ≡ r = ⊎_elim (λ s. absurd (here.1 s)) (λ t. t) (here.0.next.sound p (inl refl)).own in
+    can_recv (text_of setup) (roles_of setup) (reading (rules_of setup) entries) r p stamp m front.0 kept.running here.0.declared here.0.below_limit here.0.next own lies_ same (time ∙ ap (λ n. max n m.stamp + 1) here.0.clock_is)))
+
+-- a role without a next point can't act
+pub done_role : (book : BookView) (setup : SetupView) (entries : List Entry) (standings : List Standing) (channels : List ChannelView) (r : ℕ) (x : Standing) → IsBook setup entries standings channels → record { setup = setup; entries = entries } ≡ book → r < roles_of book.setup → x ≡ get_or standings r x → AreNext (net_for setup) r x.place [] → CanAct (rules_of book.setup) (state_of book) r → ⊥
+done_role book setup entries standings channels r x kept view lt at none = subst (λ (b : BookView). CanAct (rules_of b.setup) (state_of b) r → ⊥) view
+    (let stands = standing_of (whole setup entries) entries standings channels setup r x kept refl (subst (λ (b : BookView). r < roles_of b.setup) (sym view) lt) at in
+    none_without_next (text_of setup) (roles_of setup) (reading (rules_of setup) entries) r (subst (λ k. AreNext (net_for setup) r k []) stands.place none))
+
+-- the step of a role with a next point
+pub next_step : (book : BookView) (setup : SetupView) (entries : List Entry) (standings : List Standing) (channels : List ChannelView) (r p : ℕ) (x : Standing) → IsBook setup entries standings channels → record { setup = setup; entries = entries } ≡ book → r < roles_of book.setup → x ≡ get_or standings r x → x.raw < 10000 → AreNext (net_for setup) r x.place (p ∷ []) → IsNextStep book r p x.clock
+next_step book setup entries standings channels r p x kept view lt at below next =
+    let stands = standing_of book entries standings channels setup r x kept view lt at in
+    record {
+      declared = lt;
+      below_limit = let e = stands.raw in omega arith;
+      next = subst (λ (b : BookView). AreNext (net_for b.setup) r (place (state_of book) r) (p ∷ [])) view (subst (λ k. AreNext (net_for setup) r k (p ∷ [])) stands.place next);
+      clock_is = stands.clock;
+    }
+
+-- a role at the limit can't act
+pub tired_role : (book : BookView) (setup : SetupView) (entries : List Entry) (standings : List Standing) (channels : List ChannelView) (r : ℕ) (x : Standing) → IsBook setup entries standings channels → record { setup = setup; entries = entries } ≡ book → r < roles_of book.setup → x ≡ get_or standings r x → 10000 ≤ x.raw → CanAct (rules_of book.setup) (state_of book) r → ⊥
+tired_role book setup entries standings channels r x kept view lt at many =
+    let stands = standing_of book entries standings channels setup r x kept view lt at in
+    none_at_limit (text_of book.setup) (roles_of book.setup) (state_of book) r (let e = stands.raw in omega arith)
+
+-- nothing is left to do: no role can act
+pub final_of : (book : BookView) (setup : SetupView) (entries : List Entry) (standings : List Standing) (channels : List ChannelView) → IsBook setup entries standings channels → record { setup = setup; entries = entries } ≡ book → ((r : ℕ) → r < roles_of book.setup → CanAct (rules_of book.setup) (state_of book) r → ⊥) → IsFinal (rules_of book.setup) (state_of book)
+final_of book setup entries standings channels kept view idle = record {
+  none_crashed = λ r crashed. no_recovery book setup entries standings channels r kept view crashed;
+  none_due = λ r lt due. let x = due.1 in absurd (omega arith);
+  none_acts = idle;
+}
+
+-- the step of the least role that can act is what one thread adds
+pub step_of : (book : BookView) (setup : SetupView) (entries : List Entry) (standings : List Standing) (channels : List ChannelView) (r : ℕ) (x : Entry) → IsBook setup entries standings channels → record { setup = setup; entries = entries } ≡ book → IsActOf (rules_of book.setup) (state_of book) r x → ((q : ℕ) → q < r → CanAct (rules_of book.setup) (state_of book) q → ⊥) → IsStep (rules_of book.setup) (state_of book) x
+step_of book setup entries standings channels r x kept view act least = go x act
+  where
+    calm : (q : ℕ) → slice_get (state_of book).crashed q ≡ Some true → ⊥
+    calm q e = no_recovery book setup entries standings channels q kept view e
+
+    idle : (q : ℕ) → q < roles_of book.setup → IsDue (rules_of book.setup) (state_of book) q → ⊥
+    idle q lt due = let n = due.1 in absurd (omega arith)
+
+    go : (x : Entry) → IsActOf (rules_of book.setup) (state_of book) r x → IsStep (rules_of book.setup) (state_of book) x
+    go (Send e) a = (calm, idle, ((Send e, subst (λ q. IsActOf (rules_of book.setup) (state_of book) q (Send e)) (sym a.0) a), λ q lt. least q (subst (λ n. q < n) a.0 lt)), subst (λ q. IsActOf (rules_of book.setup) (state_of book) q (Send e)) (sym a.0) a)
+    go (Recv e) a = (calm, idle, ((Recv e, subst (λ q. IsActOf (rules_of book.setup) (state_of book) q (Recv e)) (sym a.0) a), λ q lt. least q (subst (λ n. q < n) a.0 lt)), subst (λ q. IsActOf (rules_of book.setup) (state_of book) q (Recv e)) (sym a.0) a)
+    go (Crash p) a = absurd a
+    go (Recover p c k u) a = absurd a
+
+pub not_final : (book : BookView) (o : Option Entry) → MatchOption o (IsFinal (rules_of book.setup) (state_of book)) (λ e. IsStep (rules_of book.setup) (state_of book) e) → is_some o ≡ true → IsFinal (rules_of book.setup) (state_of book) → ⊥
+not_final book None told e final = absurd (cc)
+not_final book (Some x) told e final = (one_step (rules_of book.setup) (state_of book) x x).none final told
+
+pub final_by_step : (book : BookView) (o : Option Entry) → MatchOption o (IsFinal (rules_of book.setup) (state_of book)) (λ e. IsStep (rules_of book.setup) (state_of book) e) → is_some o ≡ false → IsFinal (rules_of book.setup) (state_of book)
+final_by_step book None told e = told
+final_by_step book (Some x) told e = absurd (cc)

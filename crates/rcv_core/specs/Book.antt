@@ -1,0 +1,107 @@
+-- What contracts see of a book, and what it keeps beside its entries.
+use Rattle.std.specs.Prelude.{◌≡◌, ◌≢◌, ℕ, ◌+◌, ◌*◌, ◌<◌, ◌≤◌, false, List, [], ◌∷◌, ◌++◌, length, replicate, slice_index, slice_index_or, slice_set}
+use Rattle.std.specs.List.{All}
+use Rattle.rcv_tree.specs.declared.entry.Entry.{Entry}
+use Rattle.rcv_tree.specs.declared.event.Event.{Event}
+use Rattle.rcv_tree.specs.declared.event.Message.{Message}
+use Rattle.rcv_core.specs.declared.standing.Standing.{Standing}
+use Rattle.rcv_core.specs.declared.outcome.Outcome.{Outcome}
+use Rattle.rcv_core.specs.declared.outcome.Outcome.TheVariants.{More, Completed, Limited}
+use Rattle.rcv_model.specs.Net.{Net}
+use Rattle.rcv_model.specs.Run.{acts, put, taken}
+use Rattle.rcv_model.specs.Journal.{State, place, reading, IsLegal}
+use Rattle.rcv_model.specs.Next.{AreNext}
+use Rattle.rcv_model.specs.Final.{IsFinal, IsCompleted, IsLimited}
+use Rattle.rcv_core.specs.Setup.{SetupView, IsPlainProtocol, roles_of, net_for, rules_of}
+
+-- A journal of this setup.
+pub record BookView : Type 0 where
+  pub setup : SetupView
+  pub entries : List Entry
+
+-- What the entries of a book leave.
+abbrev pub state_of : BookView → State
+state_of book = reading (rules_of book.setup) book.entries
+
+-- Whether the session is at its end, and at which.
+abbrev pub IsOutcome : BookView → Outcome → Type 0
+IsOutcome book More = IsFinal (rules_of book.setup) (state_of book) → ⊥
+IsOutcome book Completed = IsCompleted (rules_of book.setup) (state_of book)
+IsOutcome book Limited = IsLimited (rules_of book.setup) (state_of book)
+
+-- A channel: what was put on it, and how much of that was taken.
+pub record ChannelView : Type 0 where
+  pub put : List Message
+  pub taken : ℕ
+
+abbrev pub empty : ChannelView
+empty = record { put = []; taken = 0 }
+
+-- The channel from one role to another, among those of eight roles.
+abbrev pub between : ℕ → ℕ → ℕ
+between from to = from * 8 + to
+
+abbrev pub channel_at : List ChannelView → ℕ → ℕ → ChannelView
+channel_at channels from to = slice_index_or channels (between from to) empty
+
+-- One message more on a channel, and one taken from it.
+abbrev pub with_put : List ChannelView → ℕ → ℕ → Message → List ChannelView
+with_put channels from to m =
+    slice_set channels (between from to) (record { put = (channel_at channels from to).put ++ m ∷ []; taken = (channel_at channels from to).taken })
+
+abbrev pub with_taken : List ChannelView → ℕ → ℕ → List ChannelView
+with_taken channels from to =
+    slice_set channels (between from to) (record { put = (channel_at channels from to).put; taken = (channel_at channels from to).taken + 1 })
+
+-- The channels are those of these kept events.
+pub record Carry (net : Net) (h : List Event) (channels : List ChannelView) : Type 0 where
+  pub all : length channels ≡ 64
+  pub each : (a b : ℕ) → a < 8 → b < 8 → channel_at channels a b ≡ record { put = put net a b h; taken = length (taken net a b h) }
+
+-- A role before its first event.
+abbrev pub at_start : Standing
+at_start = record { place = 0; kept = 0; raw = 0; clock = 0 }
+
+-- The standings with one event more of its role.
+abbrev pub moved : List Standing → Event → List Standing
+moved standings e =
+    let before = slice_index_or standings e.role at_start in
+    slice_set standings e.role (record { place = e.point; kept = before.kept + 1; raw = before.raw + 1; clock = e.stamp })
+
+-- Where role r stands in a state.
+pub record StandsAt (s : State) (r : ℕ) (standing : Standing) : Type 0 where
+  pub place : standing.place ≡ place s r
+  pub kept : standing.kept ≡ length (acts r s.kept)
+  pub raw : standing.raw ≡ slice_index s.raw r
+  pub clock : standing.clock ≡ slice_index s.clocks r
+  pub few : standing.kept ≤ standing.raw
+
+-- Where each role stands.
+pub record Stand (roles : ℕ) (s : State) (standings : List Standing) : Type 0 where
+  pub all : length standings ≡ roles
+  pub raws : length s.raw ≡ roles
+  pub clocks : length s.clocks ≡ roles
+  pub each : (r : ℕ) → r < roles → StandsAt s r (slice_index_or standings r at_start)
+
+-- What a book keeps: legal entries, with the standings and the channels that they leave. Nobody is crashed.
+pub record IsBook (setup : SetupView) (entries : List Entry) (standings : List Standing) (channels : List ChannelView) : Type 0 where
+  pub protocol : IsPlainProtocol setup.protocol
+  pub legal : IsLegal (rules_of setup) entries
+  pub stand : Stand (roles_of setup) (reading (rules_of setup) entries) standings
+  pub carry : Carry (net_for setup) (reading (rules_of setup) entries).kept channels
+  pub inside : All (λ (x : Standing). x.place ≤ (net_for setup).count) standings
+  pub running : (reading (rules_of setup) entries).crashed ≡ replicate (roles_of setup) false
+
+-- The role runs, has made fewer events than the limit allows, and stands in front of this point with this clock.
+pub record IsNextStep (book : BookView) (r p clock : ℕ) : Type 0 where
+  pub declared : r < roles_of book.setup
+  pub below_limit : slice_index (state_of book).raw r < 10000
+  pub next : AreNext (net_for book.setup) r (place (state_of book) r) (p ∷ [])
+  pub clock_is : clock ≡ slice_index (state_of book).clocks r
+
+-- It sends the point, or it receives it.
+abbrev pub IsNextSend : BookView → ℕ → ℕ → ℕ → Type 0
+IsNextSend book r p clock = IsNextStep book r p clock × ((net_for book.setup).sender p ≡ r)
+
+abbrev pub IsNextRecv : BookView → ℕ → ℕ → ℕ → Type 0
+IsNextRecv book r p clock = IsNextStep book r p clock × ((net_for book.setup).sender p ≢ r)

@@ -1,0 +1,292 @@
+// A journal, which is legal at all times.
+
+ghost use Rattle.std.specs.Prelude.{◌≡◌, ◌<◌, ◌≤◌, ◌+◌, ◌↔◌, ◌^◌, IsTrue, Some, [], ◌∷◌, ◌++◌, length, slice_index, IfOk, OnOk, OnErr, MatchOption};
+ghost use Rattle.rcv_model.specs.Run.{acts, put, taken};
+ghost use Rattle.rcv_model.specs.Act.{IsDone};
+ghost use Rattle.rcv_tree.specs.declared.entry.Entry.TheVariants.{Send, Recv};
+ghost use Rattle.rcv_model.specs.Journal.{May, MaySend, MayRecv, IsLegal};
+ghost use Rattle.rcv_model.specs.Final.{CanAct, IsActOf, IsFinal, AreDone, IsStep};
+ghost use Rattle.rcv_core.specs.Setup.{SetupView, roles_of, net_for, rules_of};
+ghost use Rattle.rcv_core.specs.Book.{BookView, state_of, IsOutcome, IsNextSend, IsNextRecv};
+
+use crate::channel::Channels;
+use crate::outcome::Outcome;
+use crate::record::{record_recv, record_send};
+use crate::setup::Setup;
+use crate::standing::Standing;
+use rcv_tree::entry::Entry;
+use rcv_tree::event::{Dir, Event};
+use rcv_tree::point::Point;
+use rcv_tree::role::RoleId;
+use std::alloc::{AllocError, Global};
+use std::marker::Model;
+
+/// How many events a role may make, undone ones too.
+const LIMIT: u32 = 10_000;
+
+/// How many messages a channel may hold.
+const ROOM: usize = 64;
+
+/// The journal of a session: each of its entries might come when it came.
+#[derive(Drop)]
+pub struct Book<'a> {
+    setup: &'a Setup,
+    entries: Vec<Entry>,
+    standings: Vec<Standing>,
+    channels: Channels,
+}
+
+impl<'a> Model for Book<'a> {
+    ghost use Rattle.rcv_core.specs.Book.{BookView, IsBook};
+    ghost use Rattle.rcv_tree.specs.contracts.statement.Stmt as e;
+    ghost use Rattle.std.specs.Coded.{codes};
+
+    ghost Value = { BookView };
+
+    ghost coded = { Prim.hlevel (codes, e.the_row.coded) };
+
+    ghost view = { λ a. record { setup = a.setup.now; entries = a.entries.items } };
+
+    ghost invariant = { λ a. IsBook a.setup.now a.entries.items a.standings.items a.channels };
+}
+
+impl<'a> Book<'a> {
+    /// The empty journal of a session.
+    pub fn new(alloc: Global, setup: &'a Setup) -> Result<Book<'a>, AllocError>
+        ensures { IfOk result (λ book. book ≡ record { setup = setup.now; entries = [] }) }
+    {
+        let _protocol = setup.protocol();
+        let mut standings = Vec::new(alloc);
+        for _ in 0..setup.roles() {
+            standings.push(Standing::START)?;
+        }
+        Ok(Book {
+            setup,
+            entries: Vec::new(alloc),
+            standings,
+            channels: Channels::new(alloc)?,
+        })
+    }
+
+    /// Adds an entry that may come. After an error the journal is as before.
+    pub fn push(&mut self, entry: Entry) -> Result<(), AllocError>
+        requires { May (rules_of self.old.setup) (state_of self.old) entry }
+        ensures ok { OnOk result (self.new ≡ record { setup = self.old.setup; entries = self.old.entries ++ entry ∷ [] }) }
+        ensures err { OnErr result (self.new ≡ self.old) }
+    {
+        // Opens the book, so that the proof knows that nobody is crashed.
+        let _setup = &self.setup;
+        match entry {
+            Entry::Send(event) => self.push_send(&event),
+            Entry::Recv(event) => self.push_recv(&event),
+            Entry::Crash(_) => unreachable!(),
+            Entry::Recover { .. } => unreachable!(),
+        }
+    }
+
+    /// The one entry of the role that may come next, if the role can act.
+    pub fn step(&self, role: RoleId) -> Option<Entry>
+        requires { role < roles_of self.now.setup }
+        ensures { MatchOption result (CanAct (rules_of self.now.setup) (state_of self.now) role → ⊥) (λ e. IsActOf (rules_of self.now.setup) (state_of self.now) role e) }
+    {
+        let standing = &self.standings[role.0 as usize];
+        if standing.raw >= LIMIT {
+            return None;
+        }
+        let Some(point) = self.setup.next(role, standing.place) else {
+            return None;
+        };
+        if self.setup.sender(point) == role {
+            self.send(role, point, standing.clock)
+        } else {
+            self.recv(role, point, standing.clock)
+        }
+    }
+
+    /// Whether the role can act: it has a step, and for a Send its channel holds fewer messages than the room.
+    pub fn can_act(&self, role: RoleId) -> bool
+        requires { role < roles_of self.now.setup }
+        ensures { IsTrue result ↔ CanAct (rules_of self.now.setup) (state_of self.now) role }
+    {
+        self.step(role).is_some()
+    }
+
+    /// The one step of a role that can act.
+    pub fn act(&self, role: RoleId) -> Entry
+        requires declared { role < roles_of self.now.setup }
+        requires able { CanAct (rules_of self.now.setup) (state_of self.now) role }
+        ensures { IsActOf (rules_of self.now.setup) (state_of self.now) role result }
+    {
+        match self.step(role) {
+            Some(entry) => entry,
+            None => unreachable!(),
+        }
+    }
+
+    /// How many events of the role are kept.
+    pub fn kept(&self, role: RoleId) -> u32
+        requires { role < roles_of self.now.setup }
+        ensures { result ≡ length (acts role (state_of self.now).kept) }
+    {
+        self.standings[role.0 as usize].kept
+    }
+
+    /// How many events the role ever made, undone ones too.
+    pub fn raw(&self, role: RoleId) -> u32
+        requires { role < roles_of self.now.setup }
+        ensures { result ≡ slice_index (state_of self.now).raw role }
+    {
+        self.standings[role.0 as usize].raw
+    }
+
+    /// The role's clock.
+    pub fn clock(&self, role: RoleId) -> u64
+        requires { role < roles_of self.now.setup }
+        ensures { result ≡ slice_index (state_of self.now).clocks role }
+    {
+        self.standings[role.0 as usize].clock
+    }
+
+    /// Whether nothing comes next for the role.
+    pub fn done(&self, role: RoleId) -> bool
+        requires { role < roles_of self.now.setup }
+        ensures { IsTrue result ↔ IsDone (net_for self.now.setup) role (state_of self.now).kept }
+    {
+        let standing = &self.standings[role.0 as usize];
+        self.setup.next(role, standing.place).is_none()
+    }
+
+    /// How many kept Sends and how many kept Recvs the channel from one role to another has.
+    pub fn channel(&self, from: RoleId, to: RoleId) -> (u32, u32)
+        requires from { from < roles_of self.now.setup }
+        requires to { to < roles_of self.now.setup }
+        ensures sends { result.0 ≡ length (put (net_for self.now.setup) from to (state_of self.now).kept) }
+        ensures recvs { result.1 ≡ length (taken (net_for self.now.setup) from to (state_of self.now).kept) }
+    {
+        let (put, taken) = self.channels.counts(from, to);
+        (put as u32, taken as u32)
+    }
+
+    /// The journal: each entry might come when it came.
+    pub fn entries(&self) -> &[Entry]
+        ensures value { result.now ≡ self.now.entries }
+        ensures legal { IsLegal (rules_of self.now.setup) self.now.entries }
+    {
+        self.entries.as_slice()
+    }
+
+    /// The setup that the book was made with.
+    pub fn setup(&self) -> &'a Setup
+        ensures { result.now ≡ self.now.setup }
+    {
+        self.setup
+    }
+
+    /// The one entry that one thread adds next: the step of the lowest role that can act; none at the end.
+    pub fn one_thread_step(&self) -> Option<Entry>
+        ensures { MatchOption result (IsFinal (rules_of self.now.setup) (state_of self.now)) (λ e. IsStep (rules_of self.now.setup) (state_of self.now) e) }
+    {
+        for role in 0..self.setup.roles() {
+            if let Some(entry) = self.step(RoleId(role)) {
+                return Some(entry);
+            }
+        }
+        None
+    }
+
+    /// Whether all roles are done.
+    pub fn all_done(&self) -> bool
+        ensures { IsTrue result ↔ AreDone (rules_of self.now.setup) (state_of self.now) }
+    {
+        for role in 0..self.setup.roles() {
+            if !self.done(RoleId(role)) {
+                return false;
+            }
+        }
+        true
+    }
+
+    /// Whether the session is at its end, and at which.
+    pub fn final_state(&self) -> Outcome
+        ensures { IsOutcome self.now result }
+    {
+        if self.one_thread_step().is_some() {
+            return Outcome::More;
+        }
+        if self.all_done() {
+            Outcome::Completed
+        } else {
+            Outcome::Limited
+        }
+    }
+
+    // The Send of the role's next point, if its channel has room.
+    fn send(&self, role: RoleId, point: Point, clock: u64) -> Option<Entry>
+        requires { IsNextSend self.now role point clock }
+        ensures { MatchOption result (CanAct (rules_of self.now.setup) (state_of self.now) role → ⊥) (λ e. IsActOf (rules_of self.now.setup) (state_of self.now) role e) }
+    {
+        let (put, taken) = self.channels.counts(role, self.setup.receiver(point));
+        if put - taken >= ROOM {
+            return None;
+        }
+        Some(Entry::Send(Event {
+            role,
+            dir: Dir::Sent,
+            point,
+            value: 0,
+            stamp: clock + 1,
+            sent: clock + 1,
+        }))
+    }
+
+    // The Recv of the role's next point, if its message is in front of its channel.
+    fn recv(&self, role: RoleId, point: Point, clock: u64) -> Option<Entry>
+        requires { IsNextRecv self.now role point clock }
+        ensures { MatchOption result (CanAct (rules_of self.now.setup) (state_of self.now) role → ⊥) (λ e. IsActOf (rules_of self.now.setup) (state_of self.now) role e) }
+    {
+        let Some(message) = self.channels.front(self.setup.sender(point), role) else {
+            return None;
+        };
+        if message.point != point {
+            return None;
+        }
+        Some(Entry::Recv(Event {
+            role,
+            dir: Dir::Got,
+            point,
+            value: message.value,
+            stamp: clock.max(message.stamp) + 1,
+            sent: message.stamp,
+        }))
+    }
+
+    fn push_send(&mut self, event: &Event) -> Result<(), AllocError>
+        requires { MaySend (rules_of self.old.setup) (state_of self.old) event.now }
+        ensures ok { OnOk result (self.new ≡ record { setup = self.old.setup; entries = self.old.entries ++ Send event.now ∷ [] }) }
+        ensures err { OnErr result (self.new ≡ self.old) }
+    {
+        let receiver = self.setup.receiver(event.point);
+        record_send(
+            &mut self.entries,
+            &mut self.channels,
+            &mut self.standings,
+            receiver,
+            event,
+        )
+    }
+
+    fn push_recv(&mut self, event: &Event) -> Result<(), AllocError>
+        requires { MayRecv (rules_of self.old.setup) (state_of self.old) event.now }
+        ensures ok { OnOk result (self.new ≡ record { setup = self.old.setup; entries = self.old.entries ++ Recv event.now ∷ [] }) }
+        ensures err { OnErr result (self.new ≡ self.old) }
+    {
+        let sender = self.setup.sender(event.point);
+        record_recv(
+            &mut self.entries,
+            &mut self.channels,
+            &mut self.standings,
+            sender,
+            event,
+        )
+    }
+}
