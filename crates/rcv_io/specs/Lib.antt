@@ -1,0 +1,5 @@
+pub mod Causes
+pub mod Memory
+pub mod Sink
+pub mod Source
+pub mod Streams
