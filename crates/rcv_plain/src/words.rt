@@ -1,0 +1,61 @@
+// What a token says, and which words are no names.
+
+ghost use Rattle.std.specs.Prelude.{◌≡◌, slice_range, true, false};
+ghost use Rattle.rcv_lexer.specs.Parts.{LiesIn};
+ghost use Rattle.rcv_plain.specs.Lexemes.{lexeme_of, lexeme_by, IsPlainKind};
+ghost use Rattle.rcv_plain.specs.PlainText.{plain_words, other_words, is_reserved};
+ghost use Rattle.std.specs.List.{list_any};
+ghost use Rattle.std.specs.Str.{bytes_eq};
+
+use rcv_lexer::token::{Kind, Token};
+
+/// Whether the word is no name.
+pub fn is_reserved(word: &[u8]) -> bool
+    ensures { result ≡ is_reserved word.now }
+{
+    is_plain_word(word) || is_other_word(word)
+}
+
+// A word of plain text.
+fn is_plain_word(word: &[u8]) -> bool
+    ensures { result ≡ list_any (bytes_eq word.now) plain_words }
+{
+    word == b"module"
+        || word == b"global"
+        || word == b"protocol"
+        || word == b"role"
+        || word == b"from"
+        || word == b"to"
+}
+
+// A word of another statement.
+fn is_other_word(word: &[u8]) -> bool
+    ensures { result ≡ list_any (bytes_eq word.now) other_words }
+{
+    word == b"choice"
+        || word == b"at"
+        || word == b"or"
+        || word == b"rec"
+        || word == b"continue"
+        || word == b"par"
+        || word == b"and"
+        || word == b"do"
+}
+
+/// The bytes of a token.
+pub fn bytes_of<'a>(bundle: &'a [u8], token: Token) -> &'a [u8]
+    requires { LiesIn bundle.now token.span }
+    ensures { result.now ≡ slice_range bundle.now token.span.start token.span.end }
+{
+    &bundle[token.span.start..token.span.end]
+}
+
+/// Whether the token is of this kind, a word or a mark, and has these bytes.
+pub fn says(bundle: &[u8], token: Token, kind: Kind, bytes: &[u8]) -> bool
+    requires lies { LiesIn bundle.now token.span }
+    requires kind { IsPlainKind kind }
+    ensures yes { result ≡ true → lexeme_of bundle.now token ≡ lexeme_by kind bytes.now }
+    ensures no { result ≡ false → lexeme_of bundle.now token ≡ lexeme_by kind bytes.now → ⊥ }
+{
+    token.kind == kind && bytes_of(bundle, token) == bytes
+}
