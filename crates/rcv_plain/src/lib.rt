@@ -15,3 +15,6 @@ pub use plain::read_plain;
 pub fn one_plain_protocol()
     ensures { OnePlainProtocol }
 {}
+
+#[cfg(test)]
+mod tests;

@@ -1,6 +1,6 @@
 // Takes the tokens of a plain protocol, one after another.
 
-ghost use Rattle.std.specs.Prelude.{◌≡◌, ◌≢◌, ◌+◌, ◌<◌, ◌≤◌, [], ◌∷◌, length, IfOk, IfErr, OnOk, MatchResult, true, false, codes};
+ghost use Rattle.std.specs.Prelude.{◌≡◌, ◌≢◌, ◌+◌, ◌<◌, ◌≤◌, [], ◌∷◌, ◌++◌, length, IfOk, IfErr, OnOk, MatchResult, true, false, codes};
 ghost use Rattle.rcv_lexer.specs.declared.token.Kind.TheVariants.{Word, Mark};
 ghost use Rattle.rcv_model.specs.Text.{body_of};
 ghost use Rattle.rcv_plain.specs.Lexemes.{AWord, AMark, lexeme_by, lexemes_of, LieIn, IsPlainKind};
@@ -188,7 +188,7 @@ impl<'a> Reader<'a> {
     {
         self.word(b"role")?;
         let name = self.name(alloc)?;
-        if roles.as_slice().len() == 8 || holds(roles, &name) {
+        if !may_join(roles, &name) {
             return Err(PlainError::NotPlain);
         }
         roles.push(name)?;
@@ -244,6 +244,15 @@ impl<'a> Reader<'a> {
             point,
         })
     }
+}
+
+// Whether one more role may have this name.
+fn may_join(roles: &Names, name: &Name) -> bool
+    requires { AreRoles roles.now }
+    ensures yes { result ≡ true → IsName name.now → AreRoles (roles.now ++ name.now ∷ []) }
+    ensures no { result ≡ false → AreRoles (roles.now ++ name.now ∷ []) → ⊥ }
+{
+    roles.as_slice().len() < 8 && !holds(roles, name)
 }
 
 // Whether the name is among the roles.

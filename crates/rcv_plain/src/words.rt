@@ -16,30 +16,37 @@ pub fn is_reserved(word: &[u8]) -> bool
     is_plain_word(word) || is_other_word(word)
 }
 
+// Whether the two are the same.
+fn is(word: &[u8], other: &[u8]) -> bool
+    ensures { result ≡ bytes_eq word.now other.now }
+{
+    word == other
+}
+
 // A word of plain text.
 fn is_plain_word(word: &[u8]) -> bool
     ensures { result ≡ list_any (bytes_eq word.now) plain_words }
 {
-    word == b"module"
-        || word == b"global"
-        || word == b"protocol"
-        || word == b"role"
-        || word == b"from"
-        || word == b"to"
+    is(word, b"module")
+        || is(word, b"global")
+        || is(word, b"protocol")
+        || is(word, b"role")
+        || is(word, b"from")
+        || is(word, b"to")
 }
 
 // A word of another statement.
 fn is_other_word(word: &[u8]) -> bool
     ensures { result ≡ list_any (bytes_eq word.now) other_words }
 {
-    word == b"choice"
-        || word == b"at"
-        || word == b"or"
-        || word == b"rec"
-        || word == b"continue"
-        || word == b"par"
-        || word == b"and"
-        || word == b"do"
+    is(word, b"choice")
+        || is(word, b"at")
+        || is(word, b"or")
+        || is(word, b"rec")
+        || is(word, b"continue")
+        || is(word, b"par")
+        || is(word, b"and")
+        || is(word, b"do")
 }
 
 /// The bytes of a token.

@@ -1,0 +1,4 @@
+pub mod Since
+pub mod Roles
+pub mod Messages
+pub mod Whole
