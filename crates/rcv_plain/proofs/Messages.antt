@@ -5,13 +5,12 @@ use Rattle.std.proofs.lemmas.Bool.{cases_eq}
 use Rattle.rcv_tree.specs.Lists.{statements}
 use Rattle.rcv_tree.specs.declared.statement.Block.{Block}
 use Rattle.rcv_tree.specs.declared.statement.Stmt.{Stmt}
-use Rattle.rcv_tree.specs.declared.statement.Stmt.TheVariants.{Message}
 use Rattle.rcv_model.specs.Text.{Body, End, Single, Choose, Loop, Again, Beside, Call, joined, stmt_body, body_of}
-use Rattle.rcv_model.specs.Places.{Single_at, singles}
-use Rattle.rcv_model.specs.Form.{IsNumberedFrom, HaveEnds, HasForm}
+use Rattle.rcv_model.specs.Places.{singles}
+use Rattle.rcv_model.specs.Form.{IsNumberedFrom, HaveEnds}
 use Rattle.rcv_model.specs.Plain.{IsPlain}
 use Rattle.rcv_model.proofs.Text.{body_of_lem, stmt_body-Message}
-use Rattle.rcv_plain.specs.Lexemes.{Lexeme, AWord, AMark}
+use Rattle.rcv_plain.specs.Lexemes.{Lexeme, AMark}
 use Rattle.rcv_plain.specs.Spelling.{name_at, message, messages}
 use Rattle.rcv_plain.specs.PlainText.{IsName, AreDistinct, AreRoles, HaveLabels, IsPlainBody}
 use Rattle.rcv_plain.specs.Reading.{IsNotNext, IsMessage, NoMessage, NoBody}
@@ -190,10 +189,9 @@ pub messages_are : (roles : List (List ℕ)) (b : Block) (count : ℕ) (start no
 messages_are roles b count start now new fit so_far e =
     let is : body_of b ≡ in_front 1 so_far.lines End = body_of_lem b ∙ sym (joined_fronted (statements b)) ∙ so_far.are End in
     let counted = so_far.counted in
-    let few = so_far.few in
-    (
+    let few = so_far.few in (
       subst (IsPlainBody (length roles)) (sym is) (front_is_body (length roles) so_far.lines fit.few (omega arith) so_far.fit),
-      so_far.spelled ∙ ap (said roles so_far.lines) e ∙ sym (messages_said roles 1 so_far.lines (AMark (codes "}") ∷ new)) ∙ sym (ap (λ (x : Body). messages roles x (AMark (codes "}") ∷ new)) is)
+      so_far.spelled ∙ ap (said roles so_far.lines) e ∙ sym (messages_said roles 1 so_far.lines (AMark (codes "}") ∷ new)) ∙ sym (ap (λ (x : Body). messages roles x (AMark (codes "}") ∷ new)) is),
     )
 
 -- what is left of any plain body that the text may be

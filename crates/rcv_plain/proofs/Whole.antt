@@ -1,5 +1,5 @@
 -- The whole text.
-use Rattle.std.proofs.Common.{◌≡◌, ◌≢◌, ℕ, ◌≤◌, List, [], ◌∷◌, length, Result, Ok, Err, refl, sym, ap, subst, ◌∙◌}
+use Rattle.std.proofs.Common.{◌≡◌, ◌≢◌, ℕ, List, [], ◌∷◌, length, Result, Ok, Err, refl, sym, ap, subst, ◌∙◌}
 use Rattle.std.specs.Prelude.{codes, IfOk, IfErr, MatchResult}
 use Rattle.std.specs.List.{All}
 use Rattle.std.proofs.lemmas.List.Elements.{All-head, All-tail}
@@ -11,8 +11,8 @@ use Rattle.rcv_lexer.specs.Tokens.{AreTokens, IsLetter}
 use Rattle.rcv_lexer.proofs.Once.{one_reading}
 use Rattle.rcv_plain.specs.declared.fault.PlainError.{PlainError}
 use Rattle.rcv_plain.specs.declared.fault.PlainError.TheVariants as errors
-use Rattle.rcv_plain.specs.Lexemes.{Lexeme, AWord, AMark, LieIn, whole, lexemes_of}
-use Rattle.rcv_plain.specs.Spelling.{role_list, messages, spelling}
+use Rattle.rcv_plain.specs.Lexemes.{Lexeme, AMark, LieIn, whole, lexemes_of}
+use Rattle.rcv_plain.specs.Spelling.{role_list, messages}
 use Rattle.rcv_plain.specs.PlainText.{AreRoles, IsPlainBody, IsSpelled, HasNoSlash, IsPlainText, IsRefused}
 use Rattle.rcv_plain.specs.Reading.{Since, IsNotNext, head, NoBody, NoProtocol}
 use Rattle.rcv_plain.specs.Laws.{SaySame, OnePlainProtocol}

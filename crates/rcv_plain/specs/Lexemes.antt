@@ -6,17 +6,18 @@ use Rattle.rcv_lexer.specs.declared.token.Span.{Span}
 use Rattle.rcv_lexer.specs.declared.token.Token.{Token}
 use Rattle.rcv_lexer.specs.Parts.{LiesIn, span}
 
--- A word or a mark with its bytes. Plain text has nothing else.
+-- What a token is, with its bytes.
 pub data Lexeme : Type 0 where
   AWord : (bytes : List ℕ) → Lexeme
+  ANumber : (bytes : List ℕ) → Lexeme
+  AText : (bytes : List ℕ) → Lexeme
   AMark : (bytes : List ℕ) → Lexeme
-  Other : Lexeme
 
 abbrev pub lexeme_by : Kind → List ℕ → Lexeme
 lexeme_by Word bytes = AWord bytes
+lexeme_by Number bytes = ANumber bytes
+lexeme_by Text bytes = AText bytes
 lexeme_by Mark bytes = AMark bytes
-lexeme_by Number bytes = Other
-lexeme_by Text bytes = Other
 
 -- what a token of the bundle says
 abbrev pub lexeme_of : List ℕ → Token → Lexeme
@@ -29,13 +30,7 @@ lexemes_of bundle tokens = map (lexeme_of bundle) tokens
 abbrev pub whole : List ℕ → Span
 whole bundle = span 0 (length bundle)
 
--- each token lies in the bundle
+-- each of the tokens lies in the bundle
 abbrev pub LieIn : List ℕ → List Token → Type 0
 LieIn bundle [] = Unit {0}
 LieIn bundle (t ∷ ts) = LiesIn bundle t.span × LieIn bundle ts
-
--- the kinds of plain text
-abbrev pub IsPlainKind : Kind → Type 0
-IsPlainKind Word = Unit {0}
-IsPlainKind Mark = Unit {0}
-IsPlainKind _ = ⊥

@@ -1,6 +1,6 @@
 -- How a plain protocol is spelled, one clause for each production, each in front of what follows.
 use Rattle.std.specs.Prelude.{ℕ, codes, List, [], ◌∷◌, slice_index_or}
-use Rattle.rcv_model.specs.Text.{Body, End, Single, Choose, Loop, Again, Beside, Call}
+use Rattle.rcv_model.specs.Text.{Body, Single}
 use Rattle.rcv_plain.specs.Lexemes.{Lexeme, AWord, AMark}
 
 -- the name of a role, which is given by its place

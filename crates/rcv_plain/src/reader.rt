@@ -3,7 +3,7 @@
 ghost use Rattle.std.specs.Prelude.{◌≡◌, ◌≢◌, ◌+◌, ◌<◌, ◌≤◌, [], ◌∷◌, ◌++◌, length, IfOk, IfErr, OnOk, MatchResult, true, false, codes};
 ghost use Rattle.rcv_lexer.specs.declared.token.Kind.TheVariants.{Word, Mark};
 ghost use Rattle.rcv_model.specs.Text.{body_of};
-ghost use Rattle.rcv_plain.specs.Lexemes.{AWord, AMark, lexeme_by, lexemes_of, LieIn, IsPlainKind};
+ghost use Rattle.rcv_plain.specs.Lexemes.{AWord, AMark, lexeme_by, lexemes_of, LieIn};
 ghost use Rattle.rcv_plain.specs.Spelling.{name_at, messages, role_list};
 ghost use Rattle.rcv_plain.specs.PlainText.{IsName, AreDistinct, AreRoles, IsPlainBody, IsSpelled};
 ghost use Rattle.rcv_plain.specs.Reading.{Since, IsNotNext, NoName, NoRole, IsHeld, head, NoHead, AddsRole, NoMoreRole, NoRoles, IsMessage, NoMessage, NoBody, NoProtocol};
@@ -49,17 +49,16 @@ impl<'a> Reader<'a> {
         }
     }
 
-    /// Whether nothing is left.
-    pub fn is_done(&self) -> bool
+    // Whether nothing is left.
+    fn is_done(&self) -> bool
         ensures done { result ≡ true → self.now ≡ [] }
         ensures more { result ≡ false → self.now ≢ [] }
     {
         self.rest.is_empty()
     }
 
-    /// Takes the next token if it is of this kind and has these bytes.
-    pub fn takes(&mut self, kind: Kind, bytes: &[u8]) -> bool
-        requires { IsPlainKind kind }
+    // Takes the next token if it is of this kind and has these bytes.
+    fn takes(&mut self, kind: Kind, bytes: &[u8]) -> bool
         ensures yes { result ≡ true → self.old ≡ lexeme_by kind bytes.now ∷ self.new }
         ensures no { result ≡ false → (self.new ≡ self.old) × IsNotNext (lexeme_by kind bytes.now) self.old }
     {
@@ -73,8 +72,8 @@ impl<'a> Reader<'a> {
         true
     }
 
-    /// Takes this word.
-    pub fn word(&mut self, word: &[u8]) -> Result<(), PlainError>
+    // Takes this word.
+    fn word(&mut self, word: &[u8]) -> Result<(), PlainError>
         ensures ok { OnOk result (self.old ≡ AWord word.now ∷ self.new) }
         ensures err { IfErr result (λ e. Since e (IsNotNext (AWord word.now) self.old)) }
     {
@@ -85,8 +84,8 @@ impl<'a> Reader<'a> {
         }
     }
 
-    /// Takes this mark.
-    pub fn mark(&mut self, mark: &[u8]) -> Result<(), PlainError>
+    // Takes this mark.
+    fn mark(&mut self, mark: &[u8]) -> Result<(), PlainError>
         ensures ok { OnOk result (self.old ≡ AMark mark.now ∷ self.new) }
         ensures err { IfErr result (λ e. Since e (IsNotNext (AMark mark.now) self.old)) }
     {
@@ -97,8 +96,8 @@ impl<'a> Reader<'a> {
         }
     }
 
-    /// Takes a name.
-    pub fn name(&mut self, alloc: Global) -> Result<Name, PlainError>
+    // Takes a name.
+    fn name(&mut self, alloc: Global) -> Result<Name, PlainError>
         ensures ok { IfOk result (λ name. IsName name × (self.old ≡ AWord name ∷ self.new)) }
         ensures err { IfErr result (λ e. Since e (NoName self.old)) }
     {
@@ -114,8 +113,8 @@ impl<'a> Reader<'a> {
         Ok(name)
     }
 
-    /// Takes the name of a declared role, and gives its place.
-    pub fn role(&mut self, roles: &Names) -> Result<RoleId, PlainError>
+    // Takes the name of a declared role, and gives its place.
+    fn role(&mut self, roles: &Names) -> Result<RoleId, PlainError>
         requires { length roles.now ≤ 8 }
         ensures ok { IfOk result (λ role. (role < length roles.now) × (self.old ≡ AWord (name_at roles.now role) ∷ self.new)) }
         ensures err { IfErr result (λ e. Since e (NoRole roles.now self.old)) }
@@ -128,7 +127,8 @@ impl<'a> Reader<'a> {
         Err(PlainError::NotPlain)
     }
 
-    /// Takes a whole protocol, up to the end.
+    /// Takes a whole protocol, up to the end of the bundle. `NotPlain` where the tokens are those of no plain protocol,
+    /// `Memory` where no memory is left.
     pub fn protocol(&mut self, alloc: Global) -> Result<Protocol, PlainError>
         ensures ok { IfOk result (λ p. IsSpelled p self.old) }
         ensures err { IfErr result (λ e. Since e (NoProtocol self.old)) }
@@ -215,12 +215,7 @@ impl<'a> Reader<'a> {
     }
 
     // Takes one message.
-    fn message(
-        &mut self,
-        alloc: Global,
-        roles: &Names,
-        point: Point,
-    ) -> Result<Stmt, PlainError>
+    fn message(&mut self, alloc: Global, roles: &Names, point: Point) -> Result<Stmt, PlainError>
         requires { AreRoles roles.now }
         ensures ok { IfOk result (λ s. IsMessage roles.now point s self.old self.new) }
         ensures err { IfErr result (λ e. Since e (NoMessage roles.now self.old)) }

@@ -2,7 +2,7 @@
 
 ghost use Rattle.std.specs.Prelude.{◌≡◌, slice_range, true, false};
 ghost use Rattle.rcv_lexer.specs.Parts.{LiesIn};
-ghost use Rattle.rcv_plain.specs.Lexemes.{lexeme_of, lexeme_by, IsPlainKind};
+ghost use Rattle.rcv_plain.specs.Lexemes.{lexeme_of, lexeme_by};
 ghost use Rattle.rcv_plain.specs.PlainText.{plain_words, other_words, is_reserved};
 ghost use Rattle.std.specs.List.{list_any};
 ghost use Rattle.std.specs.Str.{bytes_eq};
@@ -57,10 +57,9 @@ pub fn bytes_of<'a>(bundle: &'a [u8], token: Token) -> &'a [u8]
     &bundle[token.span.start..token.span.end]
 }
 
-/// Whether the token is of this kind, a word or a mark, and has these bytes.
+/// Whether the token is of this kind and has these bytes.
 pub fn says(bundle: &[u8], token: Token, kind: Kind, bytes: &[u8]) -> bool
-    requires lies { LiesIn bundle.now token.span }
-    requires kind { IsPlainKind kind }
+    requires { LiesIn bundle.now token.span }
     ensures yes { result ≡ true → lexeme_of bundle.now token ≡ lexeme_by kind bytes.now }
     ensures no { result ≡ false → lexeme_of bundle.now token ≡ lexeme_by kind bytes.now → ⊥ }
 {

@@ -1,5 +1,4 @@
 use Rattle.std.proofs.lemmas.Result.{err_from_is_err_and}
-use Rattle.std.proofs.lemmas.Bool.{eqb-true}
 use Rattle.rcv_plain.proofs.Since.{since_from}
 use Rattle.rcv_plain.proofs.Messages.{messages_next, messages_are, none_at_256, none_at_message}
 use Rattle.rcv_plain.proofs.reader.Reader.messages.Goals as goal
