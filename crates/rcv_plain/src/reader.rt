@@ -1,11 +1,10 @@
 // Takes the tokens of a plain protocol, one after another.
 
-ghost use Rattle.std.specs.Prelude.{◌≡◌, ◌≢◌, ◌+◌, ◌<◌, ◌≤◌, [], ◌∷◌, ◌++◌, length, IfOk, IfErr, OnOk, MatchResult, true, false, codes};
-ghost use Rattle.rcv_lexer.specs.declared.token.Kind.TheVariants.{Word, Mark};
+ghost use Rattle.std.specs.Prelude.{◌≡◌, ◌≢◌, ◌<◌, ◌≤◌, [], ◌∷◌, ◌++◌, length, IfOk, IfErr, OnOk, true, false, codes};
 ghost use Rattle.rcv_model.specs.Text.{body_of};
 ghost use Rattle.rcv_plain.specs.Lexemes.{AWord, AMark, lexeme_by, lexemes_of, LieIn};
 ghost use Rattle.rcv_plain.specs.Spelling.{name_at, messages, role_list};
-ghost use Rattle.rcv_plain.specs.PlainText.{IsName, AreDistinct, AreRoles, IsPlainBody, IsSpelled};
+ghost use Rattle.rcv_plain.specs.PlainText.{IsName, AreRoles, IsPlainBody, IsSpelled};
 ghost use Rattle.rcv_plain.specs.Reading.{Since, IsNotNext, NoName, NoRole, IsHeld, head, NoHead, AddsRole, NoMoreRole, NoRoles, IsMessage, NoMessage, NoBody, NoProtocol};
 
 use crate::fault::PlainError;

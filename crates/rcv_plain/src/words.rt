@@ -1,11 +1,11 @@
 // What a token says, and which words are no names.
 
 ghost use Rattle.std.specs.Prelude.{◌≡◌, slice_range, true, false};
+ghost use Rattle.std.specs.List.{list_any};
+ghost use Rattle.std.specs.Str.{bytes_eq};
 ghost use Rattle.rcv_lexer.specs.Parts.{LiesIn};
 ghost use Rattle.rcv_plain.specs.Lexemes.{lexeme_of, lexeme_by};
 ghost use Rattle.rcv_plain.specs.PlainText.{plain_words, other_words, is_reserved};
-ghost use Rattle.std.specs.List.{list_any};
-ghost use Rattle.std.specs.Str.{bytes_eq};
 
 use rcv_lexer::token::{Kind, Token};
 
