@@ -1,0 +1,4 @@
+pub mod Fitting
+pub mod Scanning
+pub mod Once
+pub mod Examples

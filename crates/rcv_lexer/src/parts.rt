@@ -1,0 +1,136 @@
+// The parts of a bundle.
+
+ghost use Rattle.std.specs.Prelude.{◌≡◌, ◌+◌, ◌^◌, ◌≤◌, ◌<◌, length, IfSome, true};
+ghost use Rattle.rcv_lexer.specs.Parts.{LiesIn, line_end, line_of, scripts_word, plan_word, here, plan_here, first_from, parts_of, span};
+
+use crate::token::Span;
+
+/// The parts of a bundle: what stands before, between and behind its separator lines. One that is missing is empty.
+#[derive(Clone, Copy, Debug, PartialEq, Eq)]
+pub struct Parts {
+    pub protocol: Span,
+    pub scripts: Span,
+    pub plan: Span,
+}
+
+/// A line that begins a part: where it stands, where the part begins behind it, and whether that is the plan.
+#[derive(Clone, Copy, Debug, PartialEq, Eq)]
+pub struct Separator {
+    pub place: usize,
+    pub behind: usize,
+    pub plan: bool,
+}
+
+// Behind n bytes of a line: how long the line is with its end, where it ends here.
+fn line_end(n: usize, text: &[u8]) -> Option<usize>
+    requires { n + length text.now < 2 ^ 63 }
+    ensures is { result ≡ line_end n text.now }
+    ensures within { IfSome result (λ m. m ≤ n + length text.now) }
+{
+    match text {
+        [] => Some(n),
+        [b'\n', ..] => Some(n + 1),
+        [b'\r', b'\n', ..] => Some(n + 2),
+        _ => None,
+    }
+}
+
+// How long the first line is with its end, where it is exactly this word.
+fn line_of(word: &[u8], text: &[u8]) -> Option<usize>
+    ensures is { result ≡ line_of word.now text.now }
+    ensures within { IfSome result (λ m. m ≤ length text.now) }
+{
+    if text.starts_with(word) {
+        line_end(word.len(), &text[word.len()..])
+    } else {
+        None
+    }
+}
+
+// The separator that begins a text at a place, where a line begins there.
+fn here(scripts: bool, fresh: bool, place: usize, text: &[u8]) -> Option<Separator>
+    requires { place + length text.now < 2 ^ 63 }
+    ensures is { result ≡ here scripts fresh place text.now }
+    ensures within { IfSome result (λ s. (s.place ≡ place) × (s.place ≤ s.behind) × (s.behind ≤ place + length text.now)) }
+{
+    if !fresh {
+        return None;
+    }
+    if scripts && let Some(len) = line_of(b"%% scripts", text) {
+        return Some(Separator {
+            place,
+            behind: place + len,
+            plan: false,
+        });
+    }
+    let len = line_of(b"%% plan", text)?;
+    Some(Separator {
+        place,
+        behind: place + len,
+        plan: true,
+    })
+}
+
+// The first separator of a text that begins with a line, at a place.
+fn first_from(scripts: bool, place: usize, text: &[u8]) -> Option<Separator>
+    requires { place + length text.now < 2 ^ 63 }
+    ensures is { result ≡ first_from scripts true place text.now }
+    ensures within { IfSome result (λ s. (place ≤ s.place) × (s.place ≤ s.behind) × (s.behind ≤ place + length text.now)) }
+{
+    let mut rest = text;
+    let mut at = place;
+    let mut fresh = true;
+    while let [first, after @ ..] = rest {
+        if let Some(found) = here(scripts, fresh, at, rest) {
+            return Some(found);
+        }
+        fresh = *first == b'\n';
+        at += 1;
+        rest = after;
+    }
+    None
+}
+
+fn span(start: usize, end: usize) -> Span
+    ensures { result ≡ span start end }
+{
+    Span { start, end }
+}
+
+/// The parts of a bundle. The scripts begin behind the first line `%% scripts`, the plan behind the first line
+/// `%% plan`, and the scripts come first. It takes no memory.
+pub fn split(bundle: &[u8]) -> Parts
+    ensures parts { result ≡ parts_of bundle.now }
+    ensures protocol { LiesIn bundle.now result.protocol }
+    ensures scripts { LiesIn bundle.now result.scripts }
+    ensures plan { LiesIn bundle.now result.plan }
+{
+    let end = bundle.len();
+    let Some(first) = first_from(true, 0, bundle) else {
+        return Parts {
+            protocol: span(0, end),
+            scripts: span(end, end),
+            plan: span(end, end),
+        };
+    };
+    let protocol = span(0, first.place);
+    if first.plan {
+        return Parts {
+            protocol,
+            scripts: span(first.place, first.place),
+            plan: span(first.behind, end),
+        };
+    }
+    match first_from(false, first.behind, &bundle[first.behind..]) {
+        None => Parts {
+            protocol,
+            scripts: span(first.behind, end),
+            plan: span(end, end),
+        },
+        Some(second) => Parts {
+            protocol,
+            scripts: span(first.behind, second.place),
+            plan: span(second.behind, end),
+        },
+    }
+}

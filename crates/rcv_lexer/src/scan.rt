@@ -1,0 +1,60 @@
+// The tokens of a part.
+
+ghost use Rattle.std.specs.Prelude.{◌≡◌, ◌+◌, ◌^◌, ◌≤◌, ◌<◌, ◌==◌, ◌++◌, length, count_by, IfOk, IfErr, OnOk, MatchResult};
+ghost use Rattle.std.specs.List.{All};
+ghost use Rattle.rcv_lexer.specs.Parts.{LiesIn};
+ghost use Rattle.rcv_lexer.specs.Tokens.{AreTokens, IsRefused, token_at};
+
+use crate::piece::{Piece, piece_at};
+use crate::token::{Span, TextError, Token};
+use rcv_tree::refusal::Refusal;
+use std::alloc::Global;
+
+fn line_feeds(bytes: &[u8]) -> u32
+    requires { length bytes.now < 2 ^ 32 }
+    ensures { result ≡ count_by (λ b. b == 10) bytes.now }
+{
+    bytes.iter().filter(|byte| **byte == b'\n').count() as u32
+}
+
+// Adds the token of a piece that begins at a place and on a line. Separators and comments have none.
+fn add(list: &mut Vec<Token>, piece: Piece, start: usize, line: u32) -> Result<(), TextError>
+    requires { start + piece.len < 2 ^ 32 }
+    ensures ok { OnOk result (list.new.items ≡ list.old.items ++ token_at start line piece.len piece.token) }
+    ensures err { IfErr result (λ e. e ≡ TextError.Memory) }
+{
+    if let Some(kind) = piece.token {
+        let span = Span {
+            start,
+            end: start + piece.len,
+        };
+        list.push(Token { kind, span, line })?;
+    }
+    Ok(())
+}
+
+/// The tokens of a part of the bundle, in order.
+///
+/// Refused with code 10 and a line where a byte can begin neither a token nor a separator nor a comment, or what it
+/// begins is not whole, as a text without its second quote, a comment without its end or a word of 65 bytes: the line
+/// is that of the byte. `Memory` where the list can't grow.
+pub fn tokens(alloc: Global, bundle: &[u8], part: Span) -> Result<Vec<Token>, TextError>
+    requires short { length bundle.now + 1 < 2 ^ 32 }
+    requires inside { LiesIn bundle.now part }
+    ensures tokens { MatchResult result (λ v. AreTokens bundle.now part v.items) (IsRefused bundle.now part) }
+    ensures within { IfOk result (λ v. All (λ t. LiesIn bundle.now t.span) v.items) }
+{
+    let mut list = Vec::new(alloc);
+    let mut place = part.start;
+    let mut line = 1 + line_feeds(&bundle[..place]);
+    while place < part.end {
+        let Some(piece) = piece_at(&bundle[place..part.end]) else {
+            return Err(TextError::Refused(Refusal::Text { code: 10, line }));
+        };
+        let end = place + piece.len;
+        add(&mut list, piece, place, line)?;
+        line += line_feeds(&bundle[place..end]);
+        place = end;
+    }
+    Ok(list)
+}

@@ -1,0 +1,5 @@
+pub mod Lexemes
+pub mod Spelling
+pub mod PlainText
+pub mod Reading
+pub mod Laws
