@@ -1,5 +1,5 @@
 -- What holds of the definitions.
-use Rattle.std.specs.Prelude.{◌≡◌, ℕ, ◌*◌, ◌≤◌, ◌↔◌, Bool, true, Some, List, [], ◌∷◌, ◌++◌, length, slice_get}
+use Rattle.std.specs.Prelude.{◌≡◌, ℕ, ◌*◌, ◌<◌, ◌≤◌, ◌⊎◌, ◌↔◌, Bool, true, Some, List, [], ◌∷◌, ◌++◌, length, slice_get}
 use Rattle.std.specs.List.Sorted.{IsStrictlyIncreasing}
 use Rattle.rcv_tree.specs.declared.event.Event.{Event}
 use Rattle.rcv_tree.specs.declared.entry.Entry.{Entry}
@@ -15,9 +15,10 @@ use Rattle.rcv_model.specs.Places.{Spot, Offers, offers_at, spot_of, net_of, IsF
 use Rattle.rcv_model.specs.Text.{Body}
 use Rattle.rcv_model.specs.Accept.{HasSubjects, Fails, IsDecided, IsRefusal}
 use Rattle.rcv_model.specs.Form.{HasForm}
+use Rattle.rcv_model.specs.Script.{Line, chosen_by}
 use Rattle.rcv_model.specs.Plain.{IsPlain, bare_rules, HasNoCrashes}
 use Rattle.rcv_model.specs.Numbers.{IsBounded}
-use Rattle.rcv_model.specs.Final.{IsFinal, IsCompleted, IsStep, IsOneThread}
+use Rattle.rcv_model.specs.Final.{IsFinal, AreDone, IsCompleted, HasOneAtLimit, ChoosesOffered, IsStep, IsOneThread}
 use Rattle.rcv_model.specs.Journal.{Rules, State, MaySend, MayRecv, May, reading, events_of, IsLegal, KeepsRuns}
 
 -- After each entry of a legal journal of an accepted protocol the kept events are a run.
@@ -167,3 +168,17 @@ BareJournalsHaveNoCrashes =
 abbrev pub PlainJournalsComplete : Type 0
 PlainJournalsComplete =
     (body : Body) (roles : ℕ) (journal : List Entry) → IsPlain body → HasForm body roles → IsLegal (bare_rules body roles) journal → IsFinal (bare_rules body roles) (reading (bare_rules body roles) journal) → IsCompleted (bare_rules body roles) (reading (bare_rules body roles) journal)
+
+-- Each role has its list of next points at each place.
+abbrev pub NextListsExist : Type 0
+NextListsExist = (net : Net) (roles r k : ℕ) → IsProper net roles → (zs : List ℕ) × AreNext net r k zs
+
+-- What a role with a script chooses is one of the offered points.
+abbrev pub ScriptsChooseOffered : Type 0
+ScriptsChooseOffered =
+    (net : Net) (scripts : ℕ → List Line) (r : ℕ) (events : List Event) (attempt : ℕ) (zs : List ℕ) → (zs ≡ [] → ⊥) → IsIn (chosen_by net scripts r events attempt zs) zs
+
+-- Where a legal journal of an accepted protocol is final, all roles are done, or one that isn't has come to the limit.
+abbrev pub FinalIsDoneOrLimited : Type 0
+FinalIsDoneOrLimited =
+    (rules : Rules) (journal : List Entry) → IsProper rules.net rules.roles → IsAccepted rules.net rules.roles → ChoosesOffered rules → 0 < rules.room → IsLegal rules journal → IsFinal rules (reading rules journal) → AreDone rules (reading rules journal) ⊎ HasOneAtLimit rules (reading rules journal)
