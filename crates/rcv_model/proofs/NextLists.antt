@@ -48,27 +48,27 @@ in_range a zero p le lt = absurd (omega arith)
 in_range a (suc n) p le lt = ⊎_elim (λ e. inl e) (λ m. inr (in_range (a + 1) n p (omega (arith, m)) (omega arith))) (cases_eq p a)
 
 module _ (net : Net) (r : ℕ) where
-  is_of : ℕ → Bool
+  pub is_of : ℕ → Bool
   is_of p = (net.sender p == r) || (net.receiver p == r)
 
-  of_yes : (p : ℕ) → is_of p ≡ true → IsOf net r p
+  pub of_yes : (p : ℕ) → is_of p ≡ true → IsOf net r p
   unfolding is_of
   of_yes p t = ⊎_elim (λ e. inl e) (λ n. ⊎_elim (λ e. inr e) (λ m. absurd (grind (arith, nat_tests))) (cases_eq (net.receiver p) r)) (cases_eq (net.sender p) r)
 
-  of_true : (p : ℕ) → IsOf net r p → is_of p ≡ true
+  pub of_true : (p : ℕ) → IsOf net r p → is_of p ≡ true
   unfolding is_of
   of_true p (inl e) = grind (arith, nat_tests)
   of_true p (inr e) = grind (arith, nat_tests)
 
   -- the points on the way, and the role's own behind these places
-  others : ℕ → List ℕ
+  pub others : ℕ → List ℕ
   others k = filter (λ p. not (is_of p)) (net.offers k)
 
-  to_others : (k p : ℕ) → IsIn p (net.offers k) → (IsOf net r p → ⊥) → In p (others k)
+  pub to_others : (k p : ℕ) → IsIn p (net.offers k) → (IsOf net r p → ⊥) → In p (others k)
   unfolding others
   to_others k p i n = to_in p _ (in_filter (λ p. not (is_of p)) p (net.offers k) i (⊎_elim (λ t. absurd (n (of_yes p t))) (λ f. ap not f) (cases_Bool (is_of p))))
 
-  of_others : (k p : ℕ) → In p (others k) → IsIn p (net.offers k) × (IsOf net r p → ⊥)
+  pub of_others : (k p : ℕ) → In p (others k) → IsIn p (net.offers k) × (IsOf net r p → ⊥)
   unfolding others
   of_others k p i = let a = of_filter (λ p. not (is_of p)) p (net.offers k) (from_in p _ i) in (a.0, λ own. let t = of_true p own in let f = a.1 in absurd (cc))
 
@@ -107,7 +107,7 @@ module _ (net : Net) (r : ℕ) where
   next_trail k p [] z walk none = (p, stop (to_others k p walk.0 none.0) (λ x. x), walk.1.0)
   next_trail k p (q ∷ way) z walk none = let rest = next_trail p q way z walk.1 none.1 in (rest.0, step (to_others k p walk.0 none.0) (λ x. x) rest.1, rest.2)
 
-  next_list : (roles k : ℕ) → IsProper net roles → (zs : List ℕ) × AreNext net r k zs
+  pub next_list : (roles k : ℕ) → IsProper net roles → (zs : List ℕ) × AreNext net r k zs
   next_list roles k proper = (gather (k ∷ js.0), record { ascending = gather_rises (k ∷ js.0); sound = sound; complete = λ z n. complete z n.way n.walk n.none n.own })
     where
       js : (zs : List ℕ) × ((z : ℕ) → In z zs ↔ Trail cases_eq others [] k z)

@@ -31,6 +31,16 @@ among decide x (y ∷ ys) = go (decide x y) (among decide x ys)
     go (inr n) (inl i) = inl (inr i)
     go (inr n) (inr m) = inr (⊎_elim n m)
 
+-- some item has a property, or none has
+pub some_of : {A : Type 0} (P : A → Type 0) → ((a : A) → P a ⊎ (P a → ⊥)) → (xs : List A) → ((a : A) × In a xs × P a) ⊎ ((a : A) → In a xs → P a → ⊥)
+some_of P decide [] = inr (λ a i p. i)
+some_of {A} P decide (x ∷ xs) = go (decide x) (some_of P decide xs)
+  where
+    go : P x ⊎ (P x → ⊥) → ((a : A) × In a xs × P a) ⊎ ((a : A) → In a xs → P a → ⊥) → ((a : A) × In a (x ∷ xs) × P a) ⊎ ((a : A) → In a (x ∷ xs) → P a → ⊥)
+    go (inl p) rest = inl (x, inl refl, p)
+    go (inr n) (inl r) = inl (r.0, inr r.1, r.2)
+    go (inr n) (inr m) = inr (λ a i p. ⊎_elim (λ e. n (subst P e p)) (λ j. m a j p) i)
+
 module _ {A : Type 0} (decide : (a b : A) → (a ≡ b) ⊎ (a ≡ b → ⊥)) (next : A → List A) where
   -- a way of one step or more, whose nodes behind a are none of these
   pub data Trail (avoid : List A) : A → A → Type 0 where

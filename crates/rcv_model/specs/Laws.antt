@@ -182,3 +182,12 @@ ScriptsChooseOffered =
 abbrev pub FinalIsDoneOrLimited : Type 0
 FinalIsDoneOrLimited =
     (rules : Rules) (journal : List Entry) → IsProper rules.net rules.roles → IsAccepted rules.net rules.roles → ChoosesOffered rules → 0 < rules.room → IsLegal rules journal → IsFinal rules (reading rules journal) → AreDone rules (reading rules journal) ⊎ HasOneAtLimit rules (reading rules journal)
+
+-- Whether choices are enabled and points reached is decided for each text in the reader's form.
+abbrev pub TextsAreDecided : Type 0
+TextsAreDecided = (body : Body) (roles : ℕ) → HasForm body roles → IsDecided body roles
+
+-- So such a text is accepted, its choices' subjects included, exactly where no rule fails.
+abbrev pub AcceptedTextsAreFaultless : Type 0
+AcceptedTextsAreFaultless =
+    (body : Body) (roles : ℕ) → HasForm body roles → ((c r n : ℕ) → Fails body roles c r n → ⊥) ↔ (IsAccepted (net_of body) roles × HasSubjects body)
