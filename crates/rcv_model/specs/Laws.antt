@@ -7,7 +7,7 @@ use Rattle.rcv_tree.specs.declared.entry.Entry.TheVariants.{Recover}
 use Rattle.rcv_tree.specs.declared.role.RoleSet.{RoleSet}
 use Rattle.rcv_model.specs.Net.{Net, IsIn, HasTwoEnds}
 use Rattle.rcv_model.specs.Run.{Act, acts, IsQueued, IsRun, channel, joint_of, IsReachedState}
-use Rattle.rcv_model.specs.Table.{IsRestart, IsConcerned}
+use Rattle.rcv_model.specs.Table.{IsRestart, IsConcerned, AreRestarts}
 use Rattle.rcv_model.specs.Act.{IsNotStuck}
 use Rattle.rcv_model.specs.Undo.{is_blocked, scanned, keep, IsUndone, IsQueuedByPlaces, picked, IsLatestCut, UndoesExactly}
 use Rattle.rcv_model.specs.Next.{IsProper, IsAccepted, AreNext, IsEnabledAt, IsEnabledBy}
@@ -191,3 +191,13 @@ TextsAreDecided = (body : Body) (roles : ℕ) → HasForm body roles → IsDecid
 abbrev pub AcceptedTextsAreFaultless : Type 0
 AcceptedTextsAreFaultless =
     (body : Body) (roles : ℕ) → HasForm body roles → ((c r n : ℕ) → Fails body roles c r n → ⊥) ↔ (IsAccepted (net_of body) roles × HasSubjects body)
+
+-- Each role has its list of restart points.
+abbrev pub RestartListsExist : Type 0
+RestartListsExist =
+    (net : Net) (roles p n q : ℕ) → IsProper net roles → (zs : List ℕ) × AreRestarts net p n q zs
+
+-- There is one.
+abbrev pub RestartsAreOneList : Type 0
+RestartsAreOneList =
+    (net : Net) (p n q : ℕ) (xs ys : List ℕ) → AreRestarts net p n q xs → AreRestarts net p n q ys → xs ≡ ys
