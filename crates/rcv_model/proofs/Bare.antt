@@ -15,7 +15,7 @@ use Rattle.rcv_model.specs.Run.{Act, act_at, acts, part, IsRun}
 use Rattle.rcv_model.specs.Places.{singles, net_of}
 use Rattle.rcv_model.specs.Form.{HasForm}
 use Rattle.rcv_model.specs.Journal.{State, start, bump, after_event, after, reading_from, reading, IsDue, May, IsLegalFrom, IsLegal}
-use Rattle.rcv_model.specs.Final.{IsFinal, AreDone, IsCompleted, HasOneAtLimit, ChoosesOffered}
+use Rattle.rcv_model.specs.Final.{IsFinal, AreDone, IsCompleted, HasOneAtLimit, ChoosesOffered, IsOneThread}
 use Rattle.rcv_model.specs.Plain.{IsPlain, bare_rules, IsAct, HasNoCrashes}
 use Rattle.rcv_model.proofs.Steps.{acts_own, acts_other}
 use Rattle.rcv_model.proofs.Choices.{prefix_length}
@@ -24,6 +24,8 @@ use Rattle.rcv_model.proofs.Legal.{accepted_runs}
 use Rattle.rcv_model.proofs.PlainNets.{alone, accepted}
 use Rattle.rcv_model.proofs.Numbers.{bump_at, bump_other}
 use Rattle.rcv_model.proofs.Finals.{done_or_limited}
+use Rattle.rcv_model.proofs.OneThread.{one_journal}
+use Rattle.rcv_model.proofs.Threads.{one_thread}
 
 -- no role is crashed, and each has kept all that it did
 record Quiet (roles : ℕ) (s : State) : Type 0 where
@@ -116,3 +118,10 @@ module _ (body : Body) (roles : ℕ) (plain : IsPlain body) (form : HasForm body
 
 pub completes : (body : Body) (roles : ℕ) (journal : List Entry) → IsPlain body → HasForm body roles → IsLegal (bare_rules body roles) journal → IsFinal (bare_rules body roles) (reading (bare_rules body roles) journal) → IsCompleted (bare_rules body roles) (reading (bare_rules body roles) journal)
 completes body roles journal plain form = complete body roles plain form journal
+
+-- so one thread completes it
+pub one_completes : (body : Body) (roles : ℕ) → IsPlain body → HasForm body roles → (journal : List Entry) × IsOneThread (bare_rules body roles) journal × IsCompleted (bare_rules body roles) (reading (bare_rules body roles) journal)
+one_completes body roles plain form =
+    let j = one_thread (bare_rules body roles) (proper body roles form) in
+    let one = one_journal (bare_rules body roles) j.0 j.0 in
+    (j.0, j.1, completes body roles j.0 plain form (one.legal j.1) (one.final j.1))

@@ -11,6 +11,7 @@ use Rattle.rcv_model.proofs.OneThread.{one_journal}
 use Rattle.rcv_model.proofs.Cases.{ping, send, recv}
 use Rattle.rcv_model.proofs.Ping.{begin, next_at, ping_form, ping_proper, ping_accepted}
 use Rattle.rcv_model.proofs.Choosing.{chosen_in}
+use Rattle.rcv_model.proofs.Threads.{one_thread}
 use Rattle.rcv_model.proofs.Finals.{done_or_limited}
 use Rattle.rcv_model.proofs.Numbers.{bare_bounded}
 use Rattle.rcv_model.proofs.Bare.{no_crashes, completes}
@@ -98,3 +99,7 @@ tight_final = record { none_crashed = calm; none_due = λ r lt due. (let lt = du
 
 limited : HasOneAtLimit tight t0
 limited = (0, omega arith, (λ done. done 1 (next_at 0 0 (omega arith) begin (λ e. omega arith))), refl)
+
+-- the journal that one thread is shown to have is this one
+found : (one_thread rules ping_proper).0 ≡ journal
+found = (one_journal rules (one_thread rules ping_proper).0 journal).same ping_proper.two_ends (one_thread rules ping_proper).1 ping_journal

@@ -42,8 +42,7 @@ module _ (rules : Rules) (s : State) (lists : (r k : ℕ) → (zs : List ℕ) ×
       let among : IsIn (point r (lists r (place s r)).0) (lists r (place s r)).0 = chooses r (events_of r s.kept) (slice_index s.attempts r) (lists r (place s r)).0 (not_empty can.point (lists r (place s r)).0 (next.complete can.point can.next)) in
       let z : ℕ = point r (lists r (place s r)).0 in
       let n : ℕ = slice_index s.clocks r + 1 in
-      let empty : channel rules.net r (rules.net.receiver (point r (lists r (place s r)).0)) s.kept ≡ [] = can.empty (point r (lists r (place s r)).0) (next.sound (point r (lists r (place s r)).0) among) in
-      (
+      let empty : channel rules.net r (rules.net.receiver (point r (lists r (place s r)).0)) s.kept ≡ [] = can.empty (point r (lists r (place s r)).0) (next.sound (point r (lists r (place s r)).0) among) in (
         Send (record { role = r; dir = Sent; point = z; value = rules.value r (events_of r s.kept) (slice_index s.attempts r) z; stamp = n; sent = n }),
         (
           refl,
@@ -54,8 +53,7 @@ module _ (rules : Rules) (s : State) (lists : (r k : ℕ) → (zs : List ℕ) ×
 
   recvs : (r : ℕ) → r < rules.roles → slice_index s.raw r < rules.limit → CanRecv rules.net r s.kept → CanAct rules s r
   recvs r lt below can =
-      let next : AreNext rules.net r (place s r) (lists r (place s r)).0 = (lists r (place s r)).1 in
-      (
+      let next : AreNext rules.net r (place s r) (lists r (place s r)).0 = (lists r (place s r)).1 in (
         Recv (record { role = r; dir = Got; point = can.front.point; value = can.front.value; stamp = max (slice_index s.clocks r) can.front.stamp + 1; sent = can.front.stamp }),
         (
           refl,

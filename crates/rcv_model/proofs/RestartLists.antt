@@ -250,16 +250,22 @@ restart_list net roles p n q proper = go (cases_eq q p)
     bound = roles + p + net.receiver n + 1
 
     go : (q ≡ p) ⊎ (q ≡ p → ⊥) → (zs : List ℕ) × AreRestarts net p n q zs
-    go (inl e) = (n ∷ [], record {
-      ascending = λ k lt. absurd (omega arith);
-      sound = λ z i. ⊎_elim (λ f. inl (e, f)) (λ j. absurd j) i;
-      complete = λ z r. ⊎_elim (λ a. inl a.1) (λ a. absurd (a.0 e)) r;
-    })
-    go (inr m) = (points net roles (roles + p + net.receiver n + 1) proper (omega arith) p n q m (omega arith) (omega arith), record {
-      ascending = points_rise net roles (roles + p + net.receiver n + 1) proper (omega arith) p n q m (omega arith) (omega arith);
-      sound = λ z i. inr (m, sound net roles (roles + p + net.receiver n + 1) proper (omega arith) p n q m (omega arith) (omega arith) z i);
-      complete = λ z r. ⊎_elim (λ a. absurd (m a.0)) (λ a. complete net roles (roles + p + net.receiver n + 1) proper (omega arith) p n q m (omega arith) (omega arith) z a.1.before a.1.after a.1.walk.0 a.1.walk.1 a.1.walk.2 a.1.not_yet a.1.now) r;
-    })
+    go (inl e) = (
+      n ∷ [],
+      record {
+        ascending = λ k lt. absurd (omega arith);
+        sound = λ z i. ⊎_elim (λ f. inl (e, f)) (λ j. absurd j) i;
+        complete = λ z r. ⊎_elim (λ a. inl a.1) (λ a. absurd (a.0 e)) r;
+      },
+    )
+    go (inr m) = (
+      points net roles (roles + p + net.receiver n + 1) proper (omega arith) p n q m (omega arith) (omega arith),
+      record {
+        ascending = points_rise net roles (roles + p + net.receiver n + 1) proper (omega arith) p n q m (omega arith) (omega arith);
+        sound = λ z i. inr (m, sound net roles (roles + p + net.receiver n + 1) proper (omega arith) p n q m (omega arith) (omega arith) z i);
+        complete = λ z r. ⊎_elim (λ a. absurd (m a.0)) (λ a. complete net roles (roles + p + net.receiver n + 1) proper (omega arith) p n q m (omega arith) (omega arith) z a.1.before a.1.after a.1.walk.0 a.1.walk.1 a.1.walk.2 a.1.not_yet a.1.now) r;
+      },
+    )
 
 -- whether a role is concerned
 pub is_concerned : (net : Net) (roles p n q : ℕ) → IsProper net roles → IsConcerned net p n q ⊎ (IsConcerned net p n q → ⊥)

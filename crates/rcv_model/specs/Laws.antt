@@ -201,3 +201,12 @@ RestartListsExist =
 abbrev pub RestartsAreOneList : Type 0
 RestartsAreOneList =
     (net : Net) (p n q : ℕ) (xs ys : List ℕ) → AreRestarts net p n q xs → AreRestarts net p n q ys → xs ≡ ys
+
+-- One thread's journal exists, whatever the scripts and the plan.
+abbrev pub OneThreadJournalsExist : Type 0
+OneThreadJournalsExist = (rules : Rules) → IsProper rules.net rules.roles → (journal : List Entry) × IsOneThread rules journal
+
+-- For a plain text without a plan it ends completed.
+abbrev pub OneThreadCompletesPlain : Type 0
+OneThreadCompletesPlain =
+    (body : Body) (roles : ℕ) → IsPlain body → HasForm body roles → (journal : List Entry) × IsOneThread (bare_rules body roles) journal × IsCompleted (bare_rules body roles) (reading (bare_rules body roles) journal)
