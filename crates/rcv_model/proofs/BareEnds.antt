@@ -1,11 +1,14 @@
 -- Ping's journal is one of a session without scripts and without a plan too, so the laws on these say something of it.
-use Rattle.std.proofs.Common.{◌≡◌, ℕ, ◌*◌, ◌≤◌, List, [], ◌∷◌, length, refl, sym, ◌∙◌, ◌⊎◌, arith}
+use Rattle.std.proofs.Common.{◌≡◌, ℕ, ◌*◌, ◌≤◌, List, [], ◌∷◌, length, take, drop, refl, sym, ◌∙◌, ◌⊎◌, arith}
 use Rattle.std.specs.Prelude.{slice_index}
 use Rattle.rcv_tree.specs.declared.event.Event.{Event}
 use Rattle.rcv_tree.specs.declared.entry.Entry.{Entry}
 use Rattle.rcv_tree.specs.declared.entry.Entry.TheVariants.{Send, Recv, Crash, Recover}
 use Rattle.rcv_model.specs.Journal.{Rules, State, events_of, after, reading, IsFree, MaySend, MayRecv, IsLegalFrom, IsLegal}
 use Rattle.rcv_model.specs.Final.{IsActOf, CanAct, IsFinal, AreDone, IsCompleted, HasOneAtLimit}
+use Rattle.rcv_model.specs.Run.{acts}
+use Rattle.rcv_model.specs.Line.{LineHolds}
+use Rattle.rcv_model.proofs.StableLines.{line_holds, whole_line}
 use Rattle.rcv_model.specs.Plain.{bare_rules, HasNoCrashes}
 use Rattle.rcv_model.proofs.OneThread.{one_journal}
 use Rattle.rcv_model.proofs.Cases.{ping, send, recv}
@@ -103,3 +106,10 @@ limited = (0, omega arith, (λ done. done 1 (next_at 0 0 (omega arith) begin (λ
 -- the journal that one thread is shown to have is this one
 found : (one_thread rules ping_proper).0 ≡ journal
 found = (one_journal rules (one_thread rules ping_proper).0 journal).same ping_proper.two_ends (one_thread rules ping_proper).1 ping_journal
+
+-- behind two entries all that is kept is within the stable line, and stays
+abbrev two : List Event
+two = (reading bare (take 2 journal)).kept
+
+line_stays : LineHolds bare two (reading bare journal).kept (λ r. length (acts r two))
+line_stays = line_holds bare (take 2 journal) (drop 2 journal) (λ r. length (acts r two)) ping_proper ping_accepted legal (whole_line bare two (λ r. refl)).stable

@@ -39,7 +39,7 @@ picked_few has (e ∷ h) = go (has 0) (picked_few (λ i. has (suc i)) h)
     go true ih = omega arith
     go false ih = omega arith
 
-acts_cons : (r : ℕ) (e : Event) (h : List Event) → length (acts r (e ∷ h)) ≡ cond (e.role == r) 1 0 + length (acts r h)
+pub acts_cons : (r : ℕ) (e : Event) (h : List Event) → length (acts r (e ∷ h)) ≡ cond (e.role == r) 1 0 + length (acts r h)
 acts_cons r e h = go (e.role == r)
   where
     go : (b : Bool) → length (cons_option (cond b (Some (record { dir = e.dir; point = e.point })) None) (acts r h)) ≡ cond b 1 0 + length (acts r h)

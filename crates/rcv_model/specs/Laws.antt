@@ -1,5 +1,5 @@
 -- What holds of the definitions.
-use Rattle.std.specs.Prelude.{◌≡◌, ℕ, ◌*◌, ◌<◌, ◌≤◌, ◌⊎◌, ◌↔◌, Bool, true, Some, List, [], ◌∷◌, ◌++◌, length, slice_get}
+use Rattle.std.specs.Prelude.{◌≡◌, ℕ, ◌*◌, ◌<◌, ◌≤◌, ◌⊎◌, ◌↔◌, max, Bool, true, Some, List, [], ◌∷◌, ◌++◌, length, slice_get}
 use Rattle.std.specs.List.Sorted.{IsStrictlyIncreasing}
 use Rattle.rcv_tree.specs.declared.event.Event.{Event}
 use Rattle.rcv_tree.specs.declared.entry.Entry.{Entry}
@@ -18,6 +18,7 @@ use Rattle.rcv_model.specs.Form.{HasForm}
 use Rattle.rcv_model.specs.Script.{Line, chosen_by}
 use Rattle.rcv_model.specs.Plain.{IsPlain, bare_rules, HasNoCrashes}
 use Rattle.rcv_model.specs.Numbers.{IsBounded}
+use Rattle.rcv_model.specs.Line.{IsStable, LineHolds}
 use Rattle.rcv_model.specs.Final.{IsFinal, AreDone, IsCompleted, HasOneAtLimit, ChoosesOffered, IsStep, IsOneThread}
 use Rattle.rcv_model.specs.Journal.{Rules, State, MaySend, MayRecv, May, reading, events_of, IsLegal, KeepsRuns}
 
@@ -210,3 +211,13 @@ OneThreadJournalsExist = (rules : Rules) → IsProper rules.net rules.roles → 
 abbrev pub OneThreadCompletesPlain : Type 0
 OneThreadCompletesPlain =
     (body : Body) (roles : ℕ) → IsPlain body → HasForm body roles → (journal : List Entry) × IsOneThread (bare_rules body roles) journal × IsCompleted (bare_rules body roles) (reading (bare_rules body roles) journal)
+
+-- In each legal journal that goes on, a stable line stays stable, and the events within it stay.
+abbrev pub StableLinesHold : Type 0
+StableLinesHold =
+    (rules : Rules) (front back : List Entry) (line : ℕ → ℕ) → IsProper rules.net rules.roles → IsAccepted rules.net rules.roles → IsLegal rules (front ++ back) → IsStable rules (reading rules front).kept line → LineHolds rules (reading rules front).kept (reading rules (front ++ back)).kept line
+
+-- The greater of two stable lines, role by role, is one: so there is at most one greatest.
+abbrev pub StableLinesJoin : Type 0
+StableLinesJoin =
+    (rules : Rules) (h : List Event) (a b : ℕ → ℕ) → IsStable rules h a → IsStable rules h b → IsStable rules h (λ r. max (a r) (b r))
