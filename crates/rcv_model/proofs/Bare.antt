@@ -1,8 +1,8 @@
 -- Sessions without scripts and without a plan: nobody crashes, and a plain one that is final is completed.
-use Rattle.std.proofs.Common.{◌≡◌, ℕ, zero, suc, ◌+◌, ◌-◌, ◌<◌, ◌≤◌, Bool, true, false, Some, None, Option, List, get_or, [], ◌∷◌, ◌++◌, length, replicate, refl, sym, ◌∙◌, ap, subst, ◌⊎◌, inl, inr, ⊎_elim, append-nil, arith, length-append}
+use Rattle.std.proofs.Common.{◌≡◌, ℕ, zero, suc, ◌+◌, ◌<◌, ◌≤◌, Bool, true, false, Some, None, Option, List, get_or, [], ◌∷◌, ◌++◌, length, replicate, refl, sym, ◌∙◌, ap, subst, ◌⊎◌, inl, inr, ⊎_elim, append-nil, arith, length-append}
 use Rattle.std.specs.Prelude.{slice_get, slice_index}
 use Rattle.std.specs.List.{All, cons_option}
-use Rattle.std.proofs.lemmas.Bool.{cases_eq, cases_lt}
+use Rattle.std.proofs.lemmas.Bool.{cases_eq}
 use Rattle.std.proofs.lemmas.List.{length-set, length-replicate}
 use Rattle.std.proofs.lemmas.List.Elements.{All-nil, All-cons, All-replicate}
 use Rattle.std.proofs.lemmas.Option.{slice_get_within, get_or_from_slice_get}
@@ -12,19 +12,20 @@ use Rattle.rcv_tree.specs.declared.entry.Entry.TheVariants.{Send, Recv, Crash, R
 use Rattle.rcv_model.specs.Text.{Body}
 use Rattle.rcv_model.specs.Net.{Net, IsWalk}
 use Rattle.rcv_model.specs.Run.{Act, act_at, acts, part, IsRun}
-use Rattle.rcv_model.specs.Next.{IsOf, AreNext}
 use Rattle.rcv_model.specs.Places.{singles, net_of}
 use Rattle.rcv_model.specs.Form.{HasForm}
 use Rattle.rcv_model.specs.Journal.{State, start, bump, after_event, after, reading_from, reading, IsDue, May, IsLegalFrom, IsLegal}
-use Rattle.rcv_model.specs.Final.{IsFinal, AreDone, IsCompleted, HasOneAtLimit, ChoosesOffered}
+use Rattle.rcv_model.specs.Final.{IsFinal, AreDone, IsCompleted, HasOneAtLimit, ChoosesOffered, IsOneThread}
 use Rattle.rcv_model.specs.Plain.{IsPlain, bare_rules, IsAct, HasNoCrashes}
 use Rattle.rcv_model.proofs.Steps.{acts_own, acts_other}
 use Rattle.rcv_model.proofs.Choices.{prefix_length}
 use Rattle.rcv_model.proofs.Forms.{proper}
 use Rattle.rcv_model.proofs.Legal.{accepted_runs}
-use Rattle.rcv_model.proofs.PlainNets.{NoneBetween, next_none, next_one, alone, accepted}
+use Rattle.rcv_model.proofs.PlainNets.{alone, accepted}
 use Rattle.rcv_model.proofs.Numbers.{bump_at, bump_other}
-use Rattle.rcv_model.proofs.Finals.{HasLists, final_by_lists}
+use Rattle.rcv_model.proofs.Finals.{done_or_limited}
+use Rattle.rcv_model.proofs.OneThread.{one_journal}
+use Rattle.rcv_model.proofs.Threads.{one_thread}
 
 -- no role is crashed, and each has kept all that it did
 record Quiet (roles : ℕ) (s : State) : Type 0 where
@@ -81,30 +82,6 @@ no_crashes body roles journal legal =
     let end = quiet_end body roles journal legal in
     record { none_crashed = λ r. not_crashed (reading (bare_rules body roles) journal).crashed r end.1.calm; none_due = λ r. not_due body roles (reading (bare_rules body roles) journal) r; acts = end.0 }
 
--- the first point of r behind a place, or that there is none
-data Found (net : Net) (r k last : ℕ) : Type 0 where
-  nowhere : NoneBetween net r k last → Found net r k last
-  there : (i : ℕ) → k ≤ i → i < last → NoneBetween net r k i → IsOf net r (i + 1) → Found net r k last
-
-find : (net : Net) (r n k last : ℕ) → k + n ≡ last → Found net r k last
-find net r zero k last e = nowhere (λ p lt le. absurd (omega arith))
-find net r (suc n) k last e = go (cases_eq (net.sender (k + 1)) r) (cases_eq (net.receiver (k + 1)) r) (find net r n (k + 1) last (omega (arith, e)))
-  where
-    here' : IsOf net r (k + 1) → Found net r k last
-    here' own = there k (omega arith) (omega (arith, e)) (λ p lt le. absurd (omega arith)) own
-
-    wider : (i : ℕ) → (IsOf net r (k + 1) → ⊥) → NoneBetween net r (k + 1) i → NoneBetween net r k i
-    wider i n none p lt le own = ⊎_elim (λ f. n (subst (IsOf net r) f own)) (λ f. none p (omega (arith, f)) le own) (cases_eq p (k + 1))
-
-    later : (IsOf net r (k + 1) → ⊥) → Found net r (k + 1) last → Found net r k last
-    later n (nowhere none) = nowhere (wider last n none)
-    later n (there i le lt none own) = there i (omega arith) lt (wider i n none) own
-
-    go : (net.sender (k + 1) ≡ r) ⊎ (net.sender (k + 1) ≡ r → ⊥) → (net.receiver (k + 1) ≡ r) ⊎ (net.receiver (k + 1) ≡ r → ⊥) → Found net r (k + 1) last → Found net r k last
-    go (inl f) b rest = here' (inl f)
-    go (inr f) (inl g) rest = here' (inr g)
-    go (inr f) (inr g) rest = later (⊎_elim f g) rest
-
 part_few : (net : Net) (r : ℕ) (w : List ℕ) → length (part net r w) ≤ length w
 part_few net r [] = omega arith
 part_few net r (p ∷ w) = go (act_at net r p) (part_few net r w)
@@ -118,16 +95,6 @@ first_offered body roles r events attempt [] n = absurd (n refl)
 first_offered body roles r events attempt (z ∷ zs) n = inl refl
 
 module _ (body : Body) (roles : ℕ) (plain : IsPlain body) (form : HasForm body roles) where
-  lists : HasLists (net_of body)
-  lists r k = ⊎_elim (λ lt. past (λ p a b. absurd (omega arith))) (λ le. go (find (net_of body) r (length (singles body) - k) k (length (singles body)) (omega arith))) (cases_lt (length (singles body)) k)
-    where
-      past : NoneBetween (net_of body) r k (length (singles body)) → (zs : List ℕ) × AreNext (net_of body) r k zs
-      past none = ([], next_none body roles r k plain form none)
-
-      go : Found (net_of body) r k (length (singles body)) → (zs : List ℕ) × AreNext (net_of body) r k zs
-      go (nowhere none) = past none
-      go (there i le lt none own) = ((i + 1) ∷ [], next_one body roles r k plain form i le lt none own)
-
   -- a walk holds each message once at most
   walk_short : (k : ℕ) (w : List ℕ) → k ≤ length (singles body) → IsWalk (net_of body) k w → k + length w ≤ length (singles body)
   walk_short k [] le walk = omega arith
@@ -143,7 +110,7 @@ module _ (body : Body) (roles : ℕ) (plain : IsPlain body) (form : HasForm body
       omega (arith, (quiet_end body roles journal legal).1.whole r, few, part_few (net_of body) r run.0, walk_short 0 run.0 (omega arith) run.1.walk, form.few_points)
 
   complete : (journal : List Entry) → IsLegal (bare_rules body roles) journal → IsFinal (bare_rules body roles) (reading (bare_rules body roles) journal) → IsCompleted (bare_rules body roles) (reading (bare_rules body roles) journal)
-  complete journal legal final = (final, go (final_by_lists (bare_rules body roles) journal lists (proper body roles form) (accepted body roles plain form) (first_offered body roles) (omega arith) legal final))
+  complete journal legal final = (final, go (done_or_limited (bare_rules body roles) journal (proper body roles form) (accepted body roles plain form) (first_offered body roles) (omega arith) legal final))
     where
       go : AreDone (bare_rules body roles) (reading (bare_rules body roles) journal) ⊎ HasOneAtLimit (bare_rules body roles) (reading (bare_rules body roles) journal) → AreDone (bare_rules body roles) (reading (bare_rules body roles) journal)
       go (inl done) = done
@@ -151,3 +118,10 @@ module _ (body : Body) (roles : ℕ) (plain : IsPlain body) (form : HasForm body
 
 pub completes : (body : Body) (roles : ℕ) (journal : List Entry) → IsPlain body → HasForm body roles → IsLegal (bare_rules body roles) journal → IsFinal (bare_rules body roles) (reading (bare_rules body roles) journal) → IsCompleted (bare_rules body roles) (reading (bare_rules body roles) journal)
 completes body roles journal plain form = complete body roles plain form journal
+
+-- so one thread completes it
+pub one_completes : (body : Body) (roles : ℕ) → IsPlain body → HasForm body roles → (journal : List Entry) × IsOneThread (bare_rules body roles) journal × IsCompleted (bare_rules body roles) (reading (bare_rules body roles) journal)
+one_completes body roles plain form =
+    let j = one_thread (bare_rules body roles) (proper body roles form) in
+    let one = one_journal (bare_rules body roles) j.0 j.0 in
+    (j.0, j.1, completes body roles j.0 plain form (one.legal j.1) (one.final j.1))

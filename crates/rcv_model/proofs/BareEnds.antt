@@ -1,18 +1,24 @@
 -- Ping's journal is one of a session without scripts and without a plan too, so the laws on these say something of it.
-use Rattle.std.proofs.Common.{◌≡◌, ℕ, ◌*◌, ◌≤◌, List, [], ◌∷◌, length, refl, sym, ◌∙◌}
+use Rattle.std.proofs.Common.{◌≡◌, ℕ, ◌*◌, ◌≤◌, List, [], ◌∷◌, length, take, drop, refl, sym, ◌∙◌, ◌⊎◌, arith}
 use Rattle.std.specs.Prelude.{slice_index}
 use Rattle.rcv_tree.specs.declared.event.Event.{Event}
 use Rattle.rcv_tree.specs.declared.entry.Entry.{Entry}
 use Rattle.rcv_tree.specs.declared.entry.Entry.TheVariants.{Send, Recv, Crash, Recover}
 use Rattle.rcv_model.specs.Journal.{Rules, State, events_of, after, reading, IsFree, MaySend, MayRecv, IsLegalFrom, IsLegal}
-use Rattle.rcv_model.specs.Final.{IsActOf, CanAct, IsFinal, IsCompleted}
+use Rattle.rcv_model.specs.Final.{IsActOf, CanAct, IsFinal, AreDone, IsCompleted, HasOneAtLimit}
+use Rattle.rcv_model.specs.Run.{acts}
+use Rattle.rcv_model.specs.Line.{LineHolds}
+use Rattle.rcv_model.proofs.StableLines.{line_holds, whole_line}
 use Rattle.rcv_model.specs.Plain.{bare_rules, HasNoCrashes}
 use Rattle.rcv_model.proofs.OneThread.{one_journal}
 use Rattle.rcv_model.proofs.Cases.{ping, send, recv}
-use Rattle.rcv_model.proofs.Ping.{ping_form}
+use Rattle.rcv_model.proofs.Ping.{begin, next_at, ping_form, ping_proper, ping_accepted}
+use Rattle.rcv_model.proofs.Choosing.{chosen_in}
+use Rattle.rcv_model.proofs.Threads.{one_thread}
+use Rattle.rcv_model.proofs.Finals.{done_or_limited}
 use Rattle.rcv_model.proofs.Numbers.{bare_bounded}
 use Rattle.rcv_model.proofs.Bare.{no_crashes, completes}
-use Rattle.rcv_model.proofs.Ends.{rules, t0, t4, final, ping_journal}
+use Rattle.rcv_model.proofs.Ends.{rules, net, t0, t4, calm, final, ping_journal}
 
 abbrev bare : Rules
 bare = bare_rules ping 2
@@ -74,3 +80,36 @@ short = bare_bounded ping 2 journal legal
 
 completed : IsCompleted bare (reading bare journal)
 completed = completes ping 2 journal tt ping_form legal bare_final
+
+done : AreDone bare (reading bare journal) ⊎ HasOneAtLimit bare (reading bare journal)
+done = done_or_limited bare journal ping_proper ping_accepted (chosen_in net (λ r. [])) (omega arith) legal bare_final
+
+-- with a limit of 0 nobody acts, and nobody is done
+abbrev tight : Rules
+tight = record bare { limit = 0 }
+
+nobody : (r : ℕ) → CanAct tight t0 r → ⊥
+nobody r a = go a.0 a.1
+  where
+    go : (e : Entry) → IsActOf tight t0 r e → ⊥
+    go (Send e) x = let below = x.1.free.below_limit in omega arith
+    go (Recv e) x = let below = x.1.free.below_limit in omega arith
+    go (Crash p) x = x
+    go (Recover p c k u) x = x
+
+tight_final : IsFinal tight t0
+tight_final = record { none_crashed = calm; none_due = λ r lt due. (let lt = due.1 in omega arith); none_acts = λ r lt a. nobody r a }
+
+limited : HasOneAtLimit tight t0
+limited = (0, omega arith, (λ done. done 1 (next_at 0 0 (omega arith) begin (λ e. omega arith))), refl)
+
+-- the journal that one thread is shown to have is this one
+found : (one_thread rules ping_proper).0 ≡ journal
+found = (one_journal rules (one_thread rules ping_proper).0 journal).same ping_proper.two_ends (one_thread rules ping_proper).1 ping_journal
+
+-- behind two entries all that is kept is within the stable line, and stays
+abbrev two : List Event
+two = (reading bare (take 2 journal)).kept
+
+line_stays : LineHolds bare two (reading bare journal).kept (λ r. length (acts r two))
+line_stays = line_holds bare (take 2 journal) (drop 2 journal) (λ r. length (acts r two)) ping_proper ping_accepted legal (whole_line bare two (λ r. refl)).stable

@@ -26,7 +26,7 @@ use Rattle.rcv_model.proofs.Steps.{sent_to, put_points}
 use Rattle.rcv_model.proofs.Stuck.{length_points}
 use Rattle.std.proofs.Common.{subst, ◌⊎◌, inl, inr, ⊎_elim}
 
-as_many : (q : ℕ) (h : List Event) → length (acts q h) ≡ length (by_role q h)
+pub as_many : (q : ℕ) (h : List Event) → length (acts q h) ≡ length (by_role q h)
 as_many q [] = refl
 as_many q (e ∷ h) = go (e.role == q) (as_many q h)
   where

@@ -25,7 +25,7 @@ forced_more : (net : Net) (r k p : ℕ) (u : List ℕ) → IsForced net r k u �
 forced_more net r k p [] f e n = (e, n, tt)
 forced_more net r k p (x ∷ u) f e n = (f.0, f.1, forced_more net r x p u f.2 e n)
 
-last_more : (k p : ℕ) (u : List ℕ) → last_of k (u ++ p ∷ []) ≡ p
+pub last_more : (k p : ℕ) (u : List ℕ) → last_of k (u ++ p ∷ []) ≡ p
 last_more k p [] = refl
 last_more k p (x ∷ u) = last_more x p u
 

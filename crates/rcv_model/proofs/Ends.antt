@@ -17,7 +17,7 @@ use Rattle.rcv_model.proofs.Ping.{Place, begin, middle, finish, next_is, may_sen
 abbrev pub rules : Rules
 rules = plain ping 2 (λ r. 1) (λ r. [])
 
-abbrev net : Net
+abbrev pub net : Net
 net = net_of ping
 
 abbrev pub t0 : State
@@ -99,7 +99,7 @@ a2 = (refl, may_send (λ r. 1) (λ r. []) t2 1 1 3 (omega arith) middle (λ e. o
 a3 : IsActOf rules t3 0 (recv 0 2 4 3)
 a3 = (refl, may_recv (λ r. 1) (λ r. []) t3 0 1 4 1 3 [] (omega arith) middle (λ e. omega arith) refl (no_due t3 0) (omega arith) refl refl refl refl refl)
 
-calm : (r : ℕ) → slice_get (false ∷ false ∷ []) r ≡ Some true → ⊥
+pub calm : (r : ℕ) → slice_get (false ∷ false ∷ []) r ≡ Some true → ⊥
 calm r g = none_crashed false false refl refl r g
 
 pub final : IsFinal rules t4

@@ -6,7 +6,7 @@ use Rattle.std.proofs.lemmas.Option.{slice_get-get_or}
 use Rattle.rcv_tree.specs.declared.event.Dir.TheVariants.{Sent, Got}
 use Rattle.rcv_tree.specs.declared.entry.Entry.{Entry}
 use Rattle.rcv_tree.specs.declared.entry.Entry.TheVariants.{Send, Recv}
-use Rattle.rcv_model.specs.Net.{Net, IsIn}
+use Rattle.rcv_model.specs.Net.{IsIn}
 use Rattle.rcv_model.specs.Run.{channel, IsRun}
 use Rattle.rcv_model.specs.Next.{AreNext, IsProper, IsAccepted}
 use Rattle.rcv_model.specs.Act.{CanSend, CanRecv, IsDone}
@@ -15,15 +15,12 @@ use Rattle.rcv_model.specs.Final.{CanAct, IsFinal, AreDone, HasOneAtLimit, Choos
 use Rattle.rcv_model.proofs.Legal.{accepted_runs}
 use Rattle.rcv_model.proofs.Numbers.{bounded}
 use Rattle.rcv_model.proofs.Stuck.{not_stuck}
-
--- each role has its list of next points at each place
-abbrev pub HasLists : Net → Type 0
-HasLists net = (r k : ℕ) → (zs : List ℕ) × AreNext net r k zs
+use Rattle.rcv_model.proofs.NextLists.{lists_exist}
 
 not_empty : (z : ℕ) (zs : List ℕ) → IsIn z zs → zs ≡ [] → ⊥
 not_empty z zs i e = subst (IsIn z) e i
 
-module _ (rules : Rules) (s : State) (lists : HasLists rules.net) (chooses : ChoosesOffered rules) (room : 0 < rules.room) (final : IsFinal rules s) (size : length s.crashed ≡ rules.roles) (top : (r : ℕ) → slice_index s.raw r ≤ rules.limit) where
+module _ (rules : Rules) (s : State) (lists : (r k : ℕ) → (zs : List ℕ) × AreNext rules.net r k zs) (chooses : ChoosesOffered rules) (room : 0 < rules.room) (final : IsFinal rules s) (size : length s.crashed ≡ rules.roles) (top : (r : ℕ) → slice_index s.raw r ≤ rules.limit) where
   running : (r : ℕ) → r < rules.roles → slice_get s.crashed r ≡ Some false
   running r lt = go (get_or s.crashed r false) (slice_get-get_or s.crashed r false (subst (λ n. r < n) (sym size) lt))
     where
@@ -45,8 +42,7 @@ module _ (rules : Rules) (s : State) (lists : HasLists rules.net) (chooses : Cho
       let among : IsIn (point r (lists r (place s r)).0) (lists r (place s r)).0 = chooses r (events_of r s.kept) (slice_index s.attempts r) (lists r (place s r)).0 (not_empty can.point (lists r (place s r)).0 (next.complete can.point can.next)) in
       let z : ℕ = point r (lists r (place s r)).0 in
       let n : ℕ = slice_index s.clocks r + 1 in
-      let empty : channel rules.net r (rules.net.receiver (point r (lists r (place s r)).0)) s.kept ≡ [] = can.empty (point r (lists r (place s r)).0) (next.sound (point r (lists r (place s r)).0) among) in
-      (
+      let empty : channel rules.net r (rules.net.receiver (point r (lists r (place s r)).0)) s.kept ≡ [] = can.empty (point r (lists r (place s r)).0) (next.sound (point r (lists r (place s r)).0) among) in (
         Send (record { role = r; dir = Sent; point = z; value = rules.value r (events_of r s.kept) (slice_index s.attempts r) z; stamp = n; sent = n }),
         (
           refl,
@@ -57,8 +53,7 @@ module _ (rules : Rules) (s : State) (lists : HasLists rules.net) (chooses : Cho
 
   recvs : (r : ℕ) → r < rules.roles → slice_index s.raw r < rules.limit → CanRecv rules.net r s.kept → CanAct rules s r
   recvs r lt below can =
-      let next : AreNext rules.net r (place s r) (lists r (place s r)).0 = (lists r (place s r)).1 in
-      (
+      let next : AreNext rules.net r (place s r) (lists r (place s r)).0 = (lists r (place s r)).1 in (
         Recv (record { role = r; dir = Got; point = can.front.point; value = can.front.value; stamp = max (slice_index s.clocks r) can.front.stamp + 1; sent = can.front.stamp }),
         (
           refl,
@@ -82,12 +77,12 @@ module _ (rules : Rules) (s : State) (lists : HasLists rules.net) (chooses : Cho
       full (inl below) = absurd (final.none_acts r lt (act below can))
       full (inr le) = omega (arith, le, top r)
 
-pub final_by_lists : (rules : Rules) (journal : List Entry) → HasLists rules.net → IsProper rules.net rules.roles → IsAccepted rules.net rules.roles → ChoosesOffered rules → 0 < rules.room → IsLegal rules journal → IsFinal rules (reading rules journal) → AreDone rules (reading rules journal) ⊎ HasOneAtLimit rules (reading rules journal)
-final_by_lists rules journal lists proper accepted chooses room legal final = go (not_stuck rules.net rules.roles run.0 (reading rules journal).kept proper accepted run.1)
+pub done_or_limited : (rules : Rules) (journal : List Entry) → IsProper rules.net rules.roles → IsAccepted rules.net rules.roles → ChoosesOffered rules → 0 < rules.room → IsLegal rules journal → IsFinal rules (reading rules journal) → AreDone rules (reading rules journal) ⊎ HasOneAtLimit rules (reading rules journal)
+done_or_limited rules journal proper accepted chooses room legal final = go (not_stuck rules.net rules.roles run.0 (reading rules journal).kept proper accepted run.1)
   where
     run : IsRun rules.net (reading rules journal).kept
     run = accepted_runs rules journal proper accepted legal journal [] (append-nil journal)
 
     go : ((r : ℕ) × (r < rules.roles) × (CanSend rules.net r (reading rules journal).kept ⊎ CanRecv rules.net r (reading rules journal).kept)) ⊎ ((r : ℕ) → r < rules.roles → IsDone rules.net r (reading rules journal).kept) → AreDone rules (reading rules journal) ⊎ HasOneAtLimit rules (reading rules journal)
     go (inr done) = inl done
-    go (inl a) = inr (at_limit rules (reading rules journal) lists chooses room final (bounded rules journal legal).numbers.crashed (bounded rules journal legal).raw a.0 a.1 a.2)
+    go (inl a) = inr (at_limit rules (reading rules journal) (λ r k. lists_exist rules.net rules.roles r k proper) chooses room final (bounded rules journal legal).numbers.crashed (bounded rules journal legal).raw a.0 a.1 a.2)

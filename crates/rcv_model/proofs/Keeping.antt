@@ -35,7 +35,7 @@ acts_through r h = through (act_of r) (is_by r) (no_act r) h
 pub put_through : (net : Net) (s r : ℕ) (h : List Event) → put net s r h ≡ put net s r (by_role s h)
 put_through net s r h = through (put_by net s r) (is_by s) (no_put net s r) h
 
-taken_through : (net : Net) (s r : ℕ) (h : List Event) → taken net s r h ≡ taken net s r (by_role r h)
+pub taken_through : (net : Net) (s r : ℕ) (h : List Event) → taken net s r h ≡ taken net s r (by_role r h)
 taken_through net s r h = through (taken_by net s r) (is_by r) (no_taken net s r) h
 
 pub queued_more : (net : Net) (h : List Event) (e : Event) → IsQueued net h → ((s r : ℕ) → IsPrefix (taken net s r (h ++ e ∷ [])) (put net s r (h ++ e ∷ []))) → IsQueued net (h ++ e ∷ [])

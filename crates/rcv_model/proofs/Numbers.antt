@@ -31,7 +31,7 @@ picked_all P has (e ∷ h) all = go (has 0) (picked_all P (λ i. has (suc i)) h 
     go true ih = All-cons P e _ (All-head P e h all) ih
     go false ih = ih
 
-picked_few : (has : ℕ → Bool) (h : List Event) → length (picked has h) ≤ length h
+pub picked_few : (has : ℕ → Bool) (h : List Event) → length (picked has h) ≤ length h
 picked_few has [] = omega arith
 picked_few has (e ∷ h) = go (has 0) (picked_few (λ i. has (suc i)) h)
   where
@@ -39,7 +39,7 @@ picked_few has (e ∷ h) = go (has 0) (picked_few (λ i. has (suc i)) h)
     go true ih = omega arith
     go false ih = omega arith
 
-acts_cons : (r : ℕ) (e : Event) (h : List Event) → length (acts r (e ∷ h)) ≡ cond (e.role == r) 1 0 + length (acts r h)
+pub acts_cons : (r : ℕ) (e : Event) (h : List Event) → length (acts r (e ∷ h)) ≡ cond (e.role == r) 1 0 + length (acts r h)
 acts_cons r e h = go (e.role == r)
   where
     go : (b : Bool) → length (cons_option (cond b (Some (record { dir = e.dir; point = e.point })) None) (acts r h)) ≡ cond b 1 0 + length (acts r h)
@@ -54,7 +54,7 @@ picked_acts r has (e ∷ h) = go (has 0) (picked_acts r (λ i. has (suc i)) h)
     go true ih = omega (arith, ih, acts_cons r e (picked (λ i. has (suc i)) h), acts_cons r e h)
     go false ih = omega (arith, ih, acts_cons r e h)
 
-is_picked : (net : Net) (p c : ℕ) (h : List Event) → keep net p c h ≡ picked (flag net p c (record { events = []; stopped = [] }) h) h
+pub is_picked : (net : Net) (p c : ℕ) (h : List Event) → keep net p c h ≡ picked (flag net p c (record { events = []; stopped = [] }) h) h
 is_picked net p c h = picked_are_kept net p c (record { events = []; stopped = [] }) h
 
 -- a message in a channel has the stamp of an event
@@ -151,7 +151,7 @@ no_sum : (n : ℕ) → sum (replicate n 0) ≡ 0
 no_sum n = let a = sum_by-replicate (λ x. x) n 0 in omega (arith, a)
 
 -- what holds after n entries
-record Bounds (rules : Rules) (n : ℕ) (s : State) : Type 0 where
+pub record Bounds (rules : Rules) (n : ℕ) (s : State) : Type 0 where
   numbers : HasNumbers rules.roles s
   total : n + marked s.crashed ≡ sum s.raw + 2 * sum s.crashes
   raw : All (λ x. x ≤ rules.limit) s.raw
@@ -164,7 +164,7 @@ record Bounds (rules : Rules) (n : ℕ) (s : State) : Type 0 where
   kept : (r : ℕ) → length (acts r s.kept) ≤ slice_index s.raw r
 
 module _ (rules : Rules) where
-  at_start : Bounds rules 0 (start rules.roles)
+  pub at_start : Bounds rules 0 (start rules.roles)
   at_start = record {
     numbers = record { raw = length-replicate _ _; crashes = length-replicate _ _; crashed = length-replicate _ _; attempts = length-replicate _ _; clocks = length-replicate _ _ };
     total = omega (arith, none_marked rules.roles, no_sum rules.roles);
@@ -242,7 +242,7 @@ module _ (rules : Rules) where
       less : marked (set s.crashed p false) + 1 ≡ marked s.crashed
       less = marked_less s.crashed p was
 
-  after_one : (n : ℕ) (s : State) (e : Entry) → Bounds rules n s → May rules s e → Bounds rules (n + 1) (after rules s e)
+  pub after_one : (n : ℕ) (s : State) (e : Entry) → Bounds rules n s → May rules s e → Bounds rules (n + 1) (after rules s e)
   after_one n s (Send e) b may =
       let le : e.stamp ≤ n + 1 = omega (arith, may.stamp, clock_at n e.role s b may.free.declared) in
       after_act n s e b may.free.declared may.free.below_limit le (omega (arith, le, may.sent))
@@ -265,31 +265,35 @@ sum_bound f a (x ∷ xs) h =
     let one : x ≤ f a = subst (λ m. x ≤ f m) (omega arith) (h 0 (omega arith)) in
     omega (arith, ih, one, sum_by-cons (λ x. x) x xs, sum_by-cons f a (range_with_len (a + 1) (length xs)))
 
+module _ (rules : Rules) (n : ℕ) (s : State) (b : Bounds rules n s) where
+  pub sizes : HasNumbers rules.roles s
+  sizes = b.numbers
+
+  few_crashes : sum s.crashes ≤ lines_of rules
+  few_crashes = subst (λ n. sum s.crashes ≤ sum_by (λ r. length (rules.crash_lines r)) (range_with_len 0 n)) b.numbers.crashes (sum_bound (λ r. length (rules.crash_lines r)) 0 s.crashes (λ i lt. subst (λ m. slice_index s.crashes i ≤ length (rules.crash_lines m)) (omega arith) (b.crashes i)))
+
+  few_acts : sum s.raw ≤ rules.roles * rules.limit
+  few_acts = subst (λ n. sum s.raw ≤ n * rules.limit) b.numbers.raw (sum_by-le (λ x. x) rules.limit s.raw b.raw)
+
+  pub few_entries : n ≤ rules.roles * rules.limit + 2 * lines_of rules
+  few_entries = omega (arith, b.total, few_crashes, few_acts)
+
+  all_bounded : (journal : List Entry) → length journal ≡ n → IsBounded rules journal s
+  all_bounded journal e = record {
+    numbers = b.numbers;
+    entries = omega (arith, e, few_entries);
+    raw = index_bound rules.limit s.raw b.raw;
+    crashes = b.crashes;
+    attempts = index_bound (lines_of rules) s.attempts (All-weaker (λ a. a + marked s.crashed ≤ sum s.crashes) (λ a. a ≤ lines_of rules) (λ a le. omega (arith, le, few_crashes)) s.attempts b.attempts);
+    clocks = index_bound (length journal) s.clocks (subst (λ n. All (λ c. c ≤ n) s.clocks) (sym e) b.clocks);
+    stamps = subst (λ n. All (λ (e : Event). e.stamp ≤ n) s.kept) (sym e) b.stamps;
+    sent = subst (λ n. All (λ (e : Event). e.sent ≤ n) s.kept) (sym e) b.sent;
+    events = omega (arith, e, b.events);
+    kept = b.kept;
+  }
+
 pub bounded : (rules : Rules) (journal : List Entry) → IsLegal rules journal → IsBounded rules journal (reading rules journal)
-bounded rules journal legal = record {
-  numbers = b.numbers;
-  entries = omega (arith, b.total, few, runs);
-  raw = index_bound rules.limit s.raw b.raw;
-  crashes = b.crashes;
-  attempts = index_bound (lines_of rules) s.attempts (All-weaker (λ a. a + marked s.crashed ≤ sum s.crashes) (λ a. a ≤ lines_of rules) (λ a le. omega (arith, le, few)) s.attempts b.attempts);
-  clocks = index_bound (length journal) s.clocks b.clocks;
-  stamps = b.stamps;
-  sent = b.sent;
-  events = b.events;
-  kept = b.kept;
-}
-  where
-    s : State
-    s = reading rules journal
-
-    b : Bounds rules (length journal) (reading rules journal)
-    b = subst (λ n. Bounds rules n (reading rules journal)) (omega arith) (after_all rules 0 (start rules.roles) journal (at_start rules) legal)
-
-    few : sum (reading rules journal).crashes ≤ lines_of rules
-    few = subst (λ n. sum (reading rules journal).crashes ≤ sum_by (λ r. length (rules.crash_lines r)) (range_with_len 0 n)) b.numbers.crashes (sum_bound (λ r. length (rules.crash_lines r)) 0 (reading rules journal).crashes (λ i lt. subst (λ m. slice_index (reading rules journal).crashes i ≤ length (rules.crash_lines m)) (omega arith) (b.crashes i)))
-
-    runs : sum (reading rules journal).raw ≤ rules.roles * rules.limit
-    runs = subst (λ n. sum (reading rules journal).raw ≤ n * rules.limit) b.numbers.raw (sum_by-le (λ x. x) rules.limit (reading rules journal).raw b.raw)
+bounded rules journal legal = all_bounded rules (0 + length journal) (reading rules journal) (after_all rules 0 (start rules.roles) journal (at_start rules) legal) journal (omega arith)
 
 no_lines : (n a : ℕ) → sum_by (λ (r : ℕ). 0) (range_with_len a n) ≡ 0
 no_lines zero a = refl

@@ -5,9 +5,10 @@ use Rattle.rcv_model.specs.Net.{Net, IsIn, IsWalk}
 use Rattle.rcv_model.specs.Next.{IsOf, HasNone, IsNext, AreNext, Chain, here, IsPlaceOf, IsProper, IsAccepted}
 use Rattle.rcv_model.specs.Net.{last_of}
 use Rattle.rcv_model.specs.Places.{net_of}
-use Rattle.rcv_model.specs.Accept.{HasSubjects}
+use Rattle.rcv_model.specs.Accept.{HasSubjects, Fails}
 use Rattle.rcv_model.specs.Form.{HasForm}
 use Rattle.rcv_model.proofs.PlainNets.{plain_accepted}
+use Rattle.rcv_model.proofs.Decided.{faultless}
 use Rattle.rcv_model.proofs.Forms.{proper}
 use Rattle.std.specs.Prelude.{pos, max, false, Some, slice_get, slice_index}
 use Rattle.rcv_tree.specs.declared.event.Message.{Message}
@@ -27,6 +28,10 @@ ping_proper = proper ping 2 ping_form
 -- ping is plain, so it is accepted; below that is shown by hand too
 ping_plain : IsAccepted net 2 × HasSubjects ping
 ping_plain = plain_accepted ping 2 tt ping_form
+
+-- so no rule fails
+ping_faultless : (c r n : ℕ) → Fails ping 2 c r n → ⊥
+ping_faultless = (faultless ping 2 ping_form).1 ping_plain
 
 -- both roles are at both points
 abbrev Either : ℕ → Type 0

@@ -121,11 +121,14 @@ module _ (body : Body) (roles : ℕ) (plain : IsPlain body) (form : HasForm body
 
   enabled : (r k z : ℕ) → IsNext (net_of body) r k z → (j : ℕ) × Chain (net_of body) r k j × ((x : ℕ) → IsIn x ((net_of body).offers j) ↔ IsNext (net_of body) r k x)
   enabled r k z n =
-      let a = along r k k z n.way here n.walk n.none in
-      (a.0, a.1, λ x. (
-        λ i. subst (IsNext (net_of body) r k) (sym (straight a.0 x z i (subst (IsIn z) (sym a.2) (inl refl)))) n,
-        λ m. subst (IsIn x) (sym a.2) (inl (one_next r k x z m n)),
-      ))
+      let a = along r k k z n.way here n.walk n.none in (
+        a.0,
+        a.1,
+        λ x. (
+          λ i. subst (IsNext (net_of body) r k) (sym (straight a.0 x z i (subst (IsIn z) (sym a.2) (inl refl)))) n,
+          λ m. subst (IsIn x) (sym a.2) (inl (one_next r k x z m n)),
+        ),
+      )
 
   -- a walk without a point of r isn't ended before r's next point
   goes_on : (r k z : ℕ) (way w : List ℕ) → IsWalk (net_of body) k (way ++ z ∷ []) → IsOf (net_of body) r z → IsWalk (net_of body) k w → IsEnded (net_of body) k w → HasNone (net_of body) r w → ⊥

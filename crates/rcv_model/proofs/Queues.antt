@@ -85,14 +85,14 @@ around (x ∷ h) (suc i) e f =
 abbrev pub put_message : Event → Message
 put_message e = record { point = e.point; value = e.value; stamp = e.stamp }
 
-put_by_some : (net : Net) (s r : ℕ) (e : Event) → puts_on net s r e ≡ true → put_by net s r e ≡ Some (put_message e)
+pub put_by_some : (net : Net) (s r : ℕ) (e : Event) → puts_on net s r e ≡ true → put_by net s r e ≡ Some (put_message e)
 put_by_some net s r e t = ap (λ b. cond b (Some (put_message e)) None) t
 
-taken_by_some : (net : Net) (s r : ℕ) (e : Event) → takes_on net s r e ≡ true → taken_by net s r e ≡ Some (message_of e)
+pub taken_by_some : (net : Net) (s r : ℕ) (e : Event) → takes_on net s r e ≡ true → taken_by net s r e ≡ Some (message_of e)
 taken_by_some net s r e t = ap (λ b. cond b (Some (message_of e)) None) t
 
 -- a map under a test gives something only where the test holds
-put_by_true : (net : Net) (s r : ℕ) (e : Event) (m : Message) → put_by net s r e ≡ Some m → (puts_on net s r e ≡ true) × (put_message e ≡ m)
+pub put_by_true : (net : Net) (s r : ℕ) (e : Event) (m : Message) → put_by net s r e ≡ Some m → (puts_on net s r e ≡ true) × (put_message e ≡ m)
 put_by_true net s r e m f = ⊎_elim
     (λ t. (t, some_same (sym (put_by_some net s r e t) ∙ f)))
     (λ t. absurd (none_some f (ap (λ b. cond b (Some (put_message e)) None) t)))
@@ -104,7 +104,7 @@ put_by_true net s r e m f = ⊎_elim
     none_some : {x : Message} {o : Option Message} → o ≡ Some x → o ≡ None → ⊥
     none_some e f = cc
 
-taken_by_true : (net : Net) (s r : ℕ) (e : Event) (m : Message) → taken_by net s r e ≡ Some m → (takes_on net s r e ≡ true) × (message_of e ≡ m)
+pub taken_by_true : (net : Net) (s r : ℕ) (e : Event) (m : Message) → taken_by net s r e ≡ Some m → (takes_on net s r e ≡ true) × (message_of e ≡ m)
 taken_by_true net s r e m f = ⊎_elim
     (λ t. (t, some_same (sym (taken_by_some net s r e t) ∙ f)))
     (λ t. absurd (none_some f (ap (λ b. cond b (Some (message_of e)) None) t)))

@@ -142,7 +142,7 @@ cases_in q (x ∷ xs) = go (cases_eq q x) (cases_in q xs)
     go (inr n) (inl i) = inl (inr i)
     go (inr n) (inr m) = inr (⊎_elim n m)
 
-marks_more : (net : Net) (m : List ℕ) (b : List ℕ) (x : ℕ) → marks net m (b ++ x ∷ []) ≡ mark net (marks net m b) x
+pub marks_more : (net : Net) (m : List ℕ) (b : List ℕ) (x : ℕ) → marks net m (b ++ x ∷ []) ≡ mark net (marks net m b) x
 marks_more net m [] x = refl
 marks_more net m (y ∷ b) x = marks_more net (mark net m y) b x
 

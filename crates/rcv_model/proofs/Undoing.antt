@@ -160,13 +160,13 @@ same_cut (z ∷ f) (w ∷ g) b d x y e l =
     let r = same_cut f g b d x y e2 (omega (arith, l)) in
     (ap (λ l. z ∷ l) r.0 ∙ ap (λ v. v ∷ g) e1, r.1)
 
-eqb_role : (net : Net) (s r : ℕ) (e : Event) → puts_on net s r e ≡ true → e.role ≡ s
+pub eqb_role : (net : Net) (s r : ℕ) (e : Event) → puts_on net s r e ≡ true → e.role ≡ s
 eqb_role net s r e q = grind (arith, nat_tests)
 
 pub put_same : (net : Net) (s r : ℕ) (xs ys : List Event) → by_role s xs ≡ by_role s ys → put net s r xs ≡ put net s r ys
 put_same net s r xs ys e = put_through net s r xs ∙ ap (put net s r) e ∙ sym (put_through net s r ys)
 
-put_longer : (net : Net) (s r : ℕ) (xs : List Event) (e : Event) → puts_on net s r e ≡ true → length (put net s r (xs ++ e ∷ [])) ≡ length (put net s r xs) + 1
+pub put_longer : (net : Net) (s r : ℕ) (xs : List Event) (e : Event) → puts_on net s r e ≡ true → length (put net s r (xs ++ e ∷ [])) ≡ length (put net s r xs) + 1
 put_longer net s r xs e t =
     let a : put net s r (xs ++ e ∷ []) ≡ put net s r xs ++ record { point = e.point; value = e.value; stamp = e.stamp } ∷ [] = filter_map-append (put_by net s r) xs (e ∷ []) ∙ ap (λ b. put net s r xs ++ cons_option (cond b (Some (record { point = e.point; value = e.value; stamp = e.stamp })) None) []) t in
     omega (arith, ap length a, length-append (put net s r xs) (record { point = e.point; value = e.value; stamp = e.stamp } ∷ []))

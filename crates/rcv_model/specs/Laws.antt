@@ -1,5 +1,5 @@
 -- What holds of the definitions.
-use Rattle.std.specs.Prelude.{◌≡◌, ℕ, ◌*◌, ◌≤◌, ◌↔◌, Bool, true, Some, List, [], ◌∷◌, ◌++◌, length, slice_get}
+use Rattle.std.specs.Prelude.{◌≡◌, ℕ, ◌*◌, ◌<◌, ◌≤◌, ◌⊎◌, ◌↔◌, max, Bool, true, Some, List, [], ◌∷◌, ◌++◌, length, slice_get}
 use Rattle.std.specs.List.Sorted.{IsStrictlyIncreasing}
 use Rattle.rcv_tree.specs.declared.event.Event.{Event}
 use Rattle.rcv_tree.specs.declared.entry.Entry.{Entry}
@@ -7,7 +7,7 @@ use Rattle.rcv_tree.specs.declared.entry.Entry.TheVariants.{Recover}
 use Rattle.rcv_tree.specs.declared.role.RoleSet.{RoleSet}
 use Rattle.rcv_model.specs.Net.{Net, IsIn, HasTwoEnds}
 use Rattle.rcv_model.specs.Run.{Act, acts, IsQueued, IsRun, channel, joint_of, IsReachedState}
-use Rattle.rcv_model.specs.Table.{IsRestart, IsConcerned}
+use Rattle.rcv_model.specs.Table.{IsRestart, IsConcerned, AreRestarts}
 use Rattle.rcv_model.specs.Act.{IsNotStuck}
 use Rattle.rcv_model.specs.Undo.{is_blocked, scanned, keep, IsUndone, IsQueuedByPlaces, picked, IsLatestCut, UndoesExactly}
 use Rattle.rcv_model.specs.Next.{IsProper, IsAccepted, AreNext, IsEnabledAt, IsEnabledBy}
@@ -15,9 +15,11 @@ use Rattle.rcv_model.specs.Places.{Spot, Offers, offers_at, spot_of, net_of, IsF
 use Rattle.rcv_model.specs.Text.{Body}
 use Rattle.rcv_model.specs.Accept.{HasSubjects, Fails, IsDecided, IsRefusal}
 use Rattle.rcv_model.specs.Form.{HasForm}
+use Rattle.rcv_model.specs.Script.{Line, chosen_by}
 use Rattle.rcv_model.specs.Plain.{IsPlain, bare_rules, HasNoCrashes}
 use Rattle.rcv_model.specs.Numbers.{IsBounded}
-use Rattle.rcv_model.specs.Final.{IsFinal, IsCompleted, IsStep, IsOneThread}
+use Rattle.rcv_model.specs.Line.{IsStable, LineHolds}
+use Rattle.rcv_model.specs.Final.{IsFinal, AreDone, IsCompleted, HasOneAtLimit, ChoosesOffered, IsStep, IsOneThread}
 use Rattle.rcv_model.specs.Journal.{Rules, State, MaySend, MayRecv, May, reading, events_of, IsLegal, KeepsRuns}
 
 -- After each entry of a legal journal of an accepted protocol the kept events are a run.
@@ -167,3 +169,55 @@ BareJournalsHaveNoCrashes =
 abbrev pub PlainJournalsComplete : Type 0
 PlainJournalsComplete =
     (body : Body) (roles : ℕ) (journal : List Entry) → IsPlain body → HasForm body roles → IsLegal (bare_rules body roles) journal → IsFinal (bare_rules body roles) (reading (bare_rules body roles) journal) → IsCompleted (bare_rules body roles) (reading (bare_rules body roles) journal)
+
+-- Each role has its list of next points at each place.
+abbrev pub NextListsExist : Type 0
+NextListsExist = (net : Net) (roles r k : ℕ) → IsProper net roles → (zs : List ℕ) × AreNext net r k zs
+
+-- What a role with a script chooses is one of the offered points.
+abbrev pub ScriptsChooseOffered : Type 0
+ScriptsChooseOffered =
+    (net : Net) (scripts : ℕ → List Line) (r : ℕ) (events : List Event) (attempt : ℕ) (zs : List ℕ) → (zs ≡ [] → ⊥) → IsIn (chosen_by net scripts r events attempt zs) zs
+
+-- Where a legal journal of an accepted protocol is final, all roles are done, or one that isn't has come to the limit.
+abbrev pub FinalIsDoneOrLimited : Type 0
+FinalIsDoneOrLimited =
+    (rules : Rules) (journal : List Entry) → IsProper rules.net rules.roles → IsAccepted rules.net rules.roles → ChoosesOffered rules → 0 < rules.room → IsLegal rules journal → IsFinal rules (reading rules journal) → AreDone rules (reading rules journal) ⊎ HasOneAtLimit rules (reading rules journal)
+
+-- Whether choices are enabled and points reached is decided for each text in the reader's form.
+abbrev pub TextsAreDecided : Type 0
+TextsAreDecided = (body : Body) (roles : ℕ) → HasForm body roles → IsDecided body roles
+
+-- So such a text is accepted, its choices' subjects included, exactly where no rule fails.
+abbrev pub AcceptedTextsAreFaultless : Type 0
+AcceptedTextsAreFaultless =
+    (body : Body) (roles : ℕ) → HasForm body roles → ((c r n : ℕ) → Fails body roles c r n → ⊥) ↔ (IsAccepted (net_of body) roles × HasSubjects body)
+
+-- Each role has its list of restart points.
+abbrev pub RestartListsExist : Type 0
+RestartListsExist =
+    (net : Net) (roles p n q : ℕ) → IsProper net roles → (zs : List ℕ) × AreRestarts net p n q zs
+
+-- There is one.
+abbrev pub RestartsAreOneList : Type 0
+RestartsAreOneList =
+    (net : Net) (p n q : ℕ) (xs ys : List ℕ) → AreRestarts net p n q xs → AreRestarts net p n q ys → xs ≡ ys
+
+-- One thread's journal exists, whatever the scripts and the plan.
+abbrev pub OneThreadJournalsExist : Type 0
+OneThreadJournalsExist = (rules : Rules) → IsProper rules.net rules.roles → (journal : List Entry) × IsOneThread rules journal
+
+-- For a plain text without a plan it ends completed.
+abbrev pub OneThreadCompletesPlain : Type 0
+OneThreadCompletesPlain =
+    (body : Body) (roles : ℕ) → IsPlain body → HasForm body roles → (journal : List Entry) × IsOneThread (bare_rules body roles) journal × IsCompleted (bare_rules body roles) (reading (bare_rules body roles) journal)
+
+-- In each legal journal that goes on, a stable line stays stable, and the events within it stay.
+abbrev pub StableLinesHold : Type 0
+StableLinesHold =
+    (rules : Rules) (front back : List Entry) (line : ℕ → ℕ) → IsProper rules.net rules.roles → IsAccepted rules.net rules.roles → IsLegal rules (front ++ back) → IsStable rules (reading rules front).kept line → LineHolds rules (reading rules front).kept (reading rules (front ++ back)).kept line
+
+-- The greater of two stable lines, role by role, is one: so there is at most one greatest.
+abbrev pub StableLinesJoin : Type 0
+StableLinesJoin =
+    (rules : Rules) (h : List Event) (a b : ℕ → ℕ) → IsStable rules h a → IsStable rules h b → IsStable rules h (λ r. max (a r) (b r))

@@ -9,6 +9,7 @@ pub mod Places
 pub mod Form
 pub mod Plain
 pub mod Numbers
+pub mod Line
 pub mod Script
 pub mod Final
 pub mod Accept

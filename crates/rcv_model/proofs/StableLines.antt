@@ -1,0 +1,227 @@
+-- A stable line stays one, and the events within it stay, whatever comes.
+use Rattle.std.proofs.Common.{◌≡◌, ℕ, zero, suc, ◌+◌, ◌*◌, ◌/◌, ◌<◌, ◌≤◌, max, Bool, true, false, cond, Option, Some, None, List, [], ◌∷◌, ◌++◌, length, take, refl, sym, ◌∙◌, ap, subst, ◌⊎◌, inl, inr, ⊎_elim, append_assoc, arith, eq-eqb, ne_eqb}
+use Rattle.std.specs.Prelude.{nat_lt, slice_get}
+use Rattle.std.proofs.lemmas.Bool.{cases_eq, cases_lt}
+use Rattle.std.proofs.lemmas.Bool.Decides.{nat_tests}
+use Rattle.std.proofs.lemmas.Option.{slice_get_within}
+use Rattle.std.proofs.Math.Nat.{le-div_iff_mul-le, mul-le-mul_right}
+use Rattle.rcv_tree.specs.declared.event.Event.{Event}
+use Rattle.rcv_tree.specs.declared.entry.Entry.{Entry}
+use Rattle.rcv_tree.specs.declared.entry.Entry.TheVariants.{Send, Recv, Crash, Recover}
+use Rattle.rcv_model.specs.Net.{Net, IsPrefix, HasTwoEnds}
+use Rattle.rcv_model.specs.Run.{act_of, acts, put, taken, IsQueued, IsRun}
+use Rattle.rcv_model.specs.Undo.{Link, Depends, one, more, keep, IsCut, picked}
+use Rattle.rcv_model.specs.Next.{IsProper, IsAccepted}
+use Rattle.rcv_model.specs.Journal.{Rules, State, start, durable, after, reading_from, reading, IsLegalFrom, IsLegal}
+use Rattle.rcv_model.specs.Line.{IsStable, IsLine, LineHolds}
+use Rattle.rcv_model.proofs.Lists.{prefix_map}
+use Rattle.rcv_model.proofs.Keeping.{by_role, is_recv, scan_of}
+use Rattle.rcv_model.proofs.Choices.{prefix_length}
+use Rattle.rcv_model.proofs.Bystanders.{as_many}
+use Rattle.rcv_model.proofs.Undoing.{eqb_role}
+use Rattle.rcv_model.proofs.Queues.{around}
+use Rattle.rcv_model.proofs.Cuts.{latest}
+use Rattle.rcv_model.proofs.Numbers.{acts_cons}
+use Rattle.rcv_model.proofs.Legal.{SendsKeep, run_after, sends_keep_accepted, accepted_runs}
+use Rattle.rcv_model.proofs.Lines.{take_same, by_role_front, by_role_one, first_of, Counts, Closed, closed_of_counts, counts_of_closed}
+
+-- the set has the events of a role that are among its first, where n stand before the list
+abbrev HasFirst : ℕ → ℕ → ℕ → (ℕ → Bool) → List Event → Type 0
+HasFirst r top n has h = (i : ℕ) (e : Event) → slice_get h i ≡ Some e → e.role ≡ r → n + length (acts r (take i h)) < top → has i ≡ true
+
+counted : (r : ℕ) (e : Event) (l : List Event) → e.role ≡ r → length (acts r (e ∷ l)) ≡ 1 + length (acts r l)
+counted r e l f = acts_cons r e l ∙ ap (λ b. cond b 1 0 + length (acts r l)) (eq-eqb e.role r f)
+
+passed : (r : ℕ) (e : Event) (l : List Event) → (e.role ≡ r → ⊥) → length (acts r (e ∷ l)) ≡ 0 + length (acts r l)
+passed r e l m = acts_cons r e l ∙ ap (λ b. cond b 1 0 + length (acts r l)) (ne_eqb e.role r m)
+
+-- it keeps as many of them
+picked_many : (r top n : ℕ) (has : ℕ → Bool) (h : List Event) → HasFirst r top n has h → top ≤ n + length (acts r h) → top ≤ n + length (acts r (picked has h))
+picked_many r top n has [] all le = le
+picked_many r top n has (e ∷ h) all le = go (cases_eq e.role r) (λ m first few. picked_many r top m (λ i. has (suc i)) h first few)
+  where
+    either : (b : Bool) → top ≤ n + length (acts r (picked (λ i. has (suc i)) h)) → (e.role ≡ r → ⊥) → top ≤ n + length (acts r (cond b (e ∷ picked (λ i. has (suc i)) h) (picked (λ i. has (suc i)) h)))
+    either true ih m = omega (arith, ih, passed r e (picked (λ i. has (suc i)) h) m)
+    either false ih m = ih
+
+    own : e.role ≡ r → n < top → ((m : ℕ) → HasFirst r top m (λ i. has (suc i)) h → top ≤ m + length (acts r h) → top ≤ m + length (acts r (picked (λ i. has (suc i)) h))) → top ≤ n + length (acts r (picked has (e ∷ h)))
+    own f lt rec =
+        let t : has 0 ≡ true = all 0 e refl f (omega arith) in
+        let ih = rec (n + 1) (λ i d g o low. all (suc i) d g o (omega (arith, low, counted r e (take i h) f))) (omega (arith, le, counted r e h f)) in
+        subst (λ b. top ≤ n + length (acts r (cond b (e ∷ picked (λ i. has (suc i)) h) (picked (λ i. has (suc i)) h)))) (sym t) (omega (arith, ih, counted r e (picked (λ i. has (suc i)) h) f))
+
+    go : (e.role ≡ r) ⊎ (e.role ≡ r → ⊥) → ((m : ℕ) → HasFirst r top m (λ i. has (suc i)) h → top ≤ m + length (acts r h) → top ≤ m + length (acts r (picked (λ i. has (suc i)) h))) → top ≤ n + length (acts r (picked has (e ∷ h)))
+    go (inl f) rec = ⊎_elim (λ lt. own f lt rec) (λ low. omega (arith, low)) (cases_lt n top)
+    go (inr m) rec = either (has 0) (rec n (λ i d g o low. all (suc i) d g o (omega (arith, low, passed r e (take i h) m))) (omega (arith, le, passed r e h m))) m
+
+take_grows : (i j : ℕ) (h : List Event) → i ≤ j → IsPrefix (take i h) (take j h)
+take_grows zero j h le = (take j h, refl)
+take_grows (suc i) zero h le = absurd (omega arith)
+take_grows (suc i) (suc j) [] le = ([], refl)
+take_grows (suc i) (suc j) (x ∷ h) le = let r = take_grows i j h (omega arith) in (r.0, ap (λ l. x ∷ l) r.1)
+
+-- the event at a position is within the line
+mark : (ℕ → ℕ) → List Event → ℕ → Option Event → Bool
+mark line h i None = false
+mark line h i (Some e) = nat_lt (length (acts e.role (take i h))) (line e.role)
+
+module _ (net : Net) (h : List Event) (line : ℕ → ℕ) (p c : ℕ) (queued : IsQueued net h) (closed : Closed net h line) (low : line p ≤ c) where
+  test : ℕ → Bool
+  test i = mark line h i (slice_get h i)
+
+  to_test : (i : ℕ) (e : Event) → slice_get h i ≡ Some e → length (acts e.role (take i h)) < line e.role → test i ≡ true
+  unfolding test mark
+  to_test i e at' lt = ap (mark line h i) at' ∙ (let a = lt in grind (arith, nat_tests))
+
+  of_test : (i : ℕ) → test i ≡ true → (e : Event) × (slice_get h i ≡ Some e) × (length (acts e.role (take i h)) < line e.role)
+  unfolding test mark
+  of_test i t = go (slice_get h i) refl t
+    where
+      go : (o : Option Event) → slice_get h i ≡ o → mark line h i o ≡ true → (e : Event) × (slice_get h i ≡ Some e) × (length (acts e.role (take i h)) < line e.role)
+      go None f t = absurd (cc)
+      go (Some e) f t = (e, f, grind (arith, nat_tests))
+
+  same_event : {x y : Event} → Some x ≡ Some y → x ≡ y
+  same_event e = cc
+
+  earlier : (r i j : ℕ) → i ≤ j → length (acts r (take i h)) ≤ length (acts r (take j h))
+  earlier r i j le = prefix_length _ _ (prefix_map (act_of r) _ _ (take_grows i j h le))
+
+  on_link : (i j : ℕ) → Link net h i j → test j ≡ true → test i ≡ true
+  on_link i j (lt, inl s) t =
+      let e = of_test j t in
+      let same : e.0 ≡ s.second = same_event (sym e.1 ∙ s.at_j) in
+      let role : e.0.role ≡ s.first.role = ap (λ (x : Event). x.role) same ∙ sym s.same in
+      let within : length (acts s.first.role (take j h)) < line s.first.role = subst (λ r. length (acts r (take j h)) < line r) role e.2 in
+      to_test i s.first s.at_i (omega (arith, within, earlier s.first.role i j (omega arith)))
+  on_link i j (lt, inr m) t =
+      let e = of_test j t in
+      let same : e.0 ≡ m.takes.event = same_event (sym e.1 ∙ m.takes.at) in
+      let role : e.0.role ≡ m.r = ap (λ (x : Event). x.role) same ∙ (is_recv net m.s m.r m.takes.event m.takes.takes).1 in
+      let within : length (acts m.r (take j h)) < line m.r = subst (λ r. length (acts r (take j h)) < line r) role e.2 in
+      to_test i m.puts.event m.puts.at (subst (λ r. length (acts r (take i h)) < line r) (sym (eqb_role net m.s m.r m.puts.event m.puts.puts)) (closed m.s m.r m.k i j m.puts m.takes within))
+
+  on_chain : {i j : ℕ} → Depends net h i j → test j ≡ true → test i ≡ true
+  on_chain (one {i = i} {j = j} l) t = on_link i j l t
+  on_chain (more {j = j} {k = k} d l) t = on_chain d (on_link j k l t)
+
+  is_cut : IsCut net h p c test
+  is_cut = record {
+    inside = λ i t. let e = of_test i t in slice_get_within h i e.0 e.1;
+    lacks = λ i t lost.
+        let e = of_test i t in
+        let same : e.0 ≡ lost.event = same_event (sym e.1 ∙ lost.at) in
+        let role : e.0.role ≡ p = ap (λ (x : Event). x.role) same ∙ lost.role in
+        let within : length (acts p (take i h)) < line p = subst (λ r. length (acts r (take i h)) < line r) role e.2 in
+        omega (arith, within, lost.behind);
+    holds = λ i j t d. on_chain d t;
+  }
+
+  -- so the recovery keeps what is within the line
+  kept_within : (r : ℕ) → line r ≤ length (acts r h) → line r ≤ length (acts r (keep net p c h))
+  kept_within r le =
+      let l = latest net p c h queued in
+      let many = picked_many r (line r) 0 l.0 h (λ i e at' role lt. l.1.greatest test is_cut i (to_test i e at' (subst (λ q. length (acts q (take i h)) < line q) (sym role) (omega (arith, lt))))) (omega (arith, le)) in
+      omega (arith, many, ap (λ x. length (acts r x)) l.2)
+
+-- the greatest multiple that is at most n is at least each other one
+floor_high : (k e n : ℕ) → k * e ≤ n → k * e ≤ n / e * e
+floor_high k zero n le = omega arith
+floor_high k (suc e) n le = mul-le-mul_right (suc e) ((le-div_iff_mul-le (omega arith)).1 le)
+
+-- what stays of h: the first events of each role, up to the line
+record Stays (line : ℕ → ℕ) (h now : List Event) : Type 0 where
+  enough : (r : ℕ) → line r ≤ length (by_role r now)
+  same : (r : ℕ) → first_of (line r) r now ≡ first_of (line r) r h
+
+module _ (rules : Rules) (line : ℕ → ℕ) (multiple : (r : ℕ) → (k : ℕ) × (k * rules.every r ≡ line r)) (h : List Event) (counts : Counts rules.net h line) where
+  counts_now : (now : List Event) → Stays line h now → Counts rules.net now line
+  counts_now now stays s r = subst (λ l. length (taken rules.net s r l) ≤ length (put rules.net s r (first_of (line s) s now))) (sym (stays.same r)) (subst (λ l. length (taken rules.net s r (first_of (line r) r h)) ≤ length (put rules.net s r l)) (sym (stays.same s)) (counts s r))
+
+  -- more events
+  stay_more : (now : List Event) (e : Event) → Stays line h now → Stays line h (now ++ e ∷ [])
+  stay_more now e stays = record {
+    enough = λ r. omega (arith, stays.enough r, prefix_length _ _ (by_role_front r now (e ∷ [])));
+    same = λ r. sym (take_same (by_role r now) (by_role r (now ++ e ∷ [])) (line r) (by_role_front r now (e ∷ [])) (stays.enough r)) ∙ stays.same r;
+  }
+
+  stay_kept : (s : State) (p : ℕ) → IsQueued rules.net s.kept → Stays line h s.kept → Stays line h (keep rules.net p (durable rules s p) s.kept)
+  stay_kept s p queued stays = record { enough = enough; same = λ r. take_same (by_role r (keep rules.net p (durable rules s p) s.kept)) (by_role r s.kept) (line r) (front r) (enough r) ∙ stays.same r }
+    where
+      front : (r : ℕ) → IsPrefix (by_role r (keep rules.net p (durable rules s p) s.kept)) (by_role r s.kept)
+      front = (scan_of rules.net p (durable rules s p) s.kept queued).front
+
+      low : line p ≤ durable rules s p
+      low = let m = multiple p in subst (λ n. n ≤ durable rules s p) m.1 (floor_high m.0 (rules.every p) (length (acts p s.kept)) (omega (arith, m.1, stays.enough p, as_many p s.kept)))
+
+      enough : (r : ℕ) → line r ≤ length (by_role r (keep rules.net p (durable rules s p) s.kept))
+      enough r = omega (arith, kept_within rules.net s.kept line p (durable rules s p) queued (closed_of_counts rules.net s.kept line (counts_now s.kept stays)) low r (omega (arith, stays.enough r, as_many r s.kept)), as_many r (keep rules.net p (durable rules s p) s.kept))
+
+  stay_one : (s : State) (e : Entry) → IsQueued rules.net s.kept → Stays line h s.kept → Stays line h (after rules s e).kept
+  stay_one s (Send e) queued stays = stay_more s.kept e stays
+  stay_one s (Recv e) queued stays = stay_more s.kept e stays
+  stay_one s (Crash p) queued stays = stays
+  stay_one s (Recover p concerned kept undone) queued stays = stay_kept s p queued stays
+
+  stay_all : (s : State) (journal : List Entry) → HasTwoEnds rules.net → SendsKeep rules → IsLegalFrom rules s journal → IsRun rules.net s.kept → Stays line h s.kept → IsRun rules.net (reading_from rules s journal).kept × Stays line h (reading_from rules s journal).kept
+  stay_all s [] two sends legal run stays = (run, stays)
+  stay_all s (e ∷ journal) two sends legal run stays =
+      stay_all (after rules s e) journal two sends legal.1 (run_after rules s e two sends legal.0 run) (stay_one s e run.1.queued stays)
+
+reading_join : (rules : Rules) (s : State) (front back : List Entry) → reading_from rules s (front ++ back) ≡ reading_from rules (reading_from rules s front) back
+reading_join rules s [] back = refl
+reading_join rules s (e ∷ front) back = reading_join rules (after rules s e) front back
+
+legal_back : (rules : Rules) (s : State) (front back : List Entry) → IsLegalFrom rules s (front ++ back) → IsLegalFrom rules (reading_from rules s front) back
+legal_back rules s [] back legal = legal
+legal_back rules s (e ∷ front) back legal = legal_back rules (after rules s e) front back legal.1
+
+pub line_holds : (rules : Rules) (front back : List Entry) (line : ℕ → ℕ) → IsProper rules.net rules.roles → IsAccepted rules.net rules.roles → IsLegal rules (front ++ back) → IsStable rules (reading rules front).kept line → LineHolds rules (reading rules front).kept (reading rules (front ++ back)).kept line
+line_holds rules front back line proper accepted legal stable = subst (λ (s : State). LineHolds rules (reading rules front).kept s.kept line) (sym (reading_join rules (start rules.roles) front back)) end
+  where
+    run : IsRun rules.net (reading rules front).kept
+    run = accepted_runs rules (front ++ back) proper accepted legal front back refl
+
+    counts : Counts rules.net (reading rules front).kept line
+    counts = counts_of_closed rules.net (reading rules front).kept line run.1.queued stable.closed
+
+    all : IsRun rules.net (reading_from rules (reading rules front) back).kept × Stays line (reading rules front).kept (reading_from rules (reading rules front) back).kept
+    all = stay_all rules line stable.steps (reading rules front).kept counts (reading rules front) back proper.two_ends (sends_keep_accepted rules proper accepted) (legal_back rules (start rules.roles) front back legal) run (record { enough = λ r. omega (arith, stable.kept r, as_many r (reading rules front).kept); same = λ r. refl })
+
+    end : LineHolds rules (reading rules front).kept (reading_from rules (reading rules front) back).kept line
+    end = record {
+      stable = record {
+        steps = stable.steps;
+        kept = λ r. omega (arith, all.1.enough r, as_many r (reading_from rules (reading rules front) back).kept);
+        closed = closed_of_counts rules.net (reading_from rules (reading rules front) back).kept line (counts_now rules line stable.steps (reading rules front).kept counts (reading_from rules (reading rules front) back).kept all.1);
+      };
+      stays = all.1.same;
+    }
+
+-- the greater of two stable lines, role by role, is one
+pub lines_join : (rules : Rules) (h : List Event) (a b : ℕ → ℕ) → IsStable rules h a → IsStable rules h b → IsStable rules h (λ r. max (a r) (b r))
+lines_join rules h a b x y = record {
+  steps = λ r. ⊎_elim (λ lt. let m = y.steps r in (m.0, omega (arith, m.1, lt))) (λ le. let m = x.steps r in (m.0, omega (arith, m.1, le))) (cases_lt (a r) (b r));
+  kept = λ r. omega (arith, x.kept r, y.kept r);
+  closed = λ s r k i j p t lt. ⊎_elim
+      (λ in'. let w = x.closed s r k i j p t in' in omega (arith, w))
+      (λ out. let w = y.closed s r k i j p t (omega (arith, lt, out)) in omega (arith, w))
+      (cases_lt (length (acts r (take j h))) (a r));
+}
+
+-- with a step of 1 all that is kept is within the line
+pub whole_line : (rules : Rules) (h : List Event) → ((r : ℕ) → rules.every r ≡ 1) → IsLine rules h (λ r. length (acts r h))
+whole_line rules h every = record {
+  stable = record {
+    steps = λ r. (length (acts r h), ap (λ e. length (acts r h) * e) (every r) ∙ omega arith);
+    kept = λ r. omega arith;
+    closed = λ s r k i j p t lt. inside s i p.event p.at (eqb_role rules.net s r p.event p.puts);
+  };
+  greatest = λ other stable r. stable.kept r;
+}
+  where
+    inside : (s i : ℕ) (e : Event) → slice_get h i ≡ Some e → e.role ≡ s → length (acts s (take i h)) < length (acts s h)
+    inside s i e at' role =
+        let a = around h i e at' in
+        let more = prefix_length _ _ (subst (λ l. IsPrefix (by_role s (a.front ++ e ∷ [])) (by_role s l)) (append_assoc a.front (e ∷ []) a.back ∙ a.whole) (by_role_front s (a.front ++ e ∷ []) a.back)) in
+        omega (arith, more, by_role_one s a.front e role, as_many s a.front, as_many s h, ap (λ l. length (acts s l)) a.taken_is)
