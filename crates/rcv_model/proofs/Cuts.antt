@@ -5,7 +5,7 @@ use Rattle.std.proofs.lemmas.Bool.{cases_Bool}
 use Rattle.rcv_tree.specs.declared.event.Event.{Event}
 use Rattle.rcv_model.specs.Net.{Net}
 use Rattle.rcv_model.specs.Run.{IsQueued}
-use Rattle.rcv_model.specs.Undo.{SameRole, SameMessage, Link, Depends, one, more, IsUndone, Kept, is_blocked, keep_one, keep_from, keep, scanned, IsCut, picked, IsLatestCut}
+use Rattle.rcv_model.specs.Undo.{SameRole, SameMessage, Link, Depends, one, more, IsUndone, Kept, is_blocked, keep_one, keep_from, keep, scanned, IsCut, picked, IsLatestCut, UndoesExactly}
 use Rattle.rcv_model.proofs.Undoing.{blocked_iff_undone}
 use Rattle.rcv_model.proofs.Queues.{Around, around}
 
@@ -96,9 +96,17 @@ module _ (net : Net) (p c : ℕ) (h : List Event) (queued : IsQueued net h) wher
       let e = event_at h i (cut.inside i t) in
       ⊎_elim (λ k. k.0) (λ k. absurd (⊎_elim (λ a. cut.lacks i t a) (λ u. cut.lacks u.0 (cut.holds u.0 i t u.2) u.1) k.1)) (known i e.0 e.1)
 
+  outside_undone : (i : ℕ) → i < length h → (flags net p c h i ≡ false) ↔ IsUndone net h p c i
+  outside_undone i lt =
+      let e = event_at h i lt in
+      ⊎_elim (λ k. (λ f. let v = k.0 in absurd (cc), λ u. absurd (k.1 u))) (λ k. (λ f. k.1, λ u. k.0)) (known i e.0 e.1)
+
   is_picked : keep net p c h ≡ picked (flags net p c h) h
   unfolding flags
   is_picked = picked_are_kept net p c (record { events = []; stopped = [] }) h
 
 pub latest : (net : Net) (p c : ℕ) (h : List Event) → IsQueued net h → (has : ℕ → Bool) × IsLatestCut net h p c has × (keep net p c h ≡ picked has h)
 latest net p c h queued = (flags net p c h, record { cut = is_cut net p c h queued; greatest = no_more net p c h queued }, is_picked net p c h queued)
+
+pub undo_exactly : (net : Net) (p c : ℕ) (h : List Event) → IsQueued net h → (has : ℕ → Bool) × UndoesExactly net h p c has
+undo_exactly net p c h queued = (flags net p c h, record { kept = is_picked net p c h queued; undone = outside_undone net p c h queued })

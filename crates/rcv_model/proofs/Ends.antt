@@ -14,13 +14,13 @@ use Rattle.rcv_model.specs.Final.{IsActOf, CanAct, IsFinal, IsCompleted, IsOneTh
 use Rattle.rcv_model.proofs.Cases.{plain, ping, send, recv}
 use Rattle.rcv_model.proofs.Ping.{Place, begin, middle, finish, next_is, may_send, may_recv, ping_proper}
 
-abbrev rules : Rules
+abbrev pub rules : Rules
 rules = plain ping 2 (λ r. 1) (λ r. [])
 
 abbrev net : Net
 net = net_of ping
 
-abbrev t0 : State
+abbrev pub t0 : State
 t0 = start 2
 
 abbrev t1 : State
@@ -32,7 +32,7 @@ t2 = after rules t1 (recv 1 1 2 1)
 abbrev t3 : State
 t3 = after rules t2 (send 1 2 3)
 
-abbrev t4 : State
+abbrev pub t4 : State
 t4 = after rules t3 (recv 0 2 4 3)
 
 none_crashed : (a b : Bool) → a ≡ false → b ≡ false → (r : ℕ) → slice_get (a ∷ b ∷ []) r ≡ Some true → ⊥
@@ -102,13 +102,13 @@ a3 = (refl, may_recv (λ r. 1) (λ r. []) t3 0 1 4 1 3 [] (omega arith) middle (
 calm : (r : ℕ) → slice_get (false ∷ false ∷ []) r ≡ Some true → ⊥
 calm r g = none_crashed false false refl refl r g
 
-final : IsFinal rules t4
+pub final : IsFinal rules t4
 final = record { none_crashed = calm; none_due = λ r lt d. no_due t4 r d; none_acts = below_2 (λ r. CanAct rules t4 r → ⊥) (idle t4 0 (omega arith) refl) (idle t4 1 (omega arith) refl) }
 
 completed : IsCompleted rules t4
 completed = (final, below_2 (λ r. (z : ℕ) → IsNext net r (place t4 r) z → ⊥) (λ z n. ended 0 z (omega arith) n) (λ z n. ended 1 z (omega arith) n))
 
-ping_journal : IsOneThread rules (send 0 1 1 ∷ recv 1 1 2 1 ∷ send 1 2 3 ∷ recv 0 2 4 3 ∷ [])
+pub ping_journal : IsOneThread rules (send 0 1 1 ∷ recv 1 1 2 1 ∷ send 1 2 3 ∷ recv 0 2 4 3 ∷ [])
 ping_journal = (
   (calm, λ r lt d. no_due t0 r d, ((send 0 1 1, a0), λ q lt. absurd (omega arith)), a0),
   (

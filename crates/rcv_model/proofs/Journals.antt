@@ -1,5 +1,5 @@
 -- The journal of several workers is legal: two crashes, two recoveries, and the events made again.
-use Rattle.std.proofs.Common.{◌≡◌, ℕ, zero, suc, ◌<◌, ◌≤◌, Bool, true, false, cond, List, [], ◌∷◌, ◌++◌, refl, sym, subst, inl, inr, ⊎_elim, arith}
+use Rattle.std.proofs.Common.{◌≡◌, ℕ, zero, suc, ◌<◌, ◌≤◌, Bool, true, false, cond, List, [], ◌∷◌, ◌++◌, take, drop, refl, sym, subst, inl, inr, ⊎_elim, arith}
 use Rattle.std.specs.Prelude.{◌==◌, ◌↔◌, replicate, slice_index}
 use Rattle.std.specs.List.{list_any}
 use Rattle.std.proofs.lemmas.Bool.{cases_eq}
@@ -11,8 +11,11 @@ use Rattle.rcv_model.specs.Net.{Net, IsIn}
 use Rattle.rcv_model.specs.Run.{Act}
 use Rattle.rcv_model.specs.Places.{net_of}
 use Rattle.rcv_model.specs.Table.{mark, marks, IsMarkedAt, IsConcerned}
-use Rattle.rcv_model.specs.Journal.{State, start, after, is_among, durable, IsDue, MaySend, MayRecv, MayRecover, IsConcernedIn, IsLegal, KeepsRuns}
-use Rattle.rcv_model.specs.Undo.{keep}
+use Rattle.rcv_model.specs.Journal.{State, start, after, is_among, durable, IsDue, MaySend, MayRecv, MayRecover, IsConcernedIn, reading, IsLegal, KeepsRuns}
+use Rattle.rcv_model.specs.Undo.{keep, UndoesExactly}
+use Rattle.rcv_model.specs.Numbers.{lines_of, IsBounded}
+use Rattle.rcv_model.proofs.Numbers.{bounded}
+use Rattle.rcv_model.proofs.Cuts.{undo_exactly}
 use Rattle.rcv_model.proofs.Legal.{accepted_runs}
 use Rattle.rcv_model.proofs.Cases.{ping, by_hundred_and_two, workers, sent, got, send, recv, recover, several_all}
 use Rattle.rcv_model.proofs.Ping.{begin, middle, may_send, may_recv, ping_proper, ping_accepted}
@@ -182,3 +185,14 @@ several_legal = (m0, (m1, (m2, (m3, (m4, (m5, (m6, (m7, (m8, (m9, (m10, (m11, tt
 -- so the law on legal journals says something of it
 pub several_runs : KeepsRuns workers several_all
 several_runs = accepted_runs workers several_all ping_proper ping_accepted several_legal
+
+-- its numbers are bounded, with one crash line for each of two roles
+several_bounded : IsBounded workers several_all (reading workers several_all)
+several_bounded = bounded workers several_all several_legal
+
+several_lines : lines_of workers ≡ 2
+several_lines = refl
+
+-- A's recovery, after six entries, undoes exactly what it should
+several_undoes : (has : ℕ → Bool) × UndoesExactly net s6.kept 0 (durable workers s6 0) has
+several_undoes = undo_exactly net 0 (durable workers s6 0) s6.kept (several_runs (take 6 several_all) (drop 6 several_all) refl).1.queued

@@ -1,5 +1,5 @@
 -- What holds of the definitions.
-use Rattle.std.specs.Prelude.{◌≡◌, ℕ, ◌↔◌, Bool, true, Some, List, [], ◌∷◌, ◌++◌, length, slice_get}
+use Rattle.std.specs.Prelude.{◌≡◌, ℕ, ◌*◌, ◌≤◌, ◌↔◌, Bool, true, Some, List, [], ◌∷◌, ◌++◌, length, slice_get}
 use Rattle.std.specs.List.Sorted.{IsStrictlyIncreasing}
 use Rattle.rcv_tree.specs.declared.event.Event.{Event}
 use Rattle.rcv_tree.specs.declared.entry.Entry.{Entry}
@@ -9,14 +9,15 @@ use Rattle.rcv_model.specs.Net.{Net, IsIn, HasTwoEnds}
 use Rattle.rcv_model.specs.Run.{Act, acts, IsQueued, IsRun, channel, joint_of, IsReachedState}
 use Rattle.rcv_model.specs.Table.{IsRestart, IsConcerned}
 use Rattle.rcv_model.specs.Act.{IsNotStuck}
-use Rattle.rcv_model.specs.Undo.{is_blocked, scanned, keep, IsUndone, IsQueuedByPlaces, picked, IsLatestCut}
+use Rattle.rcv_model.specs.Undo.{is_blocked, scanned, keep, IsUndone, IsQueuedByPlaces, picked, IsLatestCut, UndoesExactly}
 use Rattle.rcv_model.specs.Next.{IsProper, IsAccepted, AreNext, IsEnabledAt, IsEnabledBy}
 use Rattle.rcv_model.specs.Places.{Spot, Offers, offers_at, spot_of, net_of, IsFull, IsEndIn}
 use Rattle.rcv_model.specs.Text.{Body}
 use Rattle.rcv_model.specs.Accept.{HasSubjects, Fails, IsDecided, IsRefusal}
 use Rattle.rcv_model.specs.Form.{HasForm}
-use Rattle.rcv_model.specs.Plain.{IsPlain, bare_rules}
-use Rattle.rcv_model.specs.Final.{IsFinal, IsStep, IsOneThread}
+use Rattle.rcv_model.specs.Plain.{IsPlain, bare_rules, HasNoCrashes}
+use Rattle.rcv_model.specs.Numbers.{IsBounded}
+use Rattle.rcv_model.specs.Final.{IsFinal, IsCompleted, IsStep, IsOneThread}
 use Rattle.rcv_model.specs.Journal.{Rules, State, MaySend, MayRecv, May, reading, events_of, IsLegal, KeepsRuns}
 
 -- After each entry of a legal journal of an accepted protocol the kept events are a run.
@@ -141,3 +142,28 @@ PlainIsAccepted =
 abbrev pub PlainJournalsReachStates : Type 0
 PlainJournalsReachStates =
     (body : Body) (roles : ℕ) (front back : List Entry) → IsPlain body → HasForm body roles → IsLegal (bare_rules body roles) (front ++ back) → IsReachedState (net_of body) (joint_of (net_of body) (reading (bare_rules body roles) front).kept)
+
+-- A legal journal has at most so many entries, and its numbers are bounded.
+abbrev pub JournalsAreBounded : Type 0
+JournalsAreBounded =
+    (rules : Rules) (journal : List Entry) → IsLegal rules journal → IsBounded rules journal (reading rules journal)
+
+-- Without crash lines each role has at most 10,000 entries.
+abbrev pub BareJournalsAreShort : Type 0
+BareJournalsAreShort =
+    (body : Body) (roles : ℕ) (journal : List Entry) → IsLegal (bare_rules body roles) journal → length journal ≤ roles * 10000
+
+-- Each recovery undoes exactly the failed role's lost events and what depends on them.
+abbrev pub RecoveriesUndoExactly : Type 0
+RecoveriesUndoExactly =
+    (net : Net) (p c : ℕ) (h : List Event) → IsQueued net h → (has : ℕ → Bool) × UndoesExactly net h p c has
+
+-- In a session without a plan nobody crashes, and nobody is to.
+abbrev pub BareJournalsHaveNoCrashes : Type 0
+BareJournalsHaveNoCrashes =
+    (body : Body) (roles : ℕ) (journal : List Entry) → IsLegal (bare_rules body roles) journal → HasNoCrashes (bare_rules body roles) journal
+
+-- A legal journal of a plain text that is final is completed.
+abbrev pub PlainJournalsComplete : Type 0
+PlainJournalsComplete =
+    (body : Body) (roles : ℕ) (journal : List Entry) → IsPlain body → HasForm body roles → IsLegal (bare_rules body roles) journal → IsFinal (bare_rules body roles) (reading (bare_rules body roles) journal) → IsCompleted (bare_rules body roles) (reading (bare_rules body roles) journal)

@@ -8,6 +8,7 @@ pub mod Text
 pub mod Places
 pub mod Form
 pub mod Plain
+pub mod Numbers
 pub mod Script
 pub mod Final
 pub mod Accept

@@ -1,5 +1,5 @@
 -- What depends on an event, and what is kept where a role loses events.
-use Rattle.std.specs.Prelude.{◌≡◌, ℕ, suc, ◌<◌, ◌≤◌, Bool, true, ◌==◌, ◌&&◌, ◌||◌, not, nat_le, if◌then◌else◌, List, [], ◌∷◌, ◌++◌, length, take, Some, slice_get, ◌⊎◌}
+use Rattle.std.specs.Prelude.{◌≡◌, ℕ, suc, ◌<◌, ◌≤◌, ◌↔◌, Bool, true, false, ◌==◌, ◌&&◌, ◌||◌, not, nat_le, if◌then◌else◌, List, [], ◌∷◌, ◌++◌, length, take, Some, slice_get, ◌⊎◌}
 use Rattle.std.specs.List.{list_any}
 use Rattle.rcv_tree.specs.declared.event.Event.{Event}
 use Rattle.rcv_model.specs.Net.{Net}
@@ -124,3 +124,9 @@ picked has (e ∷ h) = if has 0 then e ∷ picked (λ i. has (suc i)) h else pic
 pub record IsLatestCut (net : Net) (h : List Event) (p c : ℕ) (has : ℕ → Bool) : Type 0 where
   pub cut : IsCut net h p c has
   pub greatest : (other : ℕ → Bool) → IsCut net h p c other → (i : ℕ) → other i ≡ true → has i ≡ true
+
+-- Where p keeps its first c, exactly its lost events and what depends on them are undone: what is left stands at the
+-- positions of a set, and outside the set are the undone ones.
+pub record UndoesExactly (net : Net) (h : List Event) (p c : ℕ) (has : ℕ → Bool) : Type 0 where
+  pub kept : keep net p c h ≡ picked has h
+  pub undone : (i : ℕ) → i < length h → (has i ≡ false) ↔ IsUndone net h p c i

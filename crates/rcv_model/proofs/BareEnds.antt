@@ -1,0 +1,76 @@
+-- Ping's journal is one of a session without scripts and without a plan too, so the laws on these say something of it.
+use Rattle.std.proofs.Common.{◌≡◌, ℕ, ◌*◌, ◌≤◌, List, [], ◌∷◌, length, refl, sym, ◌∙◌}
+use Rattle.std.specs.Prelude.{slice_index}
+use Rattle.rcv_tree.specs.declared.event.Event.{Event}
+use Rattle.rcv_tree.specs.declared.entry.Entry.{Entry}
+use Rattle.rcv_tree.specs.declared.entry.Entry.TheVariants.{Send, Recv, Crash, Recover}
+use Rattle.rcv_model.specs.Journal.{Rules, State, events_of, after, reading, IsFree, MaySend, MayRecv, IsLegalFrom, IsLegal}
+use Rattle.rcv_model.specs.Final.{IsActOf, CanAct, IsFinal, IsCompleted}
+use Rattle.rcv_model.specs.Plain.{bare_rules, HasNoCrashes}
+use Rattle.rcv_model.proofs.OneThread.{one_journal}
+use Rattle.rcv_model.proofs.Cases.{ping, send, recv}
+use Rattle.rcv_model.proofs.Ping.{ping_form}
+use Rattle.rcv_model.proofs.Numbers.{bare_bounded}
+use Rattle.rcv_model.proofs.Bare.{no_crashes, completes}
+use Rattle.rcv_model.proofs.Ends.{rules, t0, t4, final, ping_journal}
+
+abbrev bare : Rules
+bare = bare_rules ping 2
+
+chosen : (r : ℕ) (h : List Event) (a : ℕ) (zs : List ℕ) → rules.chosen r h a zs ≡ bare.chosen r h a zs
+chosen r h a [] = refl
+chosen r h a (z ∷ zs) = refl
+
+free : (s : State) (r : ℕ) → IsFree rules s r → IsFree bare s r
+free s r f = record { declared = f.declared; running = f.running; not_due = f.not_due; below_limit = f.below_limit }
+
+free_back : (s : State) (r : ℕ) → IsFree bare s r → IsFree rules s r
+free_back s r f = record { declared = f.declared; running = f.running; not_due = f.not_due; below_limit = f.below_limit }
+
+sends : (s : State) (e : Event) → MaySend rules s e → MaySend bare s e
+sends s e m = record { free = free s e.role m.free; offered = m.offered; next = m.next; sends = m.sends; is_send = m.is_send; among = m.among; point = m.point ∙ chosen e.role (events_of e.role s.kept) (slice_index s.attempts e.role) m.offered; value = m.value; stamp = m.stamp; sent = m.sent }
+
+sends_back : (s : State) (e : Event) → MaySend bare s e → MaySend rules s e
+sends_back s e m = record { free = free_back s e.role m.free; offered = m.offered; next = m.next; sends = m.sends; is_send = m.is_send; among = m.among; point = m.point ∙ sym (chosen e.role (events_of e.role s.kept) (slice_index s.attempts e.role) m.offered); value = m.value; stamp = m.stamp; sent = m.sent }
+
+recvs : (s : State) (e : Event) → MayRecv rules s e → MayRecv bare s e
+recvs s e m = record { free = free s e.role m.free; offered = m.offered; from = m.from; next = m.next; receives = m.receives; is_recv = m.is_recv; among = m.among; front = m.front; stamp = m.stamp }
+
+recvs_back : (s : State) (e : Event) → MayRecv bare s e → MayRecv rules s e
+recvs_back s e m = record { free = free_back s e.role m.free; offered = m.offered; from = m.from; next = m.next; receives = m.receives; is_recv = m.is_recv; among = m.among; front = m.front; stamp = m.stamp }
+
+legal_from : (s : State) (journal : List Entry) → IsLegalFrom rules s journal → IsLegalFrom bare s journal
+legal_from s [] legal = tt
+legal_from s (Send e ∷ journal) legal = (sends s e legal.0, legal_from (after rules s (Send e)) journal legal.1)
+legal_from s (Recv e ∷ journal) legal = (recvs s e legal.0, legal_from (after rules s (Recv e)) journal legal.1)
+legal_from s (Crash p ∷ journal) legal = (legal.0, legal_from (after rules s (Crash p)) journal legal.1)
+legal_from s (Recover p c k u ∷ journal) legal =
+    let m = legal.0 in
+    (record { crashed = m.crashed; byte = m.byte; concerned = m.concerned; eight = m.eight; counts = m.counts; undone = m.undone }, legal_from (after rules s (Recover p c k u)) journal legal.1)
+
+acts_back : (s : State) (r : ℕ) → CanAct bare s r → CanAct rules s r
+acts_back s r a = (a.0, go a.0 a.1)
+  where
+    go : (e : Entry) → IsActOf bare s r e → IsActOf rules s r e
+    go (Send e) x = (x.0, sends_back s e x.1, x.2)
+    go (Recv e) x = (x.0, recvs_back s e x.1)
+    go (Crash p) x = x
+    go (Recover p c k u) x = x
+
+abbrev journal : List Entry
+journal = send 0 1 1 ∷ recv 1 1 2 1 ∷ send 1 2 3 ∷ recv 0 2 4 3 ∷ []
+
+legal : IsLegal bare journal
+legal = legal_from t0 journal ((one_journal rules journal journal).legal ping_journal)
+
+bare_final : IsFinal bare (reading bare journal)
+bare_final = record { none_crashed = final.none_crashed; none_due = final.none_due; none_acts = λ r lt a. final.none_acts r lt (acts_back t4 r a) }
+
+quiet : HasNoCrashes bare journal
+quiet = no_crashes ping 2 journal legal
+
+short : length journal ≤ 2 * 10000
+short = bare_bounded ping 2 journal legal
+
+completed : IsCompleted bare (reading bare journal)
+completed = completes ping 2 journal tt ping_form legal bare_final
