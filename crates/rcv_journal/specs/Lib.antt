@@ -1,2 +1,3 @@
 pub mod JournalText
+pub mod Laws
 pub mod Lines
