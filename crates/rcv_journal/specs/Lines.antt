@@ -1,5 +1,5 @@
 -- What the lines of the roles say of a journal, and which text is the journal's.
-use Rattle.std.specs.Prelude.{◌≡◌, ◌≢◌, ℕ, ◌<◌, List, length, slice_get, slice_index, Some}
+use Rattle.std.specs.Prelude.{◌≡◌, ◌≢◌, ℕ, List, length, slice_get, slice_index, Some}
 use Rattle.rcv_tree.specs.declared.entry.Entry.{Entry}
 use Rattle.rcv_model.specs.Run.{acts}
 use Rattle.rcv_model.specs.Act.{IsDone}

@@ -29,7 +29,13 @@ fn write_event(text: &mut Writer, setup: &Setup, event: &Event) -> Result<(), Al
 }
 
 // What a recovery says of one role.
-fn write_kept(text: &mut Writer, setup: &Setup, role: RoleId, concerned: RoleSet, kept: &[u32; 8]) -> Result<(), AllocError>
+fn write_kept(
+    text: &mut Writer,
+    setup: &Setup,
+    role: RoleId,
+    concerned: RoleSet,
+    kept: &[u32; 8],
+) -> Result<(), AllocError>
     requires declared { role < roles_of setup.now }
     requires few { role < 8 }
     ensures { OnOk result (text.new ≡ text.old ++ kept_text setup.now concerned.0 kept.now role) }
@@ -45,7 +51,12 @@ fn write_kept(text: &mut Writer, setup: &Setup, role: RoleId, concerned: RoleSet
 
 // What a recovery says of the concerned roles.
 #[tactic(auto, using(crate::proofs::Lists::said_of_one_more))]
-fn write_concerned(text: &mut Writer, setup: &Setup, concerned: RoleSet, kept: &[u32; 8]) -> Result<(), AllocError>
+fn write_concerned(
+    text: &mut Writer,
+    setup: &Setup,
+    concerned: RoleSet,
+    kept: &[u32; 8],
+) -> Result<(), AllocError>
     ensures { OnOk result (text.new ≡ text.old ++ flat_map (kept_text setup.now concerned.0 kept.now) (range_with_len 0 (roles_of setup.now))) }
 {
     for role in 0..setup.protocol().roles.as_slice().len() {

@@ -13,7 +13,12 @@ use std::alloc::{AllocError, Global};
 
 /// The text of a journal: a line for each entry, then a line for each role, and a last one that says how the session
 /// ended.
-pub fn write_journal(alloc: Global, setup: &Setup, entries: &[Entry], lines: &[RoleLine]) -> Result<Vec<u8>, AllocError>
+pub fn write_journal(
+    alloc: Global,
+    setup: &Setup,
+    entries: &[Entry],
+    lines: &[RoleLine],
+) -> Result<Vec<u8>, AllocError>
     requires entries { AreNamed setup.now entries.now }
     requires lines { HaveRoles setup.now lines.now }
     ensures { IfOk result (λ text. text.items ≡ journal_text setup.now entries.now lines.now) }

@@ -5,6 +5,8 @@ mod entries;
 pub mod journal;
 pub mod line;
 mod roles;
+#[cfg(test)]
+mod tests;
 mod writer;
 
 ghost use Rattle.rcv_journal.specs.Laws.{LegalJournalsAreNamed, JournalsHaveOneText, CompletedIsWritten};
