@@ -1,0 +1,114 @@
+// The lines of entries.
+
+ghost use Rattle.std.specs.Prelude.{◌≡◌, ◌<◌, ◌++◌, OnOk, flat_map, codes, decimal};
+ghost use Rattle.std.specs.List.{range_with_len};
+ghost use Rattle.rcv_core.specs.Setup.{roles_of};
+ghost use Rattle.rcv_journal.specs.JournalText.{IsNamedEvent, IsNamed, AreNamed, name_of, event_text, kept_text, entry_line};
+
+use crate::writer::Writer;
+use rcv_core::setup::Setup;
+use rcv_tree::entry::Entry;
+use rcv_tree::event::Event;
+use rcv_tree::role::{RoleId, RoleSet};
+use std::alloc::AllocError;
+
+// What a Send and a Recv have in common.
+fn write_event(text: &mut Writer, setup: &Setup, event: &Event) -> Result<(), AllocError>
+    requires { IsNamedEvent setup.now event.now }
+    ensures { OnOk result (text.new ≡ text.old ++ event_text setup.now event.now) }
+{
+    text.role(setup, event.role)?;
+    text.word(b" ")?;
+    text.number(event.point.0 as u64)?;
+    text.word(b" ")?;
+    text.word(setup.label(event.point))?;
+    text.word(b" ")?;
+    text.signed(event.value)?;
+    text.word(b" @")?;
+    text.number(event.stamp)
+}
+
+// What a recovery says of one role.
+fn write_kept(
+    text: &mut Writer,
+    setup: &Setup,
+    role: RoleId,
+    concerned: RoleSet,
+    kept: &[u32; 8],
+) -> Result<(), AllocError>
+    requires declared { role < roles_of setup.now }
+    requires few { role < 8 }
+    ensures { OnOk result (text.new ≡ text.old ++ kept_text setup.now concerned.0 kept.now role) }
+{
+    if !concerned.has(role) {
+        return Ok(());
+    }
+    text.word(b" ")?;
+    text.role(setup, role)?;
+    text.word(b" ")?;
+    text.number(kept[role.0 as usize] as u64)
+}
+
+// What a recovery says of the concerned roles.
+#[tactic(auto, using(crate::proofs::Lists::said_of_one_more))]
+fn write_concerned(
+    text: &mut Writer,
+    setup: &Setup,
+    concerned: RoleSet,
+    kept: &[u32; 8],
+) -> Result<(), AllocError>
+    ensures { OnOk result (text.new ≡ text.old ++ flat_map (kept_text setup.now concerned.0 kept.now) (range_with_len 0 (roles_of setup.now))) }
+{
+    for role in 0..setup.protocol().roles.as_slice().len() {
+        write_kept(text, setup, RoleId(role as u8), concerned, kept)?;
+    }
+    Ok(())
+}
+
+// The line of an entry.
+fn write_entry(text: &mut Writer, setup: &Setup, entry: &Entry) -> Result<(), AllocError>
+    requires { IsNamed setup.now entry.now }
+    ensures { OnOk result (text.new ≡ text.old ++ entry_line setup.now entry.now) }
+{
+    match entry {
+        Entry::Send(event) => {
+            text.word(b"send ")?;
+            write_event(text, setup, event)?;
+        }
+        Entry::Recv(event) => {
+            text.word(b"recv ")?;
+            write_event(text, setup, event)?;
+            text.word(b" <")?;
+            text.number(event.sent)?;
+        }
+        Entry::Crash(role) => {
+            text.word(b"crash ")?;
+            text.role(setup, *role)?;
+        }
+        Entry::Recover {
+            role,
+            concerned,
+            kept,
+            undone,
+        } => {
+            text.word(b"recover ")?;
+            text.role(setup, *role)?;
+            text.word(b" undone ")?;
+            text.number(*undone as u64)?;
+            text.word(b":")?;
+            write_concerned(text, setup, *concerned, kept)?;
+        }
+    }
+    text.word(b"\n")
+}
+
+// The lines of all entries.
+pub fn write_entries(text: &mut Writer, setup: &Setup, entries: &[Entry]) -> Result<(), AllocError>
+    requires { AreNamed setup.now entries.now }
+    ensures { OnOk result (text.new ≡ text.old ++ flat_map (entry_line setup.now) entries.now) }
+{
+    for entry in entries {
+        write_entry(text, setup, entry)?;
+    }
+    Ok(())
+}

@@ -1,0 +1,31 @@
+// The text of entries and of what is said of the roles at the end.
+
+ghost use Rattle.std.specs.Prelude.{◌≡◌, IfOk};
+ghost use Rattle.rcv_journal.specs.JournalText.{AreNamed, HaveRoles, journal_text};
+
+use crate::entries::write_entries;
+use crate::line::RoleLine;
+use crate::roles::{write_last, write_roles};
+use crate::writer::Writer;
+use rcv_core::setup::Setup;
+use rcv_tree::entry::Entry;
+use std::alloc::{AllocError, Global};
+
+/// The text of a journal: a line for each entry, then a line for each role, and a last one that says how the session
+/// ended.
+pub fn write_journal(
+    alloc: Global,
+    setup: &Setup,
+    entries: &[Entry],
+    lines: &[RoleLine],
+) -> Result<Vec<u8>, AllocError>
+    requires entries { AreNamed setup.now entries.now }
+    requires lines { HaveRoles setup.now lines.now }
+    ensures { IfOk result (λ text. text.items ≡ journal_text setup.now entries.now lines.now) }
+{
+    let mut text = Writer::new(alloc);
+    write_entries(&mut text, setup, entries)?;
+    write_roles(&mut text, setup, lines)?;
+    write_last(&mut text, setup, lines)?;
+    Ok(text.finish())
+}

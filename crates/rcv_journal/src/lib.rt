@@ -1,0 +1,27 @@
+// The text of a journal.
+#![tactic(auto)]
+
+mod entries;
+pub mod journal;
+pub mod line;
+mod roles;
+#[cfg(test)]
+mod tests;
+mod writer;
+
+ghost use Rattle.rcv_journal.specs.Laws.{LegalJournalsAreNamed, JournalsHaveOneText, CompletedIsWritten};
+
+/// Each role and each point in a legal journal has a name.
+pub fn legal_journals_are_named()
+    ensures { LegalJournalsAreNamed }
+{}
+
+/// A journal has one text.
+pub fn journals_have_one_text()
+    ensures { JournalsHaveOneText }
+{}
+
+/// The last line is `completed` exactly where all roles are done.
+pub fn completed_is_written()
+    ensures { CompletedIsWritten }
+{}
