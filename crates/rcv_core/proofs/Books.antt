@@ -395,3 +395,10 @@ not_final book (Some x) told e final = (one_step (rules_of book.setup) (state_of
 pub final_by_step : (book : BookView) (o : Option Entry) → MatchOption o (IsFinal (rules_of book.setup) (state_of book)) (λ e. IsStep (rules_of book.setup) (state_of book) e) → is_some o ≡ false → IsFinal (rules_of book.setup) (state_of book)
 final_by_step book None told e = told
 final_by_step book (Some x) told e = absurd (cc)
+
+-- a book is short
+pub short_book : (setup : SetupView) (entries : List Entry) (standings : List Standing) (channels : List ChannelView) → IsBook setup entries standings channels → length entries ≤ 80000
+short_book setup entries standings channels book =
+    let a = bare_bounded (text_of setup) (roles_of setup) entries book.legal in
+    let b = book.protocol.form.few_roles in
+    omega arith

@@ -11,7 +11,7 @@ use Rattle.rcv_model.specs.Net.{Net}
 use Rattle.rcv_model.specs.Run.{acts, put, taken}
 use Rattle.rcv_model.specs.Journal.{State, place, reading, IsLegal}
 use Rattle.rcv_model.specs.Next.{AreNext}
-use Rattle.rcv_model.specs.Final.{IsFinal, IsCompleted, IsLimited}
+use Rattle.rcv_model.specs.Final.{IsFinal, IsCompleted, IsLimited, IsOneThreadFrom}
 use Rattle.rcv_core.specs.Setup.{SetupView, IsPlainProtocol, roles_of, net_for, rules_of}
 
 -- A journal of this setup.
@@ -105,3 +105,17 @@ IsNextSend book r p clock = IsNextStep book r p clock × ((net_for book.setup).s
 
 abbrev pub IsNextRecv : BookView → ℕ → ℕ → ℕ → Type 0
 IsNextRecv book r p clock = IsNextStep book r p clock × ((net_for book.setup).sender p ≢ r)
+
+-- The same session with these entries more.
+abbrev pub with_more : BookView → List Entry → BookView
+with_more book more = record { setup = book.setup; entries = book.entries ++ more }
+
+-- The book went on, or stayed.
+abbrev pub GoesOn : BookView → BookView → Type 0
+GoesOn old new = (more : List Entry) × (new ≡ with_more old more)
+
+-- The book went on by the entries that one thread makes, to the end.
+pub record EndsAlone (old new : BookView) : Type 0 where
+  pub more : List Entry
+  pub added : new ≡ with_more old more
+  pub alone : IsOneThreadFrom (rules_of old.setup) (state_of old) more

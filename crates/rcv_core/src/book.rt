@@ -7,7 +7,7 @@ ghost use Rattle.rcv_tree.specs.declared.entry.Entry.TheVariants.{Send, Recv};
 ghost use Rattle.rcv_model.specs.Journal.{May, MaySend, MayRecv, IsLegal};
 ghost use Rattle.rcv_model.specs.Final.{CanAct, IsActOf, IsFinal, AreDone, IsStep};
 ghost use Rattle.rcv_core.specs.Setup.{SetupView, roles_of, net_for, rules_of};
-ghost use Rattle.rcv_core.specs.Book.{BookView, state_of, IsOutcome, IsNextSend, IsNextRecv};
+ghost use Rattle.rcv_core.specs.Book.{BookView, state_of, IsOutcome, GoesOn, EndsAlone, IsNextSend, IsNextRecv};
 
 use crate::channel::Channels;
 use crate::outcome::Outcome;
@@ -192,6 +192,26 @@ impl<'a> Book<'a> {
             }
         }
         None
+    }
+
+    /// Goes on as one thread does, entry by entry, to the end. After an error the entries so far stand.
+    pub fn run_alone(&mut self) -> Result<(), AllocError>
+        ensures ok { OnOk result (EndsAlone self.old self.new) }
+        ensures later { GoesOn self.old self.new }
+    {
+        while let Some(entry) = self.one_thread_step() {
+            let _few = self.len();
+            self.push(entry)?;
+        }
+        Ok(())
+    }
+
+    /// How many entries the journal has.
+    pub fn len(&self) -> usize
+        ensures value { result ≡ length self.now.entries }
+        ensures few { result ≤ 80000 }
+    {
+        self.entries.len()
     }
 
     /// Whether all roles are done.
