@@ -5,6 +5,7 @@ mod entries;
 pub mod journal;
 pub mod line;
 mod roles;
+pub mod text;
 #[cfg(test)]
 mod tests;
 mod writer;

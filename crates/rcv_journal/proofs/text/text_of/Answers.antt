@@ -1,0 +1,28 @@
+-- The entries of a legal journal are named, and so are the roles of the lines; the lines are the book's.
+use Rattle.std.proofs.Common.{◌≡◌, length, sym, ◌∙◌, ap, subst}
+use Rattle.std.proofs.lemmas.Result.{IfOk-weaker}
+use Rattle.rcv_core.specs.Setup.{SetupView, IsPlainProtocol, rules_of}
+use Rattle.rcv_core.specs.Book.{state_of}
+use Rattle.rcv_journal.specs.JournalText.{AreNamed, HaveRoles, journal_text}
+use Rattle.rcv_journal.proofs.Named.{legal_is_named}
+use Rattle.rcv_journal.proofs.RoleLines.{have_roles}
+use Rattle.rcv_journal.proofs.text.text_of.Goals as goal
+
+pub write_journal-requires-clause-entries : goal.write_journal-requires-clause-entries
+write_journal-requires-clause-entries c =
+    let plain : IsPlainProtocol c.args.book.now.setup.protocol = subst (λ (v : SetupView). IsPlainProtocol v.protocol) c.setup-setup.ensures c.protocol.ensures.plain in
+    let named : AreNamed c.args.book.now.setup c.args.book.now.entries = legal_is_named c.args.book.now.setup c.args.book.now.entries plain c.entries.ensures.legal in
+    subst (λ v. AreNamed v c.entries.result.now) (sym c.setup-setup.ensures) (subst (AreNamed c.args.book.now.setup) (sym c.entries.ensures.value) named)
+
+pub write_journal-requires-clause-lines : goal.write_journal-requires-clause-lines
+write_journal-requires-clause-lines c =
+    let have : HaveRoles c.args.book.now.setup c.in_ok-lines.lines.items = have_roles c.args.book.now.setup (state_of c.args.book.now) c.in_ok-lines.lines.items c.in_ok-lines.ensures in
+    subst (λ v. HaveRoles v c.as_slice-2.result.now) (sym c.setup-setup.ensures) (subst (HaveRoles c.args.book.now.setup) (sym c.as_slice-2.ensures.value) have)
+
+pub returns : goal.returns
+returns c =
+    let same : journal_text c.setup-setup.result.now c.entries.result.now c.as_slice-2.result.now ≡ journal_text c.args.book.now.setup c.args.book.now.entries c.in_ok-lines.lines.items =
+        ap (λ v. journal_text v c.entries.result.now c.as_slice-2.result.now) c.setup-setup.ensures
+        ∙ ap (λ es. journal_text c.args.book.now.setup es c.as_slice-2.result.now) c.entries.ensures.value
+        ∙ ap (journal_text c.args.book.now.setup c.args.book.now.entries) c.as_slice-2.ensures.value in
+    IfOk-weaker c.write_journal.result _ _ (λ text e. record { lines = c.in_ok-lines.lines.items; are_lines = c.in_ok-lines.ensures; is_text = e ∙ same }) c.write_journal.ensures

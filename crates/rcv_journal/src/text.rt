@@ -1,0 +1,68 @@
+// The text of a book.
+
+ghost use Rattle.std.specs.Prelude.{◌≡◌, ◌<◌, ◌≤◌, ◌==◌, if◌then◌else◌, IfOk};
+ghost use Rattle.rcv_model.specs.Final.{IsFinal};
+ghost use Rattle.rcv_core.specs.Setup.{roles_of, rules_of};
+ghost use Rattle.rcv_core.specs.Book.{state_of};
+ghost use Rattle.rcv_journal.specs.declared.line.RoleWord.TheVariants.{Done, Limit, Waits};
+ghost use Rattle.rcv_journal.specs.Lines.{IsLineOf, AreLinesOf, IsTextOf};
+
+use crate::journal::write_journal;
+use crate::line::{RoleLine, RoleWord};
+use rcv_core::book::Book;
+use rcv_tree::role::RoleId;
+use std::alloc::{AllocError, Global};
+
+// How many events a role may make.
+const LIMIT: u32 = 10_000;
+
+// How a role ended that is done or not, and made so many events.
+fn word_of(done: bool, raw: u32) -> RoleWord
+    ensures { result ≡ (if done then Done else (if raw == 10000 then Limit else Waits)) }
+{
+    if done {
+        RoleWord::Done
+    } else if raw == LIMIT {
+        RoleWord::Limit
+    } else {
+        RoleWord::Waits
+    }
+}
+
+// What is said of a role.
+fn line_of(book: &Book<'_>, role: RoleId) -> RoleLine
+    requires { role < roles_of book.now.setup }
+    ensures { IsLineOf (rules_of book.now.setup) (state_of book.now) role result }
+{
+    let raw = book.raw(role);
+    RoleLine {
+        role,
+        kept: book.kept(role),
+        raw,
+        word: word_of(book.done(role), raw),
+    }
+}
+
+// What is said of each of so many roles, in order.
+fn lines_of(alloc: Global, book: &Book<'_>, roles: usize) -> Result<Vec<RoleLine>, AllocError>
+    requires all { roles ≡ roles_of book.now.setup }
+    requires few { roles ≤ 8 }
+    ensures { IfOk result (λ lines. AreLinesOf (rules_of book.now.setup) (state_of book.now) lines.items) }
+{
+    let mut lines = Vec::new(alloc);
+    for role in 0..roles {
+        lines.push(line_of(book, RoleId(role as u8)))?;
+    }
+    Ok(lines)
+}
+
+/// The text of a final journal: a line for each entry, a line for each role, and a last one that says whether the
+/// session is completed. It fails where memory runs out.
+pub fn text_of(alloc: Global, book: &Book<'_>) -> Result<Vec<u8>, AllocError>
+    requires { IsFinal (rules_of book.now.setup) (state_of book.now) }
+    ensures { IfOk result (λ text. IsTextOf book.now.setup book.now.entries text.items) }
+{
+    let setup = book.setup();
+    let lines = lines_of(alloc, book, setup.protocol().roles.as_slice().len())?;
+    write_journal(alloc, setup, book.entries(), lines.as_slice())
+}
