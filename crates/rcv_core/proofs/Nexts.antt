@@ -10,7 +10,7 @@ use Rattle.rcv_model.specs.Next.{IsOf, HasNone, IsNext, AreNext}
 use Rattle.rcv_model.specs.Text.{Body}
 use Rattle.rcv_model.specs.Places.{singles, net_of}
 use Rattle.rcv_model.proofs.PlainNets.{offers_line}
-use Rattle.rcv_core.specs.Setup.{IsPlainText, IsNextPoint}
+use Rattle.rcv_core.specs.Setup.{IsPlainForm, IsNextPoint}
 
 -- the one offered point
 offered : (net : Net) (k p q : ℕ) → net.offers k ≡ p ∷ [] → IsIn q (net.offers k) → q ≡ p
@@ -50,7 +50,7 @@ end_next net r k end = record {
     go z (q ∷ way) walk = absurd (subst (IsIn q) end walk.0)
 
 -- the last place of a plain text has no next point
-pub last_next : (body : Body) (roles r n : ℕ) (column : List (Option ℕ)) → IsPlainText body roles → n ≡ (net_of body).count → column ≡ replicate (n + 1) None → (k : ℕ) → n ≤ k → k ≤ n → IsNextPoint (net_of body) r k (get_or column k None)
+pub last_next : (body : Body) (roles r n : ℕ) (column : List (Option ℕ)) → IsPlainForm body roles → n ≡ (net_of body).count → column ≡ replicate (n + 1) None → (k : ℕ) → n ≤ k → k ≤ n → IsNextPoint (net_of body) r k (get_or column k None)
 last_next body roles r n column text count all k low high =
     let here : k ≡ n = omega arith in
     let no : nat_lt k (length (singles body)) ≡ false = grind (arith, nat_tests) in
@@ -76,7 +76,7 @@ nearest_is_next net r k behind one next = go (net.sender (k + 1) == r) (net.rece
     go false false e f = skip behind (λ own. ⊎_elim (λ s. absurd (grind (arith, nat_tests))) (λ t. absurd (grind (arith, nat_tests))) own) next
 
 -- one place more, from behind
-pub more_next : (body : Body) (roles r n place : ℕ) (column : List (Option ℕ)) (o : Option ℕ) → IsPlainText body roles → n ≡ (net_of body).count → 0 < place → place ≤ n → length column ≡ n + 1 → ((k : ℕ) → place ≤ k → k ≤ n → IsNextPoint (net_of body) r k (get_or column k None)) → o ≡ nearest (net_of body) r place (get_or column place None) → (k : ℕ) → place - 1 ≤ k → k ≤ n → IsNextPoint (net_of body) r k (get_or (set column (place - 1) o) k None)
+pub more_next : (body : Body) (roles r n place : ℕ) (column : List (Option ℕ)) (o : Option ℕ) → IsPlainForm body roles → n ≡ (net_of body).count → 0 < place → place ≤ n → length column ≡ n + 1 → ((k : ℕ) → place ≤ k → k ≤ n → IsNextPoint (net_of body) r k (get_or column k None)) → o ≡ nearest (net_of body) r place (get_or column place None) → (k : ℕ) → place - 1 ≤ k → k ≤ n → IsNextPoint (net_of body) r k (get_or (set column (place - 1) o) k None)
 more_next body roles r n place column o text count some below long each is k low high = ⊎_elim
     (λ e.
     let same : place - 1 + 1 ≡ place = omega arith in

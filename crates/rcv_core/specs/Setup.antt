@@ -27,12 +27,12 @@ abbrev pub rules_of : SetupView → Rules
 rules_of setup = bare_rules (text_of setup) (roles_of setup)
 
 -- The body holds messages only and has the form that the reader gives, for so many roles.
-pub record IsPlainText (body : Body) (roles : ℕ) : Type 0 where
+pub record IsPlainForm (body : Body) (roles : ℕ) : Type 0 where
   pub plain : IsPlain body
   pub form : HasForm body roles
 
 abbrev pub IsPlainProtocol : Protocol → Type 0
-IsPlainProtocol protocol = IsPlainText (body_of protocol.body) (length protocol.roles)
+IsPlainProtocol protocol = IsPlainForm (body_of protocol.body) (length protocol.roles)
 
 -- A role has this next point behind a place, and no other; or none.
 abbrev pub IsNextPoint : Net → ℕ → ℕ → Option ℕ → Type 0

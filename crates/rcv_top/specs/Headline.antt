@@ -1,0 +1,25 @@
+-- The headline: what a journal that the program writes is.
+use Rattle.std.specs.Prelude.{◌≡◌, ℕ, Bool, List, [], ◌∷◌, ◌++◌}
+use Rattle.rcv_tree.specs.declared.entry.Entry.{Entry}
+use Rattle.rcv_tree.specs.declared.entry.Entry.TheVariants.{Recover}
+use Rattle.rcv_tree.specs.declared.role.RoleSet.{RoleSet}
+use Rattle.rcv_model.specs.Run.{joint_of, IsReachedState}
+use Rattle.rcv_model.specs.Undo.{keep, UndoesExactly}
+use Rattle.rcv_model.specs.Journal.{Rules, State, durable, reading, IsLegal}
+use Rattle.rcv_model.specs.Final.{IsFinal}
+
+-- The recovery of p in this state leaves the kept events but the undone ones: the failed role's lost events and what
+-- depends on them, and no others.
+pub record IsExactRecovery (rules : Rules) (before after : State) (p : ℕ) : Type 0 where
+  pub has : ℕ → Bool
+  pub exact : UndoesExactly rules.net before.kept p (durable rules before p) has
+  pub left : after.kept ≡ keep rules.net p (durable rules before p) before.kept
+
+-- The journal is a legal list of sends, receives, crashes and recoveries: after each entry the kept events are a
+-- failure-free run, so the joint state, messages in flight included, is one that the protocol reaches, and each recovery
+-- undoes exactly the failed role's lost events and what depends on them. At its end nothing is left to do.
+pub record IsHeadline (rules : Rules) (journal : List Entry) : Type 0 where
+  pub legal : IsLegal rules journal
+  pub reaches : (front back : List Entry) → front ++ back ≡ journal → IsReachedState rules.net (joint_of rules.net (reading rules front).kept)
+  pub undoes : (front back : List Entry) (p : ℕ) (concerned : RoleSet) (kept : List ℕ) (undone : ℕ) → front ++ Recover p concerned kept undone ∷ back ≡ journal → IsExactRecovery rules (reading rules front) (reading rules (front ++ Recover p concerned kept undone ∷ [])) p
+  pub final : IsFinal rules (reading rules journal)

@@ -1,0 +1,60 @@
+-- What the program answers: a status and bytes, for words and an input.
+use Rattle.std.specs.Prelude.{◌≡◌, ℕ, ◌<◌, ◌≤◌, codes, List, [], ◌∷◌, length}
+use Rattle.rcv_tree.specs.declared.protocol.Protocol.{Protocol}
+use Rattle.rcv_tree.specs.declared.entry.Entry.{Entry}
+use Rattle.rcv_model.specs.Journal.{reading}
+use Rattle.rcv_model.specs.Final.{IsCompleted, IsLimited, IsOneThread}
+use Rattle.rcv_plain.specs.PlainText.{IsPlainText}
+use Rattle.rcv_core.specs.Setup.{SetupView, rules_of}
+use Rattle.rcv_journal.specs.Lines.{IsTextOf}
+use Rattle.rcv_top.specs.declared.status.Status.{Status}
+use Rattle.rcv_top.specs.declared.status.Status.TheVariants.{Completed, Usage, Refused, Limited, ReadFault, WriteFault, Memory, TooLong}
+
+-- The number of a status, with which the process ends.
+abbrev pub number_of : Status → ℕ
+number_of Completed = 0
+number_of Usage = 1
+number_of Refused = 2
+number_of Limited = 3
+number_of ReadFault = 4
+number_of WriteFault = 5
+number_of Memory = 6
+number_of TooLong = 7
+
+-- The words are a command: they are the one word `run`.
+abbrev pub IsCommand : List (List ℕ) → Type 0
+IsCommand words = words ≡ codes "run" ∷ []
+
+-- How many bytes an input may have.
+abbrev pub most_bytes : ℕ
+most_bytes = 1048576
+
+-- What is written where the words are no command, and where the input is no plain protocol.
+abbrev pub usage_line : List ℕ
+usage_line = codes "usage: rcv run|check|project|table|gen [--workers N] [--json] [--role R] [--number N]\n"
+
+abbrev pub not_yet_line : List ℕ
+not_yet_line = codes "refused 19 NotYet line 1\n"
+
+-- The session of a protocol.
+abbrev pub session_of : Protocol → SetupView
+session_of protocol = record { protocol = protocol }
+
+-- The input is the text of this protocol, the journal is the one that one thread makes of it, and the bytes are its text.
+pub record IsSession (input : List ℕ) (protocol : Protocol) (journal : List Entry) (bytes : List ℕ) : Type 0 where
+  pub reads : IsPlainText input protocol
+  pub alone : IsOneThread (rules_of (session_of protocol)) journal
+  pub text : IsTextOf (session_of protocol) journal bytes
+
+-- The input has a command's words and isn't too long.
+pub record IsRead (words : List (List ℕ)) (input : List ℕ) : Type 0 where
+  pub command : IsCommand words
+  pub short : length input ≤ most_bytes
+
+-- The answer to these words and this input, each status with its cause and its bytes.
+pub data IsOutcome (words : List (List ℕ)) (input : List ℕ) : Status → List ℕ → Type 0 where
+  usage : (IsCommand words → ⊥) → IsOutcome words input Usage usage_line
+  too_long : IsCommand words → most_bytes < length input → IsOutcome words input TooLong []
+  refused : IsRead words input → ((protocol : Protocol) → IsPlainText input protocol → ⊥) → IsOutcome words input Refused not_yet_line
+  completed : {bytes : List ℕ} (protocol : Protocol) (journal : List Entry) → IsRead words input → IsSession input protocol journal bytes → IsCompleted (rules_of (session_of protocol)) (reading (rules_of (session_of protocol)) journal) → IsOutcome words input Completed bytes
+  limited : {bytes : List ℕ} (protocol : Protocol) (journal : List Entry) → IsRead words input → IsSession input protocol journal bytes → IsLimited (rules_of (session_of protocol)) (reading (rules_of (session_of protocol)) journal) → IsOutcome words input Limited bytes

@@ -1,0 +1,71 @@
+// The top call.
+
+ghost use Rattle.std.specs.Prelude.{◌≡◌, ◌≤◌, ◌⊎◌, ◌↔◌, IsTrue};
+ghost use Rattle.rcv_top.specs.Outcome.{IsCommand};
+ghost use Rattle.rcv_top.specs.Calls.{bytes_of, Says, Wrote, WritesLegalJournal};
+
+use crate::gate::Gate;
+use crate::run::run;
+use crate::status::Status;
+use rcv_io::{ReadError, Sink, Source, read_all, write_all_of};
+use std::alloc::Global;
+
+/// How many bytes an input may have.
+const MOST: usize = 1_048_576;
+
+/// What is written where the words are no command.
+const USAGE: &[u8] =
+    b"usage: rcv run|check|project|table|gen [--workers N] [--json] [--role R] [--number N]\n";
+
+/// Does what the program does: reads the words, then the whole source, and writes the answer by one call.
+///
+/// The words are a command exactly where they are the one word `run`; on `Usage` nothing is read. The output is made
+/// whole in memory before the first byte of it is written. The statuses and what is written with each stand in
+/// docs/FORMATS.md.
+pub fn recover<S: Source, K: Sink, G: Gate>(
+    alloc: Global,
+    words: &[String],
+    source: &mut S,
+    sink: &mut K,
+    _gate: &G,
+) -> Status
+    ensures says { Says (bytes_of words.now) (record { rest_before = S.rest source.old; rest_after = S.rest source.new; given_before = S.given source.old; given_after = S.given source.new; read_faults_before = S.faults source.old; read_faults_after = S.faults source.new; written_before = K.written sink.old; written_after = K.written sink.new; write_faults_before = K.faults sink.old; write_faults_after = K.faults sink.new }) result }
+    ensures headline { (result ≡ Status.Completed) ⊎ (result ≡ Status.Limited) → WritesLegalJournal (record { rest_before = S.rest source.old; rest_after = S.rest source.new; given_before = S.given source.old; given_after = S.given source.new; read_faults_before = S.faults source.old; read_faults_after = S.faults source.new; written_before = K.written sink.old; written_after = K.written sink.new; write_faults_before = K.faults sink.old; write_faults_after = K.faults sink.new }) }
+    ensures source_later { S.faults source.old ≤ S.faults source.new }
+    ensures sink_later { K.faults sink.old ≤ K.faults sink.new }
+{
+    if !is_command(words) {
+        return write(sink, USAGE, Status::Usage);
+    }
+    let input = match read_all(alloc, source, MOST) {
+        Ok(input) => input,
+        Err(ReadError::ReadFault) => return Status::ReadFault,
+        Err(ReadError::TooLong) => return Status::TooLong,
+        Err(ReadError::Memory) => return Status::Memory,
+    };
+    match run(alloc, input.as_slice()) {
+        Ok(output) => write(sink, output.bytes.as_slice(), output.status),
+        Err(_) => Status::Memory,
+    }
+}
+
+// Whether the words are the one word `run`.
+fn is_command(words: &[String]) -> bool
+    ensures { IsTrue result ↔ IsCommand (bytes_of words.now) }
+{
+    match words {
+        [word] => word.as_str() == "run",
+        _ => false,
+    }
+}
+
+// Writes the answer whole, and answers its status, or that the sink failed.
+fn write<K: Sink>(sink: &mut K, bytes: &[u8], status: Status) -> Status
+    ensures later { K.faults sink.old ≤ K.faults sink.new }
+    ensures wrote { Wrote (K.written sink.old) (K.written sink.new) (K.faults sink.old) (K.faults sink.new) bytes.now status result }
+{
+    match write_all_of(sink, bytes) {
+        Ok(()) => status,
+        Err(_) => Status::WriteFault,
+    }
+}
