@@ -13,6 +13,7 @@ pub data Lexeme : Type 0 where
   AText : (bytes : List ℕ) → Lexeme
   AMark : (bytes : List ℕ) → Lexeme
 
+-- what bytes are as a token of a kind
 abbrev pub lexeme_by : Kind → List ℕ → Lexeme
 lexeme_by Word bytes = AWord bytes
 lexeme_by Number bytes = ANumber bytes
@@ -23,6 +24,7 @@ lexeme_by Mark bytes = AMark bytes
 abbrev pub lexeme_of : List ℕ → Token → Lexeme
 lexeme_of bundle token = lexeme_by token.kind (slice_range bundle token.span.start token.span.end)
 
+-- what the tokens of the bundle say, one after another
 abbrev pub lexemes_of : List ℕ → List Token → List Lexeme
 lexemes_of bundle tokens = map (lexeme_of bundle) tokens
 

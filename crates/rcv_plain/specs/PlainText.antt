@@ -24,6 +24,7 @@ other_words = codes "choice" ∷ codes "at" ∷ codes "or" ∷ codes "rec" ∷ c
 abbrev pub is_reserved : List ℕ → Bool
 is_reserved w = list_any (bytes_eq w) plain_words || list_any (bytes_eq w) other_words
 
+-- any other word is one
 abbrev pub IsName : List ℕ → Type 0
 IsName w = is_reserved w ≡ false
 

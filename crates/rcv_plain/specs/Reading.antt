@@ -36,6 +36,7 @@ abbrev pub head : List ℕ → List ℕ → List Lexeme → List Lexeme
 head module_name name next =
     AWord (codes "module") ∷ AWord module_name ∷ AMark (codes ";") ∷ AWord (codes "global") ∷ AWord (codes "protocol") ∷ AWord name ∷ AMark (codes "(") ∷ next
 
+-- no such head is next
 abbrev pub NoHead : List Lexeme → Type 0
 NoHead ls = (module_name name : List ℕ) (next : List Lexeme) → IsName module_name → IsName name → ls ≡ head module_name name next → ⊥
 
@@ -76,5 +77,6 @@ NoMessage roles ls =
 abbrev pub NoBody : List (List ℕ) → List Lexeme → Type 0
 NoBody roles ls = (body : Body) (next : List Lexeme) → IsPlainBody (length roles) body → ls ≡ messages roles body (AMark (codes "}") ∷ next) → ⊥
 
+-- the lexemes are those of no plain protocol
 abbrev pub NoProtocol : List Lexeme → Type 0
 NoProtocol ls = (p : Protocol) → IsSpelled p ls → ⊥
