@@ -5,9 +5,9 @@ mod entries;
 pub mod journal;
 pub mod line;
 mod roles;
-pub mod text;
 #[cfg(test)]
 mod tests;
+pub mod text;
 mod writer;
 
 ghost use Rattle.rcv_journal.specs.Laws.{LegalJournalsAreNamed, JournalsHaveOneText, CompletedIsWritten};

@@ -81,16 +81,26 @@ fn text_at_end(alloc: Global, book: &Book<'_>) -> Result<Vec<u8>, AllocError> {
     }
 }
 
+// The text of a session of two roles after four steps.
+fn session(alloc: Global, setup: &Setup) -> Result<Vec<u8>, AllocError>
+    requires { roles_of setup.now ≡ 2 }
+{
+    let mut book = Book::new(alloc, setup)?;
+    step(&mut book, 0)?;
+    step(&mut book, 1)?;
+    step(&mut book, 1)?;
+    step(&mut book, 0)?;
+    text_at_end(alloc, &book)
+}
+
 #[test]
 fn writes_a_session(rt: HostRuntime) -> Result<(), Fail> {
     let setup = Setup::plain(rt.alloc(), ping_pong(rt.alloc())?)?;
-    let mut book = Book::new(rt.alloc(), &setup)?;
-    step(&mut book, 0)?;
-    step(&mut book, 1)?;
-    step(&mut book, 1)?;
-    step(&mut book, 0)?;
-    let text = text_at_end(rt.alloc(), &book)?;
-    assert_eq!(rt; text.as_slice(), b"send A 1 ping 0 @1\nrecv B 1 ping 0 @2 <1\nsend B 2 pong 0 @3\nrecv A 2 pong 0 @4 <3\nrole A kept 2 raw 2 done\nrole B kept 2 raw 2 done\ncompleted\n".as_slice());
+    let text = session(rt.alloc(), &setup)?;
+    assert_eq!(rt;
+        text.as_slice(),
+        b"send A 1 ping 0 @1\nrecv B 1 ping 0 @2 <1\nsend B 2 pong 0 @3\nrecv A 2 pong 0 @4 <3\nrole A kept 2 raw 2 done\nrole B kept 2 raw 2 done\ncompleted\n".as_slice()
+    );
     Ok(())
 }
 
@@ -119,6 +129,9 @@ fn writes_a_recovery(rt: HostRuntime) -> Result<(), Fail> {
     };
     let entries = [Entry::Recv(pong), Entry::Crash(RoleId(1)), recover];
     let text = write_journal(rt.alloc(), &setup, &entries, &[line])?;
-    assert_eq!(rt; text.as_slice(), b"recv A 2 pong -9223372036854775808 @4 <3\ncrash B\nrecover A undone 4: A 0 B 12\nrole B kept 7 raw 10000 limit\nlimited B\n".as_slice());
+    assert_eq!(rt;
+        text.as_slice(),
+        b"recv A 2 pong -9223372036854775808 @4 <3\ncrash B\nrecover A undone 4: A 0 B 12\nrole B kept 7 raw 10000 limit\nlimited B\n".as_slice()
+    );
     Ok(())
 }

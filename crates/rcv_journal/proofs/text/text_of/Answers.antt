@@ -1,7 +1,7 @@
 -- The entries of a legal journal are named, and so are the roles of the lines; the lines are the book's.
-use Rattle.std.proofs.Common.{◌≡◌, length, sym, ◌∙◌, ap, subst}
+use Rattle.std.proofs.Common.{◌≡◌, sym, ◌∙◌, ap, subst}
 use Rattle.std.proofs.lemmas.Result.{IfOk-weaker}
-use Rattle.rcv_core.specs.Setup.{SetupView, IsPlainProtocol, rules_of}
+use Rattle.rcv_core.specs.Setup.{SetupView, IsPlainProtocol}
 use Rattle.rcv_core.specs.Book.{state_of}
 use Rattle.rcv_journal.specs.JournalText.{AreNamed, HaveRoles, journal_text}
 use Rattle.rcv_journal.proofs.Named.{legal_is_named}
@@ -22,7 +22,7 @@ write_journal-requires-clause-lines c =
 pub returns : goal.returns
 returns c =
     let same : journal_text c.setup-setup.result.now c.entries.result.now c.as_slice-2.result.now ≡ journal_text c.args.book.now.setup c.args.book.now.entries c.in_ok-lines.lines.items =
-        ap (λ v. journal_text v c.entries.result.now c.as_slice-2.result.now) c.setup-setup.ensures
-        ∙ ap (λ es. journal_text c.args.book.now.setup es c.as_slice-2.result.now) c.entries.ensures.value
-        ∙ ap (journal_text c.args.book.now.setup c.args.book.now.entries) c.as_slice-2.ensures.value in
+    ap (λ v. journal_text v c.entries.result.now c.as_slice-2.result.now) c.setup-setup.ensures
+    ∙ ap (λ es. journal_text c.args.book.now.setup es c.as_slice-2.result.now) c.entries.ensures.value
+    ∙ ap (journal_text c.args.book.now.setup c.args.book.now.entries) c.as_slice-2.ensures.value in
     IfOk-weaker c.write_journal.result _ _ (λ text e. record { lines = c.in_ok-lines.lines.items; are_lines = c.in_ok-lines.ensures; is_text = e ∙ same }) c.write_journal.ensures
