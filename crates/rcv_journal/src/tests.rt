@@ -1,13 +1,16 @@
 // The text of small sessions.
 
-ghost use Rattle.std.specs.Prelude.{◌≡◌, [], ◌∷◌, IfOk, length};
+ghost use Rattle.std.specs.Prelude.{◌≡◌, ◌<◌, [], ◌∷◌, IfOk, OnOk, length};
 ghost use Rattle.rcv_tree.specs.declared.statement.Stmt.TheVariants.{Message};
 ghost use Rattle.rcv_model.specs.Text.{body_of};
 ghost use Rattle.rcv_model.specs.Places.{net_of};
-ghost use Rattle.rcv_core.specs.Setup.{IsPlainProtocol};
+ghost use Rattle.rcv_core.specs.Setup.{IsPlainProtocol, roles_of};
 
 use crate::journal::write_journal;
 use crate::line::{RoleLine, RoleWord};
+use crate::text::text_of;
+use rcv_core::book::Book;
+use rcv_core::outcome::Outcome;
 use rcv_core::setup::Setup;
 use rcv_tree::entry::Entry;
 use rcv_tree::event::{Dir, Event};
@@ -58,17 +61,52 @@ fn ping_pong(alloc: Global) -> Result<Protocol, AllocError>
     })
 }
 
+// The next step of the role, if it has one.
+fn step(book: &mut Book<'_>, role: u8) -> Result<(), AllocError>
+    requires { role < roles_of book.old.setup }
+    ensures { OnOk result (book.new.setup ≡ book.old.setup) }
+{
+    match book.step(RoleId(role)) {
+        Some(entry) => book.push(entry),
+        None => Ok(()),
+    }
+}
+
+// The journal's text, which is empty as long as the session goes on.
+fn text_at_end(alloc: Global, book: &Book<'_>) -> Result<Vec<u8>, AllocError> {
+    match book.final_state() {
+        Outcome::More => Ok(Vec::new(alloc)),
+        Outcome::Completed => text_of(alloc, book),
+        Outcome::Limited => text_of(alloc, book),
+    }
+}
+
+// The text of a session of two roles after four steps.
+fn session(alloc: Global, setup: &Setup) -> Result<Vec<u8>, AllocError>
+    requires { roles_of setup.now ≡ 2 }
+{
+    let mut book = Book::new(alloc, setup)?;
+    step(&mut book, 0)?;
+    step(&mut book, 1)?;
+    step(&mut book, 1)?;
+    step(&mut book, 0)?;
+    text_at_end(alloc, &book)
+}
+
 #[test]
-fn writes_a_completed_session(rt: HostRuntime) -> Result<(), Fail> {
+fn writes_a_session(rt: HostRuntime) -> Result<(), Fail> {
     let setup = Setup::plain(rt.alloc(), ping_pong(rt.alloc())?)?;
-    let ping = Event {
-        role: RoleId(0),
-        dir: Dir::Sent,
-        point: Point(1),
-        value: 0,
-        stamp: 1,
-        sent: 1,
-    };
+    let text = session(rt.alloc(), &setup)?;
+    assert_eq!(rt;
+        text.as_slice(),
+        b"send A 1 ping 0 @1\nrecv B 1 ping 0 @2 <1\nsend B 2 pong 0 @3\nrecv A 2 pong 0 @4 <3\nrole A kept 2 raw 2 done\nrole B kept 2 raw 2 done\ncompleted\n".as_slice()
+    );
+    Ok(())
+}
+
+#[test]
+fn writes_a_recovery(rt: HostRuntime) -> Result<(), Fail> {
+    let setup = Setup::plain(rt.alloc(), ping_pong(rt.alloc())?)?;
     let pong = Event {
         role: RoleId(0),
         dir: Dir::Got,
@@ -77,49 +115,23 @@ fn writes_a_completed_session(rt: HostRuntime) -> Result<(), Fail> {
         stamp: 4,
         sent: 3,
     };
-    let lines = [RoleLine {
-        role: RoleId(0),
-        kept: 2,
-        raw: 2,
-        word: RoleWord::Done,
-    }];
-    let text = write_journal(
-        rt.alloc(),
-        &setup,
-        &[Entry::Send(ping), Entry::Recv(pong)],
-        &lines,
-    )?;
-    assert_eq!(rt;
-        text.as_slice(),
-        b"send A 1 ping 0 @1\nrecv A 2 pong -9223372036854775808 @4 <3\nrole A kept 2 raw 2 done\ncompleted\n".as_slice()
-    );
-    Ok(())
-}
-
-#[test]
-fn writes_a_recovery(rt: HostRuntime) -> Result<(), Fail> {
-    let setup = Setup::plain(rt.alloc(), ping_pong(rt.alloc())?)?;
     let recover = Entry::Recover {
         role: RoleId(0),
         concerned: RoleSet(3),
         kept: [0, 12, 0, 0, 0, 0, 0, 0],
         undone: 4,
     };
-    let lines = [RoleLine {
+    let line = RoleLine {
         role: RoleId(1),
         kept: 7,
         raw: 10000,
         word: RoleWord::Limit,
-    }];
-    let text = write_journal(
-        rt.alloc(),
-        &setup,
-        &[Entry::Crash(RoleId(1)), recover],
-        &lines,
-    )?;
+    };
+    let entries = [Entry::Recv(pong), Entry::Crash(RoleId(1)), recover];
+    let text = write_journal(rt.alloc(), &setup, &entries, &[line])?;
     assert_eq!(rt;
         text.as_slice(),
-        b"crash B\nrecover A undone 4: A 0 B 12\nrole B kept 7 raw 10000 limit\nlimited B\n".as_slice()
+        b"recv A 2 pong -9223372036854775808 @4 <3\ncrash B\nrecover A undone 4: A 0 B 12\nrole B kept 7 raw 10000 limit\nlimited B\n".as_slice()
     );
     Ok(())
 }

@@ -1,5 +1,5 @@
 -- The word follows from what the book says of the role.
-use Rattle.std.proofs.Common.{◌≡◌, refl, sym, subst}
+use Rattle.std.proofs.Common.{refl, sym, subst}
 use Rattle.rcv_core.specs.Setup.{rules_of}
 use Rattle.rcv_core.specs.Book.{state_of}
 use Rattle.rcv_journal.specs.Lines.{IsWordOf}

@@ -1,5 +1,5 @@
 -- One role more.
-use Rattle.std.proofs.Common.{◌≡◌, ◌+◌, ◌∷◌, [], ◌++◌, length, length-append, sym, ◌∙◌, ap, subst, arith}
+use Rattle.std.proofs.Common.{◌+◌, ◌∷◌, [], length, length-append, sym, ◌∙◌, ap, subst}
 use Rattle.rcv_core.specs.Setup.{rules_of}
 use Rattle.rcv_core.specs.Book.{state_of}
 use Rattle.rcv_journal.proofs.RoleLines.{Each, one_more_line}

@@ -1,7 +1,7 @@
 -- The entries of a legal journal are named, and so are the roles of the lines; the lines are the book's.
-use Rattle.std.proofs.Common.{◌≡◌, length, sym, ◌∙◌, ap, subst}
+use Rattle.std.proofs.Common.{◌≡◌, sym, ◌∙◌, ap, subst}
 use Rattle.std.proofs.lemmas.Result.{IfOk-weaker}
-use Rattle.rcv_core.specs.Setup.{SetupView, IsPlainProtocol, rules_of}
+use Rattle.rcv_core.specs.Setup.{SetupView, IsPlainProtocol}
 use Rattle.rcv_core.specs.Book.{state_of}
 use Rattle.rcv_journal.specs.JournalText.{AreNamed, HaveRoles, journal_text}
 use Rattle.rcv_journal.proofs.Named.{legal_is_named}
