@@ -16,6 +16,7 @@ use Rattle.rcv_model.specs.Text.{Body}
 use Rattle.rcv_model.specs.Accept.{HasSubjects, Fails, IsDecided, IsRefusal}
 use Rattle.rcv_model.specs.Form.{HasForm}
 use Rattle.rcv_model.specs.Script.{Line, chosen_by}
+use Rattle.rcv_model.specs.Transparent.{IsSteady, without_crashes, DidTheSame, AreBlind, HasScripts}
 use Rattle.rcv_model.specs.Plain.{IsPlain, bare_rules, HasNoCrashes}
 use Rattle.rcv_model.specs.Numbers.{IsBounded}
 use Rattle.rcv_model.specs.Line.{IsStable, LineHolds}
@@ -221,3 +222,14 @@ StableLinesHold =
 abbrev pub StableLinesJoin : Type 0
 StableLinesJoin =
     (rules : Rules) (h : List Event) (a b : ℕ → ℕ) → IsStable rules h a → IsStable rules h b → IsStable rules h (λ r. max (a r) (b r))
+
+-- Scripts that don't read the attempt choose and send by what the role did alone.
+abbrev pub BlindScriptsAreSteady : Type 0
+BlindScriptsAreSteady =
+    (rules : Rules) (scripts : ℕ → List Line) → HasScripts rules scripts → ((r : ℕ) → AreBlind (scripts r)) → IsSteady rules
+
+-- Crashes are transparent: where a journal, whatever its crashes, leaves all roles done, each final journal of the session
+-- without crash lines is completed too, and each role did the same in both.
+abbrev pub CrashesAreTransparent : Type 0
+CrashesAreTransparent =
+    (rules : Rules) (journal other : List Entry) → IsProper rules.net rules.roles → IsAccepted rules.net rules.roles → IsSteady rules → ChoosesOffered rules → 0 < rules.room → IsLegal rules journal → AreDone rules (reading rules journal) → IsLegal (without_crashes rules) other → IsFinal (without_crashes rules) (reading (without_crashes rules) other) → IsCompleted (without_crashes rules) (reading (without_crashes rules) other) × DidTheSame (reading rules journal) (reading (without_crashes rules) other)
