@@ -233,3 +233,8 @@ BlindScriptsAreSteady =
 abbrev pub CrashesAreTransparent : Type 0
 CrashesAreTransparent =
     (rules : Rules) (journal other : List Entry) → IsProper rules.net rules.roles → IsAccepted rules.net rules.roles → IsSteady rules → ChoosesOffered rules → 0 < rules.room → IsLegal rules journal → AreDone rules (reading rules journal) → IsLegal (without_crashes rules) other → IsFinal (without_crashes rules) (reading (without_crashes rules) other) → IsCompleted (without_crashes rules) (reading (without_crashes rules) other) × DidTheSame (reading rules journal) (reading (without_crashes rules) other)
+
+-- A text in the reader's form is accepted, its choices' subjects included, or it has its refusal.
+abbrev pub TextsAreAcceptedOrRefused : Type 0
+TextsAreAcceptedOrRefused =
+    (body : Body) (roles : ℕ) → HasForm body roles → (IsAccepted (net_of body) roles × HasSubjects body) ⊎ ((c : ℕ) × (r : ℕ) × (n : ℕ) × IsRefusal body roles c r n)
