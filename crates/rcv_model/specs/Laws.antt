@@ -21,7 +21,7 @@ use Rattle.rcv_model.specs.Plain.{IsPlain, bare_rules, HasNoCrashes}
 use Rattle.rcv_model.specs.Numbers.{IsBounded}
 use Rattle.rcv_model.specs.Line.{IsStable, LineHolds}
 use Rattle.rcv_model.specs.Final.{IsFinal, AreDone, IsCompleted, HasOneAtLimit, ChoosesOffered, IsStep, IsOneThread}
-use Rattle.rcv_model.specs.Journal.{Rules, State, MaySend, MayRecv, May, reading, events_of, IsLegal, KeepsRuns}
+use Rattle.rcv_model.specs.Journal.{Rules, State, durable, MaySend, MayRecv, May, reading, events_of, IsLegal, KeepsRuns}
 
 -- After each entry of a legal journal of an accepted protocol the kept events are a run.
 abbrev pub LegalJournalsKeepRuns : Type 0
@@ -160,6 +160,11 @@ BareJournalsAreShort =
 abbrev pub RecoveriesUndoExactly : Type 0
 RecoveriesUndoExactly =
     (net : Net) (p c : ℕ) (h : List Event) → IsQueued net h → (has : ℕ → Bool) × UndoesExactly net h p c has
+
+-- So each recovery in a legal journal leaves the kept events that aren't undone.
+abbrev pub JournalsUndoExactly : Type 0
+JournalsUndoExactly =
+    (rules : Rules) (front back : List Entry) (p : ℕ) (concerned : RoleSet) (kept : List ℕ) (undone : ℕ) → IsProper rules.net rules.roles → IsAccepted rules.net rules.roles → IsLegal rules (front ++ Recover p concerned kept undone ∷ back) → (has : ℕ → Bool) × UndoesExactly rules.net (reading rules front).kept p (durable rules (reading rules front) p) has × ((reading rules (front ++ Recover p concerned kept undone ∷ [])).kept ≡ picked has (reading rules front).kept)
 
 -- In a session without a plan nobody crashes, and nobody is to.
 abbrev pub BareJournalsHaveNoCrashes : Type 0
