@@ -125,7 +125,7 @@ module _ (net : Net) (h : List Event) (line : ℕ → ℕ) (p c : ℕ) (queued :
       omega (arith, many, ap (λ x. length (acts r x)) l.2)
 
 -- the greatest multiple that is at most n is at least each other one
-floor_high : (k e n : ℕ) → k * e ≤ n → k * e ≤ n / e * e
+pub floor_high : (k e n : ℕ) → k * e ≤ n → k * e ≤ n / e * e
 floor_high k zero n le = omega arith
 floor_high k (suc e) n le = mul-le-mul_right (suc e) ((le-div_iff_mul-le (omega arith)).1 le)
 

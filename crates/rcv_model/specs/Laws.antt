@@ -19,7 +19,7 @@ use Rattle.rcv_model.specs.Script.{Line, chosen_by}
 use Rattle.rcv_model.specs.Transparent.{IsSteady, without_crashes, DidTheSame, AreBlind, HasScripts}
 use Rattle.rcv_model.specs.Plain.{IsPlain, bare_rules, HasNoCrashes}
 use Rattle.rcv_model.specs.Numbers.{IsBounded}
-use Rattle.rcv_model.specs.Line.{IsStable, LineHolds}
+use Rattle.rcv_model.specs.Line.{IsStable, IsLine, LineHolds}
 use Rattle.rcv_model.specs.Final.{IsFinal, AreDone, IsCompleted, HasOneAtLimit, ChoosesOffered, IsStep, IsOneThread}
 use Rattle.rcv_model.specs.Journal.{Rules, State, durable, MaySend, MayRecv, May, reading, events_of, IsLegal, KeepsRuns}
 
@@ -223,10 +223,14 @@ abbrev pub StableLinesHold : Type 0
 StableLinesHold =
     (rules : Rules) (front back : List Entry) (line : ℕ → ℕ) → IsProper rules.net rules.roles → IsAccepted rules.net rules.roles → IsLegal rules (front ++ back) → IsStable rules (reading rules front).kept line → LineHolds rules (reading rules front).kept (reading rules (front ++ back)).kept line
 
--- The greater of two stable lines, role by role, is one: so there is at most one greatest.
+-- The greater of two stable lines, role by role, is one.
 abbrev pub StableLinesJoin : Type 0
 StableLinesJoin =
     (rules : Rules) (h : List Event) (a b : ℕ → ℕ) → IsStable rules h a → IsStable rules h b → IsStable rules h (λ r. max (a r) (b r))
+
+-- The stable line exists: the greatest.
+abbrev pub StableLinesExist : Type 0
+StableLinesExist = (rules : Rules) (h : List Event) → (line : ℕ → ℕ) × IsLine rules h line
 
 -- Scripts that don't read the attempt choose and send by what the role did alone.
 abbrev pub BlindScriptsAreSteady : Type 0
