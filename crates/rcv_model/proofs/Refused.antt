@@ -7,12 +7,15 @@ use Rattle.rcv_tree.specs.declared.entry.Entry.{Entry}
 use Rattle.rcv_tree.specs.declared.entry.Entry.TheVariants.{Send, Recv, Crash}
 use Rattle.rcv_model.specs.Net.{IsIn, IsWalk}
 use Rattle.rcv_model.specs.Next.{HasNone, IsNext, AreNext}
-use Rattle.rcv_model.specs.Text.{End, Single, Choose, Loop, Again, NoMore, Or}
+use Rattle.rcv_model.specs.Text.{Body, End, Single, Choose, Loop, Again, NoMore, Or}
 use Rattle.rcv_model.specs.Places.{branch, single}
 use Rattle.rcv_model.specs.Run.{Act, channel}
 use Rattle.rcv_model.specs.Journal.{Rules, State, start, reading, IsDue, IsConcernedIn, May}
 use Rattle.rcv_model.specs.Final.{IsActOf}
-use Rattle.rcv_model.specs.Accept.{Fails, subject, IsNotAfter}
+use Rattle.rcv_model.specs.Accept.{Fails, subject, IsNotAfter, IsRefusal}
+use Rattle.rcv_model.specs.Form.{HasForm}
+use Rattle.rcv_model.proofs.Decided.{faultless}
+use Rattle.rcv_model.proofs.LeastRefusal.{accepted_or_refused}
 use Rattle.std.specs.List.Sorted.{IsStrictlyIncreasing}
 use Rattle.rcv_model.specs.Table.{mark, marks, IsMarkedAt, IsConcerned}
 use Rattle.rcv_model.specs.Undo.{keep}
@@ -230,3 +233,13 @@ must_not_name_b m = go ((m.concerned 1 (omega arith)).0 refl)
 
             from : (n : ℕ) → n ≡ 5 → IsConcerned shop.net 0 n 1 → ⊥
             from n f c = ⊎_elim (λ a. let x = a.0 in omega arith) (λ a. let x = a_alone 1 _ (subst (λ k. IsMarkedAt shop.net 0 k 1 c.0) f a.1) in omega arith) c.1
+
+-- so the text with the wrong subject has a refusal
+abbrev odd : Body
+odd = Choose 1 (Or (Single [] [] 0 1 1 End) (Or (Single [] [] 1 0 2 End) NoMore)) End
+
+odd_form : HasForm odd 2
+odd_form = record { numbered = (refl, (refl, tt)); ends = (omega arith, omega arith, (λ e. omega arith), (omega arith, omega arith, (λ e. omega arith), tt)); few_roles = omega arith; few_points = omega arith }
+
+odd_refused : (c : ℕ) × (r : ℕ) × (n : ℕ) × IsRefusal odd 2 c r n
+odd_refused = ⊎_elim (λ a. absurd ((faultless odd 2 odd_form).1 a 20 1 1 wrong_subject)) (λ r. r) (accepted_or_refused odd 2 odd_form)

@@ -125,7 +125,7 @@ module _ (net : Net) (h : List Event) (line : ℕ → ℕ) (p c : ℕ) (queued :
       omega (arith, many, ap (λ x. length (acts r x)) l.2)
 
 -- the greatest multiple that is at most n is at least each other one
-floor_high : (k e n : ℕ) → k * e ≤ n → k * e ≤ n / e * e
+pub floor_high : (k e n : ℕ) → k * e ≤ n → k * e ≤ n / e * e
 floor_high k zero n le = omega arith
 floor_high k (suc e) n le = mul-le-mul_right (suc e) ((le-div_iff_mul-le (omega arith)).1 le)
 
@@ -168,7 +168,7 @@ module _ (rules : Rules) (line : ℕ → ℕ) (multiple : (r : ℕ) → (k : ℕ
   stay_all s (e ∷ journal) two sends legal run stays =
       stay_all (after rules s e) journal two sends legal.1 (run_after rules s e two sends legal.0 run) (stay_one s e run.1.queued stays)
 
-reading_join : (rules : Rules) (s : State) (front back : List Entry) → reading_from rules s (front ++ back) ≡ reading_from rules (reading_from rules s front) back
+pub reading_join : (rules : Rules) (s : State) (front back : List Entry) → reading_from rules s (front ++ back) ≡ reading_from rules (reading_from rules s front) back
 reading_join rules s [] back = refl
 reading_join rules s (e ∷ front) back = reading_join rules (after rules s e) front back
 

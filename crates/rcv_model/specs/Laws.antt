@@ -16,11 +16,12 @@ use Rattle.rcv_model.specs.Text.{Body}
 use Rattle.rcv_model.specs.Accept.{HasSubjects, Fails, IsDecided, IsRefusal}
 use Rattle.rcv_model.specs.Form.{HasForm}
 use Rattle.rcv_model.specs.Script.{Line, chosen_by}
+use Rattle.rcv_model.specs.Transparent.{IsSteady, without_crashes, DidTheSame, AreBlind, HasScripts}
 use Rattle.rcv_model.specs.Plain.{IsPlain, bare_rules, HasNoCrashes}
 use Rattle.rcv_model.specs.Numbers.{IsBounded}
-use Rattle.rcv_model.specs.Line.{IsStable, LineHolds}
+use Rattle.rcv_model.specs.Line.{IsStable, IsLine, LineHolds}
 use Rattle.rcv_model.specs.Final.{IsFinal, AreDone, IsCompleted, HasOneAtLimit, ChoosesOffered, IsStep, IsOneThread}
-use Rattle.rcv_model.specs.Journal.{Rules, State, MaySend, MayRecv, May, reading, events_of, IsLegal, KeepsRuns}
+use Rattle.rcv_model.specs.Journal.{Rules, State, durable, MaySend, MayRecv, May, reading, events_of, IsLegal, KeepsRuns}
 
 -- After each entry of a legal journal of an accepted protocol the kept events are a run.
 abbrev pub LegalJournalsKeepRuns : Type 0
@@ -160,6 +161,11 @@ abbrev pub RecoveriesUndoExactly : Type 0
 RecoveriesUndoExactly =
     (net : Net) (p c : ℕ) (h : List Event) → IsQueued net h → (has : ℕ → Bool) × UndoesExactly net h p c has
 
+-- So each recovery in a legal journal leaves the kept events that aren't undone.
+abbrev pub JournalsUndoExactly : Type 0
+JournalsUndoExactly =
+    (rules : Rules) (front back : List Entry) (p : ℕ) (concerned : RoleSet) (kept : List ℕ) (undone : ℕ) → IsProper rules.net rules.roles → IsAccepted rules.net rules.roles → IsLegal rules (front ++ Recover p concerned kept undone ∷ back) → (has : ℕ → Bool) × UndoesExactly rules.net (reading rules front).kept p (durable rules (reading rules front) p) has × ((reading rules (front ++ Recover p concerned kept undone ∷ [])).kept ≡ picked has (reading rules front).kept)
+
 -- In a session without a plan nobody crashes, and nobody is to.
 abbrev pub BareJournalsHaveNoCrashes : Type 0
 BareJournalsHaveNoCrashes =
@@ -217,7 +223,27 @@ abbrev pub StableLinesHold : Type 0
 StableLinesHold =
     (rules : Rules) (front back : List Entry) (line : ℕ → ℕ) → IsProper rules.net rules.roles → IsAccepted rules.net rules.roles → IsLegal rules (front ++ back) → IsStable rules (reading rules front).kept line → LineHolds rules (reading rules front).kept (reading rules (front ++ back)).kept line
 
--- The greater of two stable lines, role by role, is one: so there is at most one greatest.
+-- The greater of two stable lines, role by role, is one.
 abbrev pub StableLinesJoin : Type 0
 StableLinesJoin =
     (rules : Rules) (h : List Event) (a b : ℕ → ℕ) → IsStable rules h a → IsStable rules h b → IsStable rules h (λ r. max (a r) (b r))
+
+-- The stable line exists: the greatest.
+abbrev pub StableLinesExist : Type 0
+StableLinesExist = (rules : Rules) (h : List Event) → (line : ℕ → ℕ) × IsLine rules h line
+
+-- Scripts that don't read the attempt choose and send by what the role did alone.
+abbrev pub BlindScriptsAreSteady : Type 0
+BlindScriptsAreSteady =
+    (rules : Rules) (scripts : ℕ → List Line) → HasScripts rules scripts → ((r : ℕ) → AreBlind (scripts r)) → IsSteady rules
+
+-- Crashes are transparent: where a journal, whatever its crashes, leaves all roles done, each final journal of the session
+-- without crash lines is completed too, and each role did the same in both.
+abbrev pub CrashesAreTransparent : Type 0
+CrashesAreTransparent =
+    (rules : Rules) (journal other : List Entry) → IsProper rules.net rules.roles → IsAccepted rules.net rules.roles → IsSteady rules → ChoosesOffered rules → 0 < rules.room → IsLegal rules journal → AreDone rules (reading rules journal) → IsLegal (without_crashes rules) other → IsFinal (without_crashes rules) (reading (without_crashes rules) other) → IsCompleted (without_crashes rules) (reading (without_crashes rules) other) × DidTheSame (reading rules journal) (reading (without_crashes rules) other)
+
+-- A text in the reader's form is accepted, its choices' subjects included, or it has its refusal.
+abbrev pub TextsAreAcceptedOrRefused : Type 0
+TextsAreAcceptedOrRefused =
+    (body : Body) (roles : ℕ) → HasForm body roles → (IsAccepted (net_of body) roles × HasSubjects body) ⊎ ((c : ℕ) × (r : ℕ) × (n : ℕ) × IsRefusal body roles c r n)

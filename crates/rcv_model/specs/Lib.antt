@@ -10,6 +10,7 @@ pub mod Form
 pub mod Plain
 pub mod Numbers
 pub mod Line
+pub mod Transparent
 pub mod Script
 pub mod Final
 pub mod Accept
