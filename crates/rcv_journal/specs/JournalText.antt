@@ -67,6 +67,7 @@ role_line setup line =
     codes "role " ++ name_of setup line.role ++ codes " kept " ++ decimal line.kept
     ++ codes " raw " ++ decimal line.raw ++ codes " " ++ word_text line.word ++ codes "\n"
 
+-- The word is `done`; the word is `limit`.
 abbrev pub is_done : RoleWord → Bool
 is_done Done = true
 is_done Limit = false

@@ -12,7 +12,7 @@ use rcv_tree::entry::Entry;
 use std::alloc::{AllocError, Global};
 
 /// The text of a journal: a line for each entry, then a line for each role, and a last one that says how the session
-/// ended.
+/// ended. The roles and points that they name are declared. It fails where memory runs out.
 pub fn write_journal(
     alloc: Global,
     setup: &Setup,

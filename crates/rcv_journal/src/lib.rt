@@ -1,6 +1,8 @@
 // The text of a journal.
 #![tactic(auto)]
 
+ghost use Rattle.rcv_journal.specs.Laws.{LegalJournalsAreNamed, JournalsHaveOneText, CompletedIsWritten};
+
 mod entries;
 pub mod journal;
 pub mod line;
@@ -9,8 +11,6 @@ mod roles;
 mod tests;
 pub mod text;
 mod writer;
-
-ghost use Rattle.rcv_journal.specs.Laws.{LegalJournalsAreNamed, JournalsHaveOneText, CompletedIsWritten};
 
 /// Each role and each point in a legal journal has a name.
 pub fn legal_journals_are_named()
