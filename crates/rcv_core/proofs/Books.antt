@@ -13,9 +13,9 @@ use Rattle.rcv_tree.specs.declared.event.Dir.TheVariants.{Sent, Got}
 use Rattle.rcv_tree.specs.declared.entry.Entry.{Entry}
 use Rattle.rcv_tree.specs.declared.entry.Entry.TheVariants.{Send, Recv, Crash, Recover}
 use Rattle.rcv_model.specs.Net.{Net, IsIn, HasTwoEnds, last_of}
-use Rattle.rcv_model.specs.Run.{put_by, put, taken, channel}
+use Rattle.rcv_model.specs.Run.{put_by, put, taken, channel, IsRun}
 use Rattle.rcv_model.specs.Next.{IsNext, AreNext, IsProper}
-use Rattle.rcv_model.specs.Journal.{Rules, State, IsDue, start, place, after, after_event, reading_from, reading, MaySend, MayRecv, May, IsLegal}
+use Rattle.rcv_model.specs.Journal.{Rules, State, IsDue, start, place, after, after_event, reading_from, reading, MaySend, MayRecv, May, IsLegal, KeepsRuns}
 use Rattle.rcv_model.specs.Final.{IsActOf, CanAct, IsFinal, IsStep}
 use Rattle.rcv_model.proofs.OneThread.{one_step}
 use Rattle.rcv_model.proofs.Forms.{proper}
@@ -24,7 +24,8 @@ use Rattle.rcv_model.proofs.Numbers.{bounded, bare_bounded, put_stamps}
 use Rattle.rcv_core.specs.declared.standing.Standing.{Standing}
 use Rattle.rcv_core.specs.Setup.{SetupView, IsPlainProtocol, text_of, roles_of, net_for, rules_of, IsNextPoint}
 use Rattle.rcv_core.specs.Book.{BookView, state_of, ChannelView, empty, between, channel_at, Carry, with_put, with_taken, at_start, moved, StandsAt, Stand, IsBook, IsNextStep, IsNextSend, IsNextRecv}
-use Rattle.rcv_model.proofs.Legal.{legal_more}
+use Rattle.rcv_model.proofs.Legal.{legal_more, accepted_runs}
+use Rattle.rcv_model.proofs.PlainNets.{plain_accepted}
 use Rattle.rcv_core.proofs.Following.{stand_more, carry_put, carry_take}
 use Rattle.rcv_core.proofs.Acting.{can_send, can_recv, none_at_limit, none_without_next, none_without_room, none_without_message}
 
@@ -402,3 +403,15 @@ short_book setup entries standings channels book =
     let a = bare_bounded (text_of setup) (roles_of setup) entries book.legal in
     let b = book.protocol.form.few_roles in
     omega arith
+
+-- after each entry of a legal journal the kept events are a run
+pub keeps_runs : (setup : SetupView) (entries : List Entry) → IsPlainProtocol setup.protocol → IsLegal (rules_of setup) entries → KeepsRuns (rules_of setup) entries
+keeps_runs setup entries plain legal = accepted_runs (rules_of setup) entries (proper (text_of setup) (roles_of setup) plain.form) (plain_accepted (text_of setup) (roles_of setup) plain.plain plain.form).0 legal
+
+-- the same as a reader of the book sees it
+pub book_runs : (book : BookView) (setup : SetupView) (entries : List Entry) (standings : List Standing) (channels : List ChannelView) → IsBook setup entries standings channels → record { setup = setup; entries = entries } ≡ book → KeepsRuns (rules_of book.setup) book.entries
+book_runs book setup entries standings channels kept view = subst (λ (b : BookView). KeepsRuns (rules_of b.setup) b.entries) view (keeps_runs setup entries kept.protocol kept.legal)
+
+-- the kept events of a book are a run
+pub run_now : (setup : SetupView) (entries : List Entry) (standings : List Standing) (channels : List ChannelView) → IsBook setup entries standings channels → IsRun (net_for setup) (reading (rules_of setup) entries).kept
+run_now setup entries standings channels book = keeps_runs setup entries book.protocol book.legal entries [] (append-nil entries)

@@ -1,10 +1,10 @@
 // A journal, which is legal at all times.
 
 ghost use Rattle.std.specs.Prelude.{◌≡◌, ◌<◌, ◌≤◌, ◌+◌, ◌↔◌, ◌^◌, IsTrue, Some, [], ◌∷◌, ◌++◌, length, slice_index, IfOk, OnOk, OnErr, MatchOption};
-ghost use Rattle.rcv_model.specs.Run.{acts, put, taken};
+ghost use Rattle.rcv_model.specs.Run.{acts, put, taken, IsRun};
 ghost use Rattle.rcv_model.specs.Act.{IsDone};
 ghost use Rattle.rcv_tree.specs.declared.entry.Entry.TheVariants.{Send, Recv};
-ghost use Rattle.rcv_model.specs.Journal.{May, MaySend, MayRecv, IsLegal};
+ghost use Rattle.rcv_model.specs.Journal.{May, MaySend, MayRecv, IsLegal, KeepsRuns};
 ghost use Rattle.rcv_model.specs.Final.{CanAct, IsActOf, IsFinal, AreDone, IsStep};
 ghost use Rattle.rcv_core.specs.Setup.{SetupView, roles_of, net_for, rules_of};
 ghost use Rattle.rcv_core.specs.Book.{BookView, state_of, IsOutcome, GoesOn, EndsAlone, IsNextSend, IsNextRecv};
@@ -73,6 +73,7 @@ impl<'a> Book<'a> {
         requires { May (rules_of self.old.setup) (state_of self.old) entry }
         ensures ok { OnOk result (self.new ≡ record { setup = self.old.setup; entries = self.old.entries ++ entry ∷ [] }) }
         ensures err { OnErr result (self.new ≡ self.old) }
+        ensures run { IsRun (net_for self.new.setup) (state_of self.new).kept }
     {
         // Opens the book, so that the proof knows that nobody is crashed.
         let _setup = &self.setup;
@@ -171,6 +172,7 @@ impl<'a> Book<'a> {
     pub fn entries(&self) -> &[Entry]
         ensures value { result.now ≡ self.now.entries }
         ensures legal { IsLegal (rules_of self.now.setup) self.now.entries }
+        ensures runs { KeepsRuns (rules_of self.now.setup) self.now.entries }
     {
         self.entries.as_slice()
     }
@@ -284,6 +286,7 @@ impl<'a> Book<'a> {
         requires { MaySend (rules_of self.old.setup) (state_of self.old) event.now }
         ensures ok { OnOk result (self.new ≡ record { setup = self.old.setup; entries = self.old.entries ++ Send event.now ∷ [] }) }
         ensures err { OnErr result (self.new ≡ self.old) }
+        ensures run { IsRun (net_for self.new.setup) (state_of self.new).kept }
     {
         let receiver = self.setup.receiver(event.point);
         record_send(
@@ -299,6 +302,7 @@ impl<'a> Book<'a> {
         requires { MayRecv (rules_of self.old.setup) (state_of self.old) event.now }
         ensures ok { OnOk result (self.new ≡ record { setup = self.old.setup; entries = self.old.entries ++ Recv event.now ∷ [] }) }
         ensures err { OnErr result (self.new ≡ self.old) }
+        ensures run { IsRun (net_for self.new.setup) (state_of self.new).kept }
     {
         let sender = self.setup.sender(event.point);
         record_recv(
