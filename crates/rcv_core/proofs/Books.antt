@@ -1,5 +1,5 @@
 -- What a book's standings and channels tell of the state that its entries leave.
-use Rattle.std.proofs.Common.{◌≡◌, ◌≢◌, ℕ, zero, suc, ◌+◌, ◌-◌, ◌<◌, ◌≤◌, Bool, true, false, Some, None, Option, List, [], ◌∷◌, ◌++◌, length, drop, get_or, replicate, refl, sym, ◌∙◌, ap, subst, inl, ⊎_elim, arith}
+use Rattle.std.proofs.Common.{◌≡◌, ◌≢◌, ℕ, zero, suc, ◌+◌, ◌-◌, ◌<◌, ◌≤◌, Bool, true, false, Some, None, Option, List, [], ◌∷◌, ◌++◌, length, drop, get_or, replicate, refl, sym, ◌∙◌, ap, subst, inl, ⊎_elim, append-nil, arith}
 use Rattle.std.specs.Prelude.{ℤ, slice_get, slice_index, max, pos, IsTrue, ◌↔◌, is_some, not, MatchOption, Result, Ok, Err, OnOk, OnErr}
 use Rattle.std.specs.List.{All, filter_map, cons_option}
 use Rattle.std.proofs.Math.ListN.{drop_of_length-le}
