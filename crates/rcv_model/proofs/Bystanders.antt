@@ -35,7 +35,7 @@ as_many q (e ∷ h) = go (e.role == q) (as_many q h)
     go false ih = ih
 
 -- an item of a list behind a beginning of it that is shorter
-item : {A : Type 0} (xs : List A) (n : ℕ) → n < length xs → (x : A) × (slice_get xs n ≡ Some x)
+pub item : {A : Type 0} (xs : List A) (n : ℕ) → n < length xs → (x : A) × (slice_get xs n ≡ Some x)
 item [] n lt = absurd (omega arith)
 item (x ∷ xs) zero lt = (x, refl)
 item (x ∷ xs) (suc n) lt = item xs n (omega arith)

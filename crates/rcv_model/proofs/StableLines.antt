@@ -54,7 +54,7 @@ picked_many r top n has (e ∷ h) all le = go (cases_eq e.role r) (λ m first fe
     go (inl f) rec = ⊎_elim (λ lt. own f lt rec) (λ low. omega (arith, low)) (cases_lt n top)
     go (inr m) rec = either (has 0) (rec n (λ i d g o low. all (suc i) d g o (omega (arith, low, passed r e (take i h) m))) (omega (arith, le, passed r e h m))) m
 
-take_grows : (i j : ℕ) (h : List Event) → i ≤ j → IsPrefix (take i h) (take j h)
+pub take_grows : (i j : ℕ) (h : List Event) → i ≤ j → IsPrefix (take i h) (take j h)
 take_grows zero j h le = (take j h, refl)
 take_grows (suc i) zero h le = absurd (omega arith)
 take_grows (suc i) (suc j) [] le = ([], refl)
@@ -178,7 +178,7 @@ pub reading_join : (rules : Rules) (s : State) (front back : List Entry) → rea
 reading_join rules s [] back = refl
 reading_join rules s (e ∷ front) back = reading_join rules (after rules s e) front back
 
-legal_back : (rules : Rules) (s : State) (front back : List Entry) → IsLegalFrom rules s (front ++ back) → IsLegalFrom rules (reading_from rules s front) back
+pub legal_back : (rules : Rules) (s : State) (front back : List Entry) → IsLegalFrom rules s (front ++ back) → IsLegalFrom rules (reading_from rules s front) back
 legal_back rules s [] back legal = legal
 legal_back rules s (e ∷ front) back legal = legal_back rules (after rules s e) front back legal.1
 
