@@ -117,7 +117,7 @@ module _ (net : Net) (h : List Event) (line bound : ℕ → ℕ) (queued : IsQue
   }
 
   -- so the recovery keeps what is within the line
-  kept_within : (r : ℕ) → line r ≤ length (acts r h) → line r ≤ length (acts r (keep_within net bound h))
+  pub kept_within : (r : ℕ) → line r ≤ length (acts r h) → line r ≤ length (acts r (keep_within net bound h))
   kept_within r le =
       let l = latest net bound h queued in
       let many = picked_many r (line r) 0 l.0 h (λ i e at' role lt. l.1.greatest test is_cut i (to_test i e at' (subst (λ q. length (acts q (take i h)) < line q) (sym role) (omega (arith, lt))))) (omega (arith, le)) in
