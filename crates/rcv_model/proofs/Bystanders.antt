@@ -5,7 +5,7 @@ use Rattle.std.specs.List.{cons_option}
 use Rattle.rcv_tree.specs.declared.event.Event.{Event}
 use Rattle.rcv_model.specs.Net.{Net, HasTwoEnds, IsPrefix}
 use Rattle.rcv_model.specs.Run.{Act, acts, IsRun}
-use Rattle.rcv_model.specs.Undo.{keep}
+use Rattle.rcv_model.specs.Undo.{keep, only}
 use Rattle.rcv_model.specs.Table.{IsConcerned}
 use Rattle.rcv_model.specs.Journal.{events_of}
 use Rattle.rcv_model.proofs.Keeping.{by_role, scan_of}
@@ -35,7 +35,7 @@ as_many q (e ∷ h) = go (e.role == q) (as_many q h)
     go false ih = ih
 
 -- an item of a list behind a beginning of it that is shorter
-item : {A : Type 0} (xs : List A) (n : ℕ) → n < length xs → (x : A) × (slice_get xs n ≡ Some x)
+pub item : {A : Type 0} (xs : List A) (n : ℕ) → n < length xs → (x : A) × (slice_get xs n ≡ Some x)
 item [] n lt = absurd (omega arith)
 item (x ∷ xs) zero lt = (x, refl)
 item (x ∷ xs) (suc n) lt = item xs n (omega arith)
@@ -44,7 +44,7 @@ pub keeps_all : (net : Net) (p c q : ℕ) (h : List Event) (first : Act) → Has
 keeps_all net p c q h first two run at apart free = go scan.0 scan.1
   where
     scan : IsPrefix (by_role q (keep net p c h)) (by_role q h)
-    scan = (scan_of net p c h run.1.queued).front q
+    scan = (scan_of net (only p c h) h run.1.queued).front q
 
     go : (rest : List Event) → by_role q (keep net p c h) ++ rest ≡ by_role q h → events_of q (keep net p c h) ≡ events_of q h
     go [] e = sym (append-nil _) ∙ e
@@ -138,11 +138,11 @@ module _ (net : Net) (p c q : ℕ) (h : List Event) (first : Act) (two : HasTwoE
   put_kept : (s : ℕ) → put net s q (keep net p c h) ≡ put net s q h
   put_kept s = ⊎_elim
       (λ e. put_same net s q (keep net p c h) h (subst (λ r. by_role r (keep net p c h) ≡ by_role r h) e own_same))
-      (λ other. same_length _ _ (put_front net s q (keep net p c h) h ((scan_of net p c h run.1.queued).front s)) (go other (some_item (sent_to net q) front.0)))
+      (λ other. same_length _ _ (put_front net s q (keep net p c h) h ((scan_of net (only p c h) h run.1.queued).front s)) (go other (some_item (sent_to net q) front.0)))
       (cases_eq q s)
     where
       front : IsPrefix (acts s (keep net p c h)) (acts s h)
-      front = keep_front net p c h run.1.queued s
+      front = keep_front net (only p c h) h run.1.queued s
 
       joined : filter_map (sent_to net q) (acts s h) ≡ filter_map (sent_to net q) (acts s (keep net p c h)) ++ filter_map (sent_to net q) front.0
       joined = ap (filter_map (sent_to net q)) (sym front.1) ∙ filter_map-append (sent_to net q) (acts s (keep net p c h)) front.0

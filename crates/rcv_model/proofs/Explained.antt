@@ -9,7 +9,7 @@ use Rattle.rcv_tree.specs.declared.entry.Entry.{Entry}
 use Rattle.rcv_tree.specs.declared.entry.Entry.TheVariants.{Send, Recv, Crash, Recover}
 use Rattle.rcv_model.specs.Net.{IsIn, IsPrefix, HasTwoEnds}
 use Rattle.rcv_model.specs.Run.{acts, place_of, IsQueued, IsRun}
-use Rattle.rcv_model.specs.Undo.{keep}
+use Rattle.rcv_model.specs.Undo.{keep, only}
 use Rattle.rcv_model.specs.Next.{AreNext}
 use Rattle.rcv_model.specs.Journal.{Rules, State, durable, after, reading_from, MaySend, MayRecv, May, IsLegalFrom}
 use Rattle.rcv_model.specs.Transparent.{IsSteady}
@@ -84,7 +84,7 @@ module _ (rules : Rules) (steady : IsSteady rules) where
   explained_one s (Recv e) may queued all = explained_more s.kept e all (of_recv s e may)
   explained_one s (Crash p) may queued all = all
   explained_one s (Recover p concerned kept undone) may queued all =
-      λ r. of_front rules r (by_role r (keep rules.net p (durable rules s p) s.kept)) (by_role r s.kept) ((scan_of rules.net p (durable rules s p) s.kept queued).front r) (all r)
+      λ r. of_front rules r (by_role r (keep rules.net p (durable rules s p) s.kept)) (by_role r s.kept) ((scan_of rules.net (only p (durable rules s p) s.kept) s.kept queued).front r) (all r)
 
   pub explained_all : (s : State) (journal : List Entry) → HasTwoEnds rules.net → SendsKeep rules → IsLegalFrom rules s journal → IsRun rules.net s.kept → AreExplained rules s.kept → AreExplained rules (reading_from rules s journal).kept
   explained_all s [] two sends legal run all = all

@@ -1,5 +1,5 @@
 -- Where a legal journal is final, all roles are done, or one that isn't has come to the limit.
-use Rattle.std.proofs.Common.{◌≡◌, ℕ, ◌+◌, ◌<◌, ◌≤◌, max, Bool, true, false, Some, List, get_or, [], length, refl, sym, ap, subst, ◌⊎◌, inl, inr, append-nil, arith}
+use Rattle.std.proofs.Common.{◌≡◌, ℕ, ◌+◌, ◌<◌, ◌≤◌, max, Bool, true, false, Some, List, get_or, [], length, refl, sym, ap, subst, ◌⊎◌, inl, inr, ⊎_elim, append-nil, arith}
 use Rattle.std.specs.Prelude.{slice_get, slice_index}
 use Rattle.std.proofs.lemmas.Bool.{cases_lt}
 use Rattle.std.proofs.lemmas.Option.{slice_get-get_or}
@@ -10,8 +10,8 @@ use Rattle.rcv_model.specs.Net.{IsIn}
 use Rattle.rcv_model.specs.Run.{channel, IsRun}
 use Rattle.rcv_model.specs.Next.{AreNext, IsProper, IsAccepted}
 use Rattle.rcv_model.specs.Act.{CanSend, CanRecv, IsDone}
-use Rattle.rcv_model.specs.Journal.{Rules, State, place, events_of, reading, IsFree, IsLegal}
-use Rattle.rcv_model.specs.Final.{CanAct, IsFinal, AreDone, HasOneAtLimit, ChoosesOffered}
+use Rattle.rcv_model.specs.Journal.{Rules, State, place, events_of, reading, IsFree, IsDue, IsLegal}
+use Rattle.rcv_model.specs.Final.{IsCrashed, CanAct, IsFinal, AreDone, HasOneAtLimit, ChoosesOffered}
 use Rattle.rcv_model.proofs.Legal.{accepted_runs}
 use Rattle.rcv_model.proofs.Numbers.{bounded}
 use Rattle.rcv_model.proofs.Stuck.{not_stuck}
@@ -20,16 +20,16 @@ use Rattle.rcv_model.proofs.NextLists.{lists_exist}
 not_empty : (z : ℕ) (zs : List ℕ) → IsIn z zs → zs ≡ [] → ⊥
 not_empty z zs i e = subst (IsIn z) e i
 
-module _ (rules : Rules) (s : State) (lists : (r k : ℕ) → (zs : List ℕ) × AreNext rules.net r k zs) (chooses : ChoosesOffered rules) (room : 0 < rules.room) (final : IsFinal rules s) (size : length s.crashed ≡ rules.roles) (top : (r : ℕ) → slice_index s.raw r ≤ rules.limit) where
+module _ (rules : Rules) (s : State) (lists : (r k : ℕ) → (zs : List ℕ) × AreNext rules.net r k zs) (chooses : ChoosesOffered rules) (room : 0 < rules.room) (up : (r : ℕ) → IsCrashed s r → ⊥) (clear : (r : ℕ) → r < rules.roles → IsDue rules s r → ⊥) (size : length s.crashed ≡ rules.roles) (top : (r : ℕ) → slice_index s.raw r ≤ rules.limit) where
   running : (r : ℕ) → r < rules.roles → slice_get s.crashed r ≡ Some false
   running r lt = go (get_or s.crashed r false) (slice_get-get_or s.crashed r false (subst (λ n. r < n) (sym size) lt))
     where
       go : (b : Bool) → slice_get s.crashed r ≡ Some b → slice_get s.crashed r ≡ Some false
-      go true e = absurd (final.none_crashed r e)
+      go true e = absurd (up r e)
       go false e = e
 
   free : (r : ℕ) → r < rules.roles → slice_index s.raw r < rules.limit → IsFree rules s r
-  free r lt below = record { declared = lt; running = running r lt; not_due = final.none_due r lt; below_limit = below }
+  free r lt below = record { declared = lt; running = running r lt; not_due = clear r lt; below_limit = below }
 
   -- what r chooses to send
   point : ℕ → List ℕ → ℕ
@@ -61,9 +61,9 @@ module _ (rules : Rules) (s : State) (lists : (r k : ℕ) → (zs : List ℕ) ×
         ),
       )
 
-  -- a role that could act by the protocol alone is at the limit
-  at_limit : (r : ℕ) → r < rules.roles → CanSend rules.net r s.kept ⊎ CanRecv rules.net r s.kept → HasOneAtLimit rules s
-  at_limit r lt can = (r, lt, more can, full (cases_lt (slice_index s.raw r) rules.limit))
+  -- a role that could act by the protocol alone can act, or is at the limit
+  acts_or_limit : (r : ℕ) → r < rules.roles → CanSend rules.net r s.kept ⊎ CanRecv rules.net r s.kept → CanAct rules s r ⊎ HasOneAtLimit rules s
+  acts_or_limit r lt can = ⊎_elim (λ below. inl (act below can)) (λ le. inr (r, lt, more can, omega (arith, le, top r))) (cases_lt (slice_index s.raw r) rules.limit)
     where
       more : CanSend rules.net r s.kept ⊎ CanRecv rules.net r s.kept → IsDone rules.net r s.kept → ⊥
       more (inl a) done = done a.point a.next
@@ -73,16 +73,19 @@ module _ (rules : Rules) (s : State) (lists : (r k : ℕ) → (zs : List ℕ) ×
       act below (inl a) = sends r lt below a
       act below (inr a) = recvs r lt below a
 
-      full : (slice_index s.raw r < rules.limit) ⊎ (rules.limit ≤ slice_index s.raw r) → slice_index s.raw r ≡ rules.limit
-      full (inl below) = absurd (final.none_acts r lt (act below can))
-      full (inr le) = omega (arith, le, top r)
-
-pub done_or_limited : (rules : Rules) (journal : List Entry) → IsProper rules.net rules.roles → IsAccepted rules.net rules.roles → ChoosesOffered rules → 0 < rules.room → IsLegal rules journal → IsFinal rules (reading rules journal) → AreDone rules (reading rules journal) ⊎ HasOneAtLimit rules (reading rules journal)
-done_or_limited rules journal proper accepted chooses room legal final = go (not_stuck rules.net rules.roles run.0 (reading rules journal).kept proper accepted run.1)
+-- where no role is crashed or due, all are done, or one can act, or one that isn't done is at the limit
+pub no_stuck : (rules : Rules) (journal : List Entry) → IsProper rules.net rules.roles → IsAccepted rules.net rules.roles → ChoosesOffered rules → 0 < rules.room → IsLegal rules journal → ((r : ℕ) → IsCrashed (reading rules journal) r → ⊥) → ((r : ℕ) → r < rules.roles → IsDue rules (reading rules journal) r → ⊥) → AreDone rules (reading rules journal) ⊎ (((r : ℕ) × (r < rules.roles) × CanAct rules (reading rules journal) r) ⊎ HasOneAtLimit rules (reading rules journal))
+no_stuck rules journal proper accepted chooses room legal up clear = go (not_stuck rules.net rules.roles run.0 (reading rules journal).kept proper accepted run.1)
   where
     run : IsRun rules.net (reading rules journal).kept
     run = accepted_runs rules journal proper accepted legal journal [] (append-nil journal)
 
-    go : ((r : ℕ) × (r < rules.roles) × (CanSend rules.net r (reading rules journal).kept ⊎ CanRecv rules.net r (reading rules journal).kept)) ⊎ ((r : ℕ) → r < rules.roles → IsDone rules.net r (reading rules journal).kept) → AreDone rules (reading rules journal) ⊎ HasOneAtLimit rules (reading rules journal)
+    go : ((r : ℕ) × (r < rules.roles) × (CanSend rules.net r (reading rules journal).kept ⊎ CanRecv rules.net r (reading rules journal).kept)) ⊎ ((r : ℕ) → r < rules.roles → IsDone rules.net r (reading rules journal).kept) → AreDone rules (reading rules journal) ⊎ (((r : ℕ) × (r < rules.roles) × CanAct rules (reading rules journal) r) ⊎ HasOneAtLimit rules (reading rules journal))
     go (inr done) = inl done
-    go (inl a) = inr (at_limit rules (reading rules journal) (λ r k. lists_exist rules.net rules.roles r k proper) chooses room final (bounded rules journal legal).numbers.crashed (bounded rules journal legal).raw a.0 a.1 a.2)
+    go (inl a) = inr (⊎_elim (λ can. inl (a.0, a.1, can)) (λ limit. inr limit) (acts_or_limit rules (reading rules journal) (λ r k. lists_exist rules.net rules.roles r k proper) chooses room up clear (bounded rules journal legal).numbers.crashed (bounded rules journal legal).raw a.0 a.1 a.2))
+
+pub done_or_limited : (rules : Rules) (journal : List Entry) → IsProper rules.net rules.roles → IsAccepted rules.net rules.roles → ChoosesOffered rules → 0 < rules.room → IsLegal rules journal → IsFinal rules (reading rules journal) → AreDone rules (reading rules journal) ⊎ HasOneAtLimit rules (reading rules journal)
+done_or_limited rules journal proper accepted chooses room legal final = ⊎_elim
+    (λ done. inl done)
+    (λ more. ⊎_elim (λ can. absurd (final.none_acts can.0 can.1 can.2)) (λ limit. inr limit) more)
+    (no_stuck rules journal proper accepted chooses room legal final.none_crashed final.none_due)

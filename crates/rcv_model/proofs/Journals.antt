@@ -12,7 +12,7 @@ use Rattle.rcv_model.specs.Run.{Act}
 use Rattle.rcv_model.specs.Places.{net_of}
 use Rattle.rcv_model.specs.Table.{mark, marks, IsMarkedAt, IsConcerned}
 use Rattle.rcv_model.specs.Journal.{State, start, after, is_among, durable, IsDue, MaySend, MayRecv, MayRecover, IsConcernedIn, reading, IsLegal, KeepsRuns}
-use Rattle.rcv_model.specs.Undo.{keep, UndoesExactly}
+use Rattle.rcv_model.specs.Undo.{keep, only, UndoesExactly}
 use Rattle.rcv_model.specs.Numbers.{lines_of, IsBounded}
 use Rattle.rcv_model.proofs.Numbers.{bounded}
 use Rattle.rcv_model.proofs.Cuts.{undo_exactly}
@@ -195,4 +195,4 @@ several_lines = refl
 
 -- A's recovery, after six entries, undoes exactly what it should
 several_undoes : (has : ℕ → Bool) × UndoesExactly net s6.kept 0 (durable workers s6 0) has
-several_undoes = undo_exactly net 0 (durable workers s6 0) s6.kept (several_runs (take 6 several_all) (drop 6 several_all) refl).1.queued
+several_undoes = undo_exactly net (only 0 (durable workers s6 0) s6.kept) s6.kept (several_runs (take 6 several_all) (drop 6 several_all) refl).1.queued

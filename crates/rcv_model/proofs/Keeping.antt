@@ -9,7 +9,7 @@ use Rattle.rcv_tree.specs.declared.event.Event.{Event}
 use Rattle.rcv_tree.specs.declared.event.Message.{Message}
 use Rattle.rcv_model.specs.Net.{Net, IsIn, IsPrefix}
 use Rattle.rcv_model.specs.Run.{act_of, acts, is_sent, puts_on, takes_on, put_by, taken_by, put, taken, IsQueued, IsRunOf}
-use Rattle.rcv_model.specs.Undo.{Kept, is_stopped, is_behind, is_starved, is_blocked, keep_one, keep_from, keep}
+use Rattle.rcv_model.specs.Undo.{Kept, is_stopped, is_behind, is_starved, is_blocked, keep_one, keep_from, keep_within}
 use Rattle.rcv_model.proofs.Lists.{prefix_same, prefix_trans, prefix_append, prefix_shorter, prefix_map, through, split_end}
 
 abbrev pub is_by : ℕ → Event → Bool
@@ -123,14 +123,14 @@ room net e xs s r d f g h =
     grind (arith, nat_tests)
 
 -- an event that is kept
-scan_kept : (net : Net) (p c : ℕ) (h : List Event) (e : Event) (kept : Kept) → Scan net h kept → ((s r : ℕ) → IsPrefix (taken net s r (h ++ e ∷ [])) (put net s r (h ++ e ∷ []))) → is_blocked net p c kept e ≡ false → Scan net (h ++ e ∷ []) (record { events = kept.events ++ e ∷ []; stopped = kept.stopped })
-scan_kept net p c h e kept scan moment open' = record { same = same; front = front; queued = queued_more net kept.events e scan.queued fits }
+scan_kept : (net : Net) (bound : ℕ → ℕ) (h : List Event) (e : Event) (kept : Kept) → Scan net h kept → ((s r : ℕ) → IsPrefix (taken net s r (h ++ e ∷ [])) (put net s r (h ++ e ∷ []))) → is_blocked net bound kept e ≡ false → Scan net (h ++ e ∷ []) (record { events = kept.events ++ e ∷ []; stopped = kept.stopped })
+scan_kept net bound h e kept scan moment open' = record { same = same; front = front; queued = queued_more net kept.events e scan.queued fits }
   where
-    first : (is_stopped kept e ≡ false) × ((is_behind p c kept e || is_starved net kept e) ≡ false)
-    first = or_false (is_stopped kept e) (is_behind p c kept e || is_starved net kept e) open'
+    first : (is_stopped kept e ≡ false) × ((is_behind bound kept e || is_starved net kept e) ≡ false)
+    first = or_false (is_stopped kept e) (is_behind bound kept e || is_starved net kept e) open'
 
     starved : is_starved net kept e ≡ false
-    starved = (or_false (is_behind p c kept e) (is_starved net kept e) first.1).1
+    starved = (or_false (is_behind bound kept e) (is_starved net kept e) first.1).1
 
     whole : by_role e.role kept.events ≡ by_role e.role h
     whole = ⊎_elim (λ i. absurd (not_among e.role kept.stopped first.0 i)) (λ f. f) (scan.same e.role)
@@ -163,39 +163,39 @@ scan_lost net h e kept scan = record { same = same; front = front; queued = scan
         (λ n. ⊎_elim (λ i. inl (inr i)) (λ f. inr (f ∙ sym (by_role_other q h e (λ g. n (sym g))))) (scan.same q))
         (cases_eq q e.role)
 
-scan_one : (net : Net) (p c : ℕ) (h : List Event) (e : Event) (kept : Kept) → Scan net h kept → ((s r : ℕ) → IsPrefix (taken net s r (h ++ e ∷ [])) (put net s r (h ++ e ∷ []))) → Scan net (h ++ e ∷ []) (keep_one net p c kept e)
-scan_one net p c h e kept scan moment = go (is_blocked net p c kept e) refl
+scan_one : (net : Net) (bound : ℕ → ℕ) (h : List Event) (e : Event) (kept : Kept) → Scan net h kept → ((s r : ℕ) → IsPrefix (taken net s r (h ++ e ∷ [])) (put net s r (h ++ e ∷ []))) → Scan net (h ++ e ∷ []) (keep_one net bound kept e)
+scan_one net bound h e kept scan moment = go (is_blocked net bound kept e) refl
   where
-    go : (b : Bool) → is_blocked net p c kept e ≡ b → Scan net (h ++ e ∷ []) (cond b (record { events = kept.events; stopped = e.role ∷ kept.stopped }) (record { events = kept.events ++ e ∷ []; stopped = kept.stopped }))
+    go : (b : Bool) → is_blocked net bound kept e ≡ b → Scan net (h ++ e ∷ []) (cond b (record { events = kept.events; stopped = e.role ∷ kept.stopped }) (record { events = kept.events ++ e ∷ []; stopped = kept.stopped }))
     go true f = scan_lost net h e kept scan
-    go false f = scan_kept net p c h e kept scan moment f
+    go false f = scan_kept net bound h e kept scan moment f
 
-scan_all : (net : Net) (p c : ℕ) (h back : List Event) (kept : Kept) → Scan net h kept → IsQueued net (h ++ back) → Scan net (h ++ back) (keep_from net p c kept back)
-scan_all net p c h [] kept scan q = subst (λ l. Scan net l kept) (sym (append-nil h)) scan
-scan_all net p c h (e ∷ back) kept scan q =
+scan_all : (net : Net) (bound : ℕ → ℕ) (h back : List Event) (kept : Kept) → Scan net h kept → IsQueued net (h ++ back) → Scan net (h ++ back) (keep_from net bound kept back)
+scan_all net bound h [] kept scan q = subst (λ l. Scan net l kept) (sym (append-nil h)) scan
+scan_all net bound h (e ∷ back) kept scan q =
     let f : (h ++ e ∷ []) ++ back ≡ h ++ e ∷ back = append_assoc h (e ∷ []) back in
-    let one = scan_one net p c h e kept scan (λ s r. q (h ++ e ∷ []) back f s r) in
-    subst (λ l. Scan net l (keep_from net p c (keep_one net p c kept e) back)) f (scan_all net p c (h ++ e ∷ []) back (keep_one net p c kept e) one (subst (λ l. IsQueued net l) (sym f) q))
+    let one = scan_one net bound h e kept scan (λ s r. q (h ++ e ∷ []) back f s r) in
+    subst (λ l. Scan net l (keep_from net bound (keep_one net bound kept e) back)) f (scan_all net bound (h ++ e ∷ []) back (keep_one net bound kept e) one (subst (λ l. IsQueued net l) (sym f) q))
 
 pub queued_nil : (net : Net) → IsQueued net []
 queued_nil net [] back eq s r = ([], refl)
 queued_nil net (e ∷ front) back eq s r = absurd (cc)
 
-pub scan_of : (net : Net) (p c : ℕ) (h : List Event) → IsQueued net h → Scan net h (keep_from net p c (record { events = []; stopped = [] }) h)
-scan_of net p c h q = scan_all net p c [] h (record { events = []; stopped = [] }) (record { same = λ r. inr refl; front = λ r. ([], refl); queued = queued_nil net }) q
+pub scan_of : (net : Net) (bound : ℕ → ℕ) (h : List Event) → IsQueued net h → Scan net h (keep_from net bound (record { events = []; stopped = [] }) h)
+scan_of net bound h q = scan_all net bound [] h (record { events = []; stopped = [] }) (record { same = λ r. inr refl; front = λ r. ([], refl); queued = queued_nil net }) q
 
 -- what each role did of what is kept is the beginning of what it did
-pub keep_front : (net : Net) (p c : ℕ) (h : List Event) → IsQueued net h → (r : ℕ) → IsPrefix (acts r (keep net p c h)) (acts r h)
-keep_front net p c h q r =
-    let scan = scan_of net p c h q in
+pub keep_front : (net : Net) (bound : ℕ → ℕ) (h : List Event) → IsQueued net h → (r : ℕ) → IsPrefix (acts r (keep_within net bound h)) (acts r h)
+keep_front net bound h q r =
+    let scan = scan_of net bound h q in
     let a = prefix_map (act_of r) _ _ (scan.front r) in
-    let b = subst (λ l. IsPrefix l (acts r (by_role r h))) (sym (acts_through r (keep net p c h))) a in
-    subst (λ l. IsPrefix (acts r (keep net p c h)) l) (sym (acts_through r h)) b
+    let b = subst (λ l. IsPrefix l (acts r (by_role r h))) (sym (acts_through r (keep_within net bound h))) a in
+    subst (λ l. IsPrefix (acts r (keep_within net bound h)) l) (sym (acts_through r h)) b
 
 -- what is kept of a run is a run of the same walk
-pub keep_is_run : (net : Net) (p c : ℕ) (w : List ℕ) (h : List Event) → IsRunOf net w h → IsRunOf net w (keep net p c h)
-keep_is_run net p c w h run = record {
+pub keep_is_run : (net : Net) (bound : ℕ → ℕ) (w : List ℕ) (h : List Event) → IsRunOf net w h → IsRunOf net w (keep_within net bound h)
+keep_is_run net bound w h run = record {
   walk = run.walk;
-  parts = λ r. prefix_trans _ _ _ (keep_front net p c h run.queued r) (run.parts r);
-  queued = (scan_of net p c h run.queued).queued;
+  parts = λ r. prefix_trans _ _ _ (keep_front net bound h run.queued r) (run.parts r);
+  queued = (scan_of net bound h run.queued).queued;
 }

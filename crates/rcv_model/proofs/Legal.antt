@@ -6,6 +6,7 @@ use Rattle.rcv_tree.specs.declared.entry.Entry.TheVariants.{Send, Recv, Crash, R
 use Rattle.rcv_tree.specs.declared.event.Dir.TheVariants.{Sent}
 use Rattle.rcv_model.specs.Net.{IsIn, IsStraight, HasTwoEnds}
 use Rattle.rcv_model.specs.Run.{acts, place_of, IsRun, IsRunOf}
+use Rattle.rcv_model.specs.Undo.{only}
 use Rattle.rcv_model.specs.Next.{AreNext, IsProper, IsAccepted}
 use Rattle.rcv_model.specs.Journal.{Rules, State, start, durable, after, reading_from, May, IsLegalFrom, IsLegal, KeepsRuns}
 use Rattle.rcv_model.proofs.Keeping.{keep_is_run, queued_nil}
@@ -29,7 +30,7 @@ run_after rules s (Send e) two keeps may run = keeps run.0 s.kept e may.offered 
 run_after rules s (Recv e) two keeps may run =
     (run.0, recv_keeps rules.net run.0 s.kept e may.from may.front.0 two run.1 (λ z n. may.receives z (may.next.complete z n)) (may.receives e.point may.among) may.is_recv may.front.1)
 run_after rules s (Crash p) two keeps may run = run
-run_after rules s (Recover p concerned kept undone) two keeps may run = (run.0, keep_is_run rules.net p (durable rules s p) run.0 s.kept run.1)
+run_after rules s (Recover p concerned kept undone) two keeps may run = (run.0, keep_is_run rules.net (only p (durable rules s p) s.kept) run.0 s.kept run.1)
 
 pub runs_from : (rules : Rules) (s : State) (front back journal : List Entry) → HasTwoEnds rules.net → SendsKeep rules → IsLegalFrom rules s journal → IsRun rules.net s.kept → front ++ back ≡ journal → IsRun rules.net (reading_from rules s front).kept
 runs_from rules s [] back journal two keeps legal run f = run

@@ -71,14 +71,14 @@ module _ (net : Net) (h : List Event) where
   takes_in s r xs ys p = prefix_length _ _ (prefix_map (taken_by net s r) xs ys p)
 
   -- the Send number k is among the first n of its role exactly where these hold more than k Sends; the same for a Recv
-  put_early : (s r k i n : ℕ) → PutsAt net h s r k i → length (acts s (take i h)) < n → k < length (put net s r (first_of n s h))
+  pub put_early : (s r k i n : ℕ) → PutsAt net h s r k i → length (acts s (take i h)) < n → k < length (put net s r (first_of n s h))
   put_early s r k i n p lt =
       let a = around h i p.event p.at in
       let few : length (by_role s a.front) < n = omega (arith, lt, as_many s a.front, ap (λ l. length (acts s l)) a.taken_is) in
       let within = puts_in s r (by_role s (a.front ++ p.event ∷ [])) (first_of n s h) (early s n a.front a.back p.event a.whole (eqb_role net s r p.event p.puts) few) in
       omega (arith, within, ap length (put_through net s r (a.front ++ p.event ∷ [])), put_longer net s r a.front p.event p.puts, p.number, ap (λ l. length (put net s r l)) a.taken_is)
 
-  put_late : (s r k i n : ℕ) → PutsAt net h s r k i → n ≤ length (acts s (take i h)) → length (put net s r (first_of n s h)) ≤ k
+  pub put_late : (s r k i n : ℕ) → PutsAt net h s r k i → n ≤ length (acts s (take i h)) → length (put net s r (first_of n s h)) ≤ k
   put_late s r k i n p le =
       let a = around h i p.event p.at in
       let many : n ≤ length (by_role s a.front) = omega (arith, le, as_many s a.front, ap (λ l. length (acts s l)) a.taken_is) in

@@ -14,7 +14,7 @@ use Rattle.rcv_tree.specs.declared.entry.Entry.{Entry}
 use Rattle.rcv_tree.specs.declared.entry.Entry.TheVariants.{Send, Recv, Crash, Recover}
 use Rattle.rcv_model.specs.Net.{Net}
 use Rattle.rcv_model.specs.Run.{acts, puts_on, put, taken, channel}
-use Rattle.rcv_model.specs.Undo.{keep, picked}
+use Rattle.rcv_model.specs.Undo.{keep, only, picked}
 use Rattle.rcv_model.specs.Journal.{Rules, State, start, bump, durable, is_among, attempts_after, greatest, clocks_after, after_event, after_recovery, after, reading_from, reading, May, IsLegalFrom, IsLegal}
 use Rattle.rcv_model.specs.Text.{Body}
 use Rattle.rcv_model.specs.Plain.{bare_rules}
@@ -54,8 +54,8 @@ picked_acts r has (e ∷ h) = go (has 0) (picked_acts r (λ i. has (suc i)) h)
     go true ih = omega (arith, ih, acts_cons r e (picked (λ i. has (suc i)) h), acts_cons r e h)
     go false ih = omega (arith, ih, acts_cons r e h)
 
-pub is_picked : (net : Net) (p c : ℕ) (h : List Event) → keep net p c h ≡ picked (flag net p c (record { events = []; stopped = [] }) h) h
-is_picked net p c h = picked_are_kept net p c (record { events = []; stopped = [] }) h
+pub is_picked : (net : Net) (p c : ℕ) (h : List Event) → keep net p c h ≡ picked (flag net (only p c h) (record { events = []; stopped = [] }) h) h
+is_picked net p c h = picked_are_kept net (only p c h) (record { events = []; stopped = [] }) h
 
 -- a message in a channel has the stamp of an event
 pub put_stamps : (net : Net) (s r n : ℕ) (h : List Event) → All (λ (e : Event). e.stamp ≤ n) h → All (λ (m : Message). m.stamp ≤ n) (put net s r h)

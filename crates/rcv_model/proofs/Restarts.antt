@@ -1,5 +1,5 @@
 -- Where a role loses events, its first lost one is at a point of the table.
-use Rattle.std.proofs.Common.{◌≡◌, ℕ, ◌+◌, ◌<◌, ◌≤◌, zero, suc, Bool, true, false, ◌||◌, Some, None, List, [], ◌∷◌, ◌++◌, length, refl, sym, ◌∙◌, ap, subst, ◌⊎◌, inl, inr, ⊎_elim, append_assoc, append-nil, arith, length-append, eq-eqb, ne_eqb}
+use Rattle.std.proofs.Common.{◌≡◌, ℕ, ◌+◌, ◌<◌, ◌≤◌, zero, suc, Bool, true, false, cond, ◌||◌, Some, None, List, [], ◌∷◌, ◌++◌, length, refl, sym, ◌∙◌, ap, subst, ◌⊎◌, inl, inr, ⊎_elim, append_assoc, append-nil, arith, length-append, eq-eqb, ne_eqb}
 use Rattle.std.specs.Prelude.{◌==◌, if◌then◌else◌, slice_get}
 use Rattle.std.specs.List.{filter_map, cons_option, list_any}
 use Rattle.std.proofs.lemmas.Bool.{cases_lt, cases_eq, cases_Bool}
@@ -9,7 +9,7 @@ use Rattle.rcv_tree.specs.declared.event.Event.{Event}
 use Rattle.rcv_tree.specs.declared.event.Dir.TheVariants.{Sent, Got}
 use Rattle.rcv_model.specs.Net.{Net, IsIn, IsWalk, IsPrefix, HasTwoEnds}
 use Rattle.rcv_model.specs.Run.{Act, act_at, act_of, acts, part, put, taken, is_sent, IsQueued, IsRun, IsRunOf}
-use Rattle.rcv_model.specs.Undo.{Kept, is_stopped, is_behind, is_starved, is_blocked, keep_one, keep_from, keep, scanned}
+use Rattle.rcv_model.specs.Undo.{Kept, is_stopped, is_behind, is_starved, is_blocked, keep_one, keep_from, keep, only, scanned}
 use Rattle.rcv_model.specs.Next.{IsOf}
 use Rattle.rcv_model.specs.Table.{mark, marks, IsMarkedAt, IsRestart}
 use Rattle.rcv_model.proofs.Lists.{prefix_trans, prefix_map, prefix_shorter}
@@ -17,35 +17,35 @@ use Rattle.rcv_model.proofs.Keeping.{by_role, Scan, scan_of, or_false, queued_no
 use Rattle.rcv_model.proofs.Walks.{walk_back, part_join, ActCase, none, sends, gets, act_case}
 use Rattle.rcv_model.proofs.Steps.{sent_to, got_from, points, crossing, put_points, taken_points, part_sent, part_got, acts_own, acts_other}
 use Rattle.rcv_model.proofs.Choices.{prefix_length, whole_prefix}
-use Rattle.rcv_model.proofs.Undoing.{Step, lost, held, step, still, keep_join, acts_same, among, is_among, behind_role, behind_count}
+use Rattle.rcv_model.proofs.Undoing.{Step, lost, held, step, still, keep_join, acts_same, among, is_among, behind_count}
 use Rattle.rcv_model.proofs.Stuck.{length_points}
 
 -- the first event that a role lost in the scan
-record FirstLost (net : Net) (p c q : ℕ) (kept : Kept) (h : List Event) : Type 0 where
+record FirstLost (net : Net) (bound : ℕ → ℕ) (q : ℕ) (kept : Kept) (h : List Event) : Type 0 where
   front : List Event
   event : Event
   back : List Event
   whole : front ++ event ∷ back ≡ h
   role : event.role ≡ q
-  free : IsIn q (keep_from net p c kept front).stopped → ⊥
-  blocked : is_blocked net p c (keep_from net p c kept front) event ≡ true
-  last : by_role q (keep_from net p c kept h).events ≡ by_role q (keep_from net p c kept front).events
+  free : IsIn q (keep_from net bound kept front).stopped → ⊥
+  blocked : is_blocked net bound (keep_from net bound kept front) event ≡ true
+  last : by_role q (keep_from net bound kept h).events ≡ by_role q (keep_from net bound kept front).events
 
 -- a role that hasn't lost one at first has kept all, or has a first lost event
-first_lost : (net : Net) (p c q : ℕ) (kept : Kept) (h : List Event) → (IsIn q kept.stopped → ⊥) → (IsIn q (keep_from net p c kept h).stopped → ⊥) ⊎ FirstLost net p c q kept h
-first_lost net p c q kept [] n = inl n
-first_lost net p c q kept (e ∷ h) n = go (step net p c kept e) (cases_eq e.role q) (λ m. first_lost net p c q (keep_one net p c kept e) h m)
+first_lost : (net : Net) (bound : ℕ → ℕ) (q : ℕ) (kept : Kept) (h : List Event) → (IsIn q kept.stopped → ⊥) → (IsIn q (keep_from net bound kept h).stopped → ⊥) ⊎ FirstLost net bound q kept h
+first_lost net bound q kept [] n = inl n
+first_lost net bound q kept (e ∷ h) n = go (step net bound kept e) (cases_eq e.role q) (λ m. first_lost net bound q (keep_one net bound kept e) h m)
   where
-    later : (FirstLost net p c q (keep_one net p c kept e) h) → FirstLost net p c q kept (e ∷ h)
+    later : (FirstLost net bound q (keep_one net bound kept e) h) → FirstLost net bound q kept (e ∷ h)
     later x = record { front = e ∷ x.front; event = x.event; back = x.back; whole = ap (λ l. e ∷ l) x.whole; role = x.role; free = x.free; blocked = x.blocked; last = x.last }
 
-    rest : ((IsIn q (keep_from net p c (keep_one net p c kept e) h).stopped → ⊥) ⊎ FirstLost net p c q (keep_one net p c kept e) h) → (IsIn q (keep_from net p c (keep_one net p c kept e) h).stopped → ⊥) ⊎ FirstLost net p c q kept (e ∷ h)
+    rest : ((IsIn q (keep_from net bound (keep_one net bound kept e) h).stopped → ⊥) ⊎ FirstLost net bound q (keep_one net bound kept e) h) → (IsIn q (keep_from net bound (keep_one net bound kept e) h).stopped → ⊥) ⊎ FirstLost net bound q kept (e ∷ h)
     rest (inl x) = inl x
     rest (inr x) = inr (later x)
 
-    go : Step net p c kept e → (e.role ≡ q) ⊎ (e.role ≡ q → ⊥) → ((IsIn q (keep_one net p c kept e).stopped → ⊥) → (IsIn q (keep_from net p c (keep_one net p c kept e) h).stopped → ⊥) ⊎ FirstLost net p c q (keep_one net p c kept e) h) → (IsIn q (keep_from net p c (keep_one net p c kept e) h).stopped → ⊥) ⊎ FirstLost net p c q kept (e ∷ h)
+    go : Step net bound kept e → (e.role ≡ q) ⊎ (e.role ≡ q → ⊥) → ((IsIn q (keep_one net bound kept e).stopped → ⊥) → (IsIn q (keep_from net bound (keep_one net bound kept e) h).stopped → ⊥) ⊎ FirstLost net bound q (keep_one net bound kept e) h) → (IsIn q (keep_from net bound (keep_one net bound kept e) h).stopped → ⊥) ⊎ FirstLost net bound q kept (e ∷ h)
     go (lost t f) (inl r) ih =
-        inr (record { front = []; event = e; back = h; whole = refl; role = r; free = n; blocked = t; last = still net p c q (keep_one net p c kept e) h (subst (λ (k : Kept). IsIn q k.stopped) (sym f) (inl (sym r))) ∙ ap (λ (k : Kept). by_role q k.events) f })
+        inr (record { front = []; event = e; back = h; whole = refl; role = r; free = n; blocked = t; last = still net bound q (keep_one net bound kept e) h (subst (λ (k : Kept). IsIn q k.stopped) (sym f) (inl (sym r))) ∙ ap (λ (k : Kept). by_role q k.events) f })
     go (lost t f) (inr m) ih = rest (ih (λ i. ⊎_elim (λ g. m (sym g)) n (subst (λ (k : Kept). IsIn q k.stopped) f i)))
     go (held t f) r ih = rest (ih (λ i. n (subst (λ (k : Kept). IsIn q k.stopped) f i)))
 
@@ -57,7 +57,7 @@ kept_of net p c q h = length (acts q (keep net p c h))
 data Why (net : Net) (p c q : ℕ) (h : List Event) : Type 0 where
   all_kept : kept_of net p c q h ≡ length (acts q h) → Why net p c q h
   own_loss : q ≡ p → c ≤ kept_of net p c q h → Why net p c q h
-  starved : (front back : List Event) (e : Event) → front ++ e ∷ back ≡ h → e.role ≡ q → e.dir ≡ Got → length (acts q front) ≡ kept_of net p c q h → length (put net (net.sender e.point) q (scanned net p c front).events) ≤ length (taken net (net.sender e.point) q front) → Why net p c q h
+  starved : (front back : List Event) (e : Event) → front ++ e ∷ back ≡ h → e.role ≡ q → e.dir ≡ Got → length (acts q front) ≡ kept_of net p c q h → length (put net (net.sender e.point) q (scanned net (only p c h) front).events) ≤ length (taken net (net.sender e.point) q front) → Why net p c q h
 
 got_dir : (d : _) → is_sent d ≡ false → d ≡ Got
 got_dir Sent e = absurd (cc)
@@ -72,56 +72,69 @@ starved_low net kept e u = grind (arith, nat_tests)
 or_last : (a b d : Bool) → (a || (b || d)) ≡ true → a ≡ false → b ≡ false → d ≡ true
 or_last a b d e f g = ap (λ x. x || d) (sym g) ∙ ap (λ x. x || (b || d)) (sym f) ∙ e
 
-why : (net : Net) (p c q : ℕ) (h : List Event) → IsQueued net h → Why net p c q h
-why net p c q h queued = go (first_lost net p c q (record { events = []; stopped = [] }) h (λ i. i))
-  where
-    go : (IsIn q (scanned net p c h).stopped → ⊥) ⊎ FirstLost net p c q (record { events = []; stopped = [] }) h → Why net p c q h
-    go (inl n) = all_kept (ap length (acts_same q (keep net p c h) h (⊎_elim (λ i. absurd (n i)) (λ f. f) ((scan_of net p c h queued).same q))))
-    go (inr x) = second (cases_Bool (is_behind p c (scanned net p c x.front) x.event))
-      where
-        scan : Scan net x.front (scanned net p c x.front)
-        scan = scan_of net p c x.front (λ f b g s r. queued f (b ++ x.event ∷ x.back) (sym (append_assoc f b (x.event ∷ x.back)) ∙ ap (λ l. l ++ x.event ∷ x.back) g ∙ x.whole) s r)
+-- the bound where p alone loses
+pub only_own : (p c q : ℕ) (h : List Event) → q ≡ p → only p c h q ≡ c
+only_own p c q h e = ap (λ b. cond b c (length (acts q h))) (eq-eqb q p e)
 
-        same : by_role q (scanned net p c x.front).events ≡ by_role q x.front
+pub only_other : (p c q : ℕ) (h : List Event) → (q ≡ p → ⊥) → only p c h q ≡ length (acts q h)
+only_other p c q h n = ap (λ b. cond b c (length (acts q h))) (ne_eqb q p n)
+
+why : (net : Net) (p c q : ℕ) (h : List Event) → IsQueued net h → Why net p c q h
+why net p c q h queued = go (first_lost net (only p c h) q (record { events = []; stopped = [] }) h (λ i. i))
+  where
+    go : (IsIn q (scanned net (only p c h) h).stopped → ⊥) ⊎ FirstLost net (only p c h) q (record { events = []; stopped = [] }) h → Why net p c q h
+    go (inl n) = all_kept (ap length (acts_same q (keep net p c h) h (⊎_elim (λ i. absurd (n i)) (λ f. f) ((scan_of net (only p c h) h queued).same q))))
+    go (inr x) = second (cases_Bool (is_behind (only p c h) (scanned net (only p c h) x.front) x.event))
+      where
+        scan : Scan net x.front (scanned net (only p c h) x.front)
+        scan = scan_of net (only p c h) x.front (λ f b g s r. queued f (b ++ x.event ∷ x.back) (sym (append_assoc f b (x.event ∷ x.back)) ∙ ap (λ l. l ++ x.event ∷ x.back) g ∙ x.whole) s r)
+
+        same : by_role q (scanned net (only p c h) x.front).events ≡ by_role q x.front
         same = ⊎_elim (λ i. absurd (x.free i)) (λ f. f) (scan.same q)
 
         count : kept_of net p c q h ≡ length (acts q x.front)
-        count = ap length (acts_same q (keep net p c h) (scanned net p c x.front).events x.last ∙ acts_same q (scanned net p c x.front).events x.front same)
+        count = ap length (acts_same q (keep net p c h) (scanned net (only p c h) x.front).events x.last ∙ acts_same q (scanned net (only p c h) x.front).events x.front same)
 
-        moving : is_stopped (scanned net p c x.front) x.event ≡ false
-        moving = ⊎_elim (λ t. absurd (x.free (subst (λ z. IsIn z (scanned net p c x.front).stopped) x.role (is_among x.event.role (scanned net p c x.front).stopped t)))) (λ t. t) (cases_Bool (is_stopped (scanned net p c x.front) x.event))
+        moving : is_stopped (scanned net (only p c h) x.front) x.event ≡ false
+        moving = ⊎_elim (λ t. absurd (x.free (subst (λ z. IsIn z (scanned net (only p c h) x.front).stopped) x.role (is_among x.event.role (scanned net (only p c h) x.front).stopped t)))) (λ t. t) (cases_Bool (is_stopped (scanned net (only p c h) x.front) x.event))
 
-        second : (is_behind p c (scanned net p c x.front) x.event ≡ true) ⊎ (is_behind p c (scanned net p c x.front) x.event ≡ false) → Why net p c q h
+        scan_whole : (r : ℕ) → IsPrefix (acts r x.front) (acts r h)
+        scan_whole r = prefix_map (act_of r) x.front h (x.event ∷ x.back, x.whole)
+
+        second : (is_behind (only p c h) (scanned net (only p c h) x.front) x.event ≡ true) ⊎ (is_behind (only p c h) (scanned net (only p c h) x.front) x.event ≡ false) → Why net p c q h
         second (inl t) =
-            let r : q ≡ p = sym x.role ∙ behind_role p c (scanned net p c x.front) x.event t in
-            let n : c ≤ length (acts q (scanned net p c x.front).events) = subst (λ z. c ≤ length (acts z (scanned net p c x.front).events)) (sym r) (behind_count p c (scanned net p c x.front) x.event t) in
-            own_loss r (omega (arith, n, count, ap length (acts_same q (scanned net p c x.front).events x.front same)))
+            let n : only p c h q ≤ length (acts q (scanned net (only p c h) x.front).events) = subst (λ z. only p c h z ≤ length (acts z (scanned net (only p c h) x.front).events)) x.role (behind_count (only p c h) (scanned net (only p c h) x.front) x.event t) in
+            ⊎_elim
+            (λ r. own_loss r (omega (arith, n, only_own p c q h r, count, ap length (acts_same q (scanned net (only p c h) x.front).events x.front same))))
+            (λ m. all_kept (omega (arith, n, only_other p c q h m, count, ap length (acts_same q (scanned net (only p c h) x.front).events x.front same), prefix_length _ _ (scan_whole q))))
+            (cases_eq q p)
         second (inr t) =
-            let u : is_starved net (scanned net p c x.front) x.event ≡ true = or_last (is_stopped (scanned net p c x.front) x.event) (is_behind p c (scanned net p c x.front) x.event) (is_starved net (scanned net p c x.front) x.event) x.blocked moving t in
-            let low = subst (λ z. length (put net (net.sender x.event.point) z (scanned net p c x.front).events) ≤ length (taken net (net.sender x.event.point) z (scanned net p c x.front).events)) x.role (starved_low net (scanned net p c x.front) x.event u) in
-            starved x.front x.back x.event x.whole x.role (got_dir x.event.dir (starved_got net (scanned net p c x.front) x.event u)) (sym count) (subst (λ l. length (put net (net.sender x.event.point) q (scanned net p c x.front).events) ≤ length l) (taken_same net (net.sender x.event.point) q (scanned net p c x.front).events x.front same) low)
+            let u : is_starved net (scanned net (only p c h) x.front) x.event ≡ true = or_last (is_stopped (scanned net (only p c h) x.front) x.event) (is_behind (only p c h) (scanned net (only p c h) x.front) x.event) (is_starved net (scanned net (only p c h) x.front) x.event) x.blocked moving t in
+            let low = subst (λ z. length (put net (net.sender x.event.point) z (scanned net (only p c h) x.front).events) ≤ length (taken net (net.sender x.event.point) z (scanned net (only p c h) x.front).events)) x.role (starved_low net (scanned net (only p c h) x.front) x.event u) in
+            starved x.front x.back x.event x.whole x.role (got_dir x.event.dir (starved_got net (scanned net (only p c h) x.front) x.event u)) (sym count) (subst (λ l. length (put net (net.sender x.event.point) q (scanned net (only p c h) x.front).events) ≤ length l) (taken_same net (net.sender x.event.point) q (scanned net (only p c h) x.front).events x.front same) low)
 
--- p keeps at most c
-at_most : (net : Net) (p c : ℕ) (kept : Kept) (h : List Event) → length (acts p kept.events) ≤ c → length (acts p (keep_from net p c kept h).events) ≤ c
-at_most net p c kept [] n = n
-at_most net p c kept (e ∷ h) n = at_most net p c (keep_one net p c kept e) h (go (step net p c kept e))
+-- a role keeps at most as many as the bound says
+pub at_most : (net : Net) (bound : ℕ → ℕ) (r : ℕ) (kept : Kept) (h : List Event) → length (acts r kept.events) ≤ bound r → length (acts r (keep_from net bound kept h).events) ≤ bound r
+at_most net bound r kept [] n = n
+at_most net bound r kept (e ∷ h) n = at_most net bound r (keep_one net bound kept e) h (go (step net bound kept e))
   where
-    go : Step net p c kept e → length (acts p (keep_one net p c kept e).events) ≤ c
-    go (lost t f) = subst (λ (k : Kept). length (acts p k.events) ≤ c) (sym f) n
-    go (held t f) = subst (λ (k : Kept). length (acts p k.events) ≤ c) (sym f) (⊎_elim mine other (cases_eq e.role p))
+    go : Step net bound kept e → length (acts r (keep_one net bound kept e).events) ≤ bound r
+    go (lost t f) = subst (λ (k : Kept). length (acts r k.events) ≤ bound r) (sym f) n
+    go (held t f) = subst (λ (k : Kept). length (acts r k.events) ≤ bound r) (sym f) (⊎_elim mine other (cases_eq e.role r))
       where
-        open' : is_behind p c kept e ≡ false
-        open' = (or_false (is_behind p c kept e) (is_starved net kept e) (or_false (is_stopped kept e) (is_behind p c kept e || is_starved net kept e) t).1).0
+        open' : is_behind bound kept e ≡ false
+        open' = (or_false (is_behind bound kept e) (is_starved net kept e) (or_false (is_stopped kept e) (is_behind bound kept e || is_starved net kept e) t).1).0
 
-        mine : e.role ≡ p → length (acts p (kept.events ++ e ∷ [])) ≤ c
-        mine r =
-            let b : (e.role == p) ≡ true = eq-eqb e.role p r in
-            let lt : length (acts p kept.events) < c = grind (arith, nat_tests) in
-            let more : length (acts p (kept.events ++ e ∷ [])) ≡ length (acts p kept.events) + 1 = subst (λ z. length (acts z (kept.events ++ e ∷ [])) ≡ length (acts z kept.events) + 1) r (ap length (acts_own kept.events e) ∙ length-append (acts e.role kept.events) (record { dir = e.dir; point = e.point } ∷ [])) in
-            omega (arith, more)
+        below : length (acts e.role kept.events) < bound e.role
+        below = grind (arith, nat_tests)
 
-        other : (e.role ≡ p → ⊥) → length (acts p (kept.events ++ e ∷ [])) ≤ c
-        other m = subst (λ l. length l ≤ c) (sym (acts_other p kept.events e m)) n
+        mine : e.role ≡ r → length (acts r (kept.events ++ e ∷ [])) ≤ bound r
+        mine f =
+            let more : length (acts e.role (kept.events ++ e ∷ [])) ≡ length (acts e.role kept.events) + 1 = ap length (acts_own kept.events e) ∙ length-append (acts e.role kept.events) (record { dir = e.dir; point = e.point } ∷ []) in
+            subst (λ z. length (acts z (kept.events ++ e ∷ [])) ≤ bound z) f (omega (arith, more, below))
+
+        other : (e.role ≡ r → ⊥) → length (acts r (kept.events ++ e ∷ [])) ≤ bound r
+        other m = subst (λ l. length l ≤ bound r) (sym (acts_other r kept.events e m)) n
 
 ends_same : {A : Type 0} (xs ys : List A) (x y : A) → xs ++ x ∷ [] ≡ ys ++ y ∷ [] → length xs ≡ length ys → (xs ≡ ys) × (x ≡ y)
 ends_same [] [] x y e n = (refl, cc)
@@ -176,14 +189,14 @@ split_two (z ∷ a) v (y ∷ b) t x e =
     (split_two a v b t x g)
 
 -- a Recv isn't starved where what its sender did up to the same point is whole
-fed : (net : Net) (p c : ℕ) (w : List ℕ) (h : List Event) → HasTwoEnds net → IsRunOf net w h → (x : ℕ) (a : List ℕ) (front back : List Event) (e : Event) → front ++ e ∷ back ≡ h → e.role ≡ net.receiver x → e.dir ≡ Got → e.point ≡ x → part net (net.receiver x) (a ++ x ∷ []) ≡ part net (net.receiver x) a ++ record { dir = Got; point = x } ∷ [] → acts (net.receiver x) front ≡ part net (net.receiver x) a → length (put net (net.sender x) (net.receiver x) (scanned net p c front).events) ≤ length (taken net (net.sender x) (net.receiver x) front) → IsPrefix (part net (net.sender x) (a ++ x ∷ [])) (part net (net.sender x) w) → (length (acts (net.sender x) h) ≤ kept_of net p c (net.sender x) h) ⊎ (length (part net (net.sender x) (a ++ x ∷ [])) ≤ kept_of net p c (net.sender x) h) → ⊥
-fed net p c w h two run x a front back e g role d pt one made low ahead whole = moving (cases_in (net.sender x) (scanned net p c front).stopped)
+fed : (net : Net) (p c : ℕ) (w : List ℕ) (h : List Event) → HasTwoEnds net → IsRunOf net w h → (x : ℕ) (a : List ℕ) (front back : List Event) (e : Event) → front ++ e ∷ back ≡ h → e.role ≡ net.receiver x → e.dir ≡ Got → e.point ≡ x → part net (net.receiver x) (a ++ x ∷ []) ≡ part net (net.receiver x) a ++ record { dir = Got; point = x } ∷ [] → acts (net.receiver x) front ≡ part net (net.receiver x) a → length (put net (net.sender x) (net.receiver x) (scanned net (only p c h) front).events) ≤ length (taken net (net.sender x) (net.receiver x) front) → IsPrefix (part net (net.sender x) (a ++ x ∷ [])) (part net (net.sender x) w) → (length (acts (net.sender x) h) ≤ kept_of net p c (net.sender x) h) ⊎ (length (part net (net.sender x) (a ++ x ∷ [])) ≤ kept_of net p c (net.sender x) h) → ⊥
+fed net p c w h two run x a front back e g role d pt one made low ahead whole = moving (cases_in (net.sender x) (scanned net (only p c h) front).stopped)
   where
     kept : List Event
-    kept = (scanned net p c front).events
+    kept = (scanned net (only p c h) front).events
 
-    scan : Scan net front (scanned net p c front)
-    scan = scan_of net p c front (λ f b k s r. run.queued f (b ++ e ∷ back) (sym (append_assoc f b (e ∷ back)) ∙ ap (λ l. l ++ e ∷ back) k ∙ g) s r)
+    scan : Scan net front (scanned net (only p c h) front)
+    scan = scan_of net (only p c h) front (λ f b k s r. run.queued f (b ++ e ∷ back) (sym (append_assoc f b (e ∷ back)) ∙ ap (λ l. l ++ e ∷ back) k ∙ g) s r)
 
     so_far : (front ++ e ∷ []) ++ back ≡ h
     so_far = append_assoc front (e ∷ []) back ∙ g
@@ -206,30 +219,30 @@ fed net p c w h two run x a front back e g role d pt one made low ahead whole = 
         let sent = ap length (put_points net (net.sender x) (net.receiver x) (front ++ e ∷ []) ∙ ap (filter_map (sent_to net (net.receiver x))) (acts_other (net.sender x) front e (λ f. two x (sym f ∙ role)))) in
         omega (arith, prefix_length _ _ q, length_points (taken net (net.sender x) (net.receiver x) (front ++ e ∷ [])), length_points (put net (net.sender x) (net.receiver x) (front ++ e ∷ [])), got, sent, cross)
 
-    now : length (put net (net.sender x) (net.receiver x) (scanned net p c front).events) ≡ length (filter_map (sent_to net (net.receiver x)) (acts (net.sender x) (scanned net p c front).events))
-    now = sym (length_points (put net (net.sender x) (net.receiver x) (scanned net p c front).events)) ∙ ap length (put_points net (net.sender x) (net.receiver x) (scanned net p c front).events)
+    now : length (put net (net.sender x) (net.receiver x) (scanned net (only p c h) front).events) ≡ length (filter_map (sent_to net (net.receiver x)) (acts (net.sender x) (scanned net (only p c h) front).events))
+    now = sym (length_points (put net (net.sender x) (net.receiver x) (scanned net (only p c h) front).events)) ∙ ap length (put_points net (net.sender x) (net.receiver x) (scanned net (only p c h) front).events)
 
-    all : acts (net.sender x) (scanned net p c front).events ≡ acts (net.sender x) front → ⊥
+    all : acts (net.sender x) (scanned net (only p c h) front).events ≡ acts (net.sender x) front → ⊥
     all f = omega (arith, low, before, now, put_front', ap (λ l. length (filter_map (sent_to net (net.receiver x)) l)) f)
 
-    enough : IsPrefix (part net (net.sender x) (a ++ x ∷ [])) (acts (net.sender x) (scanned net p c front).events) → ⊥
+    enough : IsPrefix (part net (net.sender x) (a ++ x ∷ [])) (acts (net.sender x) (scanned net (only p c h) front).events) → ⊥
     enough f = omega (arith, low, before, now, cross, prefix_length _ _ (prefix_map (sent_to net (net.receiver x)) _ _ f), ap length (part_sent net (net.sender x) (net.receiver x) (a ++ x ∷ [])))
 
-    early : IsPrefix (acts (net.sender x) (scanned net p c front).events) (acts (net.sender x) front)
-    early = subst (IsPrefix (acts (net.sender x) (scanned net p c front).events)) (sym (acts_through (net.sender x) front)) (subst (λ l. IsPrefix l (acts (net.sender x) (by_role (net.sender x) front))) (sym (acts_through (net.sender x) (scanned net p c front).events)) (prefix_map (act_of (net.sender x)) _ _ (scan.front (net.sender x))))
+    early : IsPrefix (acts (net.sender x) (scanned net (only p c h) front).events) (acts (net.sender x) front)
+    early = subst (IsPrefix (acts (net.sender x) (scanned net (only p c h) front).events)) (sym (acts_through (net.sender x) front)) (subst (λ l. IsPrefix l (acts (net.sender x) (by_role (net.sender x) front))) (sym (acts_through (net.sender x) (scanned net (only p c h) front).events)) (prefix_map (act_of (net.sender x)) _ _ (scan.front (net.sender x))))
 
     in_h : IsPrefix (acts (net.sender x) front) (acts (net.sender x) h)
     in_h = prefix_map (act_of (net.sender x)) front h (e ∷ back, g)
 
-    moving : IsIn (net.sender x) (scanned net p c front).stopped ⊎ (IsIn (net.sender x) (scanned net p c front).stopped → ⊥) → ⊥
-    moving (inr n) = all (acts_same (net.sender x) (scanned net p c front).events front (⊎_elim (λ i. absurd (n i)) (λ f. f) (scan.same (net.sender x))))
+    moving : IsIn (net.sender x) (scanned net (only p c h) front).stopped ⊎ (IsIn (net.sender x) (scanned net (only p c h) front).stopped → ⊥) → ⊥
+    moving (inr n) = all (acts_same (net.sender x) (scanned net (only p c h) front).events front (⊎_elim (λ i. absurd (n i)) (λ f. f) (scan.same (net.sender x))))
     moving (inl i) = ⊎_elim
         (λ l. all (whole_prefix _ _ early (omega (arith, l, count, prefix_length _ _ in_h))))
         (λ l. enough (prefix_shorter _ _ _ ahead (prefix_trans _ _ _ (prefix_trans _ _ _ early in_h) (run.parts (net.sender x))) (omega (arith, l, count))))
         whole
       where
-        count : kept_of net p c (net.sender x) h ≡ length (acts (net.sender x) (scanned net p c front).events)
-        count = ap length (acts_same (net.sender x) (keep net p c h) (scanned net p c front).events (ap (λ l. by_role (net.sender x) (scanned net p c l).events) (sym g) ∙ ap (λ (k : Kept). by_role (net.sender x) k.events) (keep_join net p c (record { events = []; stopped = [] }) front (e ∷ back)) ∙ still net p c (net.sender x) (scanned net p c front) (e ∷ back) i))
+        count : kept_of net p c (net.sender x) h ≡ length (acts (net.sender x) (scanned net (only p c h) front).events)
+        count = ap length (acts_same (net.sender x) (keep net p c h) (scanned net (only p c h) front).events (ap (λ l. by_role (net.sender x) (scanned net (only p c h) l).events) (sym g) ∙ ap (λ (k : Kept). by_role (net.sender x) k.events) (keep_join net (only p c h) (record { events = []; stopped = [] }) front (e ∷ back)) ∙ still net (only p c h) (net.sender x) (scanned net (only p c h) front) (e ∷ back) i))
 
 module _ (net : Net) (p c : ℕ) (w : List ℕ) (h : List Event) (two : HasTwoEnds net) (run : IsRunOf net w h) where
   -- nothing that the role did in a is lost
@@ -237,7 +250,7 @@ module _ (net : Net) (p c : ℕ) (w : List ℕ) (h : List Event) (two : HasTwoEn
   Whole q a = (length (acts q h) ≤ kept_of net p c q h) ⊎ (length (part net q a) ≤ kept_of net p c q h)
 
   kept_run : IsRunOf net w (keep net p c h)
-  kept_run = keep_is_run net p c w h run
+  kept_run = keep_is_run net (only p c h) w h run
 
   front_of : (a v : List ℕ) (x q : ℕ) → a ++ x ∷ v ≡ w → IsPrefix (part net q (a ++ x ∷ [])) (part net q w)
   front_of a v x q e = prefix_map (act_at net q) (a ++ x ∷ []) w (v, append_assoc a (x ∷ []) v ∙ e)
@@ -317,7 +330,7 @@ module _ (net : Net) (p c : ℕ) (w : List ℕ) (h : List Event) (two : HasTwoEn
       go le (starved front back e g role d k low) =
           let r = act_is a v x (net.receiver x) _ front back e eq (at_receiver x) g role (omega (arith, k, le, l)) in
           let pt : e.point ≡ x = ap (λ (z : Act). z.point) r.0 in
-          absurd (fed net p c w h two run x a front back e g role d pt (one_more (net.receiver x) x a _ (at_receiver x)) r.1 (subst (λ z. length (put net (net.sender z) (net.receiver x) (scanned net p c front).events) ≤ length (taken net (net.sender z) (net.receiver x) front)) pt low) (front_of a v x (net.sender x) eq) s)
+          absurd (fed net p c w h two run x a front back e g role d pt (one_more (net.receiver x) x a _ (at_receiver x)) r.1 (subst (λ z. length (put net (net.sender z) (net.receiver x) (scanned net (only p c h) front).events) ≤ length (taken net (net.sender z) (net.receiver x) front)) pt low) (front_of a v x (net.sender x) eq) s)
 
   longer_part : (q x : ℕ) (a : List ℕ) → length (part net q a) ≤ length (part net q (a ++ x ∷ []))
   longer_part q x a = omega (arith, ap length (part_join net q a (x ∷ [])), length-append (part net q a) (part net q (x ∷ [])))
@@ -409,7 +422,7 @@ module _ (net : Net) (p c : ℕ) (w : List ℕ) (h : List Event) (two : HasTwoEn
   unfolding Whole
   marked_at_start w0 rest e n = record {
     unmarked = λ q i. subst (Whole q) (sym (append-nil w0)) (whole_before w0 [] w0 rest refl e n (λ q. inr (omega arith)) q);
-    marked = λ q i. ⊎_elim (λ f. inl (f, omega (arith, at_most net p c (record { events = []; stopped = [] }) h (omega arith), n, ap (λ l. length (part net p l)) (append-nil w0)))) (λ f. absurd f) i;
+    marked = λ q i. ⊎_elim (λ f. inl (f, omega (arith, at_most net (only p c h) p (record { events = []; stopped = [] }) h (omega arith), only_own p c p h refl, n, ap (λ l. length (part net p l)) (append-nil w0)))) (λ f. absurd f) i;
     self = inl refl;
   }
 

@@ -10,7 +10,7 @@ use Rattle.rcv_tree.specs.declared.entry.Entry.{Entry}
 use Rattle.rcv_tree.specs.declared.entry.Entry.TheVariants.{Send, Recv, Crash, Recover}
 use Rattle.rcv_model.specs.Net.{Net, IsPrefix, HasTwoEnds}
 use Rattle.rcv_model.specs.Run.{act_of, acts, put, taken, IsQueued, IsRun}
-use Rattle.rcv_model.specs.Undo.{Link, Depends, one, more, keep, IsCut, picked}
+use Rattle.rcv_model.specs.Undo.{Link, Depends, one, more, keep, keep_within, only, IsCut, picked}
 use Rattle.rcv_model.specs.Next.{IsProper, IsAccepted}
 use Rattle.rcv_model.specs.Journal.{Rules, State, start, durable, after, reading_from, reading, IsLegalFrom, IsLegal}
 use Rattle.rcv_model.specs.Line.{IsStable, IsLine, LineHolds}
@@ -54,7 +54,7 @@ picked_many r top n has (e ∷ h) all le = go (cases_eq e.role r) (λ m first fe
     go (inl f) rec = ⊎_elim (λ lt. own f lt rec) (λ low. omega (arith, low)) (cases_lt n top)
     go (inr m) rec = either (has 0) (rec n (λ i d g o low. all (suc i) d g o (omega (arith, low, passed r e (take i h) m))) (omega (arith, le, passed r e h m))) m
 
-take_grows : (i j : ℕ) (h : List Event) → i ≤ j → IsPrefix (take i h) (take j h)
+pub take_grows : (i j : ℕ) (h : List Event) → i ≤ j → IsPrefix (take i h) (take j h)
 take_grows zero j h le = (take j h, refl)
 take_grows (suc i) zero h le = absurd (omega arith)
 take_grows (suc i) (suc j) [] le = ([], refl)
@@ -65,7 +65,7 @@ mark : (ℕ → ℕ) → List Event → ℕ → Option Event → Bool
 mark line h i None = false
 mark line h i (Some e) = nat_lt (length (acts e.role (take i h))) (line e.role)
 
-module _ (net : Net) (h : List Event) (line : ℕ → ℕ) (p c : ℕ) (queued : IsQueued net h) (closed : Closed net h line) (low : line p ≤ c) where
+module _ (net : Net) (h : List Event) (line bound : ℕ → ℕ) (queued : IsQueued net h) (closed : Closed net h line) (low : (r : ℕ) → line r ≤ bound r) where
   test : ℕ → Bool
   test i = mark line h i (slice_get h i)
 
@@ -105,22 +105,21 @@ module _ (net : Net) (h : List Event) (line : ℕ → ℕ) (p c : ℕ) (queued :
   on_chain (one {i = i} {j = j} l) t = on_link i j l t
   on_chain (more {j = j} {k = k} d l) t = on_chain d (on_link j k l t)
 
-  is_cut : IsCut net h p c test
+  is_cut : IsCut net h bound test
   is_cut = record {
     inside = λ i t. let e = of_test i t in slice_get_within h i e.0 e.1;
     lacks = λ i t lost.
         let e = of_test i t in
         let same : e.0 ≡ lost.event = same_event (sym e.1 ∙ lost.at) in
-        let role : e.0.role ≡ p = ap (λ (x : Event). x.role) same ∙ lost.role in
-        let within : length (acts p (take i h)) < line p = subst (λ r. length (acts r (take i h)) < line r) role e.2 in
-        omega (arith, within, lost.behind);
+        let within : length (acts lost.event.role (take i h)) < line lost.event.role = subst (λ (x : Event). length (acts x.role (take i h)) < line x.role) same e.2 in
+        omega (arith, within, lost.behind, low lost.event.role);
     holds = λ i j t d. on_chain d t;
   }
 
   -- so the recovery keeps what is within the line
-  kept_within : (r : ℕ) → line r ≤ length (acts r h) → line r ≤ length (acts r (keep net p c h))
+  pub kept_within : (r : ℕ) → line r ≤ length (acts r h) → line r ≤ length (acts r (keep_within net bound h))
   kept_within r le =
-      let l = latest net p c h queued in
+      let l = latest net bound h queued in
       let many = picked_many r (line r) 0 l.0 h (λ i e at' role lt. l.1.greatest test is_cut i (to_test i e at' (subst (λ q. length (acts q (take i h)) < line q) (sym role) (omega (arith, lt))))) (omega (arith, le)) in
       omega (arith, many, ap (λ x. length (acts r x)) l.2)
 
@@ -149,13 +148,20 @@ module _ (rules : Rules) (line : ℕ → ℕ) (multiple : (r : ℕ) → (k : ℕ
   stay_kept s p queued stays = record { enough = enough; same = λ r. take_same (by_role r (keep rules.net p (durable rules s p) s.kept)) (by_role r s.kept) (line r) (front r) (enough r) ∙ stays.same r }
     where
       front : (r : ℕ) → IsPrefix (by_role r (keep rules.net p (durable rules s p) s.kept)) (by_role r s.kept)
-      front = (scan_of rules.net p (durable rules s p) s.kept queued).front
+      front = (scan_of rules.net (only p (durable rules s p) s.kept) s.kept queued).front
 
       low : line p ≤ durable rules s p
       low = let m = multiple p in subst (λ n. n ≤ durable rules s p) m.1 (floor_high m.0 (rules.every p) (length (acts p s.kept)) (omega (arith, m.1, stays.enough p, as_many p s.kept)))
 
+      allowed : (r : ℕ) → line r ≤ only p (durable rules s p) s.kept r
+      allowed r = go (cases_eq r p)
+        where
+          go : (r ≡ p) ⊎ (r ≡ p → ⊥) → line r ≤ only p (durable rules s p) s.kept r
+          go (inl e) = subst (λ b. line r ≤ cond b (durable rules s p) (length (acts r s.kept))) (sym (eq-eqb r p e)) (subst (λ q. line q ≤ durable rules s p) (sym e) low)
+          go (inr n) = subst (λ b. line r ≤ cond b (durable rules s p) (length (acts r s.kept))) (sym (ne_eqb r p n)) (omega (arith, stays.enough r, as_many r s.kept))
+
       enough : (r : ℕ) → line r ≤ length (by_role r (keep rules.net p (durable rules s p) s.kept))
-      enough r = omega (arith, kept_within rules.net s.kept line p (durable rules s p) queued (closed_of_counts rules.net s.kept line (counts_now s.kept stays)) low r (omega (arith, stays.enough r, as_many r s.kept)), as_many r (keep rules.net p (durable rules s p) s.kept))
+      enough r = omega (arith, kept_within rules.net s.kept line (only p (durable rules s p) s.kept) queued (closed_of_counts rules.net s.kept line (counts_now s.kept stays)) allowed r (omega (arith, stays.enough r, as_many r s.kept)), as_many r (keep rules.net p (durable rules s p) s.kept))
 
   stay_one : (s : State) (e : Entry) → IsQueued rules.net s.kept → Stays line h s.kept → Stays line h (after rules s e).kept
   stay_one s (Send e) queued stays = stay_more s.kept e stays
@@ -172,7 +178,7 @@ pub reading_join : (rules : Rules) (s : State) (front back : List Entry) → rea
 reading_join rules s [] back = refl
 reading_join rules s (e ∷ front) back = reading_join rules (after rules s e) front back
 
-legal_back : (rules : Rules) (s : State) (front back : List Entry) → IsLegalFrom rules s (front ++ back) → IsLegalFrom rules (reading_from rules s front) back
+pub legal_back : (rules : Rules) (s : State) (front back : List Entry) → IsLegalFrom rules s (front ++ back) → IsLegalFrom rules (reading_from rules s front) back
 legal_back rules s [] back legal = legal
 legal_back rules s (e ∷ front) back legal = legal_back rules (after rules s e) front back legal.1
 

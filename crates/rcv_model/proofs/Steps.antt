@@ -147,21 +147,22 @@ ahead net w h s r ms run n e c =
     let walk : crossing net s r w ≡ crossing net s r c.front ++ crossing net s r c.back = ap (crossing net s r) (sym c.whole) ∙ filter_map-append (crosses net s r) c.front c.back in
     prefix_cancel (crossing net s r c.front) (points ms) (crossing net s r c.back) (subst (λ l. IsPrefix l (crossing net s r c.front ++ crossing net s r c.back)) all (subst (λ l. IsPrefix (points (put net s r h)) l) walk sent))
 
--- the next act of r in the walk is to receive the front message
-recv_is_next : (net : Net) (w : List ℕ) (r s x : ℕ) (k : ℕ) (zs more : List ℕ) (done : List Act) → (s ≡ r → ⊥) → (c : Cut net r k w done) → ((z : ℕ) → IsNext net r (place_of k done) z → (net.receiver z ≡ r) × (net.sender z ≡ s)) → IsPrefix (x ∷ more) (crossing net s r c.back) → IsPrefix (done ++ record { dir = Got; point = x } ∷ []) (part net r w)
-recv_is_next net w r s x k zs more done n c only p = go (first net r c.back)
+-- the next act of r in the walk is to receive the front message, and its point is a next one
+recv_is_next : (net : Net) (w : List ℕ) (r s x : ℕ) (k : ℕ) (more : List ℕ) (done : List Act) → (s ≡ r → ⊥) → (c : Cut net r k w done) → ((z : ℕ) → IsNext net r (place_of k done) z → (net.receiver z ≡ r) × (net.sender z ≡ s)) → IsPrefix (x ∷ more) (crossing net s r c.back) → IsNext net r (place_of k done) x × IsPrefix (done ++ record { dir = Got; point = x } ∷ []) (part net r w)
+recv_is_next net w r s x k more done n c only p = go (first net r c.back)
   where
-    go : First net r c.back → IsPrefix (done ++ record { dir = Got; point = x } ∷ []) (part net r w)
+    go : First net r c.back → IsNext net r (place_of k done) x × IsPrefix (done ++ record { dir = Got; point = x } ∷ []) (part net r w)
     go (never h) = absurd (let e = p.1 in let f = crossing_none net s r c.back h in cc)
     go (at before z after f h own) =
         let walk : IsWalk net (place_of k done) (before ++ z ∷ []) = walk_front net (place_of k done) (before ++ z ∷ []) after (subst (λ l. IsWalk net (place_of k done) l) (sym f ∙ sym (append_assoc before (z ∷ []) after)) c.walk_back) in
-        let ends = only z (record { way = before; walk = walk; none = h; own = own }) in
+        let next : IsNext net r (place_of k done) z = record { way = before; walk = walk; none = h; own = own } in
+        let ends = only z next in
         let cross : crossing net s r c.back ≡ z ∷ crossing net s r after = ap (crossing net s r) (sym f) ∙ filter_map-append (crosses net s r) before (z ∷ after) ∙ ap (λ l. l ++ crossing net s r (z ∷ after)) (crossing_none net s r before h) ∙ ap (λ o. cons_option o (crossing net s r after)) (crosses_here net s r z ends.1 ends.0) in
         let same : x ≡ z = (prefix_cons x z more (crossing net s r after) (subst (λ l. IsPrefix (x ∷ more) l) cross p)).0 in
         let act : act_at net r z ≡ Some (record { dir = Got; point = z }) = (let a = ne_eqb (net.sender z) r (λ e. n (sym ends.1 ∙ e)) in let b = eq-eqb _ _ ends.0 in grind (arith, nat_tests)) in
         let mine : part net r c.back ≡ record { dir = Got; point = z } ∷ part net r after = ap (part net r) (sym f) ∙ part_join net r before (z ∷ after) ∙ ap (λ l. l ++ part net r (z ∷ after)) (part_none net r before h) ∙ ap (λ o. cons_option o (part net r after)) act in
         let whole : part net r w ≡ done ++ record { dir = Got; point = z } ∷ part net r after = ap (part net r) (sym c.whole) ∙ part_join net r c.front c.back ∙ ap (λ l. l ++ part net r c.back) c.did ∙ ap (λ l. done ++ l) mine in
-        (part net r after, ap (λ y. (done ++ record { dir = Got; point = y } ∷ []) ++ part net r after) same ∙ append_assoc done (record { dir = Got; point = z } ∷ []) (part net r after) ∙ sym whole)
+        (subst (IsNext net r (place_of k done)) (sym same) next, (part net r after, ap (λ y. (done ++ record { dir = Got; point = y } ∷ []) ++ part net r after) same ∙ append_assoc done (record { dir = Got; point = z } ∷ []) (part net r after) ∙ sym whole))
 
 -- an event's act, among what its role did
 pub acts_own : (h : List Event) (e : Event) → acts e.role (h ++ e ∷ []) ≡ acts e.role h ++ record { dir = e.dir; point = e.point } ∷ []
@@ -177,6 +178,15 @@ parts_more net w h e parts own r = ⊎_elim
     (λ n. subst (λ l. IsPrefix l (part net r w)) (sym (acts_other r h e n)) (parts r))
     (cases_eq e.role r)
 
+-- the front message of a channel is expected by the role whose next points are receives from it
+pub expected : (net : Net) (w : List ℕ) (h : List Event) (r s : ℕ) (front : Message) (rest : List Message) → (s ≡ r → ⊥) → IsRunOf net w h → ((z : ℕ) → IsNext net r (place_of 0 (acts r h)) z → (net.receiver z ≡ r) × (net.sender z ≡ s)) → channel net s r h ≡ front ∷ rest → IsNext net r (place_of 0 (acts r h)) front.point × IsPrefix (acts r h ++ record { dir = Got; point = front.point } ∷ []) (part net r w)
+expected net w h r s front rest apart run only waits =
+    let c = cut net r 0 w (acts r h) run.walk (run.parts r) in
+    recv_is_next net w r s front.point 0 (points rest) (acts r h) apart c only (ahead net w h s r (front ∷ rest) run apart (all_put net h s r front rest run waits) c)
+  where
+    all_put : (net : Net) (h : List Event) (s r : ℕ) (front : Message) (rest : List Message) → IsRunOf net w h → channel net s r h ≡ front ∷ rest → taken net s r h ++ front ∷ rest ≡ put net s r h
+    all_put net h s r front rest run waits = let p = queued_now net h run.queued s r in ap (λ l. taken net s r h ++ l) (sym waits ∙ front_rest (put net s r h) (taken net s r h) p.0 (sym p.1)) ∙ p.1
+
 -- a Recv that may come: the front of the channel, and all next points are receives from one sender
 pub recv_keeps : (net : Net) (w : List ℕ) (h : List Event) (e : Event) (s : ℕ) (rest : List Message) → HasTwoEnds net → IsRunOf net w h → ((z : ℕ) → IsNext net e.role (place_of 0 (acts e.role h)) z → (net.receiver z ≡ e.role) × (net.sender z ≡ s)) → (net.receiver e.point ≡ e.role) × (net.sender e.point ≡ s) → e.dir ≡ Got → channel net s e.role h ≡ message_of e ∷ rest → IsRunOf net w (h ++ e ∷ [])
 recv_keeps net w h e s rest two run only ends d front = record {
@@ -191,11 +201,8 @@ recv_keeps net w h e s rest two run only ends d front = record {
     whole : taken net s e.role h ++ message_of e ∷ rest ≡ put net s e.role h
     whole = let p = queued_now net h run.queued s e.role in ap (λ l. taken net s e.role h ++ l) (sym front ∙ front_rest (put net s e.role h) (taken net s e.role h) p.0 (sym p.1)) ∙ p.1
 
-    c : Cut net e.role 0 w (acts e.role h)
-    c = cut net e.role 0 w (acts e.role h) run.walk (run.parts e.role)
-
     own : IsPrefix (acts e.role h ++ record { dir = Got; point = e.point } ∷ []) (part net e.role w)
-    own = recv_is_next net w e.role s e.point 0 [] (points rest) (acts e.role h) apart c only (ahead net w h s e.role (message_of e ∷ rest) run apart whole c)
+    own = (expected net w h e.role s (message_of e) rest apart run only front).1
 
     fits : (s' r : ℕ) → IsPrefix (taken net s' r (h ++ e ∷ [])) (put net s' r (h ++ e ∷ []))
     fits s' r = ⊎_elim

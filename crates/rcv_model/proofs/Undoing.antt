@@ -12,9 +12,9 @@ use Rattle.rcv_model.specs.Undo.{SameRole, SameMessage, Link, Depends, one, more
 use Rattle.rcv_model.proofs.Lists.{prefix_refl, prefix_trans, prefix_map}
 use Rattle.rcv_model.proofs.Keeping.{by_role, Scan, scan_of, put_front, taken_same, acts_through, put_through, by_role_other, or_false, not_among, put_none, taken_some, is_recv, not_put, message_of}
 
-pub keep_join : (net : Net) (p c : ℕ) (kept : Kept) (f g : List Event) → keep_from net p c kept (f ++ g) ≡ keep_from net p c (keep_from net p c kept f) g
-keep_join net p c kept [] g = refl
-keep_join net p c kept (e ∷ f) g = keep_join net p c (keep_one net p c kept e) f g
+pub keep_join : (net : Net) (bound : ℕ → ℕ) (kept : Kept) (f g : List Event) → keep_from net bound kept (f ++ g) ≡ keep_from net bound (keep_from net bound kept f) g
+keep_join net bound kept [] g = refl
+keep_join net bound kept (e ∷ f) g = keep_join net bound (keep_one net bound kept e) f g
 
 abbrev pub lose : Kept → Event → Kept
 lose kept e = record { events = kept.events; stopped = e.role ∷ kept.stopped }
@@ -23,30 +23,30 @@ abbrev pub hold : Kept → Event → Kept
 hold kept e = record { events = kept.events ++ e ∷ []; stopped = kept.stopped }
 
 -- one step of the scan, by its test
-pub data Step (net : Net) (p c : ℕ) (kept : Kept) (e : Event) : Type 0 where
-  lost : is_blocked net p c kept e ≡ true → keep_one net p c kept e ≡ lose kept e → Step net p c kept e
-  held : is_blocked net p c kept e ≡ false → keep_one net p c kept e ≡ hold kept e → Step net p c kept e
+pub data Step (net : Net) (bound : ℕ → ℕ) (kept : Kept) (e : Event) : Type 0 where
+  lost : is_blocked net bound kept e ≡ true → keep_one net bound kept e ≡ lose kept e → Step net bound kept e
+  held : is_blocked net bound kept e ≡ false → keep_one net bound kept e ≡ hold kept e → Step net bound kept e
 
-pub step : (net : Net) (p c : ℕ) (kept : Kept) (e : Event) → Step net p c kept e
-step net p c kept e = ⊎_elim
+pub step : (net : Net) (bound : ℕ → ℕ) (kept : Kept) (e : Event) → Step net bound kept e
+step net bound kept e = ⊎_elim
     (λ t. lost t (ap (λ b. cond b (lose kept e) (hold kept e)) t))
     (λ t. held t (ap (λ b. cond b (lose kept e) (hold kept e)) t))
-    (cases_Bool (is_blocked net p c kept e))
+    (cases_Bool (is_blocked net bound kept e))
 
-pub stays : (net : Net) (p c r : ℕ) (kept : Kept) (g : List Event) → IsIn r kept.stopped → IsIn r (keep_from net p c kept g).stopped
-stays net p c r kept [] i = i
-stays net p c r kept (e ∷ g) i = stays net p c r (keep_one net p c kept e) g (go (step net p c kept e))
+pub stays : (net : Net) (bound : ℕ → ℕ) (r : ℕ) (kept : Kept) (g : List Event) → IsIn r kept.stopped → IsIn r (keep_from net bound kept g).stopped
+stays net bound r kept [] i = i
+stays net bound r kept (e ∷ g) i = stays net bound r (keep_one net bound kept e) g (go (step net bound kept e))
   where
-    go : Step net p c kept e → IsIn r (keep_one net p c kept e).stopped
+    go : Step net bound kept e → IsIn r (keep_one net bound kept e).stopped
     go (lost t f) = subst (λ (k : Kept). IsIn r k.stopped) (sym f) (inr i)
     go (held t f) = subst (λ (k : Kept). IsIn r k.stopped) (sym f) i
 
 -- what is kept only grows
-pub grows : (net : Net) (p c : ℕ) (kept : Kept) (g : List Event) → IsPrefix kept.events (keep_from net p c kept g).events
-grows net p c kept [] = prefix_refl kept.events
-grows net p c kept (e ∷ g) = prefix_trans _ _ _ (go (step net p c kept e)) (grows net p c (keep_one net p c kept e) g)
+pub grows : (net : Net) (bound : ℕ → ℕ) (kept : Kept) (g : List Event) → IsPrefix kept.events (keep_from net bound kept g).events
+grows net bound kept [] = prefix_refl kept.events
+grows net bound kept (e ∷ g) = prefix_trans _ _ _ (go (step net bound kept e)) (grows net bound (keep_one net bound kept e) g)
   where
-    go : Step net p c kept e → IsPrefix kept.events (keep_one net p c kept e).events
+    go : Step net bound kept e → IsPrefix kept.events (keep_one net bound kept e).events
     go (lost t f) = subst (λ (k : Kept). IsPrefix kept.events k.events) (sym f) (prefix_refl kept.events)
     go (held t f) = subst (λ (k : Kept). IsPrefix kept.events k.events) (sym f) (e ∷ [], refl)
 
@@ -60,16 +60,16 @@ among r (x ∷ xs) (inr i) = let f = among r xs i in go (x == r) f
     go false f = f
 
 -- a stopped role keeps nothing more
-pub still : (net : Net) (p c r : ℕ) (kept : Kept) (g : List Event) → IsIn r kept.stopped → by_role r (keep_from net p c kept g).events ≡ by_role r kept.events
-still net p c r kept [] i = refl
-still net p c r kept (e ∷ g) i = go (step net p c kept e) (λ k j. still net p c r k g j)
+pub still : (net : Net) (bound : ℕ → ℕ) (r : ℕ) (kept : Kept) (g : List Event) → IsIn r kept.stopped → by_role r (keep_from net bound kept g).events ≡ by_role r kept.events
+still net bound r kept [] i = refl
+still net bound r kept (e ∷ g) i = go (step net bound kept e) (λ k j. still net bound r k g j)
   where
-    go : Step net p c kept e → ((k : Kept) → IsIn r k.stopped → by_role r (keep_from net p c k g).events ≡ by_role r k.events) → by_role r (keep_from net p c (keep_one net p c kept e) g).events ≡ by_role r kept.events
-    go (lost t f) ih = subst (λ (k : Kept). by_role r (keep_from net p c k g).events ≡ by_role r kept.events) (sym f) (ih (lose kept e) (inr i))
+    go : Step net bound kept e → ((k : Kept) → IsIn r k.stopped → by_role r (keep_from net bound k g).events ≡ by_role r k.events) → by_role r (keep_from net bound (keep_one net bound kept e) g).events ≡ by_role r kept.events
+    go (lost t f) ih = subst (λ (k : Kept). by_role r (keep_from net bound k g).events ≡ by_role r kept.events) (sym f) (ih (lose kept e) (inr i))
     go (held t f) ih =
-        let free : is_stopped kept e ≡ false = (or_false (is_stopped kept e) (is_behind p c kept e || is_starved net kept e) t).0 in
+        let free : is_stopped kept e ≡ false = (or_false (is_stopped kept e) (is_behind bound kept e || is_starved net kept e) t).0 in
         let n : e.role ≡ r → ⊥ = λ h. not_among e.role kept.stopped free (subst (λ x. IsIn x kept.stopped) (sym h) i) in
-        subst (λ (k : Kept). by_role r (keep_from net p c k g).events ≡ by_role r kept.events) (sym f) (ih (hold kept e) i ∙ by_role_other r kept.events e n)
+        subst (λ (k : Kept). by_role r (keep_from net bound k g).events ≡ by_role r kept.events) (sym f) (ih (hold kept e) i ∙ by_role_other r kept.events e n)
 
 -- an event of the list, with those before and behind it
 record Place (f : List Event) : Type 0 where
@@ -79,23 +79,23 @@ record Place (f : List Event) : Type 0 where
   whole : front ++ event ∷ back ≡ f
 
 -- a role was stopped at an event of its own that was blocked
-record Stop (net : Net) (p c r : ℕ) (kept : Kept) (f : List Event) : Type 0 where
+record Stop (net : Net) (bound : ℕ → ℕ) (r : ℕ) (kept : Kept) (f : List Event) : Type 0 where
   front : List Event
   event : Event
   back : List Event
   whole : front ++ event ∷ back ≡ f
   role : event.role ≡ r
-  blocked : is_blocked net p c (keep_from net p c kept front) event ≡ true
+  blocked : is_blocked net bound (keep_from net bound kept front) event ≡ true
 
-stop_of : (net : Net) (p c r : ℕ) (kept : Kept) (f : List Event) → IsIn r (keep_from net p c kept f).stopped → IsIn r kept.stopped ⊎ Stop net p c r kept f
-stop_of net p c r kept [] i = inl i
-stop_of net p c r kept (e ∷ f) i = go (step net p c kept e) (stop_of net p c r (keep_one net p c kept e) f i)
+stop_of : (net : Net) (bound : ℕ → ℕ) (r : ℕ) (kept : Kept) (f : List Event) → IsIn r (keep_from net bound kept f).stopped → IsIn r kept.stopped ⊎ Stop net bound r kept f
+stop_of net bound r kept [] i = inl i
+stop_of net bound r kept (e ∷ f) i = go (step net bound kept e) (stop_of net bound r (keep_one net bound kept e) f i)
   where
-    first : is_blocked net p c kept e ≡ true → IsIn r (e.role ∷ kept.stopped) → IsIn r kept.stopped ⊎ Stop net p c r kept (e ∷ f)
+    first : is_blocked net bound kept e ≡ true → IsIn r (e.role ∷ kept.stopped) → IsIn r kept.stopped ⊎ Stop net bound r kept (e ∷ f)
     first t (inl h) = inr (record { front = []; event = e; back = f; whole = refl; role = sym h; blocked = t })
     first t (inr h) = inl h
 
-    go : Step net p c kept e → IsIn r (keep_one net p c kept e).stopped ⊎ Stop net p c r (keep_one net p c kept e) f → IsIn r kept.stopped ⊎ Stop net p c r kept (e ∷ f)
+    go : Step net bound kept e → IsIn r (keep_one net bound kept e).stopped ⊎ Stop net bound r (keep_one net bound kept e) f → IsIn r kept.stopped ⊎ Stop net bound r kept (e ∷ f)
     go s (inr x) = inr (record { front = e ∷ x.front; event = x.event; back = x.back; whole = ap (λ l. e ∷ l) x.whole; role = x.role; blocked = x.blocked })
     go (lost t g) (inl j) = first t (subst (λ (k : Kept). IsIn r k.stopped) g j)
     go (held t g) (inl j) = inl (subst (λ (k : Kept). IsIn r k.stopped) g j)
@@ -182,11 +182,8 @@ is_among r (x ∷ xs) e = go (cases_eq x r) (is_among r xs)
 pub acts_same : (r : ℕ) (xs ys : List Event) → by_role r xs ≡ by_role r ys → acts r xs ≡ acts r ys
 acts_same r xs ys e = acts_through r xs ∙ ap (acts r) e ∙ sym (acts_through r ys)
 
-pub behind_role : (p c : ℕ) (kept : Kept) (e : Event) → is_behind p c kept e ≡ true → e.role ≡ p
-behind_role p c kept e u = grind (arith, nat_tests)
-
-pub behind_count : (p c : ℕ) (kept : Kept) (e : Event) → is_behind p c kept e ≡ true → c ≤ length (acts p kept.events)
-behind_count p c kept e u = grind (arith, nat_tests)
+pub behind_count : (bound : ℕ → ℕ) (kept : Kept) (e : Event) → is_behind bound kept e ≡ true → bound e.role ≤ length (acts e.role kept.events)
+behind_count bound kept e u = grind (arith, nat_tests)
 
 starved_takes : (net : Net) (kept : Kept) (e : Event) → is_starved net kept e ≡ true → takes_on net (net.sender e.point) e.role e ≡ true
 starved_takes net kept e u = let a = eq-eqb e.role e.role refl in let b = eq-eqb (net.sender e.point) (net.sender e.point) refl in grind (arith, nat_tests)
@@ -206,8 +203,8 @@ or_right true b d e = refl
 or_right false true d e = refl
 or_right false false d e = e
 
-behind_true : (p c : ℕ) (kept : Kept) (e : Event) → e.role ≡ p → c ≤ length (acts p kept.events) → is_behind p c kept e ≡ true
-behind_true p c kept e f h = let a = eq-eqb _ _ f in grind (arith, nat_tests)
+behind_true : (bound : ℕ → ℕ) (kept : Kept) (e : Event) → bound e.role ≤ length (acts e.role kept.events) → is_behind bound kept e ≡ true
+behind_true bound kept e h = grind (arith, nat_tests)
 
 starved_true : (net : Net) (s r : ℕ) (kept : Kept) (e : Event) → is_sent e.dir ≡ false → e.role ≡ r → net.sender e.point ≡ s → length (put net s r kept.events) ≤ length (taken net s r kept.events) → is_starved net kept e ≡ true
 starved_true net s r kept e d f g h =
@@ -228,39 +225,39 @@ cut_inside (z ∷ f) g (y ∷ front) back x e eq lt =
 link_from : (net : Net) (h : List Event) (i j : ℕ) → Link net h i j → (e : Event) × (slice_get h i ≡ Some e)
 link_from net h i j l = ⊎_elim (λ (s : SameRole h i j). (s.first, s.at_i)) (λ (m : SameMessage net h i j). (m.puts.event, m.puts.at)) l.1
 
-link_on : (net : Net) (h : List Event) (p c i j : ℕ) → IsUndone net h p c i → Link net h i j → IsUndone net h p c j
-link_on net h p c i j (inl a) l = inr (i, a, one l)
-link_on net h p c i j (inr u) l = inr (u.0, u.1, more u.2 l)
+link_on : (net : Net) (h : List Event) (bound : ℕ → ℕ) (i j : ℕ) → IsUndone net h bound i → Link net h i j → IsUndone net h bound j
+link_on net h bound i j (inl a) l = inr (i, a, one l)
+link_on net h bound i j (inr u) l = inr (u.0, u.1, more u.2 l)
 
-module _ (net : Net) (p c : ℕ) (h : List Event) (queued : IsQueued net h) where
+module _ (net : Net) (bound : ℕ → ℕ) (h : List Event) (queued : IsQueued net h) where
   -- the scan of a beginning
-  scan_front : (front back : List Event) → front ++ back ≡ h → Scan net front (scanned net p c front)
-  scan_front front back e = scan_of net p c front (λ f b g s r. queued f (b ++ back) (sym (append_assoc f b back) ∙ ap (λ l. l ++ back) g ∙ e) s r)
+  scan_front : (front back : List Event) → front ++ back ≡ h → Scan net front (scanned net bound front)
+  scan_front front back e = scan_of net bound front (λ f b g s r. queued f (b ++ back) (sym (append_assoc f b back) ∙ ap (λ l. l ++ back) g ∙ e) s r)
 
   -- a role that isn't stopped has kept all
-  unstopped : (front back : List Event) (r : ℕ) → front ++ back ≡ h → (IsIn r (scanned net p c front).stopped → ⊥) → by_role r (scanned net p c front).events ≡ by_role r front
+  unstopped : (front back : List Event) (r : ℕ) → front ++ back ≡ h → (IsIn r (scanned net bound front).stopped → ⊥) → by_role r (scanned net bound front).events ≡ by_role r front
   unstopped front back r e n = ⊎_elim (λ i. absurd (n i)) (λ f. f) ((scan_front front back e).same r)
 
   -- what comes behind a beginning is scanned from its state
-  scan_on : (front : List Event) (e : Event) (back : List Event) → scanned net p c (front ++ e ∷ back) ≡ keep_from net p c (keep_one net p c (scanned net p c front) e) back
-  scan_on front e back = keep_join net p c (record { events = []; stopped = [] }) front (e ∷ back)
+  scan_on : (front : List Event) (e : Event) (back : List Event) → scanned net bound (front ++ e ∷ back) ≡ keep_from net bound (keep_one net bound (scanned net bound front) e) back
+  scan_on front e back = keep_join net bound (record { events = []; stopped = [] }) front (e ∷ back)
 
   -- a role whose event is blocked is stopped from there on
-  blocked_stops : (front : List Event) (e : Event) (back : List Event) → is_blocked net p c (scanned net p c front) e ≡ true → IsIn e.role (scanned net p c (front ++ e ∷ back)).stopped
-  blocked_stops front e back t = subst (λ (k : Kept). IsIn e.role k.stopped) (sym (scan_on front e back)) (stays net p c e.role (keep_one net p c (scanned net p c front) e) back (subst (λ (k : Kept). IsIn e.role k.stopped) (sym (ap (λ b. cond b (lose (scanned net p c front) e) (hold (scanned net p c front) e)) t)) (inl refl)))
+  blocked_stops : (front : List Event) (e : Event) (back : List Event) → is_blocked net bound (scanned net bound front) e ≡ true → IsIn e.role (scanned net bound (front ++ e ∷ back)).stopped
+  blocked_stops front e back t = subst (λ (k : Kept). IsIn e.role k.stopped) (sym (scan_on front e back)) (stays net bound e.role (keep_one net bound (scanned net bound front) e) back (subst (λ (k : Kept). IsIn e.role k.stopped) (sym (ap (λ b. cond b (lose (scanned net bound front) e) (hold (scanned net bound front) e)) t)) (inl refl)))
 
   -- and has kept no more than before it
-  blocked_keeps : (front : List Event) (e : Event) (back : List Event) → is_blocked net p c (scanned net p c front) e ≡ true → by_role e.role (scanned net p c (front ++ e ∷ back)).events ≡ by_role e.role (scanned net p c front).events
+  blocked_keeps : (front : List Event) (e : Event) (back : List Event) → is_blocked net bound (scanned net bound front) e ≡ true → by_role e.role (scanned net bound (front ++ e ∷ back)).events ≡ by_role e.role (scanned net bound front).events
   blocked_keeps front e back t =
-      let one : keep_one net p c (scanned net p c front) e ≡ lose (scanned net p c front) e = ap (λ b. cond b (lose (scanned net p c front) e) (hold (scanned net p c front) e)) t in
-      ap (λ (k : Kept). by_role e.role k.events) (scan_on front e back ∙ ap (λ k. keep_from net p c k back) one) ∙ still net p c e.role (lose (scanned net p c front) e) back (inl refl)
+      let one : keep_one net bound (scanned net bound front) e ≡ lose (scanned net bound front) e = ap (λ b. cond b (lose (scanned net bound front) e) (hold (scanned net bound front) e)) t in
+      ap (λ (k : Kept). by_role e.role k.events) (scan_on front e back ∙ ap (λ k. keep_from net bound k back) one) ∙ still net bound e.role (lose (scanned net bound front) e) back (inl refl)
 
   -- the Send of a Recv that is starved is blocked
-  starved_send : (front back : List Event) (e : Event) (s r : ℕ) → front ++ e ∷ back ≡ h → takes_on net s r e ≡ true → (IsIn r (scanned net p c front).stopped → ⊥) → length (put net s r (scanned net p c front).events) ≤ length (taken net s r (scanned net p c front).events) → (n : Nth net s r (length (taken net s r front)) front) × (is_blocked net p c (scanned net p c n.front) n.event ≡ true)
-  starved_send front back e s r eq t free few = (x, ⊎_elim (λ b. b) (λ b. absurd (never b)) (cases_Bool (is_blocked net p c (scanned net p c x.front) x.event)))
+  starved_send : (front back : List Event) (e : Event) (s r : ℕ) → front ++ e ∷ back ≡ h → takes_on net s r e ≡ true → (IsIn r (scanned net bound front).stopped → ⊥) → length (put net s r (scanned net bound front).events) ≤ length (taken net s r (scanned net bound front).events) → (n : Nth net s r (length (taken net s r front)) front) × (is_blocked net bound (scanned net bound n.front) n.event ≡ true)
+  starved_send front back e s r eq t free few = (x, ⊎_elim (λ b. b) (λ b. absurd (never b)) (cases_Bool (is_blocked net bound (scanned net bound x.front) x.event)))
     where
-      all_taken : taken net s r (scanned net p c front).events ≡ taken net s r front
-      all_taken = taken_same net s r (scanned net p c front).events front (unstopped front (e ∷ back) r eq free)
+      all_taken : taken net s r (scanned net bound front).events ≡ taken net s r front
+      all_taken = taken_same net s r (scanned net bound front).events front (unstopped front (e ∷ back) r eq free)
 
       moment : IsPrefix (taken net s r front ++ message_of e ∷ []) (put net s r front)
       moment = subst (λ l. IsPrefix l (put net s r front)) (taken_some net s r front e t) (subst (IsPrefix (taken net s r (front ++ e ∷ []))) (put_none net s r front e (not_put net s r e t)) (queued (front ++ e ∷ []) back (append_assoc front (e ∷ []) back ∙ eq) s r))
@@ -268,22 +265,22 @@ module _ (net : Net) (p c : ℕ) (h : List Event) (queued : IsQueued net h) wher
       x : Nth net s r (length (taken net s r front)) front
       x = nth net s r (length (taken net s r front)) front (omega (arith, ap length moment.1, length-append (taken net s r front ++ message_of e ∷ []) moment.0, length-append (taken net s r front) (message_of e ∷ [])))
 
-      never : is_blocked net p c (scanned net p c x.front) x.event ≡ false → ⊥
+      never : is_blocked net bound (scanned net bound x.front) x.event ≡ false → ⊥
       never b =
-          let k = scanned net p c x.front in
-          let open' = or_false (is_stopped k x.event) (is_behind p c k x.event || is_starved net k x.event) b in
+          let k = scanned net bound x.front in
+          let open' = or_false (is_stopped k x.event) (is_behind bound k x.event || is_starved net k x.event) b in
           let role : x.event.role ≡ s = eqb_role net s r x.event x.puts in
           let whole : by_role s k.events ≡ by_role s x.front = unstopped x.front (x.event ∷ (x.back ++ e ∷ back)) s (sym (append_assoc x.front (x.event ∷ x.back) (e ∷ back)) ∙ ap (λ l. l ++ e ∷ back) x.whole ∙ eq) (λ i. not_among x.event.role k.stopped open'.0 (subst (λ y. IsIn y k.stopped) (sym role) i)) in
           let before : length (put net s r k.events) ≡ length (taken net s r front) = ap length (put_same net s r k.events x.front whole) ∙ x.number in
-          let one : keep_one net p c k x.event ≡ hold k x.event = ap (λ b. cond b (lose k x.event) (hold k x.event)) b in
-          let more' : IsPrefix (k.events ++ x.event ∷ []) (scanned net p c front).events = subst (λ l. IsPrefix (k.events ++ x.event ∷ []) (scanned net p c l).events) x.whole (subst (λ (z : Kept). IsPrefix (k.events ++ x.event ∷ []) z.events) (sym (scan_on x.front x.event x.back)) (subst (λ (z : Kept). IsPrefix (k.events ++ x.event ∷ []) (keep_from net p c z x.back).events) (sym one) (grows net p c (hold k x.event) x.back))) in
-          let longer : IsPrefix (put net s r (k.events ++ x.event ∷ [])) (put net s r (scanned net p c front).events) = prefix_map (put_by net s r) _ _ more' in
+          let one : keep_one net bound k x.event ≡ hold k x.event = ap (λ b. cond b (lose k x.event) (hold k x.event)) b in
+          let more' : IsPrefix (k.events ++ x.event ∷ []) (scanned net bound front).events = subst (λ l. IsPrefix (k.events ++ x.event ∷ []) (scanned net bound l).events) x.whole (subst (λ (z : Kept). IsPrefix (k.events ++ x.event ∷ []) z.events) (sym (scan_on x.front x.event x.back)) (subst (λ (z : Kept). IsPrefix (k.events ++ x.event ∷ []) (keep_from net bound z x.back).events) (sym one) (grows net bound (hold k x.event) x.back))) in
+          let longer : IsPrefix (put net s r (k.events ++ x.event ∷ [])) (put net s r (scanned net bound front).events) = prefix_map (put_by net s r) _ _ more' in
           omega (arith, few, ap length all_taken, before, put_longer net s r k.events x.event x.puts, ap length longer.1, length-append (put net s r (k.events ++ x.event ∷ [])) longer.0)
 
   -- a blocked event's position is undone
-  pub blocked_undone : (n : ℕ) (front back : List Event) (e : Event) → length front < n → front ++ e ∷ back ≡ h → is_blocked net p c (scanned net p c front) e ≡ true → IsUndone net h p c (length front)
+  pub blocked_undone : (n : ℕ) (front back : List Event) (e : Event) → length front < n → front ++ e ∷ back ≡ h → is_blocked net bound (scanned net bound front) e ≡ true → IsUndone net h bound (length front)
   blocked_undone zero front back e lt eq b = absurd (omega arith)
-  blocked_undone (suc n) front back e lt eq b = first (cases_Bool (is_stopped (scanned net p c front) e)) (λ f g x l q t. blocked_undone n f g x l q t)
+  blocked_undone (suc n) front back e lt eq b = first (cases_Bool (is_stopped (scanned net bound front) e)) (λ f g x l q t. blocked_undone n f g x l q t)
     where
       here : slice_get h (length front) ≡ Some e
       here = ap (λ l. slice_get l (length front)) (sym eq) ∙ get_at front back e
@@ -297,30 +294,29 @@ module _ (net : Net) (p c : ℕ) (h : List Event) (queued : IsQueued net h) wher
           let whole : f ++ x ∷ (g ++ e ∷ back) ≡ h = sym (append_assoc f (x ∷ g) (e ∷ back)) ∙ ap (λ l. l ++ e ∷ back) w ∙ eq in
           (whole, omega (arith, ap length w, length-append f (x ∷ g)), ap (λ l. slice_get l (length f)) (sym whole) ∙ get_at f (g ++ e ∷ back) x, ap (take (length f)) (sym whole) ∙ take_at f (x ∷ (g ++ e ∷ back)))
 
-      first : (is_stopped (scanned net p c front) e ≡ true) ⊎ (is_stopped (scanned net p c front) e ≡ false) → ((f g : List Event) (x : Event) → length f < n → f ++ x ∷ g ≡ h → is_blocked net p c (scanned net p c f) x ≡ true → IsUndone net h p c (length f)) → IsUndone net h p c (length front)
+      first : (is_stopped (scanned net bound front) e ≡ true) ⊎ (is_stopped (scanned net bound front) e ≡ false) → ((f g : List Event) (x : Event) → length f < n → f ++ x ∷ g ≡ h → is_blocked net bound (scanned net bound f) x ≡ true → IsUndone net h bound (length f)) → IsUndone net h bound (length front)
       first (inl t) ih = ⊎_elim
           (λ i. absurd i)
-          (λ (x : Stop net p c e.role (record { events = []; stopped = [] }) front).
+          (λ (x : Stop net bound e.role (record { events = []; stopped = [] }) front).
           let y = earlier x.front x.back x.event x.whole in
-          link_on net h p c (length x.front) (length front) (ih x.front (x.back ++ e ∷ back) x.event (omega (arith, y.1)) y.0 x.blocked) (y.1, inl (record { first = x.event; second = e; at_i = y.2; at_j = here; same = x.role })))
-          (stop_of net p c e.role (record { events = []; stopped = [] }) front (is_among e.role (scanned net p c front).stopped t))
-      first (inr t) ih = second (cases_Bool (is_behind p c (scanned net p c front) e))
+          link_on net h bound (length x.front) (length front) (ih x.front (x.back ++ e ∷ back) x.event (omega (arith, y.1)) y.0 x.blocked) (y.1, inl (record { first = x.event; second = e; at_i = y.2; at_j = here; same = x.role })))
+          (stop_of net bound e.role (record { events = []; stopped = [] }) front (is_among e.role (scanned net bound front).stopped t))
+      first (inr t) ih = second (cases_Bool (is_behind bound (scanned net bound front) e))
         where
-          free : IsIn e.role (scanned net p c front).stopped → ⊥
-          free = not_among e.role (scanned net p c front).stopped t
+          free : IsIn e.role (scanned net bound front).stopped → ⊥
+          free = not_among e.role (scanned net bound front).stopped t
 
-          second : (is_behind p c (scanned net p c front) e ≡ true) ⊎ (is_behind p c (scanned net p c front) e ≡ false) → IsUndone net h p c (length front)
+          second : (is_behind bound (scanned net bound front) e ≡ true) ⊎ (is_behind bound (scanned net bound front) e ≡ false) → IsUndone net h bound (length front)
           second (inl u) =
-              let role : e.role ≡ p = behind_role p c (scanned net p c front) e u in
-              let count : c ≤ length (acts p (scanned net p c front).events) = behind_count p c (scanned net p c front) e u in
-              let same : acts p (scanned net p c front).events ≡ acts p front = subst (λ r. acts r (scanned net p c front).events ≡ acts r front) role (acts_same e.role (scanned net p c front).events front (unstopped front (e ∷ back) e.role eq free)) in
-              inl (record { event = e; at = here; role = role; behind = subst (λ l. c ≤ length (acts p l)) (sym cut_here) (subst (λ l. c ≤ length l) same count) })
+              let count : bound e.role ≤ length (acts e.role (scanned net bound front).events) = behind_count bound (scanned net bound front) e u in
+              let same : acts e.role (scanned net bound front).events ≡ acts e.role front = acts_same e.role (scanned net bound front).events front (unstopped front (e ∷ back) e.role eq free) in
+              inl (record { event = e; at = here; behind = subst (λ l. bound e.role ≤ length (acts e.role l)) (sym cut_here) (subst (λ l. bound e.role ≤ length l) same count) })
           second (inr u) =
-              let v : is_starved net (scanned net p c front) e ≡ true = (let w = b in grind (arith, nat_tests)) in
-              let takes : takes_on net (net.sender e.point) e.role e ≡ true = starved_takes net (scanned net p c front) e v in
-              let x = starved_send front back e (net.sender e.point) e.role eq takes free (starved_few net (scanned net p c front) e v) in
+              let v : is_starved net (scanned net bound front) e ≡ true = (let w = b in grind (arith, nat_tests)) in
+              let takes : takes_on net (net.sender e.point) e.role e ≡ true = starved_takes net (scanned net bound front) e v in
+              let x = starved_send front back e (net.sender e.point) e.role eq takes free (starved_few net (scanned net bound front) e v) in
               let y = earlier x.0.front x.0.back x.0.event x.0.whole in
-              link_on net h p c (length x.0.front) (length front) (ih x.0.front (x.0.back ++ e ∷ back) x.0.event (omega (arith, y.1)) y.0 x.1) (
+              link_on net h bound (length x.0.front) (length front) (ih x.0.front (x.0.back ++ e ∷ back) x.0.event (omega (arith, y.1)) y.0 x.1) (
                 y.1,
                 inr (record {
                   s = net.sender e.point;
@@ -332,28 +328,25 @@ module _ (net : Net) (p c : ℕ) (h : List Event) (queued : IsQueued net h) wher
               )
 
   -- a lost event is blocked
-  lost_blocked : (front back : List Event) (e : Event) → front ++ e ∷ back ≡ h → IsLost h p c (length front) → is_blocked net p c (scanned net p c front) e ≡ true
-  lost_blocked front back e eq a = go (cases_Bool (is_stopped (scanned net p c front) e))
+  lost_blocked : (front back : List Event) (e : Event) → front ++ e ∷ back ≡ h → IsLost h bound (length front) → is_blocked net bound (scanned net bound front) e ≡ true
+  lost_blocked front back e eq a = go (cases_Bool (is_stopped (scanned net bound front) e))
     where
       same : e ≡ a.event
       same = some_same (sym (ap (λ l. slice_get l (length front)) (sym eq) ∙ get_at front back e) ∙ a.at)
 
-      role : e.role ≡ p
-      role = ap (λ (x : Event). x.role) same ∙ a.role
+      count : bound e.role ≤ length (acts e.role front)
+      count = subst (λ (x : Event). bound x.role ≤ length (acts x.role front)) (sym same) (subst (λ l. bound a.event.role ≤ length (acts a.event.role l)) (ap (take (length front)) (sym eq) ∙ take_at front (e ∷ back)) a.behind)
 
-      count : c ≤ length (acts p front)
-      count = subst (λ l. c ≤ length (acts p l)) (ap (take (length front)) (sym eq) ∙ take_at front (e ∷ back)) a.behind
-
-      go : (is_stopped (scanned net p c front) e ≡ true) ⊎ (is_stopped (scanned net p c front) e ≡ false) → is_blocked net p c (scanned net p c front) e ≡ true
-      go (inl t) = ap (λ b. b || (is_behind p c (scanned net p c front) e || is_starved net (scanned net p c front) e)) t
+      go : (is_stopped (scanned net bound front) e ≡ true) ⊎ (is_stopped (scanned net bound front) e ≡ false) → is_blocked net bound (scanned net bound front) e ≡ true
+      go (inl t) = ap (λ b. b || (is_behind bound (scanned net bound front) e || is_starved net (scanned net bound front) e)) t
       go (inr t) =
-          let kept : by_role p (scanned net p c front).events ≡ by_role p front = subst (λ r. by_role r (scanned net p c front).events ≡ by_role r front) role (unstopped front (e ∷ back) e.role eq (not_among e.role (scanned net p c front).stopped t)) in
-          let enough : c ≤ length (acts p (scanned net p c front).events) = subst (λ l. c ≤ length l) (sym (acts_same p _ _ kept)) count in
-          let behind : is_behind p c (scanned net p c front) e ≡ true = behind_true p c (scanned net p c front) e role enough in
-          or_left (is_stopped (scanned net p c front) e) (is_behind p c (scanned net p c front) e) (is_starved net (scanned net p c front) e) behind
+          let kept : by_role e.role (scanned net bound front).events ≡ by_role e.role front = unstopped front (e ∷ back) e.role eq (not_among e.role (scanned net bound front).stopped t) in
+          let enough : bound e.role ≤ length (acts e.role (scanned net bound front).events) = subst (λ l. bound e.role ≤ length l) (sym (acts_same e.role _ _ kept)) count in
+          let behind : is_behind bound (scanned net bound front) e ≡ true = behind_true bound (scanned net bound front) e enough in
+          or_left (is_stopped (scanned net bound front) e) (is_behind bound (scanned net bound front) e) (is_starved net (scanned net bound front) e) behind
 
   -- what is linked to a blocked event is blocked
-  link_blocked : (f g front back : List Event) (x e : Event) → f ++ x ∷ g ≡ h → front ++ e ∷ back ≡ h → is_blocked net p c (scanned net p c f) x ≡ true → Link net h (length f) (length front) → is_blocked net p c (scanned net p c front) e ≡ true
+  link_blocked : (f g front back : List Event) (x e : Event) → f ++ x ∷ g ≡ h → front ++ e ∷ back ≡ h → is_blocked net bound (scanned net bound f) x ≡ true → Link net h (length f) (length front) → is_blocked net bound (scanned net bound front) e ≡ true
   link_blocked f g front back x e eq_x eq_e b l = ⊎_elim roles message l.1
     where
       -- x stands in the beginning before e
@@ -366,18 +359,18 @@ module _ (net : Net) (p c : ℕ) (h : List Event) (queued : IsQueued net h) wher
       at_e : slice_get h (length front) ≡ Some e
       at_e = ap (λ l. slice_get l (length front)) (sym eq_e) ∙ get_at front back e
 
-      stopped : IsIn x.role (scanned net p c front).stopped
-      stopped = subst (λ l. IsIn x.role (scanned net p c l).stopped) inside.1 (blocked_stops f x inside.0 b)
+      stopped : IsIn x.role (scanned net bound front).stopped
+      stopped = subst (λ l. IsIn x.role (scanned net bound l).stopped) inside.1 (blocked_stops f x inside.0 b)
 
-      roles : SameRole h (length f) (length front) → is_blocked net p c (scanned net p c front) e ≡ true
+      roles : SameRole h (length f) (length front) → is_blocked net bound (scanned net bound front) e ≡ true
       roles s =
           let a : x ≡ s.first = some_same (sym at_x ∙ s.at_i) in
           let d : e ≡ s.second = some_same (sym at_e ∙ s.at_j) in
           let r : x.role ≡ e.role = ap (λ (y : Event). y.role) a ∙ s.same ∙ sym (ap (λ (y : Event). y.role) d) in
-          ap (λ b. b || (is_behind p c (scanned net p c front) e || is_starved net (scanned net p c front) e)) (among e.role (scanned net p c front).stopped (subst (λ y. IsIn y (scanned net p c front).stopped) r stopped))
+          ap (λ b. b || (is_behind bound (scanned net bound front) e || is_starved net (scanned net bound front) e)) (among e.role (scanned net bound front).stopped (subst (λ y. IsIn y (scanned net bound front).stopped) r stopped))
 
-      message : SameMessage net h (length f) (length front) → is_blocked net p c (scanned net p c front) e ≡ true
-      message m = go (cases_Bool (is_stopped (scanned net p c front) e))
+      message : SameMessage net h (length f) (length front) → is_blocked net bound (scanned net bound front) e ≡ true
+      message m = go (cases_Bool (is_stopped (scanned net bound front) e))
         where
           a : x ≡ m.puts.event
           a = some_same (sym at_x ∙ m.puts.at)
@@ -404,36 +397,36 @@ module _ (net : Net) (p c : ℕ) (h : List Event) (queued : IsQueued net h) wher
           ends = is_recv net m.s m.r e takes
 
           -- nothing was put behind x
-          kept_puts : by_role m.s (scanned net p c front).events ≡ by_role m.s (scanned net p c f).events
-          kept_puts = subst (λ r. by_role r (scanned net p c front).events ≡ by_role r (scanned net p c f).events) sender (subst (λ l. by_role x.role (scanned net p c l).events ≡ by_role x.role (scanned net p c f).events) inside.1 (blocked_keeps f x inside.0 b))
+          kept_puts : by_role m.s (scanned net bound front).events ≡ by_role m.s (scanned net bound f).events
+          kept_puts = subst (λ r. by_role r (scanned net bound front).events ≡ by_role r (scanned net bound f).events) sender (subst (λ l. by_role x.role (scanned net bound l).events ≡ by_role x.role (scanned net bound f).events) inside.1 (blocked_keeps f x inside.0 b))
 
-          few : length (put net m.s m.r (scanned net p c front).events) ≤ m.k
+          few : length (put net m.s m.r (scanned net bound front).events) ≤ m.k
           few =
-              let q = put_front net m.s m.r (scanned net p c f).events f ((scan_front f (x ∷ g) eq_x).front m.s) in
-              omega (arith, ap length (put_same net m.s m.r (scanned net p c front).events (scanned net p c f).events kept_puts), ap length q.1, length-append (put net m.s m.r (scanned net p c f).events) q.0, put_k)
+              let q = put_front net m.s m.r (scanned net bound f).events f ((scan_front f (x ∷ g) eq_x).front m.s) in
+              omega (arith, ap length (put_same net m.s m.r (scanned net bound front).events (scanned net bound f).events kept_puts), ap length q.1, length-append (put net m.s m.r (scanned net bound f).events) q.0, put_k)
 
-          go : (is_stopped (scanned net p c front) e ≡ true) ⊎ (is_stopped (scanned net p c front) e ≡ false) → is_blocked net p c (scanned net p c front) e ≡ true
-          go (inl t) = ap (λ b. b || (is_behind p c (scanned net p c front) e || is_starved net (scanned net p c front) e)) t
+          go : (is_stopped (scanned net bound front) e ≡ true) ⊎ (is_stopped (scanned net bound front) e ≡ false) → is_blocked net bound (scanned net bound front) e ≡ true
+          go (inl t) = ap (λ b. b || (is_behind bound (scanned net bound front) e || is_starved net (scanned net bound front) e)) t
           go (inr t) =
-              let kept : by_role m.r (scanned net p c front).events ≡ by_role m.r front = subst (λ r. by_role r (scanned net p c front).events ≡ by_role r front) ends.1 (unstopped front (e ∷ back) e.role eq_e (not_among e.role (scanned net p c front).stopped t)) in
-              let many : length (taken net m.s m.r (scanned net p c front).events) ≡ m.k = ap length (taken_same net m.s m.r (scanned net p c front).events front kept) ∙ taken_k in
-              let starved : is_starved net (scanned net p c front) e ≡ true = starved_true net m.s m.r (scanned net p c front) e ends.0 ends.1 ends.2 (omega (arith, few, many)) in
-              or_right (is_stopped (scanned net p c front) e) (is_behind p c (scanned net p c front) e) (is_starved net (scanned net p c front) e) starved
+              let kept : by_role m.r (scanned net bound front).events ≡ by_role m.r front = subst (λ r. by_role r (scanned net bound front).events ≡ by_role r front) ends.1 (unstopped front (e ∷ back) e.role eq_e (not_among e.role (scanned net bound front).stopped t)) in
+              let many : length (taken net m.s m.r (scanned net bound front).events) ≡ m.k = ap length (taken_same net m.s m.r (scanned net bound front).events front kept) ∙ taken_k in
+              let starved : is_starved net (scanned net bound front) e ≡ true = starved_true net m.s m.r (scanned net bound front) e ends.0 ends.1 ends.2 (omega (arith, few, many)) in
+              or_right (is_stopped (scanned net bound front) e) (is_behind bound (scanned net bound front) e) (is_starved net (scanned net bound front) e) starved
 
-  depends_blocked : {i j : ℕ} → Depends net h i j → (f g front back : List Event) (x e : Event) → f ++ x ∷ g ≡ h → length f ≡ i → front ++ e ∷ back ≡ h → length front ≡ j → is_blocked net p c (scanned net p c f) x ≡ true → is_blocked net p c (scanned net p c front) e ≡ true
+  depends_blocked : {i j : ℕ} → Depends net h i j → (f g front back : List Event) (x e : Event) → f ++ x ∷ g ≡ h → length f ≡ i → front ++ e ∷ back ≡ h → length front ≡ j → is_blocked net bound (scanned net bound f) x ≡ true → is_blocked net bound (scanned net bound front) e ≡ true
   depends_blocked (one {j = n} l) f g front back x e eq_x at_x eq_e at_e b = link_blocked f g front back x e eq_x eq_e b (subst (Link net h (length f)) (sym at_e) (subst (λ z. Link net h z n) (sym at_x) l))
   depends_blocked (more {j = m} {k = n} d l) f g front back x e eq_x at_x eq_e at_e b =
       let y = link_from net h m n l in
       let a = at_of h m y.0 y.1 in
       link_blocked a.front a.back front back y.0 e a.whole eq_e (depends_blocked d f g a.front a.back x y.0 eq_x at_x a.whole a.length_is b) (subst (Link net h (length a.front)) (sym at_e) (subst (λ z. Link net h z n) (sym a.length_is) l))
 
-  pub undone_blocked : (front back : List Event) (e : Event) → front ++ e ∷ back ≡ h → IsUndone net h p c (length front) → is_blocked net p c (scanned net p c front) e ≡ true
+  pub undone_blocked : (front back : List Event) (e : Event) → front ++ e ∷ back ≡ h → IsUndone net h bound (length front) → is_blocked net bound (scanned net bound front) e ≡ true
   undone_blocked front back e eq (inl a) = lost_blocked front back e eq a
   undone_blocked front back e eq (inr u) =
       let a = at_of h u.0 u.1.event u.1.at in
-      let b = lost_blocked a.front a.back u.1.event a.whole (subst (IsLost h p c) (sym a.length_is) u.1) in
+      let b = lost_blocked a.front a.back u.1.event a.whole (subst (IsLost h bound) (sym a.length_is) u.1) in
       depends_blocked u.2 a.front a.back front back u.1.event e a.whole a.length_is eq refl b
 
   -- an event is blocked exactly where its position is undone
-  pub blocked_iff_undone : (front back : List Event) (e : Event) → front ++ e ∷ back ≡ h → (is_blocked net p c (scanned net p c front) e ≡ true) ↔ IsUndone net h p c (length front)
+  pub blocked_iff_undone : (front back : List Event) (e : Event) → front ++ e ∷ back ≡ h → (is_blocked net bound (scanned net bound front) e ≡ true) ↔ IsUndone net h bound (length front)
   blocked_iff_undone front back e eq = (λ b. blocked_undone (suc (length front)) front back e (omega arith) eq b, λ u. undone_blocked front back e eq u)

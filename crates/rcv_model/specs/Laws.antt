@@ -9,7 +9,7 @@ use Rattle.rcv_model.specs.Net.{Net, IsIn, HasTwoEnds}
 use Rattle.rcv_model.specs.Run.{Act, acts, IsQueued, IsRun, channel, joint_of, IsReachedState}
 use Rattle.rcv_model.specs.Table.{IsRestart, IsConcerned, AreRestarts}
 use Rattle.rcv_model.specs.Act.{IsNotStuck}
-use Rattle.rcv_model.specs.Undo.{is_blocked, scanned, keep, IsUndone, IsQueuedByPlaces, picked, IsLatestCut, UndoesExactly}
+use Rattle.rcv_model.specs.Undo.{is_blocked, scanned, keep, keep_within, IsUndone, IsQueuedByPlaces, picked, IsLatestCut, IsUndoing, UndoesExactly}
 use Rattle.rcv_model.specs.Next.{IsProper, IsAccepted, AreNext, IsEnabledAt, IsEnabledBy}
 use Rattle.rcv_model.specs.Places.{Spot, Offers, offers_at, spot_of, net_of, IsFull, IsEndIn}
 use Rattle.rcv_model.specs.Text.{Body}
@@ -31,7 +31,7 @@ LegalJournalsKeepRuns =
 -- The scan leaves out exactly the events that are lost or depend on a lost one.
 abbrev pub UndoneIsLeftOut : Type 0
 UndoneIsLeftOut =
-    (net : Net) (p c : ℕ) (h : List Event) → IsQueued net h → (front back : List Event) (e : Event) → front ++ e ∷ back ≡ h → (is_blocked net p c (scanned net p c front) e ≡ true) ↔ IsUndone net h p c (length front)
+    (net : Net) (bound : ℕ → ℕ) (h : List Event) → IsQueued net h → (front back : List Event) (e : Event) → front ++ e ∷ back ≡ h → (is_blocked net bound (scanned net bound front) e ≡ true) ↔ IsUndone net h bound (length front)
 
 -- The list of offered points has those that the relation has.
 abbrev pub OffersAreListed : Type 0
@@ -54,7 +54,7 @@ QueuesByPlaces = (net : Net) (h : List Event) → IsQueued net h ↔ IsQueuedByP
 -- The kept events stand at the positions of the latest cut that lacks what is lost.
 abbrev pub KeepIsTheLatestCut : Type 0
 KeepIsTheLatestCut =
-    (net : Net) (p c : ℕ) (h : List Event) → IsQueued net h → (has : ℕ → Bool) × IsLatestCut net h p c has × (keep net p c h ≡ picked has h)
+    (net : Net) (bound : ℕ → ℕ) (h : List Event) → IsQueued net h → (has : ℕ → Bool) × IsLatestCut net h bound has × (keep_within net bound h ≡ picked has h)
 
 -- The points that a text offers at a place are ascending.
 abbrev pub OffersAscend : Type 0
@@ -156,10 +156,10 @@ abbrev pub BareJournalsAreShort : Type 0
 BareJournalsAreShort =
     (body : Body) (roles : ℕ) (journal : List Entry) → IsLegal (bare_rules body roles) journal → length journal ≤ roles * 10000
 
--- Each recovery undoes exactly the failed role's lost events and what depends on them.
+-- Whatever each role loses, exactly the lost events and what depends on them are undone.
 abbrev pub RecoveriesUndoExactly : Type 0
 RecoveriesUndoExactly =
-    (net : Net) (p c : ℕ) (h : List Event) → IsQueued net h → (has : ℕ → Bool) × UndoesExactly net h p c has
+    (net : Net) (bound : ℕ → ℕ) (h : List Event) → IsQueued net h → (has : ℕ → Bool) × IsUndoing net h bound has
 
 -- So each recovery in a legal journal leaves the kept events that aren't undone.
 abbrev pub JournalsUndoExactly : Type 0

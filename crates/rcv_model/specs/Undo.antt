@@ -1,4 +1,4 @@
--- What depends on an event, and what is kept where a role loses events.
+-- What depends on an event, and what is kept where roles lose events.
 use Rattle.std.specs.Prelude.{◌≡◌, ℕ, suc, ◌<◌, ◌≤◌, ◌↔◌, Bool, true, false, ◌==◌, ◌&&◌, ◌||◌, not, nat_le, if◌then◌else◌, List, [], ◌∷◌, ◌++◌, length, take, Some, slice_get, ◌⊎◌}
 use Rattle.std.specs.List.{list_any}
 use Rattle.rcv_tree.specs.declared.event.Event.{Event}
@@ -56,16 +56,19 @@ pub data Depends (net : Net) (h : List Event) : ℕ → ℕ → Type 0 where
   one : {i j : ℕ} → Link net h i j → Depends net h i j
   more : {i j k : ℕ} → Depends net h i j → Link net h j k → Depends net h i k
 
--- Position i is an event of p behind p's first c.
-pub record IsLost (h : List Event) (p c i : ℕ) : Type 0 where
+-- How many of its first events each role may keep: where p alone loses, its first c, and all of each other role.
+abbrev pub only : ℕ → ℕ → List Event → ℕ → ℕ
+only p c h q = if q == p then c else length (acts q h)
+
+-- Position i is lost: an event of a role behind as many of its events as the bound says.
+pub record IsLost (h : List Event) (bound : ℕ → ℕ) (i : ℕ) : Type 0 where
   pub event : Event
   pub at : slice_get h i ≡ Some event
-  pub role : event.role ≡ p
-  pub behind : c ≤ length (acts p (take i h))
+  pub behind : bound event.role ≤ length (acts event.role (take i h))
 
 -- Position j is undone: it is lost, or it depends on a lost one.
-abbrev pub IsUndone : Net → List Event → ℕ → ℕ → ℕ → Type 0
-IsUndone net h p c j = IsLost h p c j ⊎ ((i : ℕ) × IsLost h p c i × Depends net h i j)
+abbrev pub IsUndone : Net → List Event → (ℕ → ℕ) → ℕ → Type 0
+IsUndone net h bound j = IsLost h bound j ⊎ ((i : ℕ) × IsLost h bound i × Depends net h i j)
 
 -- What is kept so far, and the roles that have lost an event.
 pub record Kept : Type 0 where
@@ -76,9 +79,9 @@ pub record Kept : Type 0 where
 abbrev pub is_stopped : Kept → Event → Bool
 is_stopped kept e = list_any (λ r. r == e.role) kept.stopped
 
--- The event is behind the first c of p.
-abbrev pub is_behind : ℕ → ℕ → Kept → Event → Bool
-is_behind p c kept e = (e.role == p) && nat_le c (length (acts p kept.events))
+-- The event is behind as many of its role as the bound says.
+abbrev pub is_behind : (ℕ → ℕ) → Kept → Event → Bool
+is_behind bound kept e = nat_le (bound e.role) (length (acts e.role kept.events))
 
 -- The event is a Recv, and nothing that is kept lies in its channel.
 abbrev pub is_starved : Net → Kept → Event → Bool
@@ -87,32 +90,37 @@ is_starved net kept e =
     && nat_le (length (put net (net.sender e.point) e.role kept.events)) (length (taken net (net.sender e.point) e.role kept.events))
 
 -- The event can't be kept.
-abbrev pub is_blocked : Net → ℕ → ℕ → Kept → Event → Bool
-is_blocked net p c kept e = is_stopped kept e || (is_behind p c kept e || is_starved net kept e)
+abbrev pub is_blocked : Net → (ℕ → ℕ) → Kept → Event → Bool
+is_blocked net bound kept e = is_stopped kept e || (is_behind bound kept e || is_starved net kept e)
 
 -- One event more.
-abbrev pub keep_one : Net → ℕ → ℕ → Kept → Event → Kept
-keep_one net p c kept e =
-    if is_blocked net p c kept e
+abbrev pub keep_one : Net → (ℕ → ℕ) → Kept → Event → Kept
+keep_one net bound kept e =
+    if is_blocked net bound kept e
     then record { events = kept.events; stopped = e.role ∷ kept.stopped }
     else record { events = kept.events ++ e ∷ []; stopped = kept.stopped }
 
-abbrev pub keep_from : Net → ℕ → ℕ → Kept → List Event → Kept
-keep_from net p c kept [] = kept
-keep_from net p c kept (e ∷ h) = keep_from net p c (keep_one net p c kept e) h
-
--- The events that are left where p keeps its first c: those at positions that aren't undone.
-abbrev pub keep : Net → ℕ → ℕ → List Event → List Event
-keep net p c h = (keep_from net p c (record { events = []; stopped = [] }) h).events
+abbrev pub keep_from : Net → (ℕ → ℕ) → Kept → List Event → Kept
+keep_from net bound kept [] = kept
+keep_from net bound kept (e ∷ h) = keep_from net bound (keep_one net bound kept e) h
 
 -- The state of the scan behind these events.
-abbrev pub scanned : Net → ℕ → ℕ → List Event → Kept
-scanned net p c f = keep_from net p c (record { events = []; stopped = [] }) f
+abbrev pub scanned : Net → (ℕ → ℕ) → List Event → Kept
+scanned net bound f = keep_from net bound (record { events = []; stopped = [] }) f
 
--- A cut that lacks what p loses: a set of positions that holds all that its members depend on.
-pub record IsCut (net : Net) (h : List Event) (p c : ℕ) (has : ℕ → Bool) : Type 0 where
+-- The events that are left where each role keeps at most as many of its first as the bound says:
+-- those at positions that aren't undone.
+abbrev pub keep_within : Net → (ℕ → ℕ) → List Event → List Event
+keep_within net bound h = (scanned net bound h).events
+
+-- The events that are left where p alone loses, all but its first c.
+abbrev pub keep : Net → ℕ → ℕ → List Event → List Event
+keep net p c h = keep_within net (only p c h) h
+
+-- A cut that lacks what is lost: a set of positions that holds all that its members depend on.
+pub record IsCut (net : Net) (h : List Event) (bound : ℕ → ℕ) (has : ℕ → Bool) : Type 0 where
   pub inside : (i : ℕ) → has i ≡ true → i < length h
-  pub lacks : (i : ℕ) → has i ≡ true → IsLost h p c i → ⊥
+  pub lacks : (i : ℕ) → has i ≡ true → IsLost h bound i → ⊥
   pub holds : (i j : ℕ) → has j ≡ true → Depends net h i j → has i ≡ true
 
 -- The events at the positions of a set, in order.
@@ -121,12 +129,16 @@ picked has [] = []
 picked has (e ∷ h) = if has 0 then e ∷ picked (λ i. has (suc i)) h else picked (λ i. has (suc i)) h
 
 -- The set is the latest cut: it is one, and holds each other one.
-pub record IsLatestCut (net : Net) (h : List Event) (p c : ℕ) (has : ℕ → Bool) : Type 0 where
-  pub cut : IsCut net h p c has
-  pub greatest : (other : ℕ → Bool) → IsCut net h p c other → (i : ℕ) → other i ≡ true → has i ≡ true
+pub record IsLatestCut (net : Net) (h : List Event) (bound : ℕ → ℕ) (has : ℕ → Bool) : Type 0 where
+  pub cut : IsCut net h bound has
+  pub greatest : (other : ℕ → Bool) → IsCut net h bound other → (i : ℕ) → other i ≡ true → has i ≡ true
 
--- Where p keeps its first c, exactly its lost events and what depends on them are undone: what is left stands at the
--- positions of a set, and outside the set are the undone ones.
-pub record UndoesExactly (net : Net) (h : List Event) (p c : ℕ) (has : ℕ → Bool) : Type 0 where
-  pub kept : keep net p c h ≡ picked has h
-  pub undone : (i : ℕ) → i < length h → (has i ≡ false) ↔ IsUndone net h p c i
+-- Exactly the lost events and what depends on them are undone: what is left stands at the positions of a set, and
+-- outside the set are the undone ones.
+pub record IsUndoing (net : Net) (h : List Event) (bound : ℕ → ℕ) (has : ℕ → Bool) : Type 0 where
+  pub kept : keep_within net bound h ≡ picked has h
+  pub undone : (i : ℕ) → i < length h → (has i ≡ false) ↔ IsUndone net h bound i
+
+-- The same where p alone loses, all but its first c.
+abbrev pub UndoesExactly : Net → List Event → ℕ → ℕ → (ℕ → Bool) → Type 0
+UndoesExactly net h p c has = IsUndoing net h (only p c h) has

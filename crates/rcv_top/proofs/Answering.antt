@@ -14,6 +14,7 @@ use Rattle.rcv_model.specs.Run.{IsRun}
 use Rattle.rcv_model.specs.Text.{body_of}
 use Rattle.rcv_model.specs.Plain.{IsPlain}
 use Rattle.rcv_model.specs.Form.{HasForm}
+use Rattle.rcv_model.specs.Undo.{only}
 use Rattle.rcv_model.specs.Journal.{start, durable, reading, IsLegal}
 use Rattle.rcv_model.specs.Final.{IsOneThread}
 use Rattle.rcv_model.specs.Laws.{OneJournal}
@@ -64,7 +65,7 @@ headline_of protocol journal plain form alone = record {
     exact : (front rest : List Entry) (p : ℕ) (concerned : RoleSet) (kept : List ℕ) (undone : ℕ) → front ++ rest ≡ journal → IsExactRecovery (rules_of (session_of protocol)) (reading (rules_of (session_of protocol)) front) (reading (rules_of (session_of protocol)) (front ++ Recover p concerned kept undone ∷ [])) p
     exact front rest p concerned kept undone e =
         let before = reading (rules_of (session_of protocol)) front in
-        let sets = undo_exactly (rules_of (session_of protocol)).net p (durable (rules_of (session_of protocol)) before p) before.kept (run front rest e).1.queued in
+        let sets = undo_exactly (rules_of (session_of protocol)).net (only p (durable (rules_of (session_of protocol)) before p) before.kept) before.kept (run front rest e).1.queued in
         record { has = sets.0; exact = sets.1; left = ap (λ s. s.kept) (reading_more (rules_of (session_of protocol)) (start (length protocol.roles)) front (Recover p concerned kept undone)) }
 
 -- the same for what the call wrote

@@ -1,0 +1,4 @@
+pub mod Counts
+pub mod Expected
+pub mod Beside
+pub mod Laws
