@@ -2,7 +2,7 @@
 
 ghost use Rattle.std.specs.Prelude.{◌≡◌, ◌≤◌, ◌⊎◌, ◌↔◌, IsTrue};
 ghost use Rattle.rcv_top.specs.Outcome.{IsCommand};
-ghost use Rattle.rcv_top.specs.Calls.{bytes_of, Says, Wrote, WritesLegalJournal};
+ghost use Rattle.rcv_top.specs.Calls.{bytes_of, around, Says, Wrote, WritesLegalJournal};
 
 use crate::gate::Gate;
 use crate::run::run;
@@ -29,8 +29,8 @@ pub fn recover<S: Source, K: Sink, G: Gate>(
     sink: &mut K,
     _gate: &G,
 ) -> Status
-    ensures says { Says (bytes_of words.now) (record { rest_before = S.rest source.old; rest_after = S.rest source.new; given_before = S.given source.old; given_after = S.given source.new; read_faults_before = S.faults source.old; read_faults_after = S.faults source.new; written_before = K.written sink.old; written_after = K.written sink.new; write_faults_before = K.faults sink.old; write_faults_after = K.faults sink.new }) result }
-    ensures headline { (result ≡ Status.Completed) ⊎ (result ≡ Status.Limited) → WritesLegalJournal (record { rest_before = S.rest source.old; rest_after = S.rest source.new; given_before = S.given source.old; given_after = S.given source.new; read_faults_before = S.faults source.old; read_faults_after = S.faults source.new; written_before = K.written sink.old; written_after = K.written sink.new; write_faults_before = K.faults sink.old; write_faults_after = K.faults sink.new }) }
+    ensures says { Says (bytes_of words.now) (around S.rest S.given S.faults source.old source.new K.written K.faults sink.old sink.new) result }
+    ensures headline { (result ≡ Status.Completed) ⊎ (result ≡ Status.Limited) → WritesLegalJournal (around S.rest S.given S.faults source.old source.new K.written K.faults sink.old sink.new) }
     ensures source_later { S.faults source.old ≤ S.faults source.new }
     ensures sink_later { K.faults sink.old ≤ K.faults sink.new }
 {
