@@ -106,7 +106,7 @@ one_session input p q j k b c x y = record { rules = rules; journals = journals;
 not_both : (p q : Protocol) (j k : List Entry) (b c : List ℕ) → SameSession p q j k b c → IsCompleted (rules_of (session_of p)) (reading (rules_of (session_of p)) j) → IsLimited (rules_of (session_of q)) (reading (rules_of (session_of q)) k) → ⊥
 not_both p q j k b c same done end =
     end.1 (subst (λ (es : List Entry). AreDone (rules_of (session_of q)) (reading (rules_of (session_of q)) es)) same.journals
-      (subst (λ (r : Rules). AreDone r (reading r j)) same.rules done.1))
+    (subst (λ (r : Rules). AreDone r (reading r j)) same.rules done.1))
 
 pub one_outcome : OneOutcome
 one_outcome words input s t b c (usage n) (usage m) = (refl, refl)

@@ -17,11 +17,20 @@ const MOST: usize = 1_048_576;
 const USAGE: &[u8] =
     b"usage: rcv run|check|project|table|gen [--workers N] [--json] [--role R] [--number N]\n";
 
-/// Does what the program does: reads the words, then the whole source, and writes the answer by one call.
+/// Does what the program does: reads the words, then the whole source, and writes the answer.
 ///
-/// The words are a command exactly where they are the one word `run`; on `Usage` nothing is read. The output is made
-/// whole in memory before the first byte of it is written. The statuses and what is written with each stand in
-/// docs/FORMATS.md.
+/// `words` are those behind the program's name; they are a command exactly where they are the one word `run`. The
+/// output is made whole in memory before the first byte of it is written. The answer says how the call ended:
+/// - `Completed`: the input is the text of a plain protocol, and the journal of its session was written.
+/// - `Limited`: the same, and some role isn't done at the journal's end.
+/// - `Usage`: the words are no command; nothing was read, and the usage line was written.
+/// - `Refused`: the input is the text of no plain protocol, and the refusal was written.
+/// - `ReadFault`: the source's count of faults rose, and nothing was written.
+/// - `WriteFault`: the sink's count of faults rose, and a beginning of what should be written was, not all of it.
+/// - `Memory`: memory was wanted, and nothing was written.
+/// - `TooLong`: more than 1,048,576 bytes were taken from the source, and nothing was written.
+///
+/// One worker runs the session, so `gate` isn't called.
 pub fn recover<S: Source, K: Sink, G: Gate>(
     alloc: Global,
     words: &[String],

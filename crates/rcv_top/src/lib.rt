@@ -7,6 +7,8 @@ mod call;
 mod gate;
 mod run;
 mod status;
+#[cfg(test)]
+mod tests;
 
 pub use call::recover;
 pub use gate::{Gate, NoGate};
