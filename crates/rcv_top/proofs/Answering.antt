@@ -1,10 +1,12 @@
 -- What the top call says, from what it read and wrote.
 use Rattle.std.proofs.Common.{◌≡◌, ℕ, Some, None, Option, codes, List, [], ◌∷◌, ◌++◌, length, refl, sym, ◌∙◌, ap, subst, ◌⊎◌, inl, inr, ⊎_elim, append-nil, arith}
-use Rattle.std.specs.Prelude.{Ok, Err, Vec}
+use Rattle.std.specs.Prelude.{◌<◌, ◌≤◌, Result, Ok, Err, Vec}
+use Rattle.std.proofs.lemmas.Bool.{cases_lt}
 use Rattle.std.specs.declared.alloc.Global.{Global}
 use Rattle.std.specs.Io.KnownBytes.{append_known, IsAtEnd}
 use Rattle.rcv_io.specs.declared.fault.ReadError.{ReadError}
 use Rattle.rcv_io.specs.declared.fault.ReadError.TheVariants as errors
+use Rattle.rcv_io.specs.Causes.{Rose}
 use Rattle.rcv_io.specs.Source.{Took, ReadsWhole}
 use Rattle.rcv_tree.specs.declared.protocol.Protocol.{Protocol}
 use Rattle.rcv_tree.specs.declared.entry.Entry.{Entry}
@@ -27,25 +29,25 @@ use Rattle.rcv_core.specs.Setup.{rules_of}
 use Rattle.rcv_core.proofs.Books.{reading_more}
 use Rattle.rcv_top.specs.declared.status.Status.{Status}
 use Rattle.rcv_top.specs.declared.status.Status.TheVariants as statuses
-use Rattle.rcv_top.specs.Outcome.{IsCommand, usage_line, session_of, IsSession, IsOutcome, usage, too_long, refused, completed, limited}
+use Rattle.rcv_top.specs.Outcome.{IsCommand, usage_line, most_bytes, session_of, IsSession, IsOutcome, usage, too_long, refused, completed, limited}
 use Rattle.rcv_top.specs.Headline.{IsExactRecovery, IsHeadline}
-use Rattle.rcv_top.specs.Calls.{Around, ReadNothing, IsInput, TakesTooMuch, Says, Wrote, WritesLegalJournal}
+use Rattle.rcv_top.specs.Calls.{Around, ReadNothing, WroteNothing, IsInput, TakesTooMuch, WantsMemory, FailsToRead, Says, Wrote, WritesLegalJournal}
 
 nothing_more : (o : Option (List ℕ)) → append_known o [] ≡ o
 nothing_more None = refl
 nothing_more (Some xs) = ap (λ l. Some l) (append-nil xs)
 
 -- an outcome that was written whole
-said : (words : List (List ℕ)) (around : Around) (input bytes : List ℕ) (status : Status) → IsInput words around input → IsOutcome words input status bytes → around.written_after ≡ append_known around.written_before bytes → Says words around status
-said words around input bytes status is (usage none) wrote = record { input = input; bytes = _; is_input = is; outcome = usage none; writes = wrote }
-said words around input bytes status is (too_long command many) wrote = record { input = input; takes = is.takes; outcome = too_long command many; writes = wrote ∙ nothing_more around.written_before }
-said words around input bytes status is (refused read none) wrote = record { input = input; bytes = _; is_input = is; outcome = refused read none; writes = wrote }
-said words around input bytes status is (completed p journal read session done) wrote = record { input = input; bytes = _; is_input = is; outcome = completed p journal read session done; writes = wrote }
-said words around input bytes status is (limited p journal read session end) wrote = record { input = input; bytes = _; is_input = is; outcome = limited p journal read session end; writes = wrote }
+said : (words : List (List ℕ)) (call : Around) (input bytes : List ℕ) (status : Status) → IsInput words call input → length input ≤ most_bytes → IsOutcome words input status bytes → call.written_after ≡ append_known call.written_before bytes → Says words call status
+said words call input bytes status is short (usage none) wrote = record { input = input; bytes = _; is_input = is; outcome = usage none; writes = wrote }
+said words call input bytes status is short (too_long command many) wrote = absurd (omega (arith, short, many))
+said words call input bytes status is short (refused read none) wrote = record { input = input; bytes = _; is_input = is; outcome = refused read none; writes = wrote }
+said words call input bytes status is short (completed p journal read session done) wrote = record { input = input; bytes = _; is_input = is; outcome = completed p journal read session done; writes = wrote }
+said words call input bytes status is short (limited p journal read session end) wrote = record { input = input; bytes = _; is_input = is; outcome = limited p journal read session end; writes = wrote }
 
-pub answered : (words : List (List ℕ)) (around : Around) (input bytes : List ℕ) (status result : Status) → IsInput words around input → IsOutcome words input status bytes → Wrote around.written_before around.written_after around.write_faults_before around.write_faults_after bytes status result → Says words around result
-answered words around input bytes status result is outcome (inl w) = subst (Says words around) (sym w.0) (said words around input bytes status is outcome w.1)
-answered words around input bytes status result is outcome (inr w) = subst (Says words around) (sym w.0) (record { rose = w.1; input = input; status = status; bytes = bytes; is_input = is; outcome = outcome; writes = w.2 })
+pub answered : (words : List (List ℕ)) (call : Around) (input bytes : List ℕ) (status result : Status) → IsInput words call input → length input ≤ most_bytes → IsOutcome words input status bytes → Wrote call.written_before call.written_after call.write_faults_before call.write_faults_after bytes status result → Says words call result
+answered words call input bytes status result is short outcome (inl w) = subst (Says words call) (sym w.0) (said words call input bytes status is short outcome w.1)
+answered words call input bytes status result is short outcome (inr w) = subst (Says words call) (sym w.0) (record { rose = w.1; input = input; status = status; bytes = bytes; is_input = is; outcome = outcome; writes = w.2 })
 
 -- the one-thread journal of a plain protocol is what the headline says
 pub headline_of : (protocol : Protocol) (journal : List Entry) → IsPlain (body_of protocol.body) → HasForm (body_of protocol.body) (length protocol.roles) → IsOneThread (rules_of (session_of protocol)) journal → IsHeadline (rules_of (session_of protocol)) journal
@@ -69,14 +71,14 @@ headline_of protocol journal plain form alone = record {
         record { has = sets.0; exact = sets.1; left = ap (λ s. s.kept) (reading_more (rules_of (session_of protocol)) (start (length protocol.roles)) front (Recover p concerned kept undone)) }
 
 -- the same for what the call wrote
-pub wrote_headline : (words : List (List ℕ)) (around : Around) (input bytes : List ℕ) (status result : Status) → IsInput words around input → IsCommand words → IsOutcome words input status bytes → Wrote around.written_before around.written_after around.write_faults_before around.write_faults_after bytes status result → (result ≡ statuses.Completed) ⊎ (result ≡ statuses.Limited) → WritesLegalJournal around
-wrote_headline words around input bytes status result is command outcome (inr w) ended = absurd (⊎_elim (λ e. let f = w.0 in cc) (λ e. let f = w.0 in cc) ended)
-wrote_headline words around input bytes status result is command outcome (inl w) ended = go status bytes refl outcome (⊎_elim (λ e. inl (sym w.0 ∙ e)) (λ e. inr (sym w.0 ∙ e)) ended)
+pub wrote_headline : (words : List (List ℕ)) (call : Around) (input bytes : List ℕ) (status result : Status) → IsInput words call input → IsCommand words → IsOutcome words input status bytes → Wrote call.written_before call.written_after call.write_faults_before call.write_faults_after bytes status result → (result ≡ statuses.Completed) ⊎ (result ≡ statuses.Limited) → WritesLegalJournal call
+wrote_headline words call input bytes status result is command outcome (inr w) ended = absurd (⊎_elim (λ e. let f = w.0 in cc) (λ e. let f = w.0 in cc) ended)
+wrote_headline words call input bytes status result is command outcome (inl w) ended = go status bytes refl outcome (⊎_elim (λ e. inl (sym w.0 ∙ e)) (λ e. inr (sym w.0 ∙ e)) ended)
   where
-    journal_of : (p : Protocol) (journal : List Entry) → IsSession input p journal bytes → WritesLegalJournal around
+    journal_of : (p : Protocol) (journal : List Entry) → IsSession input p journal bytes → WritesLegalJournal call
     journal_of p journal session = record { input = input; takes = is.takes; whole = is.whole command; protocol = p; journal = journal; bytes = bytes; session = session; writes = w.1; headline = headline_of p journal session.reads.spelled.plain_body.plain session.reads.spelled.plain_body.form session.alone }
 
-    go : (s : Status) (b : List ℕ) → b ≡ bytes → IsOutcome words input s b → (s ≡ statuses.Completed) ⊎ (s ≡ statuses.Limited) → WritesLegalJournal around
+    go : (s : Status) (b : List ℕ) → b ≡ bytes → IsOutcome words input s b → (s ≡ statuses.Completed) ⊎ (s ≡ statuses.Limited) → WritesLegalJournal call
     go s b same (usage none) e = absurd (⊎_elim (λ f. cc) (λ f. cc) e)
     go s b same (too_long c many) e = absurd (⊎_elim (λ f. cc) (λ f. cc) e)
     go s b same (refused read none) e = absurd (⊎_elim (λ f. cc) (λ f. cc) e)
@@ -89,19 +91,19 @@ nothing_taken None given = record { front = refl; each_counted = omega arith; no
 nothing_taken (Some xs) given = record { front = refl; each_counted = omega arith; no_other = omega arith }
 
 -- no command: nothing is read
-pub usage_said : (words : List (List ℕ)) (around : Around) (result : Status) → (IsCommand words → ⊥) → ReadNothing around → Wrote around.written_before around.written_after around.write_faults_before around.write_faults_after usage_line statuses.Usage result → Says words around result
-usage_said words around result none unread wrote = answered words around [] usage_line statuses.Usage result
+pub usage_said : (words : List (List ℕ)) (call : Around) (result : Status) → (IsCommand words → ⊥) → ReadNothing call → Wrote call.written_before call.written_after call.write_faults_before call.write_faults_after usage_line statuses.Usage result → Says words call result
+usage_said words call result none unread wrote = answered words call [] usage_line statuses.Usage result
     (record {
-      takes = subst (λ r. Took around.rest_before r around.given_before around.given_after []) (sym unread.rest) (subst (λ n. Took around.rest_before around.rest_before around.given_before n []) (sym unread.given) (nothing_taken around.rest_before around.given_before));
+      takes = subst (λ r. Took call.rest_before r call.given_before call.given_after []) (sym unread.rest) (subst (λ n. Took call.rest_before call.rest_before call.given_before n []) (sym unread.given) (nothing_taken call.rest_before call.given_before));
       whole = λ command. absurd (none command);
       unread = λ no_command. unread;
     })
-    (usage none) wrote
+    (omega arith) (usage none) wrote
 
 -- a command: all was read
-pub input_of : (words : List (List ℕ)) (around : Around) (input : List ℕ) (most : ℕ) (v : Vec ℕ Global) → IsCommand words → ReadsWhole around.rest_before around.rest_after around.given_before around.given_after most (Ok v) → IsAtEnd around.rest_after → input ≡ v.items → IsInput words around input
-input_of words around input most v command reads end same = record {
-  takes = subst (λ l. Took around.rest_before around.rest_after around.given_before around.given_after l) (sym (same ∙ reads.bytes)) reads.took;
+pub input_of : (words : List (List ℕ)) (call : Around) (input : List ℕ) (most : ℕ) (v : Vec ℕ Global) → IsCommand words → ReadsWhole call.rest_before call.rest_after call.given_before call.given_after most (Ok v) → IsAtEnd call.rest_after → input ≡ v.items → IsInput words call input
+input_of words call input most v command reads end same = record {
+  takes = subst (λ l. Took call.rest_before call.rest_after call.given_before call.given_after l) (sym (same ∙ reads.bytes)) reads.took;
   whole = λ c. end;
   unread = λ no_command. absurd (no_command command);
 }
@@ -110,5 +112,17 @@ pub run_outcome : (words : List (List ℕ)) (input : List ℕ) (status : Status)
 run_outcome words input status bytes command outcome = subst (λ w. IsOutcome w input status bytes) (sym command) outcome
 
 -- too much was taken
-pub too_much : (words : List (List ℕ)) (around : Around) (e : ReadError) → IsCommand words → ReadsWhole around.rest_before around.rest_after around.given_before around.given_after 1048576 (Err e) → e ≡ errors.TooLong → around.written_after ≡ around.written_before → TakesTooMuch words around
-too_much words around e command reads why same = record { input = reads.taken; takes = reads.took; outcome = too_long command (reads.too_long.0 (ap (λ (x : ReadError). Err x) why)); writes = same }
+pub too_much : (words : List (List ℕ)) (call : Around) (e : ReadError) → IsCommand words → ReadsWhole call.rest_before call.rest_after call.given_before call.given_after most_bytes (Err e) → e ≡ errors.TooLong → WroteNothing call → TakesTooMuch words call
+too_much words call e command reads why nothing = record { input = reads.taken; takes = reads.took; outcome = too_long command (reads.too_long.0 (ap (λ (x : ReadError). Err x) why)); writes = nothing }
+
+-- another answer than that too much was taken: it wasn't
+within : (call : Around) (r : Result (Vec ℕ Global) ReadError) (reads : ReadsWhole call.rest_before call.rest_after call.given_before call.given_after most_bytes r) → (r ≡ Err errors.TooLong → ⊥) → length reads.taken ≤ most_bytes
+within call r reads other = ⊎_elim (λ many. absurd (other (reads.too_long.1 many))) (λ few. few) (cases_lt most_bytes (length reads.taken))
+
+-- memory was wanted, while the input was read or behind it
+pub wants_memory : (words : List (List ℕ)) (call : Around) (r : Result (Vec ℕ Global) ReadError) → IsCommand words → ReadsWhole call.rest_before call.rest_after call.given_before call.given_after most_bytes r → (r ≡ Err errors.TooLong → ⊥) → WroteNothing call → WantsMemory words call
+wants_memory words call r command reads other nothing = record { command = command; input = reads.taken; takes = reads.took; short = within call r reads other; writes = nothing }
+
+-- the source failed
+pub fails_to_read : (words : List (List ℕ)) (call : Around) (r : Result (Vec ℕ Global) ReadError) → IsCommand words → Rose call.read_faults_before call.read_faults_after → ReadsWhole call.rest_before call.rest_after call.given_before call.given_after most_bytes r → (r ≡ Err errors.TooLong → ⊥) → WroteNothing call → FailsToRead words call
+fails_to_read words call r command rose reads other nothing = record { rose = rose; command = command; input = reads.taken; takes = reads.took; short = within call r reads other; writes = nothing }

@@ -1,5 +1,5 @@
 -- What a call of the program took from its source and wrote to its sink, for each status.
-use Rattle.std.specs.Prelude.{◌≡◌, ℕ, ◌⊎◌, List, [], map}
+use Rattle.std.specs.Prelude.{◌≡◌, ℕ, ◌≤◌, ◌⊎◌, List, [], length, map}
 use Rattle.std.specs.String.{string_bytes}
 use Rattle.std.specs.declared.option.Option.{Option}
 use Rattle.std.specs.declared.string.String.{String}
@@ -13,14 +13,14 @@ use Rattle.rcv_io.specs.Sink.{WroteBeginning}
 use Rattle.rcv_core.specs.Setup.{rules_of}
 use Rattle.rcv_top.specs.declared.status.Status.{Status}
 use Rattle.rcv_top.specs.declared.status.Status.TheVariants.{Completed, Usage, Refused, Limited, ReadFault, WriteFault, Memory, TooLong}
-use Rattle.rcv_top.specs.Outcome.{IsCommand, session_of, IsSession, IsOutcome}
+use Rattle.rcv_top.specs.Outcome.{IsCommand, most_bytes, session_of, IsSession, IsOutcome}
 use Rattle.rcv_top.specs.Headline.{IsHeadline}
 
 -- Words as their bytes.
 abbrev pub bytes_of : List (String Global) → List (List ℕ)
 bytes_of words = map string_bytes words
 
--- What is told of a source and a sink around a call.
+-- What is told of a source and a sink before and after a call.
 pub record Around : Type 0 where
   pub rest_before : Option (List ℕ)
   pub rest_after : Option (List ℕ)
@@ -33,79 +33,106 @@ pub record Around : Type 0 where
   pub write_faults_before : ℕ
   pub write_faults_after : ℕ
 
--- Nothing was read: the source is as before.
-pub record ReadNothing (around : Around) : Type 0 where
-  pub rest : around.rest_after ≡ around.rest_before
-  pub given : around.given_after ≡ around.given_before
-  pub faults : around.read_faults_after ≡ around.read_faults_before
+-- This of a source, by what it tells of its bytes, its count of given ones and its faults, and this of a sink.
+abbrev pub around : {S K : Type 0} → (S → Option (List ℕ)) → (S → ℕ) → (S → ℕ) → S → S → (K → Option (List ℕ)) → (K → ℕ) → K → K → Around
+around rest given read_faults source source_after written write_faults sink sink_after =
+    record {
+      rest_before = rest source;
+      rest_after = rest source_after;
+      given_before = given source;
+      given_after = given source_after;
+      read_faults_before = read_faults source;
+      read_faults_after = read_faults source_after;
+      written_before = written sink;
+      written_after = written sink_after;
+      write_faults_before = write_faults sink;
+      write_faults_after = write_faults sink_after;
+    }
+
+-- Nothing was read: what is told of the source is as before.
+pub record ReadNothing (call : Around) : Type 0 where
+  pub rest : call.rest_after ≡ call.rest_before
+  pub given : call.given_after ≡ call.given_before
+  pub faults : call.read_faults_after ≡ call.read_faults_before
+
+-- Nothing was written: what is told of the sink is as before.
+pub record WroteNothing (call : Around) : Type 0 where
+  pub written : call.written_after ≡ call.written_before
+  pub faults : call.write_faults_after ≡ call.write_faults_before
 
 -- These bytes were taken from the source.
 abbrev pub Takes : Around → List ℕ → Type 0
-Takes around input = Took around.rest_before around.rest_after around.given_before around.given_after input
+Takes call input = Took call.rest_before call.rest_after call.given_before call.given_after input
 
 -- The input is what the source gave: all that it had where the words are a command, else nothing.
-pub record IsInput (words : List (List ℕ)) (around : Around) (input : List ℕ) : Type 0 where
-  pub takes : Takes around input
-  pub whole : IsCommand words → IsAtEnd around.rest_after
-  pub unread : (IsCommand words → ⊥) → ReadNothing around
+pub record IsInput (words : List (List ℕ)) (call : Around) (input : List ℕ) : Type 0 where
+  pub takes : Takes call input
+  pub whole : IsCommand words → IsAtEnd call.rest_after
+  pub unread : (IsCommand words → ⊥) → ReadNothing call
 
--- The call wrote this outcome's bytes.
-pub record Answers (words : List (List ℕ)) (around : Around) (status : Status) : Type 0 where
+-- The call wrote the bytes of this status, which the words and the input have.
+pub record Answers (words : List (List ℕ)) (call : Around) (status : Status) : Type 0 where
   pub input : List ℕ
   pub bytes : List ℕ
-  pub is_input : IsInput words around input
+  pub is_input : IsInput words call input
   pub outcome : IsOutcome words input status bytes
-  pub writes : around.written_after ≡ append_known around.written_before bytes
+  pub writes : call.written_after ≡ append_known call.written_before bytes
 
 -- More was taken than an input may have, and nothing was written.
-pub record TakesTooMuch (words : List (List ℕ)) (around : Around) : Type 0 where
+pub record TakesTooMuch (words : List (List ℕ)) (call : Around) : Type 0 where
   pub input : List ℕ
-  pub takes : Takes around input
+  pub takes : Takes call input
   pub outcome : IsOutcome words input TooLong []
-  pub writes : around.written_after ≡ around.written_before
+  pub writes : WroteNothing call
 
--- The sink failed: its count of faults rose, and a beginning of the outcome's bytes was written.
-pub record FailsToWrite (words : List (List ℕ)) (around : Around) : Type 0 where
-  pub rose : Rose around.write_faults_before around.write_faults_after
+-- The sink failed: its count of faults rose, and a beginning of the outcome's bytes was written, not all of them.
+pub record FailsToWrite (words : List (List ℕ)) (call : Around) : Type 0 where
+  pub rose : Rose call.write_faults_before call.write_faults_after
   pub input : List ℕ
   pub status : Status
   pub bytes : List ℕ
-  pub is_input : IsInput words around input
+  pub is_input : IsInput words call input
   pub outcome : IsOutcome words input status bytes
-  pub writes : WroteBeginning around.written_before around.written_after bytes
+  pub writes : WroteBeginning call.written_before call.written_after bytes
 
--- The source failed: the words are a command, its count of faults rose, and nothing was written.
-pub record FailsToRead (words : List (List ℕ)) (around : Around) : Type 0 where
-  pub rose : Rose around.read_faults_before around.read_faults_after
+-- Memory was wanted: the words are a command, no more was taken than an input may have, and nothing was written.
+pub record WantsMemory (words : List (List ℕ)) (call : Around) : Type 0 where
   pub command : IsCommand words
-  pub writes : around.written_after ≡ around.written_before
+  pub input : List ℕ
+  pub takes : Takes call input
+  pub short : length input ≤ most_bytes
+  pub writes : WroteNothing call
 
--- Memory was wanted: the words are a command, and nothing was written.
-pub record WantsMemory (words : List (List ℕ)) (around : Around) : Type 0 where
+-- The source failed: its count of faults rose. Else it is as where memory was wanted.
+pub record FailsToRead (words : List (List ℕ)) (call : Around) : Type 0 where
+  pub rose : Rose call.read_faults_before call.read_faults_after
   pub command : IsCommand words
-  pub writes : around.written_after ≡ around.written_before
+  pub input : List ℕ
+  pub takes : Takes call input
+  pub short : length input ≤ most_bytes
+  pub writes : WroteNothing call
 
 -- What each status says.
 abbrev pub Says : List (List ℕ) → Around → Status → Type 0
-Says words around Completed = Answers words around Completed
-Says words around Usage = Answers words around Usage
-Says words around Refused = Answers words around Refused
-Says words around Limited = Answers words around Limited
-Says words around ReadFault = FailsToRead words around
-Says words around WriteFault = FailsToWrite words around
-Says words around Memory = WantsMemory words around
-Says words around TooLong = TakesTooMuch words around
+Says words call Completed = Answers words call Completed
+Says words call Usage = Answers words call Usage
+Says words call Refused = Answers words call Refused
+Says words call Limited = Answers words call Limited
+Says words call ReadFault = FailsToRead words call
+Says words call WriteFault = FailsToWrite words call
+Says words call Memory = WantsMemory words call
+Says words call TooLong = TakesTooMuch words call
 
--- The journal that was written is what the headline says: it is that of the input's session, and its text was appended.
-pub record WritesLegalJournal (around : Around) : Type 0 where
+-- The input is the text of a protocol, and what was written is the text of a journal of it as the headline says.
+pub record WritesLegalJournal (call : Around) : Type 0 where
   pub input : List ℕ
-  pub takes : Takes around input
-  pub whole : IsAtEnd around.rest_after
+  pub takes : Takes call input
+  pub whole : IsAtEnd call.rest_after
   pub protocol : Protocol
   pub journal : List Entry
   pub bytes : List ℕ
   pub session : IsSession input protocol journal bytes
-  pub writes : around.written_after ≡ append_known around.written_before bytes
+  pub writes : call.written_after ≡ append_known call.written_before bytes
   pub headline : IsHeadline (rules_of (session_of protocol)) journal
 
 -- These bytes were written with this status; or the sink failed.

@@ -8,16 +8,14 @@ use Rattle.rcv_model.specs.Undo.{keep, UndoesExactly}
 use Rattle.rcv_model.specs.Journal.{Rules, State, durable, reading, IsLegal}
 use Rattle.rcv_model.specs.Final.{IsFinal}
 
--- The recovery of p in this state leaves the kept events but the undone ones: the failed role's lost events and what
--- depends on them, and no others.
+-- The recovery of role p leaves the kept events but the undone ones: p's lost events and what depends on them, no others.
 pub record IsExactRecovery (rules : Rules) (before after : State) (p : ℕ) : Type 0 where
   pub has : ℕ → Bool
   pub exact : UndoesExactly rules.net before.kept p (durable rules before p) has
   pub left : after.kept ≡ keep rules.net p (durable rules before p) before.kept
 
--- The journal is a legal list of sends, receives, crashes and recoveries: after each entry the kept events are a
--- failure-free run, so the joint state, messages in flight included, is one that the protocol reaches, and each recovery
--- undoes exactly the failed role's lost events and what depends on them. At its end nothing is left to do.
+-- A legal journal. After each entry the joint state, messages in flight included, is one that the protocol reaches
+-- without failures; each recovery undoes the lost events and what depends on them alone; at the end nothing is left to do.
 pub record IsHeadline (rules : Rules) (journal : List Entry) : Type 0 where
   pub legal : IsLegal rules journal
   pub reaches : (front back : List Entry) → front ++ back ≡ journal → IsReachedState rules.net (joint_of rules.net (reading rules front).kept)

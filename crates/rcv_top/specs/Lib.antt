@@ -1,3 +1,4 @@
 pub mod Outcome
 pub mod Headline
 pub mod Calls
+pub mod Laws

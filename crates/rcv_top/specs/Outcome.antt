@@ -29,14 +29,15 @@ IsCommand words = words ≡ codes "run" ∷ []
 abbrev pub most_bytes : ℕ
 most_bytes = 1048576
 
--- What is written where the words are no command, and where the input is no plain protocol.
+-- What is written where the words are no command.
 abbrev pub usage_line : List ℕ
 usage_line = codes "usage: rcv run|check|project|table|gen [--workers N] [--json] [--role R] [--number N]\n"
 
+-- What is written where the input is the text of no plain protocol.
 abbrev pub not_yet_line : List ℕ
 not_yet_line = codes "refused 19 NotYet line 1\n"
 
--- The session of a protocol.
+-- A session of this protocol, without scripts and without a plan.
 abbrev pub session_of : Protocol → SetupView
 session_of protocol = record { protocol = protocol }
 
@@ -46,15 +47,22 @@ pub record IsSession (input : List ℕ) (protocol : Protocol) (journal : List En
   pub alone : IsOneThread (rules_of (session_of protocol)) journal
   pub text : IsTextOf (session_of protocol) journal bytes
 
--- The input has a command's words and isn't too long.
+-- The words are a command and the input isn't too long.
 pub record IsRead (words : List (List ℕ)) (input : List ℕ) : Type 0 where
   pub command : IsCommand words
   pub short : length input ≤ most_bytes
+
+-- At the end of this journal all roles are done; or some role isn't, and none can go on.
+abbrev pub EndsCompleted : Protocol → List Entry → Type 0
+EndsCompleted protocol journal = IsCompleted (rules_of (session_of protocol)) (reading (rules_of (session_of protocol)) journal)
+
+abbrev pub EndsLimited : Protocol → List Entry → Type 0
+EndsLimited protocol journal = IsLimited (rules_of (session_of protocol)) (reading (rules_of (session_of protocol)) journal)
 
 -- The answer to these words and this input, each status with its cause and its bytes.
 pub data IsOutcome (words : List (List ℕ)) (input : List ℕ) : Status → List ℕ → Type 0 where
   usage : (IsCommand words → ⊥) → IsOutcome words input Usage usage_line
   too_long : IsCommand words → most_bytes < length input → IsOutcome words input TooLong []
   refused : IsRead words input → ((protocol : Protocol) → IsPlainText input protocol → ⊥) → IsOutcome words input Refused not_yet_line
-  completed : {bytes : List ℕ} (protocol : Protocol) (journal : List Entry) → IsRead words input → IsSession input protocol journal bytes → IsCompleted (rules_of (session_of protocol)) (reading (rules_of (session_of protocol)) journal) → IsOutcome words input Completed bytes
-  limited : {bytes : List ℕ} (protocol : Protocol) (journal : List Entry) → IsRead words input → IsSession input protocol journal bytes → IsLimited (rules_of (session_of protocol)) (reading (rules_of (session_of protocol)) journal) → IsOutcome words input Limited bytes
+  completed : {bytes : List ℕ} (protocol : Protocol) (journal : List Entry) → IsRead words input → IsSession input protocol journal bytes → EndsCompleted protocol journal → IsOutcome words input Completed bytes
+  limited : {bytes : List ℕ} (protocol : Protocol) (journal : List Entry) → IsRead words input → IsSession input protocol journal bytes → EndsLimited protocol journal → IsOutcome words input Limited bytes

@@ -2,7 +2,7 @@
 
 ghost use Rattle.std.specs.Prelude.{◌≡◌, ◌≤◌, ◌⊎◌, ◌↔◌, IsTrue};
 ghost use Rattle.rcv_top.specs.Outcome.{IsCommand};
-ghost use Rattle.rcv_top.specs.Calls.{bytes_of, Says, Wrote, WritesLegalJournal};
+ghost use Rattle.rcv_top.specs.Calls.{bytes_of, around, Says, Wrote, WritesLegalJournal};
 
 use crate::gate::Gate;
 use crate::run::run;
@@ -17,11 +17,20 @@ const MOST: usize = 1_048_576;
 const USAGE: &[u8] =
     b"usage: rcv run|check|project|table|gen [--workers N] [--json] [--role R] [--number N]\n";
 
-/// Does what the program does: reads the words, then the whole source, and writes the answer by one call.
+/// Does what the program does: reads the words, then the whole source, and writes the answer.
 ///
-/// The words are a command exactly where they are the one word `run`; on `Usage` nothing is read. The output is made
-/// whole in memory before the first byte of it is written. The statuses and what is written with each stand in
-/// docs/FORMATS.md.
+/// `words` are those behind the program's name; they are a command exactly where they are the one word `run`. The
+/// output is made whole in memory before the first byte of it is written. The answer says how the call ended:
+/// - `Completed`: the input is the text of a plain protocol, and the journal of its session was written.
+/// - `Limited`: the same, and some role isn't done at the journal's end.
+/// - `Usage`: the words are no command; nothing was read, and the usage line was written.
+/// - `Refused`: the input is the text of no plain protocol, and the refusal was written.
+/// - `ReadFault`: the source's count of faults rose, and nothing was written.
+/// - `WriteFault`: the sink's count of faults rose, and a beginning of what should be written was, not all of it.
+/// - `Memory`: memory was wanted, and nothing was written.
+/// - `TooLong`: more than 1,048,576 bytes were taken from the source, and nothing was written.
+///
+/// One worker runs the session, so `gate` isn't called.
 pub fn recover<S: Source, K: Sink, G: Gate>(
     alloc: Global,
     words: &[String],
@@ -29,8 +38,8 @@ pub fn recover<S: Source, K: Sink, G: Gate>(
     sink: &mut K,
     _gate: &G,
 ) -> Status
-    ensures says { Says (bytes_of words.now) (record { rest_before = S.rest source.old; rest_after = S.rest source.new; given_before = S.given source.old; given_after = S.given source.new; read_faults_before = S.faults source.old; read_faults_after = S.faults source.new; written_before = K.written sink.old; written_after = K.written sink.new; write_faults_before = K.faults sink.old; write_faults_after = K.faults sink.new }) result }
-    ensures headline { (result ≡ Status.Completed) ⊎ (result ≡ Status.Limited) → WritesLegalJournal (record { rest_before = S.rest source.old; rest_after = S.rest source.new; given_before = S.given source.old; given_after = S.given source.new; read_faults_before = S.faults source.old; read_faults_after = S.faults source.new; written_before = K.written sink.old; written_after = K.written sink.new; write_faults_before = K.faults sink.old; write_faults_after = K.faults sink.new }) }
+    ensures says { Says (bytes_of words.now) (around S.rest S.given S.faults source.old source.new K.written K.faults sink.old sink.new) result }
+    ensures headline { (result ≡ Status.Completed) ⊎ (result ≡ Status.Limited) → WritesLegalJournal (around S.rest S.given S.faults source.old source.new K.written K.faults sink.old sink.new) }
     ensures source_later { S.faults source.old ≤ S.faults source.new }
     ensures sink_later { K.faults sink.old ≤ K.faults sink.new }
 {

@@ -2,14 +2,14 @@
 
 use rcv_tree::role::RoleId;
 
-/// Is told of each step that a role attempts, with the role's raw count of events. Sessions of several workers call
-/// it; one worker doesn't.
+/// Is told of each step that a role attempts, and may hold it up. Sessions of several workers call it; one worker
+/// doesn't.
 pub trait Gate: Sync {
-    /// Before the step.
+    /// Comes before the step of this role, where it has made so many events in all, undone ones included.
     fn enter(&self, role: RoleId, count: u32);
 }
 
-/// Lets each step pass.
+/// The gate that lets each step pass at once.
 #[derive(Clone, Copy, Debug)]
 pub struct NoGate;
 

@@ -1,11 +1,25 @@
 // The whole program as one call: from words and an input to a status and bytes.
 #![tactic(auto)]
 
+ghost use Rattle.rcv_top.specs.Laws.{OneOutcome, SessionsAreLegal};
+
 mod call;
 mod gate;
 mod run;
 mod status;
+#[cfg(test)]
+mod tests;
 
 pub use call::recover;
 pub use gate::{Gate, NoGate};
 pub use status::Status;
+
+/// With one worker, status and bytes are a function of the words and the input.
+pub fn one_outcome()
+    ensures { OneOutcome }
+{}
+
+/// The journal of each session is what the headline says.
+pub fn sessions_are_legal()
+    ensures { SessionsAreLegal }
+{}

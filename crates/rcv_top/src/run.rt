@@ -20,7 +20,10 @@ pub struct Output {
     pub bytes: Vec<u8>,
 }
 
-/// Runs the session that the input says, or refuses the input.
+/// What is written for an input of at most 1,048,576 bytes, and with which status: the journal of the session that it
+/// says, or the refusal.
+///
+/// The error comes where no memory was left.
 pub fn run(alloc: Global, input: &[u8]) -> Result<Output, AllocError>
     requires { length input.now ≤ 1048576 }
     ensures { IfOk result (λ output. IsOutcome (codes "run" ∷ []) input.now output.status output.bytes.items) }

@@ -3,24 +3,24 @@
 ghost use Rattle.std.specs.Prelude.{◌≡◌};
 ghost use Rattle.rcv_top.specs.Outcome.{number_of};
 
-/// The status of a call.
+/// How a call ended.
 #[derive(Clone, Copy, Debug, PartialEq, Eq)]
 pub enum Status {
-    /// The session completed.
+    /// The session ran until all roles were done, and its journal was written.
     Completed,
-    /// The words are no command.
+    /// The words are no command, and the usage line was written.
     Usage,
-    /// The input is refused.
+    /// The input is refused, and the refusal was written.
     Refused,
-    /// The journal that was written is final, and some role isn't done.
+    /// The session ran until no role could go on, some role isn't done, and the journal was written.
     Limited,
-    /// The source failed.
+    /// The source failed, and nothing was written.
     ReadFault,
-    /// The sink failed.
+    /// The sink failed, and not all was written.
     WriteFault,
-    /// No memory was left.
+    /// No memory was left, and nothing was written.
     Memory,
-    /// The source had more than 1,048,576 bytes.
+    /// The source had more than 1,048,576 bytes, and nothing was written.
     TooLong,
 }
 

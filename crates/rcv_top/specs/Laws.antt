@@ -1,0 +1,18 @@
+-- What holds of the definitions.
+use Rattle.std.specs.Prelude.{◌≡◌, ℕ, List}
+use Rattle.rcv_tree.specs.declared.protocol.Protocol.{Protocol}
+use Rattle.rcv_tree.specs.declared.entry.Entry.{Entry}
+use Rattle.rcv_core.specs.Setup.{rules_of}
+use Rattle.rcv_top.specs.declared.status.Status.{Status}
+use Rattle.rcv_top.specs.Outcome.{session_of, IsSession, IsOutcome}
+use Rattle.rcv_top.specs.Headline.{IsHeadline}
+
+-- Status and bytes are a function of the words and the input.
+abbrev pub OneOutcome : Type 0
+OneOutcome =
+    (words : List (List ℕ)) (input : List ℕ) (s t : Status) (b c : List ℕ) → IsOutcome words input s b → IsOutcome words input t c → (s ≡ t) × (b ≡ c)
+
+-- The journal of each session is what the headline says, also where the sink took only a beginning of its text.
+abbrev pub SessionsAreLegal : Type 0
+SessionsAreLegal =
+    (input : List ℕ) (protocol : Protocol) (journal : List Entry) (bytes : List ℕ) → IsSession input protocol journal bytes → IsHeadline (rules_of (session_of protocol)) journal
