@@ -68,19 +68,6 @@ can_recv body roles s r p stamp m rest calm lt below next own front at clock = (
   },
 )
 
--- who has made as many events as the limit allows can't act
-pub none_at_limit : (body : Body) (roles : ℕ) (s : State) (r : ℕ) → 10000 ≤ slice_index s.raw r → CanAct (bare_rules body roles) s r → ⊥
-none_at_limit body roles s r many a = go a.0 a.1
-  where
-    low : (e : Event) → e.role ≡ r → IsFree (bare_rules body roles) s e.role → ⊥
-    low e f free = let x : slice_index s.raw r < 10000 = subst (λ q. slice_index s.raw q < 10000) f free.below_limit in omega arith
-
-    go : (e : Entry) → IsActOf (bare_rules body roles) s r e → ⊥
-    go (Send e) x = low e x.0 x.1.free
-    go (Recv e) x = low e x.0 x.1.free
-    go (Crash p) x = absurd x
-    go (Recover p c k u) x = absurd x
-
 -- an act is at a next point
 at_next : (body : Body) (roles : ℕ) (s : State) (r : ℕ) (zs : List ℕ) (e : Event) (offered : List ℕ) → AreNext (net_of body) r (place s r) zs → e.role ≡ r → AreNext (net_of body) e.role (place s e.role) offered → offered ≡ zs
 at_next body roles s r zs e offered next f other = one_next (net_of body) r (place s r) offered zs (subst (λ q. AreNext (net_of body) q (place s q) offered) f other) next

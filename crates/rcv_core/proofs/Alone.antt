@@ -5,7 +5,7 @@ use Rattle.rcv_model.specs.Journal.{after}
 use Rattle.rcv_model.specs.Final.{IsFinal, IsStep, IsOneThreadFrom}
 use Rattle.rcv_model.specs.Journal.{start}
 use Rattle.rcv_core.specs.Setup.{SetupView, roles_of, rules_of}
-use Rattle.rcv_core.specs.Book.{BookView, state_of, with_more, GoesOn, EndsAlone}
+use Rattle.rcv_core.specs.Book.{BookView, state_of, with_more, AreStepsFrom, GoesOn, EndsAlone}
 use Rattle.rcv_core.proofs.Books.{reading_more}
 
 -- the entries since then, and what they make of those that one thread adds behind them
@@ -13,9 +13,7 @@ pub record SoFar (old now : BookView) : Type 0 where
   pub more : List Entry
   pub added : now ≡ with_more old more
   pub behind : (rest : List Entry) → IsOneThreadFrom (rules_of old.setup) (state_of now) rest → IsOneThreadFrom (rules_of old.setup) (state_of old) (more ++ rest)
-
-pub none_yet : (book : BookView) → SoFar book book
-none_yet book = record { more = []; added = ap (λ (j : List Entry). record { setup = book.setup; entries = j }) (sym (append-nil book.entries)); behind = λ rest alone. alone }
+  pub steps : (rest : List Entry) → AreStepsFrom (rules_of old.setup) (state_of now) rest → AreStepsFrom (rules_of old.setup) (state_of old) (more ++ rest)
 
 -- one entry more
 pub one_more : (old now new : BookView) (e : Entry) → SoFar old now → IsStep (rules_of now.setup) (state_of now) e → new ≡ record { setup = now.setup; entries = now.entries ++ e ∷ [] } → SoFar old new
@@ -25,7 +23,12 @@ one_more old now new e so step grown = record {
   behind = λ rest alone. subst (λ j. IsOneThreadFrom (rules_of old.setup) (state_of old) j) (sym (append_assoc so.more (e ∷ []) rest))
       (so.behind (e ∷ rest) (
         subst (λ s. IsStep (rules_of s) (state_of now) e) same step,
-        subst (λ s. IsOneThreadFrom (rules_of old.setup) s rest) (next_state) alone,
+        subst (λ s. IsOneThreadFrom (rules_of old.setup) s rest) next_state alone,
+      ));
+  steps = λ rest steps. subst (λ j. AreStepsFrom (rules_of old.setup) (state_of old) j) (sym (append_assoc so.more (e ∷ []) rest))
+      (so.steps (e ∷ rest) (
+        subst (λ s. IsStep (rules_of s) (state_of now) e) same step,
+        subst (λ s. AreStepsFrom (rules_of old.setup) s rest) next_state steps,
       ));
 }
   where
@@ -39,7 +42,11 @@ one_more old now new e so step grown = record {
         ∙ ap (λ (x : SetupView). after (rules_of x) (state_of now) e) same
 
 pub goes_on : (old now : BookView) → SoFar old now → GoesOn old now
-goes_on old now so = (so.more, so.added)
+goes_on old now so = record {
+  more = so.more;
+  added = so.added;
+  steps = subst (λ j. AreStepsFrom (rules_of old.setup) (state_of old) j) (append-nil so.more) (so.steps [] tt);
+}
 
 pub ends : (old now : BookView) → SoFar old now → IsFinal (rules_of now.setup) (state_of now) → EndsAlone old now
 ends old now so final = record {

@@ -27,7 +27,7 @@ use Rattle.rcv_core.specs.Book.{BookView, state_of, ChannelView, empty, between,
 use Rattle.rcv_model.proofs.Legal.{legal_more, accepted_runs}
 use Rattle.rcv_model.proofs.PlainNets.{plain_accepted}
 use Rattle.rcv_core.proofs.Following.{stand_more, carry_put, carry_take}
-use Rattle.rcv_core.proofs.Acting.{can_send, can_recv, none_at_limit, none_without_next, none_without_room, none_without_message}
+use Rattle.rcv_core.proofs.Acting.{can_send, can_recv, none_without_next, none_without_room, none_without_message}
 
 -- a point of the text, between roles of the protocol
 pub record IsOfText (setup : SetupView) (p : ℕ) : Type 0 where
@@ -358,12 +358,6 @@ next_step book setup entries standings channels r p x kept view lt at below next
       next = subst (λ (b : BookView). AreNext (net_for b.setup) r (place (state_of book) r) (p ∷ [])) view (subst (λ k. AreNext (net_for setup) r k (p ∷ [])) stands.place next);
       clock_is = stands.clock;
     }
-
--- a role at the limit can't act
-pub tired_role : (book : BookView) (setup : SetupView) (entries : List Entry) (standings : List Standing) (channels : List ChannelView) (r : ℕ) (x : Standing) → IsBook setup entries standings channels → record { setup = setup; entries = entries } ≡ book → r < roles_of book.setup → x ≡ get_or standings r x → 10000 ≤ x.raw → CanAct (rules_of book.setup) (state_of book) r → ⊥
-tired_role book setup entries standings channels r x kept view lt at many =
-    let stands = standing_of book entries standings channels setup r x kept view lt at in
-    none_at_limit (text_of book.setup) (roles_of book.setup) (state_of book) r (let e = stands.raw in omega arith)
 
 -- nothing is left to do: no role can act
 pub final_of : (book : BookView) (setup : SetupView) (entries : List Entry) (standings : List Standing) (channels : List ChannelView) → IsBook setup entries standings channels → record { setup = setup; entries = entries } ≡ book → ((r : ℕ) → r < roles_of book.setup → CanAct (rules_of book.setup) (state_of book) r → ⊥) → IsFinal (rules_of book.setup) (state_of book)

@@ -9,12 +9,12 @@ use Rattle.rcv_core.specs.declared.outcome.Outcome.{Outcome}
 use Rattle.rcv_core.specs.declared.outcome.Outcome.TheVariants.{More, Completed, Limited}
 use Rattle.rcv_model.specs.Net.{Net}
 use Rattle.rcv_model.specs.Run.{acts, put, taken}
-use Rattle.rcv_model.specs.Journal.{State, place, reading, IsLegal}
+use Rattle.rcv_model.specs.Journal.{Rules, State, place, after, reading, IsLegal}
 use Rattle.rcv_model.specs.Next.{AreNext}
-use Rattle.rcv_model.specs.Final.{IsFinal, IsCompleted, IsLimited, IsOneThreadFrom}
+use Rattle.rcv_model.specs.Final.{IsFinal, IsCompleted, IsLimited, IsStep, IsOneThreadFrom}
 use Rattle.rcv_core.specs.Setup.{SetupView, IsPlainProtocol, roles_of, net_for, rules_of}
 
--- A journal of this setup.
+-- A journal of this setup: all that contracts see of a book.
 pub record BookView : Type 0 where
   pub setup : SetupView
   pub entries : List Entry
@@ -34,26 +34,29 @@ pub record ChannelView : Type 0 where
   pub put : List Message
   pub taken : ℕ
 
+-- Nothing was put on it.
 abbrev pub empty : ChannelView
 empty = record { put = []; taken = 0 }
 
--- The channel from one role to another, among those of eight roles.
+-- Where the channel from one role to another stands among those of eight roles.
 abbrev pub between : ℕ → ℕ → ℕ
 between from to = from * 8 + to
 
+-- The channel from one role to another; nothing was put on a channel that isn't among them.
 abbrev pub channel_at : List ChannelView → ℕ → ℕ → ChannelView
 channel_at channels from to = slice_index_or channels (between from to) empty
 
--- One message more on a channel, and one taken from it.
+-- The channels with this message behind those on the channel from one role to another.
 abbrev pub with_put : List ChannelView → ℕ → ℕ → Message → List ChannelView
 with_put channels from to m =
     slice_set channels (between from to) (record { put = (channel_at channels from to).put ++ m ∷ []; taken = (channel_at channels from to).taken })
 
+-- The channels with one message more taken from the channel from one role to another.
 abbrev pub with_taken : List ChannelView → ℕ → ℕ → List ChannelView
 with_taken channels from to =
     slice_set channels (between from to) (record { put = (channel_at channels from to).put; taken = (channel_at channels from to).taken + 1 })
 
--- The channels are those of these kept events.
+-- Each channel among eight roles holds what these kept events put on it, and as much was taken as they took.
 pub record Carry (net : Net) (h : List Event) (channels : List ChannelView) : Type 0 where
   pub all : length channels ≡ 64
   pub each : (a b : ℕ) → a < 8 → b < 8 → channel_at channels a b ≡ record { put = put net a b h; taken = length (taken net a b h) }
@@ -68,7 +71,7 @@ moved standings e =
     let before = slice_index_or standings e.role at_start in
     slice_set standings e.role (record { place = e.point; kept = before.kept + 1; raw = before.raw + 1; clock = e.stamp })
 
--- Where role r stands in a state.
+-- Where role r stands in a state: its place, its counts of kept and of all events, and its clock.
 pub record StandsAt (s : State) (r : ℕ) (standing : Standing) : Type 0 where
   pub place : standing.place ≡ place s r
   pub kept : standing.kept ≡ length (acts r s.kept)
@@ -76,14 +79,15 @@ pub record StandsAt (s : State) (r : ℕ) (standing : Standing) : Type 0 where
   pub clock : standing.clock ≡ slice_index s.clocks r
   pub few : standing.kept ≤ standing.raw
 
--- Where each role stands.
+-- Each of so many roles stands where the state says.
 pub record Stand (roles : ℕ) (s : State) (standings : List Standing) : Type 0 where
   pub all : length standings ≡ roles
   pub raws : length s.raw ≡ roles
   pub clocks : length s.clocks ≡ roles
   pub each : (r : ℕ) → r < roles → StandsAt s r (slice_index_or standings r at_start)
 
--- What a book keeps: legal entries, with the standings and the channels that they leave. Nobody is crashed.
+-- What a book keeps: legal entries of a plain protocol, with the standings and the channels that they leave.
+-- Each role stands at a place of the text, and nobody is crashed.
 pub record IsBook (setup : SetupView) (entries : List Entry) (standings : List Standing) (channels : List ChannelView) : Type 0 where
   pub protocol : IsPlainProtocol setup.protocol
   pub legal : IsLegal (rules_of setup) entries
@@ -99,7 +103,7 @@ pub record IsNextStep (book : BookView) (r p clock : ℕ) : Type 0 where
   pub next : AreNext (net_for book.setup) r (place (state_of book) r) (p ∷ [])
   pub clock_is : clock ≡ slice_index (state_of book).clocks r
 
--- It sends the point, or it receives it.
+-- And it sends the point; or it is another role that sends it.
 abbrev pub IsNextSend : BookView → ℕ → ℕ → ℕ → Type 0
 IsNextSend book r p clock = IsNextStep book r p clock × ((net_for book.setup).sender p ≡ r)
 
@@ -110,9 +114,16 @@ IsNextRecv book r p clock = IsNextStep book r p clock × ((net_for book.setup).s
 abbrev pub with_more : BookView → List Entry → BookView
 with_more book more = record { setup = book.setup; entries = book.entries ++ more }
 
--- The book went on, or stayed.
-abbrev pub GoesOn : BookView → BookView → Type 0
-GoesOn old new = (more : List Entry) × (new ≡ with_more old more)
+-- Each entry is the one that one thread adds behind those before it.
+abbrev pub AreStepsFrom : Rules → State → List Entry → Type 0
+AreStepsFrom rules s [] = Unit {0}
+AreStepsFrom rules s (e ∷ journal) = IsStep rules s e × AreStepsFrom rules (after rules s e) journal
+
+-- The book went on by entries that one thread makes, or stayed as it was.
+pub record GoesOn (old new : BookView) : Type 0 where
+  pub more : List Entry
+  pub added : new ≡ with_more old more
+  pub steps : AreStepsFrom (rules_of old.setup) (state_of old) more
 
 -- The book went on by the entries that one thread makes, to the end.
 pub record EndsAlone (old new : BookView) : Type 0 where

@@ -9,7 +9,7 @@ use Rattle.rcv_model.specs.Plain.{IsPlain, bare_rules}
 use Rattle.rcv_model.specs.Places.{net_of}
 use Rattle.rcv_model.specs.Journal.{Rules}
 
--- A session of this protocol, without scripts and without a plan.
+-- A session of this protocol, without scripts and without a plan: all that contracts see of a setup.
 pub record SetupView : Type 0 where
   pub protocol : Protocol
 
@@ -31,6 +31,7 @@ pub record IsPlainForm (body : Body) (roles : ℕ) : Type 0 where
   pub plain : IsPlain body
   pub form : HasForm body roles
 
+-- The same for a protocol and its own roles.
 abbrev pub IsPlainProtocol : Protocol → Type 0
 IsPlainProtocol protocol = IsPlainForm (body_of protocol.body) (length protocol.roles)
 

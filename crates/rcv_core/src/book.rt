@@ -1,12 +1,12 @@
-// A journal, which is legal at all times.
+// The book of a session: its journal, which is legal at all times.
 
-ghost use Rattle.std.specs.Prelude.{◌≡◌, ◌<◌, ◌≤◌, ◌+◌, ◌↔◌, ◌^◌, IsTrue, Some, [], ◌∷◌, ◌++◌, length, slice_index, IfOk, OnOk, OnErr, MatchOption};
+ghost use Rattle.std.specs.Prelude.{◌≡◌, ◌<◌, ◌≤◌, ◌+◌, ◌↔◌, IsTrue, Some, [], ◌∷◌, ◌++◌, length, slice_index, IfOk, OnOk, OnErr, MatchOption};
 ghost use Rattle.rcv_model.specs.Run.{acts, put, taken, IsRun};
 ghost use Rattle.rcv_model.specs.Act.{IsDone};
 ghost use Rattle.rcv_tree.specs.declared.entry.Entry.TheVariants.{Send, Recv};
 ghost use Rattle.rcv_model.specs.Journal.{May, MaySend, MayRecv, IsLegal, KeepsRuns};
 ghost use Rattle.rcv_model.specs.Final.{CanAct, IsActOf, IsFinal, AreDone, IsStep};
-ghost use Rattle.rcv_core.specs.Setup.{SetupView, roles_of, net_for, rules_of};
+ghost use Rattle.rcv_core.specs.Setup.{roles_of, net_for, rules_of};
 ghost use Rattle.rcv_core.specs.Book.{BookView, state_of, IsOutcome, GoesOn, EndsAlone, IsNextSend, IsNextRecv};
 
 use crate::channel::Channels;
@@ -21,17 +21,19 @@ use rcv_tree::role::RoleId;
 use std::alloc::{AllocError, Global};
 use std::marker::Model;
 
-/// How many events a role may make, undone ones too.
+// How many events a role may make, undone ones too.
 const LIMIT: u32 = 10_000;
 
-/// How many messages a channel may hold.
+// How many messages a channel may hold for a Send to come. A Recv has no such bound.
 const ROOM: usize = 64;
 
 /// The journal of a session: each of its entries might come when it came.
+/// Contracts see the setup and the entries; where the roles stand and what the channels hold follows from them.
 #[derive(Drop)]
 pub struct Book<'a> {
     setup: &'a Setup,
     entries: Vec<Entry>,
+    // For each role of the setup.
     standings: Vec<Standing>,
     channels: Channels,
 }
@@ -51,10 +53,11 @@ impl<'a> Model for Book<'a> {
 }
 
 impl<'a> Book<'a> {
-    /// The empty journal of a session.
+    /// The empty journal of a session. Fails where memory runs out.
     pub fn new(alloc: Global, setup: &'a Setup) -> Result<Book<'a>, AllocError>
         ensures { IfOk result (λ book. book ≡ record { setup = setup.now; entries = [] }) }
     {
+        // Tells the proof that the protocol is plain.
         let _protocol = setup.protocol();
         let mut standings = Vec::new(alloc);
         for _ in 0..setup.roles() {
@@ -68,7 +71,7 @@ impl<'a> Book<'a> {
         })
     }
 
-    /// Adds an entry that may come. After an error the journal is as before.
+    /// Adds an entry that may come next. Fails where memory runs out; then the journal is as before.
     pub fn push(&mut self, entry: Entry) -> Result<(), AllocError>
         requires { May (rules_of self.old.setup) (state_of self.old) entry }
         ensures ok { OnOk result (self.new ≡ record { setup = self.old.setup; entries = self.old.entries ++ entry ∷ [] }) }
@@ -85,7 +88,8 @@ impl<'a> Book<'a> {
         }
     }
 
-    /// The one entry of the role that may come next, if the role can act.
+    /// What a declared role does next: the Send of its next point, or the Recv of the message that it waits for.
+    /// None where it is done, where its raw count is at the limit, where its channel is full, and where no message waits.
     pub fn step(&self, role: RoleId) -> Option<Entry>
         requires { role < roles_of self.now.setup }
         ensures { MatchOption result (CanAct (rules_of self.now.setup) (state_of self.now) role → ⊥) (λ e. IsActOf (rules_of self.now.setup) (state_of self.now) role e) }
@@ -104,7 +108,7 @@ impl<'a> Book<'a> {
         }
     }
 
-    /// Whether the role can act: it has a step, and for a Send its channel holds fewer messages than the room.
+    /// Whether a declared role can act, which is where `step` has an entry.
     pub fn can_act(&self, role: RoleId) -> bool
         requires { role < roles_of self.now.setup }
         ensures { IsTrue result ↔ CanAct (rules_of self.now.setup) (state_of self.now) role }
@@ -112,7 +116,7 @@ impl<'a> Book<'a> {
         self.step(role).is_some()
     }
 
-    /// The one step of a role that can act.
+    /// The step of a declared role that can act.
     pub fn act(&self, role: RoleId) -> Entry
         requires declared { role < roles_of self.now.setup }
         requires able { CanAct (rules_of self.now.setup) (state_of self.now) role }
@@ -124,7 +128,7 @@ impl<'a> Book<'a> {
         }
     }
 
-    /// How many events of the role are kept.
+    /// How many events of a declared role are kept.
     pub fn kept(&self, role: RoleId) -> u32
         requires { role < roles_of self.now.setup }
         ensures { result ≡ length (acts role (state_of self.now).kept) }
@@ -132,7 +136,7 @@ impl<'a> Book<'a> {
         self.standings[role.0 as usize].kept
     }
 
-    /// How many events the role ever made, undone ones too.
+    /// How many events a declared role ever made, undone ones too.
     pub fn raw(&self, role: RoleId) -> u32
         requires { role < roles_of self.now.setup }
         ensures { result ≡ slice_index (state_of self.now).raw role }
@@ -140,7 +144,7 @@ impl<'a> Book<'a> {
         self.standings[role.0 as usize].raw
     }
 
-    /// The role's clock.
+    /// The clock of a declared role, which is 0 before its first event.
     pub fn clock(&self, role: RoleId) -> u64
         requires { role < roles_of self.now.setup }
         ensures { result ≡ slice_index (state_of self.now).clocks role }
@@ -148,7 +152,7 @@ impl<'a> Book<'a> {
         self.standings[role.0 as usize].clock
     }
 
-    /// Whether nothing comes next for the role.
+    /// Whether a declared role has come to the end of its part: it has no next point.
     pub fn done(&self, role: RoleId) -> bool
         requires { role < roles_of self.now.setup }
         ensures { IsTrue result ↔ IsDone (net_for self.now.setup) role (state_of self.now).kept }
@@ -157,7 +161,7 @@ impl<'a> Book<'a> {
         self.setup.next(role, standing.place).is_none()
     }
 
-    /// How many kept Sends and how many kept Recvs the channel from one role to another has.
+    /// How many kept Sends, and how many kept Recvs, the channel from one declared role to another has.
     pub fn channel(&self, from: RoleId, to: RoleId) -> (u32, u32)
         requires from { from < roles_of self.now.setup }
         requires to { to < roles_of self.now.setup }
@@ -168,7 +172,7 @@ impl<'a> Book<'a> {
         (put as u32, taken as u32)
     }
 
-    /// The journal: each entry might come when it came.
+    /// The journal, in the order of its entries. It is legal.
     pub fn entries(&self) -> &[Entry]
         ensures value { result.now ≡ self.now.entries }
         ensures legal { IsLegal (rules_of self.now.setup) self.now.entries }
@@ -184,7 +188,7 @@ impl<'a> Book<'a> {
         self.setup
     }
 
-    /// The one entry that one thread adds next: the step of the lowest role that can act; none at the end.
+    /// The entry that one thread adds next: the step of the lowest role that can act. None where no role can.
     pub fn one_thread_step(&self) -> Option<Entry>
         ensures { MatchOption result (IsFinal (rules_of self.now.setup) (state_of self.now)) (λ e. IsStep (rules_of self.now.setup) (state_of self.now) e) }
     {
@@ -196,7 +200,8 @@ impl<'a> Book<'a> {
         None
     }
 
-    /// Goes on as one thread does, entry by entry, to the end. After an error the entries so far stand.
+    /// Goes on as one thread does, entry by entry, to the end. Fails where memory runs out; then the entries that
+    /// one thread has added so far stand, and a further call goes on from there.
     pub fn run_alone(&mut self) -> Result<(), AllocError>
         ensures ok { OnOk result (EndsAlone self.old self.new) }
         ensures later { GoesOn self.old self.new }
@@ -208,7 +213,7 @@ impl<'a> Book<'a> {
         Ok(())
     }
 
-    /// How many entries the journal has.
+    /// How many entries the journal has: eight roles make at most 10 000 each.
     pub fn len(&self) -> usize
         ensures value { result ≡ length self.now.entries }
         ensures few { result ≤ 80000 }
@@ -216,7 +221,7 @@ impl<'a> Book<'a> {
         self.entries.len()
     }
 
-    /// Whether all roles are done.
+    /// Whether all roles have come to the end of their parts.
     pub fn all_done(&self) -> bool
         ensures { IsTrue result ↔ AreDone (rules_of self.now.setup) (state_of self.now) }
     {
@@ -228,7 +233,7 @@ impl<'a> Book<'a> {
         true
     }
 
-    /// Whether the session is at its end, and at which.
+    /// Whether the session is at its end, and at which end.
     pub fn final_state(&self) -> Outcome
         ensures { IsOutcome self.now result }
     {
@@ -242,7 +247,7 @@ impl<'a> Book<'a> {
         }
     }
 
-    // The Send of the role's next point, if its channel has room.
+    // The Send of the point, which is the role's next one, if its channel has room.
     fn send(&self, role: RoleId, point: Point, clock: u64) -> Option<Entry>
         requires { IsNextSend self.now role point clock }
         ensures { MatchOption result (CanAct (rules_of self.now.setup) (state_of self.now) role → ⊥) (λ e. IsActOf (rules_of self.now.setup) (state_of self.now) role e) }
@@ -261,7 +266,7 @@ impl<'a> Book<'a> {
         }))
     }
 
-    // The Recv of the role's next point, if its message is in front of its channel.
+    // The Recv of the point, which is the role's next one, if its message is in front of its channel.
     fn recv(&self, role: RoleId, point: Point, clock: u64) -> Option<Entry>
         requires { IsNextRecv self.now role point clock }
         ensures { MatchOption result (CanAct (rules_of self.now.setup) (state_of self.now) role → ⊥) (λ e. IsActOf (rules_of self.now.setup) (state_of self.now) role e) }
@@ -282,6 +287,7 @@ impl<'a> Book<'a> {
         }))
     }
 
+    // Adds a Send, which goes on the channel to the receiver of its point.
     fn push_send(&mut self, event: &Event) -> Result<(), AllocError>
         requires { MaySend (rules_of self.old.setup) (state_of self.old) event.now }
         ensures ok { OnOk result (self.new ≡ record { setup = self.old.setup; entries = self.old.entries ++ Send event.now ∷ [] }) }
@@ -298,6 +304,7 @@ impl<'a> Book<'a> {
         )
     }
 
+    // Adds a Recv, which is taken from the channel of the sender of its point.
     fn push_recv(&mut self, event: &Event) -> Result<(), AllocError>
         requires { MayRecv (rules_of self.old.setup) (state_of self.old) event.now }
         ensures ok { OnOk result (self.new ≡ record { setup = self.old.setup; entries = self.old.entries ++ Recv event.now ∷ [] }) }

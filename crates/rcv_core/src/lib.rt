@@ -9,3 +9,5 @@ mod record;
 pub mod setup;
 mod single;
 mod standing;
+#[cfg(test)]
+mod tests;

@@ -38,7 +38,7 @@ fn nearest(single: &Single<'_>, role: RoleId, point: Point, behind: Option<Point
 }
 
 impl NextPoints {
-    /// The role's next points in a text of messages, in one pass from its end.
+    /// The role's next points in a text of messages, in one pass from its end. Fails where memory runs out.
     pub fn of(alloc: Global, protocol: &Protocol, role: RoleId) -> Result<NextPoints, AllocError>
         requires { IsPlainProtocol protocol.now }
         ensures { IfOk result (λ next. AreNextPoints (net_of (body_of protocol.now.body)) role next) }
@@ -54,7 +54,7 @@ impl NextPoints {
         Ok(NextPoints { points })
     }
 
-    /// The next point behind a place.
+    /// The next point behind a place, or none.
     pub fn at(&self, place: u16) -> Option<Point>
         requires { place < length self.now }
         ensures { result ≡ slice_index_or self.now place None }

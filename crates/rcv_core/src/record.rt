@@ -1,4 +1,4 @@
-// How an event is recorded: in the journal, on its channel and at its role.
+// What one event changes: the journal, its channel and where its role stands.
 
 ghost use Rattle.std.specs.Prelude.{◌≡◌, ◌<◌, ◌+◌, ◌^◌, ◌∷◌, [], ◌++◌, length, slice_index_or, OnOk, OnErr};
 ghost use Rattle.rcv_tree.specs.declared.entry.Entry.TheVariants.{Send, Recv};
@@ -11,7 +11,7 @@ use rcv_tree::event::{Event, Message};
 use rcv_tree::role::RoleId;
 use std::alloc::AllocError;
 
-/// Records a Send to this receiver. After an error nothing has changed.
+/// Records a Send to this receiver. Fails where memory runs out; then nothing has changed.
 pub fn record_send(
     entries: &mut Vec<Entry>,
     channels: &mut Channels,
@@ -44,7 +44,7 @@ pub fn record_send(
     Ok(())
 }
 
-/// Records a Recv from this sender. After an error nothing has changed.
+/// Records a Recv from this sender. Fails where memory runs out; then nothing has changed.
 pub fn record_recv(
     entries: &mut Vec<Entry>,
     channels: &mut Channels,

@@ -1,6 +1,6 @@
-// What a session is run by.
+// The setup of a session: its protocol, and what is found once for all of its roles.
 
-ghost use Rattle.std.specs.Prelude.{◌≡◌, ◌<◌, ◌≤◌, IfOk, length};
+ghost use Rattle.std.specs.Prelude.{◌≡◌, ◌<◌, ◌≤◌, IfOk};
 ghost use Rattle.rcv_core.specs.Setup.{SetupView, IsPlainProtocol, IsNextPoint, roles_of, net_for};
 
 use crate::next::NextPoints;
@@ -11,10 +11,11 @@ use rcv_tree::role::RoleId;
 use std::alloc::{AllocError, Global};
 use std::marker::Model;
 
-/// A protocol to be run, with each role's next point behind each place, found once.
+/// A protocol to be run. Contracts see the protocol; each role's next point behind each place follows from it.
 #[derive(Drop)]
 pub struct Setup {
     protocol: Protocol,
+    // For each role of the protocol.
     next: Vec<NextPoints>,
 }
 
@@ -34,6 +35,7 @@ impl Model for Setup {
 
 impl Setup {
     /// The setup of a session of a protocol of messages alone, without scripts and without a plan.
+    /// Fails where memory runs out.
     pub fn plain(alloc: Global, protocol: Protocol) -> Result<Setup, AllocError>
         requires { IsPlainProtocol protocol }
         ensures { IfOk result (λ setup. setup ≡ record { protocol = protocol }) }
@@ -45,7 +47,7 @@ impl Setup {
         Ok(Setup { protocol, next })
     }
 
-    /// The protocol.
+    /// The protocol, which holds messages alone.
     pub fn protocol(&self) -> &Protocol
         ensures value { result.now ≡ self.now.protocol }
         ensures plain { IsPlainProtocol self.now.protocol }
@@ -53,14 +55,14 @@ impl Setup {
         &self.protocol
     }
 
-    /// How many roles the protocol has.
+    /// How many roles the protocol declares, which are at most eight.
     pub fn roles(&self) -> u8
         ensures { result ≡ roles_of self.now }
     {
         self.protocol.roles.as_slice().len() as u8
     }
 
-    /// The label of a point.
+    /// The label of a point of the text, which counts from 1.
     pub fn label(&self, point: Point) -> &[u8]
         requires first { 1 ≤ point }
         requires last { point ≤ (net_for self.now).count }
@@ -69,7 +71,7 @@ impl Setup {
         self.single(point).label.as_slice()
     }
 
-    /// The role that sends a point.
+    /// The role that sends the message of a point of the text.
     pub fn sender(&self, point: Point) -> RoleId
         requires first { 1 ≤ point }
         requires last { point ≤ (net_for self.now).count }
@@ -78,7 +80,7 @@ impl Setup {
         self.single(point).sender
     }
 
-    /// The role that receives a point.
+    /// The role that receives the message of a point of the text.
     pub fn receiver(&self, point: Point) -> RoleId
         requires first { 1 ≤ point }
         requires last { point ≤ (net_for self.now).count }
@@ -87,7 +89,8 @@ impl Setup {
         self.single(point).receiver
     }
 
-    /// The role's next point behind a place, which is 0 or a point; none where the role is done there.
+    /// The next point of a declared role behind a place, which is 0 for the start, or a point of the text.
+    /// None where the role's part ends there.
     pub fn next(&self, role: RoleId, place: u16) -> Option<Point>
         requires role { role < roles_of self.now }
         requires place { place ≤ (net_for self.now).count }
@@ -96,6 +99,7 @@ impl Setup {
         self.next[role.0 as usize].at(place)
     }
 
+    // The message of a point of the text.
     fn single(&self, point: Point) -> Single<'_>
         requires first { 1 ≤ point }
         requires last { point ≤ (net_for self.now).count }

@@ -1,6 +1,6 @@
 // What a text of messages says of one point.
 
-ghost use Rattle.std.specs.Prelude.{◌≡◌, ◌≤◌, length};
+ghost use Rattle.std.specs.Prelude.{◌≡◌, ◌≤◌};
 ghost use Rattle.rcv_model.specs.Text.{body_of};
 ghost use Rattle.rcv_model.specs.Places.{singles, net_of};
 ghost use Rattle.rcv_model.specs.Plain.{IsPlain};
@@ -19,7 +19,7 @@ pub struct Single<'a> {
     pub receiver: RoleId,
 }
 
-/// How many points the text has.
+/// How many points a text of messages has.
 pub fn count_of(body: &Block) -> usize
     requires { IsPlain (body_of body.now) }
     ensures { result ≡ (net_of (body_of body.now)).count }
@@ -27,7 +27,7 @@ pub fn count_of(body: &Block) -> usize
     body.as_slice().len()
 }
 
-/// The message of the point, which is at most the number of points.
+/// The message of a point of the text, which counts from 1.
 pub fn single_at(body: &Block, point: Point) -> Single<'_>
     requires plain { IsPlain (body_of body.now) }
     requires numbered { IsNumberedFrom 1 (singles (body_of body.now)) }

@@ -24,7 +24,7 @@ impl Standing {
     };
 }
 
-/// One event more of its role.
+/// Records one event more of its role: it stands at the event's point, with the event's stamp as its clock.
 pub fn advance(standings: &mut Vec<Standing>, event: &Event)
     requires declared { event.now.role < length standings.old.items }
     requires few_kept { (slice_index_or standings.old.items event.now.role at_start).kept + 1 < 2 ^ 32 }
