@@ -135,7 +135,7 @@ module _ (net : Net) (p c q : ℕ) (h : List Event) (first : Act) (two : HasTwoE
       go (inl e) = marked e
       go (inr e) = other (sym receiver ∙ e)
 
-  put_kept : (s : ℕ) → put net s q (keep net p c h) ≡ put net s q h
+  pub put_kept : (s : ℕ) → put net s q (keep net p c h) ≡ put net s q h
   put_kept s = ⊎_elim
       (λ e. put_same net s q (keep net p c h) h (subst (λ r. by_role r (keep net p c h) ≡ by_role r h) e own_same))
       (λ other. same_length _ _ (put_front net s q (keep net p c h) h ((scan_of net (only p c h) h run.1.queued).front s)) (go other (some_item (sent_to net q) front.0)))

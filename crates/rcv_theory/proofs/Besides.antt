@@ -1,18 +1,19 @@
 -- A role that isn't concerned by a recovery keeps all that it has.
-use Rattle.std.proofs.Common.{◌≡◌, ℕ, zero, suc, ◌+◌, ◌<◌, ◌≤◌, Bool, true, false, cond, Some, List, [], ◌∷◌, length, refl, sym, ◌∙◌, ap, subst, inl, inr, ⊎_elim, arith, eq-eqb}
+use Rattle.std.proofs.Common.{◌≡◌, ℕ, zero, suc, ◌+◌, ◌<◌, ◌≤◌, Bool, true, false, cond, Some, List, [], ◌∷◌, length, drop, refl, sym, ◌∙◌, ap, subst, inl, inr, ⊎_elim, arith, eq-eqb}
 use Rattle.std.specs.Prelude.{◌==◌, slice_get, slice_set}
 use Rattle.std.proofs.lemmas.Bool.{cases_Bool, cases_eq, cases_lt}
 use Rattle.rcv_tree.specs.declared.event.Event.{Event}
 use Rattle.rcv_tree.specs.declared.entry.Entry.TheVariants.{Recover}
 use Rattle.rcv_tree.specs.declared.role.RoleSet.{RoleSet}
 use Rattle.rcv_model.specs.Net.{Net, HasTwoEnds}
-use Rattle.rcv_model.specs.Run.{Act, acts, channel, IsQueued, IsRun}
+use Rattle.rcv_model.specs.Run.{Act, acts, put, taken, IsQueued, IsRun}
 use Rattle.rcv_model.specs.Undo.{IsLost, keep, keep_within, only, picked, IsUndoing}
 use Rattle.rcv_model.specs.Table.{IsConcerned}
 use Rattle.rcv_model.specs.Journal.{Rules, State, is_among, durable, events_of, attempts_after, clocks_after, greatest, after, IsConcernedIn, May}
+use Rattle.rcv_model.proofs.Keeping.{taken_same}
 use Rattle.rcv_model.proofs.Cuts.{undo_exactly}
 use Rattle.rcv_model.proofs.Restarts.{only_own, only_other}
-use Rattle.rcv_model.proofs.Bystanders.{as_many, keeps_all, channel_kept, item}
+use Rattle.rcv_model.proofs.Bystanders.{as_many, keeps_all, put_kept, item}
 use Rattle.rcv_theory.specs.Beside.{KeepsAll}
 use Rattle.rcv_theory.proofs.Counting.{made_before}
 
@@ -34,7 +35,7 @@ keeps_whole net bound h queued wide = u.1.kept ∙ all_picked u.0 h all
     all i lt = ⊎_elim (λ t. t) (λ t. absurd (⊎_elim (λ a. safe i a) (λ a. safe a.0 a.1) ((u.1.undone i lt).0 t))) (cases_Bool (u.0 i))
 
 -- the numbers of a role that is left out
-set_other : {A : Type 0} (xs : List A) (i j : ℕ) (y : A) → (j ≡ i → ⊥) → slice_get (slice_set xs i y) j ≡ slice_get xs j
+pub set_other : {A : Type 0} (xs : List A) (i j : ℕ) (y : A) → (j ≡ i → ⊥) → slice_get (slice_set xs i y) j ≡ slice_get xs j
 set_other [] i j y n = refl
 set_other (x ∷ xs) zero zero y n = absurd (n refl)
 set_other (x ∷ xs) zero (suc j) y n = refl
@@ -84,22 +85,22 @@ module _ (rules : Rules) (s : State) (p q : ℕ) (concerned : RoleSet) (kept : L
   free : IsConcernedIn rules s p (keep rules.net p (durable rules s p) s.kept) q → ⊥
   free c = out ((may.concerned q lt).1 c)
 
-  same_events : (events_of q (keep rules.net p (durable rules s p) s.kept) ≡ events_of q s.kept) × (q ≡ p → ⊥) × ((t : ℕ) → channel rules.net t q (keep rules.net p (durable rules s p) s.kept) ≡ channel rules.net t q s.kept)
+  same_events : (events_of q (keep rules.net p (durable rules s p) s.kept) ≡ events_of q s.kept) × (q ≡ p → ⊥) × ((t : ℕ) → put rules.net t q (keep rules.net p (durable rules s p) s.kept) ≡ put rules.net t q s.kept)
   same_events = ⊎_elim some none (cases_lt (length (keep rules.net p (durable rules s p) s.kept)) (length s.kept))
     where
-      some : length (keep rules.net p (durable rules s p) s.kept) < length s.kept → (events_of q (keep rules.net p (durable rules s p) s.kept) ≡ events_of q s.kept) × (q ≡ p → ⊥) × ((t : ℕ) → channel rules.net t q (keep rules.net p (durable rules s p) s.kept) ≡ channel rules.net t q s.kept)
+      some : length (keep rules.net p (durable rules s p) s.kept) < length s.kept → (events_of q (keep rules.net p (durable rules s p) s.kept) ≡ events_of q s.kept) × (q ≡ p → ⊥) × ((t : ℕ) → put rules.net t q (keep rules.net p (durable rules s p) s.kept) ≡ put rules.net t q s.kept)
       some few =
           let a = lost_act rules.net p (durable rules s p) s.kept run.1.queued few in
           let m : IsConcerned rules.net p a.0.point q → ⊥ = λ c. free (inr (few, (a.0, a.1, c))) in
           let n : q ≡ p → ⊥ = λ e. m (a.0.point, inl (e, refl)) in
-          (keeps_all rules.net p (durable rules s p) q s.kept a.0 two run a.1 n m, n, λ t. channel_kept rules.net p (durable rules s p) q s.kept a.0 two run a.1 n m t)
+          (keeps_all rules.net p (durable rules s p) q s.kept a.0 two run a.1 n m, n, λ t. put_kept rules.net p (durable rules s p) q s.kept a.0 two run a.1 n m t)
 
-      none : length s.kept ≤ length (keep rules.net p (durable rules s p) s.kept) → (events_of q (keep rules.net p (durable rules s p) s.kept) ≡ events_of q s.kept) × (q ≡ p → ⊥) × ((t : ℕ) → channel rules.net t q (keep rules.net p (durable rules s p) s.kept) ≡ channel rules.net t q s.kept)
+      none : length s.kept ≤ length (keep rules.net p (durable rules s p) s.kept) → (events_of q (keep rules.net p (durable rules s p) s.kept) ≡ events_of q s.kept) × (q ≡ p → ⊥) × ((t : ℕ) → put rules.net t q (keep rules.net p (durable rules s p) s.kept) ≡ put rules.net t q s.kept)
       none all =
           let size : length (keep rules.net p (durable rules s p) s.kept) ≡ length s.kept = omega (arith, all, may.undone) in
           let u = undo_exactly rules.net (only p (durable rules s p) s.kept) s.kept run.1.queued in
           let same : keep rules.net p (durable rules s p) s.kept ≡ s.kept = u.1.kept ∙ picked_same u.0 s.kept (sym (ap length u.1.kept) ∙ size) in
-          (ap (events_of q) same, (λ e. free (inl (size, e))), λ t. ap (channel rules.net t q) same)
+          (ap (events_of q) same, (λ e. free (inl (size, e))), λ t. ap (put rules.net t q) same)
 
   pub keeps : KeepsAll rules.net s (after rules s (Recover p concerned kept undone)) q
   keeps =
@@ -111,5 +112,6 @@ module _ (rules : Rules) (s : State) (p q : ℕ) (concerned : RoleSet) (kept : L
         crashed = set_other s.crashed p q false e.1;
         attempts = attempts_stay s.kept (keep rules.net p (durable rules s p) s.kept) 0 q s.attempts (subst (λ n. length (acts n (keep rules.net p (durable rules s p) s.kept)) ≡ length (acts n s.kept)) (omega arith) many);
         clocks = clocks_stay concerned.0 (greatest concerned.0 0 s.clocks + 1) 0 q s.clocks (subst (λ n. is_among concerned.0 n ≡ false) (omega arith) off);
-        channels = e.2;
+        puts = e.2;
+        channels = λ t. ap (λ l. drop (length l) (put rules.net t q (keep rules.net p (durable rules s p) s.kept))) (taken_same rules.net t q (keep rules.net p (durable rules s p) s.kept) s.kept e.0) ∙ ap (drop (length (taken rules.net t q s.kept))) (e.2 t);
       }

@@ -1,5 +1,5 @@
 -- What holds of the definitions beyond what the crates above cite.
-use Rattle.std.specs.Prelude.{◌≡◌, ℕ, ◌<◌, ◌≤◌, ◌⊎◌, ◌↔◌, true, Some, List, ◌∷◌, length, take, slice_get}
+use Rattle.std.specs.Prelude.{◌≡◌, ℕ, ◌<◌, ◌≤◌, ◌⊎◌, ◌↔◌, true, Some, List, [], ◌∷◌, ◌++◌, length, take, slice_get}
 use Rattle.rcv_tree.specs.declared.event.Event.{Event}
 use Rattle.rcv_tree.specs.declared.event.Message.{Message}
 use Rattle.rcv_tree.specs.declared.entry.Entry.{Entry}
@@ -14,6 +14,7 @@ use Rattle.rcv_model.specs.Final.{IsCrashed, CanAct, AreDone, HasOneAtLimit, Cho
 use Rattle.rcv_theory.specs.Counts.{IsGreatestClosed, kept_counts, capped, IsLowered, IsLowest}
 use Rattle.rcv_theory.specs.Expected.{IsExpected}
 use Rattle.rcv_theory.specs.Beside.{KeepsAll}
+use Rattle.rcv_theory.specs.Round.{Timed, Placed, entries, IsRound, IsMerge, IsByStamp, in_order}
 
 -- What one role p loses is its own events behind its first c.
 abbrev pub OneRoleLosesItsOwn : Type 0
@@ -60,3 +61,19 @@ BystandersKeepAll =
 abbrev pub NoStateIsStuck : Type 0
 NoStateIsStuck =
     (rules : Rules) (journal : List Entry) → IsProper rules.net rules.roles → IsAccepted rules.net rules.roles → ChoosesOffered rules → 0 < rules.room → IsLegal rules journal → ((r : ℕ) → IsCrashed (reading rules journal) r → ⊥) → ((r : ℕ) → r < rules.roles → IsDue rules (reading rules journal) r → ⊥) → AreDone rules (reading rules journal) ⊎ (((r : ℕ) × (r < rules.roles) × CanAct rules (reading rules journal) r) ⊎ HasOneAtLimit rules (reading rules journal))
+
+-- A merged round is legal: where each role's log meets, at its own reading, what is asked of that role alone, and the
+-- logs match, any merge of them may come behind the journal.
+abbrev pub MergedRoundsAreLegal : Type 0
+MergedRoundsAreLegal =
+    (rules : Rules) (journal : List Entry) (logs : ℕ → List Timed) (merged : List Timed) → IsProper rules.net rules.roles → IsAccepted rules.net rules.roles → IsLegal rules journal → IsRound rules (reading rules journal) logs → IsMerge rules.net (reading rules journal).kept logs merged → IsLegal rules (journal ++ entries merged)
+
+-- The order by stamp, then role, then place is such a merge.
+abbrev pub StampOrderMerges : Type 0
+StampOrderMerges =
+    (rules : Rules) (journal : List Entry) (logs : ℕ → List Timed) (placed : List Placed) → IsLegal rules journal → IsRound rules (reading rules journal) logs → IsByStamp logs placed → IsMerge rules.net (reading rules journal).kept logs (in_order placed)
+
+-- Behind a recovery the same merge may come, where no role that it concerns has a log.
+abbrev pub RoundsGoBesideRecoveries : Type 0
+RoundsGoBesideRecoveries =
+    (rules : Rules) (journal : List Entry) (p : ℕ) (concerned : RoleSet) (kept : List ℕ) (undone : ℕ) (logs : ℕ → List Timed) (merged : List Timed) → rules.roles ≤ 8 → IsProper rules.net rules.roles → IsAccepted rules.net rules.roles → IsLegal rules (journal ++ Recover p concerned kept undone ∷ []) → IsRound rules (reading rules journal) logs → ((r : ℕ) → is_among concerned.0 r ≡ true → logs r ≡ []) → IsMerge rules.net (reading rules journal).kept logs merged → IsLegal rules (journal ++ Recover p concerned kept undone ∷ entries merged)

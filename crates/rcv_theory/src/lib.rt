@@ -1,7 +1,7 @@
 // Laws of the definitions that no crate above cites: the whole of what the semantics promises stands here and in rcv_model.
 #![tactic(auto)]
 
-ghost use Rattle.rcv_theory.specs.Laws.{OneRoleLosesItsOwn, KeptFollowsTheWalk, KeptBeginsWhatWasDone, KeptCountsAreGreatest, LoweringReachesKept, LoweringEnds, NoMessageIsUnexpected, BystandersKeepAll, NoStateIsStuck};
+ghost use Rattle.rcv_theory.specs.Laws.{OneRoleLosesItsOwn, KeptFollowsTheWalk, KeptBeginsWhatWasDone, KeptCountsAreGreatest, LoweringReachesKept, LoweringEnds, NoMessageIsUnexpected, BystandersKeepAll, NoStateIsStuck, MergedRoundsAreLegal, StampOrderMerges, RoundsGoBesideRecoveries};
 
 /// What one role loses in a recovery is its own events behind its count.
 pub fn one_role_loses_its_own()
@@ -46,4 +46,19 @@ pub fn bystanders_keep_all()
 /// Where no role is crashed or due, all are done, or some role can act, or one that isn't done has come to the limit.
 pub fn no_state_is_stuck()
     ensures { NoStateIsStuck }
+{}
+
+/// Any merge of a round's logs is legal behind the journal.
+pub fn merged_rounds_are_legal()
+    ensures { MergedRoundsAreLegal }
+{}
+
+/// The order by stamp, then role, then place is a merge.
+pub fn stamp_order_merges()
+    ensures { StampOrderMerges }
+{}
+
+/// A merge of logs of roles that a recovery doesn't concern is legal behind it.
+pub fn rounds_go_beside_recoveries()
+    ensures { RoundsGoBesideRecoveries }
 {}
