@@ -2,22 +2,17 @@
 #![tactic(auto)]
 
 use rcv_io::{StdSink, StdSource};
-use rcv_top::{NoGate, recover};
+use rcv_top::{NoGate, Status, recover};
 use std::process::ExitCode;
 use std::{env, io};
 
 fn main(rt: HostRuntime) -> ExitCode {
-    // A command line that can't be read is no command.
-    let words = words(&rt).unwrap_or_else(|_| Vec::new(rt.alloc()));
-    let mut source = StdSource::new(rt.stdin());
-    let mut sink = StdSink::new(rt.stdout());
-    let status = recover(
-        rt.alloc(),
-        words.as_slice(),
-        &mut source,
-        &mut sink,
-        &NoGate,
-    );
+    let status = match words(&rt) {
+        Ok(words) => call(&rt, words.as_slice()),
+        Err(error) if error.kind() == io::ErrorKind::OutOfMemory => Status::Memory,
+        // A word that is no UTF-8 is no word of a command.
+        Err(_) => call(&rt, &[]),
+    };
     ExitCode::from(status.number())
 }
 
@@ -28,4 +23,11 @@ fn words(rt: &HostRuntime) -> io::Result<Vec<String>> {
         words.push(word)?;
     }
     Ok(words)
+}
+
+// The top call from standard input to standard output.
+fn call(rt: &HostRuntime, words: &[String]) -> Status {
+    let mut source = StdSource::new(rt.stdin());
+    let mut sink = StdSink::new(rt.stdout());
+    recover(rt.alloc(), words, &mut source, &mut sink, &NoGate)
 }

@@ -1,6 +1,6 @@
 -- The answer to words and an input is one.
-use Rattle.std.proofs.Common.{◌≡◌, ℕ, ◌≤◌, List, [], ◌∷◌, ◌++◌, length, codes, flat_map, refl, sym, ◌∙◌, ap, subst, arith}
-use Rattle.std.specs.Prelude.{slice_index_or, slice_index, decimal, ◌<◌, if◌then◌else◌}
+use Rattle.std.proofs.Common.{◌≡◌, ℕ, List, [], ◌∷◌, ◌++◌, length, codes, flat_map, refl, ◌∙◌, ap, subst, arith}
+use Rattle.std.specs.Prelude.{slice_index_or, slice_index, decimal, if◌then◌else◌}
 use Rattle.std.specs.List.{list_all, range_with_len}
 use Rattle.rcv_tree.specs.Bits.{has_bit}
 use Rattle.rcv_tree.specs.declared.role.RoleSet.{RoleSet}
@@ -12,21 +12,18 @@ use Rattle.rcv_tree.specs.declared.entry.Entry.TheVariants as entries
 use Rattle.rcv_model.specs.Text.{Body, body_of}
 use Rattle.rcv_model.specs.Places.{net_of}
 use Rattle.rcv_model.specs.Plain.{bare_rules}
-use Rattle.rcv_model.specs.Journal.{Rules, State, reading}
+use Rattle.rcv_model.specs.Journal.{Rules, reading}
 use Rattle.rcv_model.specs.Final.{AreDone, IsCompleted, IsLimited, IsOneThread}
 use Rattle.rcv_model.proofs.OneThread.{one_journal}
 use Rattle.rcv_model.proofs.Forms.{proper}
-use Rattle.rcv_plain.specs.PlainText.{IsPlainText}
 use Rattle.rcv_plain.specs.Laws.{SaySame}
 use Rattle.rcv_plain.proofs.Whole.{one_protocol}
-use Rattle.rcv_core.specs.Setup.{SetupView, rules_of}
+use Rattle.rcv_core.specs.Setup.{rules_of}
 use Rattle.rcv_journal.specs.declared.line.RoleLine.{RoleLine}
 use Rattle.rcv_journal.specs.JournalText.{entry_line, role_line, limit_text, word_text, is_done, is_limit, journal_text}
 use Rattle.rcv_journal.specs.Lines.{AreLinesOf, IsTextOf}
 use Rattle.rcv_journal.proofs.OneText.{one_text}
-use Rattle.rcv_top.specs.declared.status.Status.{Status}
-use Rattle.rcv_top.specs.declared.status.Status.TheVariants as statuses
-use Rattle.rcv_top.specs.Outcome.{IsCommand, session_of, IsSession, IsOutcome, usage, too_long, refused, completed, limited}
+use Rattle.rcv_top.specs.Outcome.{session_of, IsSession, usage, too_long, refused, completed, limited}
 use Rattle.rcv_top.specs.Laws.{OneOutcome, SessionsAreLegal}
 use Rattle.rcv_top.proofs.Answering.{headline_of}
 

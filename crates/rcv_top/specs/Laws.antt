@@ -1,10 +1,12 @@
 -- What holds of the definitions.
-use Rattle.std.specs.Prelude.{◌≡◌, ℕ, List}
+use Rattle.std.specs.Prelude.{◌≡◌, ℕ, ◌≤◌, codes, List, [], ◌∷◌, length}
 use Rattle.rcv_tree.specs.declared.protocol.Protocol.{Protocol}
 use Rattle.rcv_tree.specs.declared.entry.Entry.{Entry}
+use Rattle.rcv_plain.specs.PlainText.{IsPlainText}
 use Rattle.rcv_core.specs.Setup.{rules_of}
 use Rattle.rcv_top.specs.declared.status.Status.{Status}
-use Rattle.rcv_top.specs.Outcome.{session_of, IsSession, IsOutcome}
+use Rattle.rcv_top.specs.declared.status.Status.TheVariants.{Completed}
+use Rattle.rcv_top.specs.Outcome.{most_bytes, session_of, IsSession, IsOutcome}
 use Rattle.rcv_top.specs.Headline.{IsHeadline}
 
 -- Status and bytes are a function of the words and the input.
@@ -16,3 +18,8 @@ OneOutcome =
 abbrev pub SessionsAreLegal : Type 0
 SessionsAreLegal =
     (input : List ℕ) (protocol : Protocol) (journal : List Entry) (bytes : List ℕ) → IsSession input protocol journal bytes → IsHeadline (rules_of (session_of protocol)) journal
+
+-- The session of each plain text that isn't too long completes, and its journal has a text.
+abbrev pub PlainTextsComplete : Type 0
+PlainTextsComplete =
+    (input : List ℕ) (protocol : Protocol) → length input ≤ most_bytes → IsPlainText input protocol → (bytes : List ℕ) × IsOutcome (codes "run" ∷ []) input Completed bytes

@@ -1,7 +1,7 @@
 // The whole program as one call: from words and an input to a status and bytes.
 #![tactic(auto)]
 
-ghost use Rattle.rcv_top.specs.Laws.{OneOutcome, SessionsAreLegal};
+ghost use Rattle.rcv_top.specs.Laws.{OneOutcome, PlainTextsComplete, SessionsAreLegal};
 
 mod call;
 mod gate;
@@ -22,4 +22,9 @@ pub fn one_outcome()
 /// The journal of each session is what the headline says.
 pub fn sessions_are_legal()
     ensures { SessionsAreLegal }
+{}
+
+/// The session of each plain text that isn't too long completes.
+pub fn plain_texts_complete()
+    ensures { PlainTextsComplete }
 {}
