@@ -118,10 +118,10 @@ module _ (net : Net) (h : List Event) where
   lowered bound counts (lower {b = b} l step) = behind_one bound b counts (lowered bound b l) step
 
   -- the counts with that of role r lowered
-  at_role : (ℕ → ℕ) → ℕ → ℕ → ℕ → ℕ
+  pub at_role : (ℕ → ℕ) → ℕ → ℕ → ℕ → ℕ
   at_role counts r n q = if q == r then n else counts q
 
-  one_lower : (counts : ℕ → ℕ) (s r k i j : ℕ) → PutsAt net h s r k i → TakesAt net h s r k j → IsWithin h counts r j → (IsWithin h counts s i → ⊥) → Lowers net h counts (at_role counts r (length (acts r (take j h))))
+  pub one_lower : (counts : ℕ → ℕ) (s r k i j : ℕ) → PutsAt net h s r k i → TakesAt net h s r k j → IsWithin h counts r j → (IsWithin h counts s i → ⊥) → Lowers net h counts (at_role counts r (length (acts r (take j h))))
   unfolding at_role
   one_lower counts s r k i j p t lt out = record {
     s = s;
