@@ -22,16 +22,16 @@ use Rattle.rcv_theory.specs.Round.{Timed, role_of, event_of, events_in, of_role,
 use Rattle.rcv_theory.proofs.Merging.{events_join, in_all, own_takes}
 
 -- a is an element
-abbrev Among : {A : Type 0} → A → List A → Type 0
+abbrev pub Among : {A : Type 0} → A → List A → Type 0
 Among a [] = ⊥
 Among a (x ∷ xs) = (x ≡ a) ⊎ Among a xs
 
-among_at : {A : Type 0} (xs : List A) (i : ℕ) (a : A) → slice_get xs i ≡ Some a → Among a xs
+pub among_at : {A : Type 0} (xs : List A) (i : ℕ) (a : A) → slice_get xs i ≡ Some a → Among a xs
 among_at [] i a e = absurd (cc)
 among_at (x ∷ xs) zero a e = inl (cc)
 among_at (x ∷ xs) (suc i) a e = inr (among_at xs i a e)
 
-at_among : {A : Type 0} (xs : List A) (a : A) → Among a xs → (i : ℕ) × (slice_get xs i ≡ Some a)
+pub at_among : {A : Type 0} (xs : List A) (a : A) → Among a xs → (i : ℕ) × (slice_get xs i ≡ Some a)
 at_among [] a i = absurd i
 at_among (x ∷ xs) a (inl e) = (0, ap Some e)
 at_among (x ∷ xs) a (inr i) = let r = at_among xs a i in (suc r.0, r.1)
