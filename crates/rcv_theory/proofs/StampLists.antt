@@ -3,6 +3,7 @@ use Rattle.std.proofs.Common.{◌≡◌, ℕ, zero, suc, ◌<◌, ◌≤◌, Som
 use Rattle.std.specs.Prelude.{slice_get}
 use Rattle.std.proofs.lemmas.Bool.{cases_lt, cases_eq}
 use Rattle.std.proofs.lemmas.Option.{slice_get_within}
+use Rattle.rcv_model.proofs.Bystanders.{item}
 use Rattle.rcv_model.specs.Journal.{Rules, State}
 use Rattle.rcv_theory.specs.Round.{Timed, IsLog, IsRound, Placed, IsBefore, IsBeforeAll, IsAscending, IsByStamp}
 use Rattle.rcv_theory.proofs.BesideRounds.{declared}
@@ -110,12 +111,7 @@ module _ (logs : ℕ → List Timed) where
 
   of_role_up : (r n : ℕ) → n ≤ length (logs r) → (xs : List Placed) × IsListOf (IsUpTo r 0) xs → (ys : List Placed) × IsListOf (IsUpTo r n) ys
   of_role_up r zero le start = start
-  of_role_up r (suc n) le start = let x = get_at (logs r) n (omega (arith, le)) in one_more r n x.0 x.1 (of_role_up r n (omega (arith, le)) start)
-    where
-      get_at : (log : List Timed) (n : ℕ) → n < length log → (x : Timed) × (slice_get log n ≡ Some x)
-      get_at [] n lt = absurd (omega arith)
-      get_at (x ∷ log) zero lt = (x, refl)
-      get_at (x ∷ log) (suc n) lt = get_at log n (omega (arith, lt))
+  of_role_up r (suc n) le start = let x = item (logs r) n (omega (arith, le)) in one_more r n x.0 x.1 (of_role_up r n (omega (arith, le)) start)
 
   up_to : (r : ℕ) → (xs : List Placed) × IsListOf (IsUpTo r 0) xs
   up_to zero = ([], record { up = tt; sound = λ b i. absurd i; complete = λ b u. absurd (⊎_elim (λ lt. omega (arith, lt)) (λ y. omega (arith, y.1)) u.below) })
