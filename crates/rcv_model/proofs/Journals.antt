@@ -30,7 +30,7 @@ abbrev lines : ℕ → List ℕ
 lines r = 2 ∷ []
 
 -- a fact of each of the eight
-below_8 : (P : ℕ → Type 0) → P 0 → P 1 → P 2 → P 3 → P 4 → P 5 → P 6 → P 7 → (q : ℕ) → q < 8 → P q
+pub below_8 : (P : ℕ → Type 0) → P 0 → P 1 → P 2 → P 3 → P 4 → P 5 → P 6 → P 7 → (q : ℕ) → q < 8 → P q
 below_8 P a b c d e f g h zero lt = a
 below_8 P a b c d e f g h (suc zero) lt = b
 below_8 P a b c d e f g h (suc (suc zero)) lt = c
@@ -57,28 +57,28 @@ concerned_low : (p n q : ℕ) → p < 2 → IsConcerned net p n q → q < 2
 concerned_low p n q lt c = ⊎_elim (λ a. let e = a.0 in omega arith) (λ a. marked_low q (p ∷ []) (a.1.before ++ c.0 ∷ []) (λ x i. ⊎_elim (λ e. omega (arith, e)) (λ j. absurd j) i) a.1.now) c.1
 
 -- the states
-abbrev s0 : State
+abbrev pub s0 : State
 s0 = start 2
 
-abbrev s1 : State
+abbrev pub s1 : State
 s1 = after workers s0 (send 0 1 1)
 
-abbrev s2 : State
+abbrev pub s2 : State
 s2 = after workers s1 (recv 1 1 2 1)
 
-abbrev s3 : State
+abbrev pub s3 : State
 s3 = after workers s2 (send 1 2 3)
 
-abbrev s4 : State
+abbrev pub s4 : State
 s4 = after workers s3 (Crash 1)
 
-abbrev s5 : State
+abbrev pub s5 : State
 s5 = after workers s4 (recv 0 2 4 3)
 
-abbrev s6 : State
+abbrev pub s6 : State
 s6 = after workers s5 (Crash 0)
 
-abbrev s7 : State
+abbrev pub s7 : State
 s7 = after workers s6 (recover 0 3 (replicate 8 0) 4)
 
 abbrev s8 : State
@@ -93,7 +93,7 @@ s10 = after workers s9 (recv 1 1 7 6)
 abbrev s11 : State
 s11 = after workers s10 (send 1 2 8)
 
-m0 : MaySend workers s0 (sent 0 1 1)
+pub m0 : MaySend workers s0 (sent 0 1 1)
 m0 = may_send every lines s0 0 0 1 (omega arith) begin (λ e. omega arith) refl (λ d. let x = d.1 in omega arith) (omega arith) refl refl refl
 
 m1 : MayRecv workers s1 (got 1 1 2 1)
@@ -156,7 +156,7 @@ only_b q n f = (λ t. absurd (cc), λ c. absurd (go c))
     go (inl a) = n a.1
     go (inr a) = let x = a.0 in omega arith
 
-m7 : MayRecover workers s7 1 2 (replicate 8 0) 0
+pub m7 : MayRecover workers s7 1 2 (replicate 8 0) 0
 unfolding alone
 m7 = record {
   crashed = refl;

@@ -1,5 +1,5 @@
 -- A stable line stays one, and the events within it stay, whatever comes.
-use Rattle.std.proofs.Common.{◌≡◌, ℕ, zero, suc, ◌+◌, ◌*◌, ◌/◌, ◌<◌, ◌≤◌, max, Bool, true, false, cond, Option, Some, None, List, [], ◌∷◌, ◌++◌, length, take, refl, sym, ◌∙◌, ap, subst, ◌⊎◌, inl, inr, ⊎_elim, append_assoc, arith, eq-eqb, ne_eqb}
+use Rattle.std.proofs.Common.{◌≡◌, ℕ, zero, suc, ◌+◌, ◌*◌, ◌/◌, ◌<◌, ◌≤◌, max, Bool, true, false, cond, Option, Some, None, List, [], ◌∷◌, ◌++◌, length, take, refl, sym, ◌∙◌, ap, subst, ◌⊎◌, inl, inr, ⊎_elim, append_assoc, arith, length-append, eq-eqb, ne_eqb}
 use Rattle.std.specs.Prelude.{nat_lt, slice_get}
 use Rattle.std.proofs.lemmas.Bool.{cases_eq, cases_lt}
 use Rattle.std.proofs.lemmas.Bool.Decides.{nat_tests}
@@ -17,13 +17,14 @@ use Rattle.rcv_model.specs.Line.{IsStable, IsLine, LineHolds}
 use Rattle.rcv_model.proofs.Lists.{prefix_map}
 use Rattle.rcv_model.proofs.Keeping.{by_role, is_recv, scan_of}
 use Rattle.rcv_model.proofs.Choices.{prefix_length}
+use Rattle.rcv_model.proofs.Steps.{acts_own}
 use Rattle.rcv_model.proofs.Bystanders.{as_many}
 use Rattle.rcv_model.proofs.Undoing.{eqb_role}
 use Rattle.rcv_model.proofs.Queues.{around}
 use Rattle.rcv_model.proofs.Cuts.{latest}
 use Rattle.rcv_model.proofs.Numbers.{acts_cons}
 use Rattle.rcv_model.proofs.Legal.{SendsKeep, run_after, sends_keep_accepted, accepted_runs}
-use Rattle.rcv_model.proofs.Lines.{take_same, by_role_front, by_role_one, first_of, Counts, Closed, closed_of_counts, counts_of_closed}
+use Rattle.rcv_model.proofs.Lines.{take_same, by_role_front, first_of, Counts, Closed, closed_of_counts, counts_of_closed}
 
 -- the set has the events of a role that are among its first, where n stand before the list
 abbrev HasFirst : ℕ → ℕ → ℕ → (ℕ → Bool) → List Event → Type 0
@@ -215,6 +216,13 @@ lines_join rules h a b x y = record {
       (cases_lt (length (acts r (take j h))) (a r));
 }
 
+-- an event stands among all that its role did
+pub made_before : (h : List Event) (i : ℕ) (e : Event) → slice_get h i ≡ Some e → length (acts e.role (take i h)) < length (acts e.role h)
+made_before h i e at' =
+    let a = around h i e at' in
+    let more = prefix_length _ _ (prefix_map (act_of e.role) (a.front ++ e ∷ []) h (a.back, append_assoc a.front (e ∷ []) a.back ∙ a.whole)) in
+    omega (arith, more, ap length (acts_own a.front e), length-append (acts e.role a.front) (record { dir = e.dir; point = e.point } ∷ []), ap (λ l. length (acts e.role l)) a.taken_is)
+
 -- with a step of 1 all that is kept is within the line
 pub whole_line : (rules : Rules) (h : List Event) → ((r : ℕ) → rules.every r ≡ 1) → IsLine rules h (λ r. length (acts r h))
 whole_line rules h every = record {
@@ -227,7 +235,4 @@ whole_line rules h every = record {
 }
   where
     inside : (s i : ℕ) (e : Event) → slice_get h i ≡ Some e → e.role ≡ s → length (acts s (take i h)) < length (acts s h)
-    inside s i e at' role =
-        let a = around h i e at' in
-        let more = prefix_length _ _ (subst (λ l. IsPrefix (by_role s (a.front ++ e ∷ [])) (by_role s l)) (append_assoc a.front (e ∷ []) a.back ∙ a.whole) (by_role_front s (a.front ++ e ∷ []) a.back)) in
-        omega (arith, more, by_role_one s a.front e role, as_many s a.front, as_many s h, ap (λ l. length (acts s l)) a.taken_is)
+    inside s i e at' role = subst (λ q. length (acts q (take i h)) < length (acts q h)) role (made_before h i e at')

@@ -7,6 +7,7 @@ pub mod Journal
 pub mod Text
 pub mod Places
 pub mod Form
+pub mod Plan
 pub mod Plain
 pub mod Numbers
 pub mod Line

@@ -26,7 +26,7 @@ log_same rules r t u (x ∷ log) a l =
     let b : Agrees (role_of x.entry) t u = subst (λ q. Agrees q t u) (sym l.0) a in
     (l.0, local_same rules x.time x.entry t u b l.1, log_same rules r (after rules t x.entry) (after rules u x.entry) log (subst (λ q. Agrees q (after rules t x.entry) (after rules u x.entry)) l.0 (own_both rules x.time x.entry t u u l.1 b)) l.2)
 
-declared : (rules : Rules) (s : State) (time : ℕ) (x : Entry) → IsLocal rules s time x → role_of x < rules.roles
+pub declared : (rules : Rules) (s : State) (time : ℕ) (x : Entry) → IsLocal rules s time x → role_of x < rules.roles
 declared rules s time (Send e) l = l.1.free.declared
 declared rules s time (Recv e) l = l.1.free.declared
 declared rules s time (Crash p) l = l.1

@@ -11,11 +11,12 @@ use Rattle.rcv_model.specs.Undo.{IsLost, keep, keep_within, only, picked, IsUndo
 use Rattle.rcv_model.specs.Table.{IsConcerned}
 use Rattle.rcv_model.specs.Journal.{Rules, State, is_among, durable, events_of, attempts_after, clocks_after, greatest, after, IsConcernedIn, May}
 use Rattle.rcv_model.proofs.Keeping.{taken_same}
+use Rattle.rcv_model.proofs.Numbers.{picked_few}
 use Rattle.rcv_model.proofs.Cuts.{undo_exactly}
 use Rattle.rcv_model.proofs.Restarts.{only_own, only_other}
 use Rattle.rcv_model.proofs.Bystanders.{as_many, keeps_all, put_kept, item}
 use Rattle.rcv_theory.specs.Beside.{KeepsAll}
-use Rattle.rcv_theory.proofs.Counting.{made_before}
+use Rattle.rcv_model.proofs.StableLines.{made_before}
 
 -- where no role may lose, all is kept
 all_picked : (has : ℕ → Bool) (h : List Event) → ((i : ℕ) → i < length h → has i ≡ true) → picked has h ≡ h
@@ -65,14 +66,6 @@ lost_act net p c h queued lt = ⊎_elim (λ below. item (acts p h) c below) (λ 
         (cases_eq r p)
 
 -- a list of kept events that is as long is the same
-picked_few : (has : ℕ → Bool) (h : List Event) → length (picked has h) ≤ length h
-picked_few has [] = omega arith
-picked_few has (e ∷ h) = go (has 0) (picked_few (λ i. has (suc i)) h)
-  where
-    go : (b : Bool) → length (picked (λ i. has (suc i)) h) ≤ length h → length (cond b (e ∷ picked (λ i. has (suc i)) h) (picked (λ i. has (suc i)) h)) ≤ length (e ∷ h)
-    go true ih = omega (arith, ih)
-    go false ih = omega (arith, ih)
-
 picked_same : (has : ℕ → Bool) (h : List Event) → length (picked has h) ≡ length h → picked has h ≡ h
 picked_same has [] e = refl
 picked_same has (x ∷ h) e = go (has 0) e (λ f. picked_same (λ i. has (suc i)) h f) (picked_few (λ i. has (suc i)) h)

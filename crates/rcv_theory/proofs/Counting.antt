@@ -1,5 +1,5 @@
 -- The counts of what is kept are the greatest closed ones within the bound, and lowering reaches them.
-use Rattle.std.proofs.Common.{◌≡◌, ℕ, zero, suc, ◌+◌, ◌<◌, ◌≤◌, Bool, true, false, cond, Option, Some, None, List, [], ◌∷◌, ◌++◌, length, take, refl, sym, ◌∙◌, ap, subst, ◌⊎◌, inl, inr, ⊎_elim, append_assoc, arith, length-append, eq-eqb, ne_eqb}
+use Rattle.std.proofs.Common.{◌≡◌, ℕ, zero, suc, ◌+◌, ◌<◌, ◌≤◌, Bool, true, false, cond, Option, Some, None, List, [], length, take, refl, sym, ◌∙◌, ap, subst, ◌⊎◌, inl, inr, ⊎_elim, arith, eq-eqb, ne_eqb}
 use Rattle.std.specs.Prelude.{◌==◌, ◌↔◌, if◌then◌else◌, nat_lt, slice_get}
 use Rattle.std.proofs.Math.Nat.{min-le_left, min-le_right, le-min}
 use Rattle.std.proofs.Math.Seq.{take-length}
@@ -8,30 +8,21 @@ use Rattle.std.proofs.lemmas.Bool.Decides.{nat_tests}
 use Rattle.std.proofs.lemmas.Option.{slice_get_within}
 use Rattle.rcv_tree.specs.declared.event.Event.{Event}
 use Rattle.rcv_model.specs.Net.{Net, IsPrefix}
-use Rattle.rcv_model.specs.Run.{acts, act_of, takes_on, put, taken, IsQueued}
+use Rattle.rcv_model.specs.Run.{acts, takes_on, put, taken, IsQueued}
 use Rattle.rcv_model.specs.Undo.{PutsAt, TakesAt, IsAnswerTo, only, IsLost, keep_within}
 use Rattle.rcv_model.specs.Line.{IsWithin}
-use Rattle.rcv_model.proofs.Lists.{prefix_map}
 use Rattle.rcv_model.proofs.Choices.{prefix_length}
 use Rattle.rcv_model.proofs.Bystanders.{as_many}
 use Rattle.rcv_model.proofs.Keeping.{by_role, scan_of, keep_front, put_through, taken_through, queued_now, is_recv}
-use Rattle.rcv_model.proofs.Queues.{around, places_of_queued}
+use Rattle.rcv_model.proofs.Queues.{places_of_queued}
 use Rattle.rcv_model.proofs.Restarts.{at_most, only_own, only_other}
 use Rattle.rcv_model.proofs.Lines.{take_same, first_of, Counts, closed_of_counts, put_early, put_late}
-use Rattle.rcv_model.proofs.StableLines.{kept_within}
-use Rattle.rcv_model.proofs.Steps.{acts_own}
+use Rattle.rcv_model.proofs.StableLines.{made_before, kept_within}
 use Rattle.rcv_theory.specs.Counts.{IsClosed, IsGreatestClosed, kept_counts, capped, Lowers, IsLowered, unlowered, lower, IsLowest}
 
 -- what one role loses
 same_event : {x y : Event} → Some x ≡ Some y → x ≡ y
 same_event e = cc
-
--- an event stands among all that its role did
-pub made_before : (h : List Event) (i : ℕ) (e : Event) → slice_get h i ≡ Some e → length (acts e.role (take i h)) < length (acts e.role h)
-made_before h i e at' =
-    let a = around h i e at' in
-    let more = prefix_length _ _ (prefix_map (act_of e.role) (a.front ++ e ∷ []) h (a.back, append_assoc a.front (e ∷ []) a.back ∙ a.whole)) in
-    omega (arith, more, ap length (acts_own a.front e), length-append (acts e.role a.front) (record { dir = e.dir; point = e.point } ∷ []), ap (λ l. length (acts e.role l)) a.taken_is)
 
 pub lost_of_one : (h : List Event) (p c i : ℕ) → IsLost h (only p c h) i ↔ ((e : Event) × (slice_get h i ≡ Some e) × (e.role ≡ p) × (c ≤ length (acts p (take i h))))
 lost_of_one h p c i = (to, from)
@@ -118,10 +109,10 @@ module _ (net : Net) (h : List Event) where
   lowered bound counts (lower {b = b} l step) = behind_one bound b counts (lowered bound b l) step
 
   -- the counts with that of role r lowered
-  at_role : (ℕ → ℕ) → ℕ → ℕ → ℕ → ℕ
+  pub at_role : (ℕ → ℕ) → ℕ → ℕ → ℕ → ℕ
   at_role counts r n q = if q == r then n else counts q
 
-  one_lower : (counts : ℕ → ℕ) (s r k i j : ℕ) → PutsAt net h s r k i → TakesAt net h s r k j → IsWithin h counts r j → (IsWithin h counts s i → ⊥) → Lowers net h counts (at_role counts r (length (acts r (take j h))))
+  pub one_lower : (counts : ℕ → ℕ) (s r k i j : ℕ) → PutsAt net h s r k i → TakesAt net h s r k j → IsWithin h counts r j → (IsWithin h counts s i → ⊥) → Lowers net h counts (at_role counts r (length (acts r (take j h))))
   unfolding at_role
   one_lower counts s r k i j p t lt out = record {
     s = s;

@@ -17,9 +17,10 @@ use Rattle.rcv_model.specs.Next.{IsProper, IsAccepted}
 use Rattle.rcv_model.specs.Journal.{Rules, State, start, after, reading_from, reading, MayRecv, May, IsLegalFrom, IsLegal}
 use Rattle.rcv_model.proofs.Lists.{prefix_trans, prefix_map, prefix_shorter}
 use Rattle.rcv_model.proofs.Keeping.{by_role, message_of, put_through, taken_through, taken_some}
-use Rattle.rcv_model.proofs.Queues.{from_of, put_by_true}
+use Rattle.rcv_model.proofs.Queues.{get_here, from_of, put_by_true}
 use Rattle.rcv_model.proofs.Steps.{expected}
 use Rattle.rcv_model.proofs.Legal.{run_after, sends_keep_accepted, accepted_runs}
+use Rattle.rcv_model.proofs.StableLines.{reading_join}
 use Rattle.rcv_theory.specs.Round.{Timed, role_of, event_of, entries, events_in, of_role, IsLocalRecv, IsLocal, IsLog, IsRound, IsMerge}
 use Rattle.rcv_theory.proofs.Agreeing.{Agrees, agrees_self, local_same, own_both, own_else}
 
@@ -73,10 +74,6 @@ local_at : (rules : Rules) (r : ℕ) (s : State) (front back : List Timed) (x : 
 local_at rules r s [] back x log = log.1
 local_at rules r s (y ∷ front) back x log = local_at rules r (after rules s y.entry) front back x log.2
 
-reading_more : (rules : Rules) (s : State) (front : List Entry) (e : Entry) → reading_from rules s (front ++ e ∷ []) ≡ after rules (reading_from rules s front) e
-reading_more rules s [] e = refl
-reading_more rules s (d ∷ front) e = reading_more rules (after rules s d) front e
-
 kept_more : (rules : Rules) (t v : State) (time : ℕ) (x : Entry) → IsLocal rules v time x → (after rules t x).kept ≡ t.kept ++ cons_option (event_of x) []
 kept_more rules t v time (Send e) l = refl
 kept_more rules t v time (Recv e) l = refl
@@ -95,10 +92,6 @@ put_ends net s r k h m e =
 
 pub own_takes : (net : Net) (from : ℕ) (e : Event) → e.dir ≡ Got → net.sender e.point ≡ from → takes_on net from e.role e ≡ true
 own_takes net from e d f = let a = ap is_sent d in let b = eq-eqb e.role e.role refl in let c = eq-eqb (net.sender e.point) from f in grind (arith, nat_tests)
-
-get_last : {A : Type 0} (xs ys : List A) (y : A) → slice_get (xs ++ y ∷ ys) (length xs) ≡ Some y
-get_last [] ys y = refl
-get_last (x ∷ xs) ys y = get_last xs ys y
 
 module _ (rules : Rules) (kept : List Event) (logs : ℕ → List Timed) (merged : List Timed) (match : (t r : ℕ) → IsPrefix (taken rules.net t r (kept ++ events_in (logs r))) (put rules.net t r (kept ++ events_in (logs t)))) (order : (r : ℕ) → of_role r merged ≡ logs r) where
   same_role : (r : ℕ) → by_role r (kept ++ events_in (logs r)) ≡ by_role r (kept ++ events_in merged)
@@ -167,7 +160,7 @@ module _ (rules : Rules) (s : State) (logs : ℕ → List Timed) (merged : List 
 
       apart : local.from ≡ e.role → ⊥
       apart g =
-          let to = put_ends rules.net local.from e.role (length (taken rules.net local.from e.role t.kept)) t.kept (message_of e) (subst (λ l. slice_get l (length (taken rules.net local.from e.role t.kept)) ≡ Some (message_of e)) (sym split) (get_last (taken rules.net local.from e.role t.kept) fits.0 (message_of e))) in
+          let to = put_ends rules.net local.from e.role (length (taken rules.net local.from e.role t.kept)) t.kept (message_of e) (subst (λ l. slice_get l (length (taken rules.net local.from e.role t.kept)) ≡ Some (message_of e)) (sym split) (get_here (taken rules.net local.from e.role t.kept) fits.0 (message_of e))) in
           proper.two_ends e.point (local.sender ∙ g ∙ sym to)
 
   may_here : (front back : List Timed) (time : ℕ) (x : Entry) (t : State) → front ++ record { time = time; entry = x } ∷ back ≡ merged → Stands front t → IsLocal rules t time x → May rules t x
@@ -186,7 +179,7 @@ module _ (rules : Rules) (s : State) (logs : ℕ → List Timed) (merged : List 
       own : (r : ℕ) → role_of x.entry ≡ r → Agrees r (after rules t x.entry) (reading_from rules s (entries (of_role r (front ++ x ∷ []))))
       own r e =
           let l : of_role r (front ++ x ∷ []) ≡ of_role r front ++ x ∷ [] = of_role_join r front (x ∷ []) ∙ ap (λ l. of_role r front ++ l) (of_role_own r x [] e) in
-          let g : reading_from rules s (entries (of_role r (front ++ x ∷ []))) ≡ after rules (reading_from rules s (entries (of_role r front))) x.entry = ap (λ l. reading_from rules s (entries l)) l ∙ ap (reading_from rules s) (entries_join (of_role r front) (x ∷ [])) ∙ reading_more rules s (entries (of_role r front)) x.entry in
+          let g : reading_from rules s (entries (of_role r (front ++ x ∷ []))) ≡ after rules (reading_from rules s (entries (of_role r front))) x.entry = ap (λ l. reading_from rules s (entries l)) l ∙ ap (reading_from rules s) (entries_join (of_role r front) (x ∷ [])) ∙ reading_join rules s (entries (of_role r front)) (x.entry ∷ []) in
           subst (Agrees r (after rules t x.entry)) (sym g) (subst (λ q. Agrees q (after rules t x.entry) (after rules (reading_from rules s (entries (of_role r front))) x.entry)) e (own_both rules x.time x.entry t (reading_from rules s (entries (of_role r front))) t local (subst (λ q. Agrees q t (reading_from rules s (entries (of_role r front)))) (sym e) (stands.agrees r))))
 
       other : (r : ℕ) → (role_of x.entry ≡ r → ⊥) → Agrees r (after rules t x.entry) (reading_from rules s (entries (of_role r (front ++ x ∷ []))))

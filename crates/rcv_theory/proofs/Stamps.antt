@@ -16,22 +16,22 @@ use Rattle.rcv_model.proofs.Lists.{prefix_map}
 use Rattle.rcv_model.proofs.Choices.{prefix_length}
 use Rattle.rcv_model.proofs.Keeping.{message_of}
 use Rattle.rcv_model.proofs.Undoing.{put_longer}
-use Rattle.rcv_model.proofs.Queues.{From, from_of, at_number, prefix_at, put_message, put_by_true, taken_by_some}
+use Rattle.rcv_model.proofs.Queues.{get_here, From, from_of, at_number, prefix_at, put_message, put_by_true, taken_by_some}
 use Rattle.rcv_model.proofs.Numbers.{bounded}
 use Rattle.rcv_theory.specs.Round.{Timed, role_of, event_of, events_in, of_role, IsLocal, IsLog, IsRound, IsMerge, Placed, IsBefore, IsBeforeAll, IsAscending, IsByStamp, in_order}
 use Rattle.rcv_theory.proofs.Merging.{events_join, in_all, own_takes}
 
 -- a is an element
-abbrev Among : {A : Type 0} → A → List A → Type 0
+abbrev pub Among : {A : Type 0} → A → List A → Type 0
 Among a [] = ⊥
 Among a (x ∷ xs) = (x ≡ a) ⊎ Among a xs
 
-among_at : {A : Type 0} (xs : List A) (i : ℕ) (a : A) → slice_get xs i ≡ Some a → Among a xs
+pub among_at : {A : Type 0} (xs : List A) (i : ℕ) (a : A) → slice_get xs i ≡ Some a → Among a xs
 among_at [] i a e = absurd (cc)
 among_at (x ∷ xs) zero a e = inl (cc)
 among_at (x ∷ xs) (suc i) a e = inr (among_at xs i a e)
 
-at_among : {A : Type 0} (xs : List A) (a : A) → Among a xs → (i : ℕ) × (slice_get xs i ≡ Some a)
+pub at_among : {A : Type 0} (xs : List A) (a : A) → Among a xs → (i : ℕ) × (slice_get xs i ≡ Some a)
 at_among [] a i = absurd i
 at_among (x ∷ xs) a (inl e) = (0, ap Some e)
 at_among (x ∷ xs) a (inr i) = let r = at_among xs a i in (suc r.0, r.1)
@@ -309,15 +309,11 @@ module _ (rules : Rules) (s : State) (logs : ℕ → List Timed) (placed : List 
           got_kind d k t = let a = ap is_sent k in cc
       late (z ∷ m) g =
           let h : m ++ sent.item ∷ sent.back ≡ events_in back = cc in
-          let y = from_of (λ (x : Timed). event_of x.entry) back (length m) sent.item (subst (λ l. slice_get l (length m) ≡ Some sent.item) h (get_mid m sent.back sent.item)) in
+          let y = from_of (λ (x : Timed). event_of x.entry) back (length m) sent.item (subst (λ l. slice_get l (length m) ≡ Some sent.item) h (get_here m sent.back sent.item)) in
           let among : Among y.item back = subst (Among y.item) y.whole (among_here y.front y.back y.item) in
           let there = order_logged placed y.item all_sound (subst (Among y.item) f (among_back front (record { time = time; entry = Recv e } ∷ back) y.item (inr among))) in
           let le = later front back (record { time = time; entry = Recv e }) y.item placed by.ascending f among in
           omega (arith, le, time_is rules there.1.state y.item.time y.item.entry sent.item there.1.local y.gives, stamp, here.1.local.0, here.1.local.1.stamp)
-        where
-          get_mid : (xs ys : List Event) (y : Event) → slice_get (xs ++ y ∷ ys) (length xs) ≡ Some y
-          get_mid [] ys y = refl
-          get_mid (x ∷ xs) ys y = get_mid xs ys y
 
       never : length (put rules.net (rules.net.sender e.point) e.role (s.kept ++ events_in front)) ≤ length (taken rules.net (rules.net.sender e.point) e.role (s.kept ++ events_in front)) → ⊥
       never le = ⊎_elim (λ m. early m le) (λ m. late m.0 m.1) (cut_behind sent.front sent.back (s.kept ++ events_in front) (e ∷ events_in back) sent.item (sent.whole ∙ sym all))

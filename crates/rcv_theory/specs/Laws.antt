@@ -77,3 +77,7 @@ StampOrderMerges =
 abbrev pub RoundsGoBesideRecoveries : Type 0
 RoundsGoBesideRecoveries =
     (rules : Rules) (journal : List Entry) (p : ℕ) (concerned : RoleSet) (kept : List ℕ) (undone : ℕ) (logs : ℕ → List Timed) (merged : List Timed) → rules.roles ≤ 8 → IsProper rules.net rules.roles → IsAccepted rules.net rules.roles → IsLegal rules (journal ++ Recover p concerned kept undone ∷ []) → IsRound rules (reading rules journal) logs → ((r : ℕ) → is_among concerned.0 r ≡ true → logs r ≡ []) → IsMerge rules.net (reading rules journal).kept logs merged → IsLegal rules (journal ++ Recover p concerned kept undone ∷ entries merged)
+
+-- That order exists for each round.
+abbrev pub StampOrdersExist : Type 0
+StampOrdersExist = (rules : Rules) (s : State) (logs : ℕ → List Timed) → IsRound rules s logs → (placed : List Placed) × IsByStamp logs placed
