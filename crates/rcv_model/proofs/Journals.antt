@@ -12,7 +12,8 @@ use Rattle.rcv_model.specs.Run.{Act}
 use Rattle.rcv_model.specs.Places.{net_of}
 use Rattle.rcv_model.specs.Table.{mark, marks, IsMarkedAt, IsConcerned}
 use Rattle.rcv_model.specs.Journal.{State, start, after, is_among, durable, IsDue, MaySend, MayRecv, MayRecover, IsConcernedIn, reading, IsLegal, KeepsRuns}
-use Rattle.rcv_model.specs.Undo.{keep, only, UndoesExactly}
+use Rattle.rcv_model.specs.Undo.{Link, one, more, IsUndone, keep, only, UndoesExactly}
+use Rattle.rcv_model.specs.Final.{IsStep}
 use Rattle.rcv_model.specs.Numbers.{lines_of, IsBounded}
 use Rattle.rcv_model.proofs.Numbers.{bounded}
 use Rattle.rcv_model.proofs.Cuts.{undo_exactly}
@@ -196,3 +197,17 @@ several_lines = refl
 -- A's recovery, after six entries, undoes exactly what it should
 several_undoes : (has : ℕ → Bool) × UndoesExactly net s6.kept 0 (durable workers s6 0) has
 several_undoes = undo_exactly net (only 0 (durable workers s6 0) s6.kept) s6.kept (several_runs (take 6 several_all) (drop 6 several_all) refl).1.queued
+
+-- B's Send depends on A's lost one by two links: by the message, and by B's Recv of it
+by_message : Link net s6.kept 0 1
+by_message = (omega arith, inr (record { s = 0; r = 1; k = 0; puts = record { event = sent 0 1 1; at = refl; puts = refl; number = refl }; takes = record { event = got 1 1 2 1; at = refl; takes = refl; number = refl } }))
+
+by_role : Link net s6.kept 1 2
+by_role = (omega arith, inl (record { first = got 1 1 2 1; second = sent 1 2 3; at_i = refl; at_j = refl; same = refl }))
+
+undone_by_chain : IsUndone net s6.kept (only 0 0 s6.kept) 2
+undone_by_chain = inr (0, record { event = sent 0 1 1; at = refl; behind = omega arith }, more (one by_message) by_role)
+
+-- both are crashed, and one thread recovers the lower one first
+lower_first : IsStep workers s6 (recover 0 3 (replicate 8 0) 4)
+lower_first = ((refl, λ q lt c. omega arith), m6)
