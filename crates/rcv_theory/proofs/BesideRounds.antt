@@ -86,13 +86,13 @@ module _ (rules : Rules) (s : State) (p : ℕ) (concerned : RoleSet) (kept : Lis
   pub legal_beside : IsLegalFrom rules (after rules s (Recover p concerned kept undone)) (entries merged)
   legal_beside = legal_merge rules (after rules s (Recover p concerned kept undone)) logs merged proper accepted (record { local = local; match = match }) (record { order = merge.order; behind = behind }) run_now
 
+pub legal_front : (rules : Rules) (s : State) (front back : List Entry) → IsLegalFrom rules s (front ++ back) → IsLegalFrom rules s front
+legal_front rules s [] back l = tt
+legal_front rules s (e ∷ front) back l = (l.0, legal_front rules (after rules s e) front back l.1)
+
 pub beside_recovery : (rules : Rules) (journal : List Entry) (p : ℕ) (concerned : RoleSet) (kept : List ℕ) (undone : ℕ) (logs : ℕ → List Timed) (merged : List Timed) → rules.roles ≤ 8 → IsProper rules.net rules.roles → IsAccepted rules.net rules.roles → IsLegal rules (journal ++ Recover p concerned kept undone ∷ []) → IsRound rules (reading rules journal) logs → ((r : ℕ) → is_among concerned.0 r ≡ true → logs r ≡ []) → IsMerge rules.net (reading rules journal).kept logs merged → IsLegal rules (journal ++ Recover p concerned kept undone ∷ entries merged)
 beside_recovery rules journal p concerned kept undone logs merged few proper accepted legal round free merge =
     let may = (legal_back rules (start rules.roles) journal (Recover p concerned kept undone ∷ []) legal).0 in
     let run = accepted_runs rules (journal ++ Recover p concerned kept undone ∷ []) proper accepted legal journal (Recover p concerned kept undone ∷ []) refl in
     let more = legal_beside rules (reading rules journal) p concerned kept undone logs merged few proper accepted run may round free merge in
     legal_join rules (start rules.roles) journal (Recover p concerned kept undone ∷ entries merged) (legal_front rules (start rules.roles) journal (Recover p concerned kept undone ∷ []) legal) (may, more)
-  where
-    legal_front : (rules : Rules) (s : State) (front back : List Entry) → IsLegalFrom rules s (front ++ back) → IsLegalFrom rules s front
-    legal_front rules s [] back l = tt
-    legal_front rules s (e ∷ front) back l = (l.0, legal_front rules (after rules s e) front back l.1)

@@ -1,11 +1,11 @@
 -- The worked case of several workers is a merged round, and each law has something to speak of.
-use Rattle.std.proofs.Common.{◌≡◌, ℕ, zero, suc, ◌+◌, ◌<◌, max, true, false, Some, List, [], ◌∷◌, ◌++◌, length, take, drop, refl, sym, ◌∙◌, ap, subst, ◌⊎◌, inl, inr, ⊎_elim, ne_eqb, arith}
+use Rattle.std.proofs.Common.{cond, ◌≡◌, ℕ, zero, suc, ◌+◌, ◌<◌, max, true, false, Some, List, [], ◌∷◌, ◌++◌, length, take, drop, refl, sym, ◌∙◌, ap, subst, ◌⊎◌, inl, inr, ⊎_elim, ne_eqb, arith}
 use Rattle.std.specs.Prelude.{◌↔◌, if◌then◌else◌, replicate, slice_get, slice_index}
 use Rattle.std.proofs.lemmas.Bool.{cases_eq}
 use Rattle.std.proofs.lemmas.Bool.Decides.{nat_tests}
 use Rattle.rcv_tree.specs.declared.event.Event.{Event}
 use Rattle.rcv_tree.specs.declared.event.Dir.TheVariants.{Got}
-use Rattle.rcv_tree.specs.declared.entry.Entry.TheVariants.{Crash}
+use Rattle.rcv_tree.specs.declared.entry.Entry.TheVariants.{Recv, Crash}
 use Rattle.rcv_model.specs.Net.{Net, IsIn, IsPrefix}
 use Rattle.rcv_model.specs.Places.{net_of}
 use Rattle.rcv_model.specs.Run.{acts, put, taken, IsRun}
@@ -19,16 +19,17 @@ use Rattle.rcv_model.proofs.Undoing.{put_same}
 use Rattle.rcv_model.proofs.Finals.{no_stuck}
 use Rattle.rcv_model.proofs.Cases.{ping, by_hundred_and_two, workers, four_roles, sent, got, send, recv, recover, several_all}
 use Rattle.rcv_model.proofs.Ping.{Place, begin, middle, are_next, next_at, next_is, may_send, ping_proper, ping_accepted}
-use Rattle.rcv_model.proofs.Journals.{below_8, s0, s7, m0, m7, several_runs}
+use Rattle.rcv_model.proofs.Journals.{below_8, s0, s7, m0, m7, several_runs, several_legal}
 use Rattle.rcv_theory.specs.Beside.{KeepsAll}
 use Rattle.rcv_theory.specs.Counts.{capped, Lowers, IsLowered, unlowered, lower}
 use Rattle.rcv_theory.specs.Expected.{IsExpected}
-use Rattle.rcv_theory.specs.Round.{Timed, Placed, entries, events_in, IsLocalRecv, IsLog, IsRound, IsMerge, IsAscending, IsByStamp, in_order}
+use Rattle.rcv_theory.specs.Round.{Timed, Placed, entries, events_in, of_role, IsLocalRecv, IsLog, IsRound, IsMerge, IsAscending, IsByStamp, in_order}
 use Rattle.rcv_theory.proofs.Counting.{at_role, one_lower}
 use Rattle.rcv_theory.proofs.Expecting.{unexpected}
 use Rattle.rcv_theory.proofs.Besides.{keeps}
 use Rattle.rcv_theory.proofs.Merging.{merged_round}
 use Rattle.rcv_theory.proofs.Stamps.{stamp_order}
+use Rattle.rcv_theory.proofs.BesideRounds.{legal_front, beside_recovery}
 
 abbrev net : Net
 net = net_of ping
@@ -171,6 +172,41 @@ six_legal = merged_round workers [] logs (in_order placed) ping_proper ping_acce
 -- B's second recovery doesn't concern A, which keeps all
 a_keeps : KeepsAll net s7 (after workers s7 (recover 1 2 (replicate 8 0) 0)) 0
 a_keeps = keeps workers s7 1 0 (record { 0 = 2 }) (replicate 8 0) 0 ping_proper.two_ends (several_runs (take 7 several_all) (drop 7 several_all) refl) m7 (omega arith) (λ e. cc)
+
+-- and while B recovers A goes on: its Send may come behind the Recover
+abbrev goes_on : ℕ → List Timed
+goes_on zero = record { time = 6; entry = send 0 1 6 } ∷ []
+goes_on (suc r) = []
+
+a_sends : MaySend workers s7 (sent 0 1 6)
+a_sends = may_send by_hundred_and_two (λ r. 2 ∷ []) s7 0 0 6 (omega arith) begin (λ e. omega arith) refl (λ d. let x = d.1 in omega arith) (omega arith) refl refl refl
+
+beside_logs : (r : ℕ) → IsLog workers r s7 (goes_on r)
+beside_logs zero = (refl, (refl, a_sends), tt)
+beside_logs (suc r) = tt
+
+nothing_taken : (t r : ℕ) → taken net t r (events_in (goes_on r)) ≡ []
+nothing_taken t zero = refl
+nothing_taken t (suc r) = refl
+
+beside_round : IsRound workers (reading workers (take 7 several_all)) goes_on
+beside_round = record { local = beside_logs; match = λ t r. subst (λ l. IsPrefix l (put net t r (events_in (goes_on t)))) (sym (nothing_taken t r)) (put net t r (events_in (goes_on t)), refl) }
+
+no_recv : (front back : List Timed) (time : ℕ) (e : Event) → front ++ record { time = time; entry = Recv e } ∷ back ≡ goes_on 0 → ⊥
+no_recv [] back time e f = let g : record { time = time; entry = Recv e } ≡ record { time = 6; entry = send 0 1 6 } = cc in let k : Recv e ≡ send 0 1 6 = ap (λ (x : Timed). x.entry) g in cc
+no_recv (x ∷ []) back time e f = cc
+no_recv (x ∷ y ∷ front) back time e f = cc
+
+beside_order : (r : ℕ) → of_role r (goes_on 0) ≡ goes_on r
+beside_order zero = refl
+beside_order (suc r) = ap (λ b. cond b (record { time = 6; entry = send 0 1 6 } ∷ []) []) (ne_eqb 0 (suc r) (λ e. omega arith))
+
+beside_legal : IsLegal workers (take 7 several_all ++ recover 1 2 (replicate 8 0) 0 ∷ send 0 1 6 ∷ [])
+beside_legal = beside_recovery workers (take 7 several_all) 1 (record { 0 = 2 }) (replicate 8 0) 0 goes_on (goes_on 0) (omega arith) ping_proper ping_accepted (legal_front workers s0 (take 8 several_all) (drop 8 several_all) several_legal) beside_round free (record { order = beside_order; behind = λ front back time e f. absurd (no_recv front back time e f) })
+  where
+    free : (r : ℕ) → is_among 2 r ≡ true → goes_on r ≡ []
+    free zero t = absurd (cc)
+    free (suc r) t = refl
 
 -- the message that waits for B is expected
 first_run : IsRun net (sent 0 1 1 ∷ [])
