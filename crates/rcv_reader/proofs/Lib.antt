@@ -1,0 +1,4 @@
+pub mod Steps
+pub mod Heads
+pub mod Bodies
+pub mod Fair
