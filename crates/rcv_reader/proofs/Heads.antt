@@ -13,7 +13,7 @@ use Rattle.rcv_reader.specs.Machine.{Place, Item, This, AnyName, AnyQuoted, More
 use Rattle.std.proofs.lemmas.Slice.Eq.{bytes_eq-Decides}
 use Rattle.rcv_reader.proofs.Steps.{HasMore, Both, Never, Agrees, IsOther, has_more, choose, at_fault, tested, same_only, same_itself}
 
-meets_only : (t m : Symbol) → meets t m ≡ true → t ≡ m
+pub meets_only : (t m : Symbol) → meets t m ≡ true → t ≡ m
 meets_only (Is a) (Is b) e = ap Is (same_only a b e)
 meets_only (Name a) (Name b) e = ap Name ((bytes_eq-Decides a b).0 e)
 meets_only (Quoted a) (Quoted b) e = ap Quoted ((bytes_eq-Decides a b).0 e)

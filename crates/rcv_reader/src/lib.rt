@@ -3,8 +3,12 @@
 
 ghost use Rattle.rcv_reader.specs.Laws.{CodesAreFair};
 
+mod ahead;
 mod fault;
+mod parser;
+
 mod sign;
+mod words;
 
 pub use fault::Fault;
 pub use sign::Sign;
