@@ -6,3 +6,5 @@ pub mod Stops
 pub mod Going
 pub mod Reading
 pub mod Blocks
+pub mod Heading
+pub mod Whole

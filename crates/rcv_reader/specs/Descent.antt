@@ -5,13 +5,14 @@ use Rattle.rcv_tree.specs.declared.statement.Stmt.TheVariants as statements
 use Rattle.rcv_tree.specs.declared.statement.Block.{Block}
 use Rattle.rcv_tree.specs.declared.statement.Blocks.{Blocks}
 use Rattle.rcv_model.specs.Text as trees
-use Rattle.rcv_reader.specs.declared.sign.Sign.TheVariants.{Open, Close, Or, Choice, Rec, Continue, Par, Do, Semicolon}
+use Rattle.rcv_reader.specs.declared.sign.Sign.TheVariants.{Module, Global, Protocol, Role, Left, Right, Open, Close, Or, Choice, Rec, Continue, Par, Do, Semicolon}
 use Rattle.rcv_reader.specs.declared.fault.ReadError.{ReadError}
 use Rattle.rcv_reader.specs.declared.fault.ReadError.TheVariants as errors
 use Rattle.rcv_reader.specs.Symbols.{Symbol, Is, Name, Quoted}
 use Rattle.rcv_reader.specs.Grammar as grammar
-use Rattle.rcv_reader.specs.Grammar.{Written, stmts, names_behind, blocks_behind, IsBegun, IsProper, AreProper}
-use Rattle.rcv_reader.specs.Machine.{Item, State, Refuses, answer, place_of, is_listed, Place, is_open}
+use Rattle.rcv_reader.specs.Grammar.{Written, stmts, names_behind, roles_behind, dotted, decl, decls, is_decl_word, AreDecls, blocks_behind, IsBegun, IsProper, AreProper}
+use Rattle.rcv_tree.specs.declared.protocol.Decl.{Decl}
+use Rattle.rcv_reader.specs.Machine.{Item, Decls, State, Refuses, answer, reading, place_of, is_listed, Place, is_open}
 use Rattle.rcv_reader.specs.Trees.{role_at, roles_at, points, points_of, tree_of, trees_of, MayReceive, IsFit, AreFit}
 
 abbrev pub known : List (List ℕ) → ℕ → State
@@ -155,3 +156,58 @@ Adds roles n n' block block' old new = (added : List Stmt) × (block' ≡ block 
 
 abbrev pub AddsSome : List (List ℕ) → ℕ → ℕ → List Stmt → List Stmt → List Symbol → List Symbol → Type 0
 AddsSome roles n n' block block' old new = (added : List Stmt) × (block' ≡ block ++ added) × AreSomeStmts roles n n' added old new
+
+-- ---- the head
+
+abbrev pub a_name_of : List ℕ → Symbol
+a_name_of n = Name n
+
+abbrev pub a_quoted : List ℕ → List Symbol → List Symbol
+a_quoted q ts = Quoted q ∷ ts
+
+-- Name . Name ..
+abbrev pub module_list : List (List ℕ) → List Symbol → List Symbol
+module_list [] next = next
+module_list (n ∷ ns) next = Name n ∷ dotted ns next
+
+-- Name , role Name ..
+abbrev pub names_of_roles : List (List ℕ) → List Symbol → List Symbol
+names_of_roles [] next = next
+names_of_roles (n ∷ ns) next = Name n ∷ roles_behind ns next
+
+-- one more name was read
+pub record AddsName (names names' : List (List ℕ)) (old new : List Symbol) : Type 0 where
+  pub name : List ℕ
+  pub added : names' ≡ names ++ name ∷ []
+  pub spelled : old ≡ Name name ∷ new
+
+-- a declaration was read
+pub record IsDecl (d : Decl) (old new : List Symbol) : Type 0 where
+  pub word : is_decl_word d.word ≡ true
+  pub spelled : old ≡ decl d new
+
+-- declarations were read
+pub record AreSuch (ds : List Decl) (old new : List Symbol) : Type 0 where
+  pub words : AreDecls ds
+  pub spelled : old ≡ decls ds new
+
+-- decl* and the word global
+abbrev pub declaring : List (List ℕ) → Item
+declaring aliases = Decls aliases
+
+-- the whole answer
+abbrev pub Ends : ReadError → List Symbol → List Symbol → Type 0
+Ends errors.Memory old new = Unit {0}
+Ends (errors.Refused fault) old new = reading old ≡ Refuses fault new
+
+-- the head of a module was read, with the first brace of the body
+pub record IsHead (modules : List (List ℕ)) (ds : List Decl) (name : List ℕ) (roles : List (List ℕ)) (old new : List Symbol) : Type 0 where
+  pub some_module : modules ≡ [] → ⊥
+  pub some_role : roles ≡ [] → ⊥
+  pub words : AreDecls ds
+  pub spelled : old ≡ Is Module ∷ module_list modules (Is Semicolon ∷ decls ds (Is Global ∷ Is Protocol ∷ Name name ∷ Is Left ∷ Is Role ∷ names_of_roles roles (Is Right ∷ Is Open ∷ new)))
+
+-- the fault behind the protocol
+abbrev pub EndFails : ReadError → State → List Symbol → Type 0
+EndFails errors.Memory s left = Unit {0}
+EndFails (errors.Refused fault) s left = answer s [] left ≡ Refuses fault left

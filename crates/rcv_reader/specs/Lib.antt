@@ -4,3 +4,4 @@ pub mod Machine
 pub mod Trees
 pub mod Laws
 pub mod Descent
+pub mod Refusals

@@ -5,12 +5,15 @@ ghost use Rattle.rcv_reader.specs.Laws.{CodesAreFair};
 
 mod ahead;
 mod fault;
+mod head;
 mod parser;
+mod read;
 
 mod sign;
 mod words;
 
 pub use fault::Fault;
+pub use read::read_protocol;
 pub use sign::Sign;
 
 /// Only what the grammar derives is taken. The fault `Token` is at the first token that the grammar doesn't have; with

@@ -65,8 +65,8 @@ fn is_listed(role: RoleId, before: &[RoleId]) -> bool
     before.iter().any(|other| role == *other)
 }
 
-// The same names once more.
-fn copy_of(alloc: Global, names: &Names) -> Result<Names, ReadError>
+/// The same names once more.
+pub fn copy_of(alloc: Global, names: &Names) -> Result<Names, ReadError>
     ensures ok { IfOk result (λ copy. copy ≡ names.now) }
     ensures err { IfErr result (λ e. e ≡ ReadError.Memory) }
 {

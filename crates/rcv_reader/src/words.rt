@@ -8,8 +8,8 @@ ghost use Rattle.rcv_reader.specs.Symbols.{head_word, stmt_word, reserved, mark,
 use crate::sign::Sign;
 use rcv_lexer::token::{Kind, Token};
 
-// Whether the two are the same.
-fn is(word: &[u8], other: &[u8]) -> bool
+/// Whether the two are the same.
+pub fn is(word: &[u8], other: &[u8]) -> bool
     ensures { result ≡ bytes_eq word.now other.now }
 {
     word == other
