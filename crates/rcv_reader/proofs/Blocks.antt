@@ -1,5 +1,5 @@
 -- What statements, blocks and branches say, read one after another.
-use Rattle.std.proofs.Common.{◌≡◌, ℕ, ◌+◌, ◌<◌, ◌≤◌, Bool, true, false, List, [], ◌∷◌, ◌++◌, length, map, refl, sym, ap, subst, ◌∙◌, arith, append_assoc, append-nil, Some, Result, Ok, Err}
+use Rattle.std.proofs.Common.{◌≡◌, ℕ, ◌+◌, ◌<◌, ◌≤◌, Bool, false, List, [], ◌∷◌, ◌++◌, length, map, refl, sym, ap, subst, ◌∙◌, arith, append_assoc, append-nil, Result, Ok, Err}
 use Rattle.std.specs.Prelude.{OnOk}
 use Rattle.rcv_tree.specs.Lists.{statements, blocks}
 use Rattle.rcv_tree.specs.declared.statement.Stmt.{Stmt}
@@ -9,15 +9,14 @@ use Rattle.rcv_tree.specs.declared.statement.Blocks.{Blocks}
 use Rattle.rcv_tree.specs.declared.statement.Stmt.TheFolds.{fold_out-Block, fold_out-Blocks}
 use Rattle.rcv_model.specs.Text as trees
 use Rattle.rcv_model.proofs.Text.{stmt_body-Message, stmt_body-Choice, stmt_body-Rec, stmt_body-Continue}
-use Rattle.rcv_reader.specs.declared.sign.Sign.TheVariants.{Open, Close, Or, Choice, Rec, Continue, Left, Right, From, To, At, Comma, Semicolon}
+use Rattle.rcv_reader.specs.declared.sign.Sign.TheVariants.{Open, Close, Or, Choice, Rec, Continue, Left, Right, From, To, At, Semicolon}
 use Rattle.rcv_reader.specs.declared.fault.ReadError.{ReadError}
-use Rattle.rcv_reader.specs.declared.fault.ReadError.TheVariants as errors
 use Rattle.rcv_reader.specs.Symbols.{Symbol, Is, Name}
 use Rattle.rcv_reader.specs.Grammar as grammar
 use Rattle.rcv_reader.specs.Grammar.{Written, NoStmt, AMessage, AChoice, ARec, AContinue, NoBlock, ABlock, stmts, sort_list, names_behind, blocks_behind, IsBegun, IsProper, AreProper}
-use Rattle.rcv_reader.specs.Machine.{Place, Item, Opening, First, Rest, More, State, behind, answer, place_of}
+use Rattle.rcv_reader.specs.Machine.{Place, Item, Opening, First, Rest, More, State, behind, answer}
 use Rattle.rcv_reader.specs.Trees.{or_first, role_at, roles_at, points, points_of, singles, tree_of, trees_of, MayReceive, IsFit, AreFit}
-use Rattle.rcv_reader.specs.Descent.{known, place_at, Halts, Goes, IsNotNext, a_name, MayBegin, IsRoleName, messages, in_front, branches_in_front, AreReceived, AreStmts, AreSomeStmts, IsBlock, AreBranches, Adds, AddsSome}
+use Rattle.rcv_reader.specs.Descent.{known, place_at, Halts, Goes, IsNotNext, a_name, MayBegin, IsRoleName, messages, in_front, branches_in_front, AreReceived, IsBlock, AreBranches, Adds, AddsSome}
 use Rattle.rcv_reader.proofs.Going.{halts_behind, rest_is_first, more_is_rest, in_message, to_message}
 use Rattle.rcv_reader.proofs.Reading.{IsSame, IsOther, known_same, halts_over}
 
@@ -47,51 +46,61 @@ message_read roles r4 r6 count c6 c7 label sorts sender block block' t0 t1 t2 t3
     let place : role_at roles role.0 ≡ sender = ap or_first role.1 in
     let e4 = role.2 in
     let e6 = are.spelled in
-    let c = are.counted in
-    (messages label sorts sender (roles_at roles (are.first ∷ are.others)) count, are.added, record {
-      stmts = record {
-        put = λ rest. AMessage label sorts role.0 are.first are.others rest;
-        proper = λ rest p. p;
-        fit = λ rest f. ((sender, role.1), subst (λ (x : ℕ). MayReceive roles x [] (are.first ∷ are.others)) (sym place) are.may, f);
-        spelled = λ rest next e. simp (e0, e1, e2, e3, e4, e5, e6, e);
-        counted = λ rest. omega (arith, c);
-        tree = λ rest. ap (λ (x : ℕ). singles label sorts x (roles_at roles (are.first ∷ are.others)) count (tree_of roles (count + (1 + length are.others)) rest)) place
-            ∙ ap (λ (x : ℕ). singles label sorts sender (roles_at roles (are.first ∷ are.others)) count (tree_of roles x rest)) (sym c)
-            ∙ messages_in_front label sorts sender (roles_at roles (are.first ∷ are.others)) count (tree_of roles c7 rest);
-      };
-      begun = λ rest. tt;
-    })
+    let c = are.counted in (
+      messages label sorts sender (roles_at roles (are.first ∷ are.others)) count,
+      are.added,
+      record {
+        stmts = record {
+          put = λ rest. AMessage label sorts role.0 are.first are.others rest;
+          proper = λ rest p. p;
+          fit = λ rest f. ((sender, role.1), subst (λ (x : ℕ). MayReceive roles x [] (are.first ∷ are.others)) (sym place) are.may, f);
+          spelled = λ rest next e. simp (e0, e1, e2, e3, e4, e5, e6, e);
+          counted = λ rest. omega (arith, c);
+          tree = λ rest. ap (λ (x : ℕ). singles label sorts x (roles_at roles (are.first ∷ are.others)) count (tree_of roles (count + (1 + length are.others)) rest)) place
+              ∙ ap (λ (x : ℕ). singles label sorts sender (roles_at roles (are.first ∷ are.others)) count (tree_of roles x rest)) (sym c)
+              ∙ messages_in_front label sorts sender (roles_at roles (are.first ∷ are.others)) count (tree_of roles c7 rest);
+        };
+        begun = λ rest. tt;
+      },
+    )
 
 pub again_read : (roles : List (List ℕ)) (count c : ℕ) (name : List ℕ) (block block' : List Stmt) (old mid new : List Symbol) → old ≡ Name name ∷ mid → mid ≡ Is Semicolon ∷ new → c ≡ count → block' ≡ block ++ stmt.Continue name ∷ []
     → AddsSome roles count c block block' (Is Continue ∷ old) new
-again_read roles count c name block block' old mid new e f same is = (stmt.Continue name ∷ [], is, record {
-  stmts = record {
-    put = λ rest. AContinue name rest;
-    proper = λ rest p. p;
-    fit = λ rest p. p;
-    spelled = λ rest next n. simp (e, f, n);
-    counted = λ rest. omega (arith, same);
-    tree = λ rest. ap (λ (x : ℕ). trees.Again name (tree_of roles x rest)) (sym same) ∙ sym (stmt_body-Continue name (tree_of roles c rest));
-  };
-  begun = λ rest. tt;
-})
+again_read roles count c name block block' old mid new e f same is = (
+  stmt.Continue name ∷ [],
+  is,
+  record {
+    stmts = record {
+      put = λ rest. AContinue name rest;
+      proper = λ rest p. p;
+      fit = λ rest p. p;
+      spelled = λ rest next n. simp (e, f, n);
+      counted = λ rest. omega (arith, same);
+      tree = λ rest. ap (λ (x : ℕ). trees.Again name (tree_of roles x rest)) (sym same) ∙ sym (stmt_body-Continue name (tree_of roles c rest));
+    };
+    begun = λ rest. tt;
+  },
+)
 
 rec_said : (roles : List (List ℕ)) (count c : ℕ) (name : List ℕ) (body : Block) (block block' : List Stmt) (old mid new : List Symbol) → old ≡ Name name ∷ mid → IsBlock roles count c body mid new
     → block' ≡ block ++ stmt.Rec name body ∷ [] → AddsSome roles count c block block' (Is Rec ∷ old) new
 rec_said roles count c name body block block' old mid new e b is =
-    let n = b.counted in
-    (stmt.Rec name body ∷ [], is, record {
-      stmts = record {
-        put = λ rest. ARec name b.written rest;
-        proper = λ rest p. (b.begun, b.proper, p);
-        fit = λ rest p. (b.fit, p);
-        spelled = λ rest next m. ap (λ (x : List Symbol). Is Rec ∷ x) (e ∙ ap (λ (x : List Symbol). Name name ∷ x) (b.spelled ∙ ap (λ (x : List Symbol). Is Open ∷ stmts b.written (Is Close ∷ x)) m));
-        counted = λ rest. omega (arith, n);
-        tree = λ rest. ap (λ (x : ℕ). trees.Loop name (tree_of roles count b.written) (tree_of roles x rest)) (sym n) ∙ ap (λ (x : trees.Body). trees.Loop name x (tree_of roles c rest)) (sym b.tree)
-            ∙ sym (stmt_body-Rec name body (tree_of roles c rest));
-      };
-      begun = λ rest. tt;
-    })
+    let n = b.counted in (
+      stmt.Rec name body ∷ [],
+      is,
+      record {
+        stmts = record {
+          put = λ rest. ARec name b.written rest;
+          proper = λ rest p. (b.begun, b.proper, p);
+          fit = λ rest p. (b.fit, p);
+          spelled = λ rest next m. ap (λ (x : List Symbol). Is Rec ∷ x) (e ∙ ap (λ (x : List Symbol). Name name ∷ x) (b.spelled ∙ ap (λ (x : List Symbol). Is Open ∷ stmts b.written (Is Close ∷ x)) m));
+          counted = λ rest. omega (arith, n);
+          tree = λ rest. ap (λ (x : ℕ). trees.Loop name (tree_of roles count b.written) (tree_of roles x rest)) (sym n) ∙ ap (λ (x : trees.Body). trees.Loop name x (tree_of roles c rest)) (sym b.tree)
+              ∙ sym (stmt_body-Rec name body (tree_of roles c rest));
+        };
+        begun = λ rest. tt;
+      },
+    )
 
 pub rec_read : (roles r1 : List (List ℕ)) (count c1 c : ℕ) (name : List ℕ) (body : Block) (block block' : List Stmt) (old mid new : List Symbol) → old ≡ Name name ∷ mid → r1 ≡ roles → c1 ≡ count → IsBlock r1 c1 c body mid new
     → block' ≡ block ++ stmt.Rec name body ∷ [] → AddsSome roles count c block block' (Is Rec ∷ old) new
@@ -102,21 +111,24 @@ choice_said : (roles : List (List ℕ)) (count c : ℕ) (subject : ℕ) (bs : Bl
     → AreBranches roles count c bs t2 t3 → block' ≡ block ++ stmt.Choice subject bs ∷ [] → AddsSome roles count c block block' (Is Choice ∷ t0) t3
 choice_said roles count c subject bs block block' t0 t1 t2 t3 e0 role b is =
     let n = b.counted in
-    let place : role_at roles role.0 ≡ subject = ap or_first role.1 in
-    (stmt.Choice subject bs ∷ [], is, record {
-      stmts = record {
-        put = λ rest. AChoice role.0 b.first b.others rest;
-        proper = λ rest p. (b.begun, b.proper, b.all_proper, p);
-        fit = λ rest p. ((subject, role.1), b.fit, b.all_fit, p);
-        spelled = λ rest next m. ap (λ (x : List Symbol). Is Choice ∷ x) (e0 ∙ ap (λ (x : List Symbol). Is At ∷ x) (role.2 ∙ ap (λ (x : List Symbol). Name role.0 ∷ x) (b.spelled ∙ ap (λ (x : List Symbol). Is Open ∷ stmts b.first (Is Close ∷ blocks_behind Or b.others x)) m)));
-        counted = λ rest. omega (arith, n);
-        tree = λ rest. ap (λ (x : ℕ). trees.Choose x (trees.Or (tree_of roles count b.first) (trees_of roles (count + points b.first) b.others)) (tree_of roles (count + (points b.first + points_of b.others)) rest)) place
-            ∙ ap (λ (x : ℕ). trees.Choose subject (trees.Or (tree_of roles count b.first) (trees_of roles (count + points b.first) b.others)) (tree_of roles x rest)) (sym n)
-            ∙ ap (λ (x : trees.Bodies). trees.Choose subject x (tree_of roles c rest)) (sym b.tree)
-            ∙ sym (stmt_body-Choice subject bs (tree_of roles c rest));
-      };
-      begun = λ rest. tt;
-    })
+    let place : role_at roles role.0 ≡ subject = ap or_first role.1 in (
+      stmt.Choice subject bs ∷ [],
+      is,
+      record {
+        stmts = record {
+          put = λ rest. AChoice role.0 b.first b.others rest;
+          proper = λ rest p. (b.begun, b.proper, b.all_proper, p);
+          fit = λ rest p. ((subject, role.1), b.fit, b.all_fit, p);
+          spelled = λ rest next m. ap (λ (x : List Symbol). Is Choice ∷ x) (e0 ∙ ap (λ (x : List Symbol). Is At ∷ x) (role.2 ∙ ap (λ (x : List Symbol). Name role.0 ∷ x) (b.spelled ∙ ap (λ (x : List Symbol). Is Open ∷ stmts b.first (Is Close ∷ blocks_behind Or b.others x)) m)));
+          counted = λ rest. omega (arith, n);
+          tree = λ rest. ap (λ (x : ℕ). trees.Choose x (trees.Or (tree_of roles count b.first) (trees_of roles (count + points b.first) b.others)) (tree_of roles (count + (points b.first + points_of b.others)) rest)) place
+              ∙ ap (λ (x : ℕ). trees.Choose subject (trees.Or (tree_of roles count b.first) (trees_of roles (count + points b.first) b.others)) (tree_of roles x rest)) (sym n)
+              ∙ ap (λ (x : trees.Bodies). trees.Choose subject x (tree_of roles c rest)) (sym b.tree)
+              ∙ sym (stmt_body-Choice subject bs (tree_of roles c rest));
+        };
+        begun = λ rest. tt;
+      },
+    )
 
 pub choice_read : (roles r1 r2 : List (List ℕ)) (count c2 c : ℕ) (subject : ℕ) (bs : Blocks) (block block' : List Stmt) (t0 t1 t2 t3 : List Symbol) → t0 ≡ Is At ∷ t1 → r1 ≡ roles → IsRoleName r1 subject t1 t2 → r2 ≡ roles → c2 ≡ count
     → AreBranches r2 c2 c bs t2 t3 → block' ≡ block ++ stmt.Choice subject bs ∷ [] → AddsSome roles count c block block' (Is Choice ∷ t0) t3
@@ -131,24 +143,32 @@ in_front-append [] ys rest = refl
 in_front-append (x ∷ xs) ys rest = ap (trees.stmt_body x) (in_front-append xs ys rest)
 
 pub no_stmts : (roles : List (List ℕ)) (count : ℕ) (block : List Stmt) (ts : List Symbol) → Adds roles count count block block ts ts
-no_stmts roles count block ts = ([], sym (append-nil block), record {
-  put = λ rest. rest;
-  proper = λ rest p. p;
-  fit = λ rest p. p;
-  spelled = λ rest next e. e;
-  counted = λ rest. refl;
-  tree = λ rest. refl;
-})
+no_stmts roles count block ts = (
+  [],
+  sym (append-nil block),
+  record {
+    put = λ rest. rest;
+    proper = λ rest p. p;
+    fit = λ rest p. p;
+    spelled = λ rest next e. e;
+    counted = λ rest. refl;
+    tree = λ rest. refl;
+  },
+)
 
 pub stmts_join : (roles : List (List ℕ)) (n m l : ℕ) (block block1 block2 : List Stmt) (start now new : List Symbol) → Adds roles n m block block1 start now → Adds roles m l block1 block2 now new → Adds roles n l block block2 start new
-stmts_join roles n m l block block1 block2 start now new a b = (a.0 ++ b.0, b.1 ∙ ap (λ (x : List Stmt). x ++ b.0) a.1 ∙ append_assoc block a.0 b.0, record {
-  put = λ rest. a.2.put (b.2.put rest);
-  proper = λ rest p. a.2.proper (b.2.put rest) (b.2.proper rest p);
-  fit = λ rest p. a.2.fit (b.2.put rest) (b.2.fit rest p);
-  spelled = λ rest next e. a.2.spelled (b.2.put rest) next (b.2.spelled rest next e);
-  counted = λ rest. a.2.counted (b.2.put rest) ∙ b.2.counted rest;
-  tree = λ rest. a.2.tree (b.2.put rest) ∙ ap (in_front a.0) (b.2.tree rest) ∙ sym (in_front-append a.0 b.0 (tree_of roles l rest));
-})
+stmts_join roles n m l block block1 block2 start now new a b = (
+  a.0 ++ b.0,
+  b.1 ∙ ap (λ (x : List Stmt). x ++ b.0) a.1 ∙ append_assoc block a.0 b.0,
+  record {
+    put = λ rest. a.2.put (b.2.put rest);
+    proper = λ rest p. a.2.proper (b.2.put rest) (b.2.proper rest p);
+    fit = λ rest p. a.2.fit (b.2.put rest) (b.2.fit rest p);
+    spelled = λ rest next e. a.2.spelled (b.2.put rest) next (b.2.spelled rest next e);
+    counted = λ rest. a.2.counted (b.2.put rest) ∙ b.2.counted rest;
+    tree = λ rest. a.2.tree (b.2.put rest) ∙ ap (in_front a.0) (b.2.tree rest) ∙ sym (in_front-append a.0 b.0 (tree_of roles l rest));
+  },
+)
 
 pub record StmtsSoFar (roles r recs q : List (List ℕ)) (count c depth0 comes0 : ℕ) (ended0 : Bool) (depth comes : ℕ) (ended : Bool) (block block' : List Stmt) (start now : List Symbol) : Type 0 where
   pub goes : (k : List Item) → answer (known roles count) (Rest (place_at recs depth0 comes0 ended0) ∷ k) start ≡ answer (known r c) (Rest (place_at recs depth comes ended) ∷ k) now

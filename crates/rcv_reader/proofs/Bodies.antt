@@ -1,17 +1,11 @@
 -- The steps at the items of a body, and all steps together.
-use Rattle.std.proofs.Common.{◌≡◌, ℕ, Bool, true, false, cond, codes, List, [], ◌∷◌, ◌++◌, length, refl, sym, ap, subst, ◌∙◌, inl, inr}
-use Rattle.std.specs.Prelude.{◌⊎◌, ◌==◌, nat_le, not, Option, Some, None}
-use Rattle.std.specs.Str.{bytes_eq}
-use Rattle.rcv_tree.specs.declared.protocol.Decl.{Decl}
-use Rattle.rcv_reader.specs.declared.sign.Sign.{Sign}
-use Rattle.rcv_reader.specs.declared.sign.Sign.TheVariants.{Module, Global, Protocol, Role, From, To, Choice, At, Or, Rec, Continue, Par, And, Do, Open, Close, Left, Right, Comma, Semicolon, Dot, Less, Greater}
-use Rattle.rcv_reader.specs.declared.fault.Fault.{Fault}
-use Rattle.rcv_reader.specs.declared.fault.Fault.TheVariants.{Token, Deep, NoName, Twice, SelfMessage, AfterContinue, Unguarded, TooMany, NotYet}
+use Rattle.std.proofs.Common.{◌≡◌, ℕ, Bool, true, false, List, [], ◌∷◌, refl, subst, inl, inr}
+use Rattle.rcv_reader.specs.declared.sign.Sign.TheVariants.{Global, From, To, Choice, At, Or, Rec, Continue, Par, And, Do, Open, Close, Left, Right, Semicolon}
+use Rattle.rcv_reader.specs.declared.fault.Fault.TheVariants.{Token, AfterContinue, Unguarded, NotYet}
 use Rattle.rcv_reader.specs.Symbols.{Symbol, Is, Name, Quoted, Other}
-use Rattle.rcv_reader.specs.Grammar.{Written, NoStmt, AMessage, AChoice, ARec, AContinue, APar, ADo, Blocks, NoBlock, ABlock, is_decl_word, dotted, names_behind, sort_list, roles_behind, decl, decls, stmts, blocks_behind, IsBegun, IsProper, AreProper, AreDecls}
-use Rattle.rcv_reader.specs.Machine.{Place, Item, This, AnyName, AnyQuoted, MoreModules, Decls, Alias, RoleName, MoreRoles, Sorts, MoreSorts, Subject, Sender, Receiver, MoreReceivers, RecName, AgainName, Opening, First, Rest, More, State, Outcome, On, Wrong, holds, place_of, is_listed, behind, inside, inside_rec, unless, named, by_place, role_named, same, meets, quoted, modules, declares, more_roles, sorts, more_sorts, more_receivers, receives, declares_role, opens, is_open, begins, ends, branches, behind_all, step, Front, Derives}
-use Rattle.rcv_reader.specs.Machine.{outermost}
-use Rattle.rcv_reader.proofs.Steps.{HasMore, Both, Never, Agrees, has_more, completion, choose, tested}
+use Rattle.rcv_reader.specs.Grammar.{Written, NoStmt, AMessage, AChoice, ARec, AContinue, APar, ADo, Blocks, NoBlock, ABlock, names_behind, sort_list, stmts, blocks_behind, IsBegun, IsProper, AreProper}
+use Rattle.rcv_reader.specs.Machine.{Place, Item, This, AnyName, AnyQuoted, MoreModules, Decls, Alias, RoleName, MoreRoles, Sorts, MoreSorts, Subject, Sender, Receiver, MoreReceivers, RecName, AgainName, Opening, First, Rest, More, State, Outcome, On, Wrong, behind, unless, meets, is_open, begins, ends, branches, behind_all, step, Derives}
+use Rattle.rcv_reader.proofs.Steps.{HasMore, Both, Agrees, has_more, completion, tested}
 use Rattle.rcv_reader.proofs.Heads.{this_agrees, name_agrees, quoted_agrees, modules_agrees, declares_agrees, alias_agrees, role_agrees, more_roles_agrees, sorts_agrees, more_sorts_agrees, subject_agrees, sender_agrees, receiver_agrees, more_receivers_agrees, rec_agrees, again_agrees, opens_agrees}
 
 -- what is awaited behind the first symbol of a statement
@@ -35,11 +29,11 @@ message_back q (ADo m r rs rest) n us vs k e proper d = absurd cc
 message_both : (p q : Place) (n : List ℕ) (k : List Item) → Both (in_message q k) (Name n) (First p ∷ k)
 message_both p q n k us = (
   λ a.
-  let b = a.2 in
-  let c = b.2 in
-  let f = c.2 in
-  let g = f.2 in
-  (g.0, (AMessage n b.1.0 f.1.0 f.1.1 f.1.2 g.1.0, tt, g.1.1, simp (a.1, b.1.1, c.1, f.1.3, g.1.2)), g.2),
+      let b = a.2 in
+      let c = b.2 in
+      let f = c.2 in
+      let g = f.2 in
+      (g.0, (AMessage n b.1.0 f.1.0 f.1.1 f.1.2 g.1.0, tt, g.1.1, simp (a.1, b.1.1, c.1, f.1.3, g.1.2)), g.2),
   λ d. message_back q d.1.0 n us d.0 k d.1.3 d.1.2 d.2,
 )
 
@@ -57,10 +51,10 @@ choice_back p (ADo m r rs rest) us vs k e proper d = absurd cc
 choice_both : (p : Place) (k : List Item) → Both (in_choice p k) (Is Choice) (First p ∷ k)
 choice_both p k us = (
   λ a.
-  let b = a.2 in
-  let c = b.2 in
-  let f = c.2 in
-  (f.0, (AChoice b.1.0 c.1.0 f.1.0 f.1.1, tt, (c.1.1, c.1.2, f.1.2, f.1.3), simp (a.1, b.1.1, c.1.3, f.1.4)), f.2),
+      let b = a.2 in
+      let c = b.2 in
+      let f = c.2 in
+      (f.0, (AChoice b.1.0 c.1.0 f.1.0 f.1.1, tt, (c.1.1, c.1.2, f.1.2, f.1.3), simp (a.1, b.1.1, c.1.3, f.1.4)), f.2),
   λ d. choice_back p d.1.0 us d.0 k d.1.3 d.1.2 d.2,
 )
 
@@ -78,8 +72,8 @@ loop_back p q (ADo m r rs rest) us vs k e proper d = absurd cc
 loop_both : (p q : Place) (k : List Item) → Both (RecName p ∷ Rest q ∷ k) (Is Rec) (First p ∷ k)
 loop_both p q k us = (
   λ a.
-  let b = a.2 in
-  (b.0, (ARec a.1.0 a.1.1 b.1.0, tt, (a.1.2, a.1.3, b.1.1), simp (a.1.4, b.1.2)), b.2),
+      let b = a.2 in
+      (b.0, (ARec a.1.0 a.1.1 b.1.0, tt, (a.1.2, a.1.3, b.1.1), simp (a.1.4, b.1.2)), b.2),
   λ d. loop_back p q d.1.0 us d.0 k d.1.3 d.1.2 d.2,
 )
 
@@ -97,8 +91,8 @@ go_back p q (ADo m r rs rest) us vs k e proper d = absurd cc
 go_both : (p q : Place) (k : List Item) → Both (AgainName p ∷ Rest q ∷ k) (Is Continue) (First p ∷ k)
 go_both p q k us = (
   λ a.
-  let b = a.2 in
-  (b.0, (AContinue a.1.0 b.1.0, tt, b.1.1, simp (a.1.1, b.1.2)), b.2),
+      let b = a.2 in
+      (b.0, (AContinue a.1.0 b.1.0, tt, b.1.1, simp (a.1.1, b.1.2)), b.2),
   λ d. go_back p q d.1.0 us d.0 k d.1.3 d.1.2 d.2,
 )
 

@@ -4,10 +4,10 @@ use Rattle.std.specs.Prelude.{◌⊎◌}
 use Rattle.rcv_reader.specs.declared.sign.Sign.TheVariants.{Global, Or, Right, Semicolon, Close}
 use Rattle.rcv_tree.specs.declared.protocol.Decl.{Decl}
 use Rattle.rcv_reader.specs.declared.fault.Fault.{Fault}
-use Rattle.rcv_reader.specs.declared.fault.Fault.TheVariants.{Token, Deep, NoName, Twice, SelfMessage, AfterContinue, Unguarded, TooMany, NotYet}
-use Rattle.rcv_reader.specs.Symbols.{Symbol, Is, Name}
+use Rattle.rcv_reader.specs.declared.fault.Fault.TheVariants.{Token}
+use Rattle.rcv_reader.specs.Symbols.{Symbol, Is}
 use Rattle.rcv_reader.specs.Grammar.{Written, NoStmt, AMessage, AChoice, ARec, AContinue, APar, ADo, Blocks, NoBlock, ABlock, IsDerived, IsBeginning, dotted, names_behind, sort_list, roles_behind, decls, stmts, blocks_behind}
-use Rattle.rcv_reader.specs.Machine.{Item, This, AnyName, AnyQuoted, MoreModules, Decls, Alias, RoleName, MoreRoles, Sorts, MoreSorts, Subject, Sender, Receiver, MoreReceivers, RecName, AgainName, Opening, First, Rest, More, State, Outcome, On, Wrong, step, after, at_end, Answer, Taken, Refuses, answer, awaited, begin, reading, Front, Derives}
+use Rattle.rcv_reader.specs.Machine.{Item, This, AnyName, AnyQuoted, MoreModules, Decls, Alias, RoleName, MoreRoles, Sorts, MoreSorts, Subject, Sender, Receiver, MoreReceivers, RecName, AgainName, Opening, First, Rest, More, State, Outcome, On, Wrong, step, after, at_end, Answer, Taken, Refuses, answer, awaited, begin, reading, Derives}
 use Rattle.rcv_reader.specs.Laws.{IsFirstWrong, IsSoFar, IsFair, CodesAreFair}
 use Rattle.rcv_reader.proofs.Steps.{Agrees, HasMore, completion}
 use Rattle.rcv_reader.proofs.Bodies.{step_agrees}
@@ -142,8 +142,7 @@ derived_by ts a =
     let i = h.2 in
     let j = i.2 in
     let l = j.2 in
-    let m = l.2 in
-    (
+    let m = l.2 in (
       record { module_name = b.1.0; module_more = c.1.0; declared = d.1.0; name = f.1.0; role = i.1.0; other_roles = i.1.1; body = l.1.0 },
       (d.1.1, l.1.1, simp (a.1, b.1.1, c.1.1, d.1.2, e.1, f.1.1, g.1, h.1, i.1.2, j.1, l.1.2, m)),
     )

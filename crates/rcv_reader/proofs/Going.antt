@@ -1,15 +1,13 @@
 -- How the machine goes on over the loops of the descent.
-use Rattle.std.proofs.Common.{◌≡◌, ℕ, ◌+◌, ◌<◌, ◌≤◌, Bool, true, false, List, [], ◌∷◌, ◌++◌, length, map, refl, sym, ap, subst, ◌∙◌, arith}
-use Rattle.std.specs.Prelude.{◌≢◌}
-use Rattle.rcv_reader.specs.declared.sign.Sign.{Sign}
+use Rattle.std.proofs.Common.{◌≡◌, ℕ, true, false, List, [], ◌∷◌, refl, ap, subst, ◌∙◌}
 use Rattle.rcv_reader.specs.declared.sign.Sign.TheVariants.{Right, Comma, Semicolon, Close, Or, Choice, Rec, Continue, Left, From, At, Par, Do}
 use Rattle.rcv_reader.specs.declared.fault.Fault.{Fault}
 use Rattle.rcv_reader.specs.declared.fault.Fault.TheVariants.{Token, AfterContinue, Unguarded, NotYet}
 use Rattle.rcv_reader.specs.declared.fault.ReadError.{ReadError}
 use Rattle.rcv_reader.specs.declared.fault.ReadError.TheVariants as errors
-use Rattle.rcv_reader.specs.Symbols.{Symbol, Is, Name, Quoted, Other}
-use Rattle.rcv_reader.specs.Machine.{Place, Item, This, AnyName, Sorts, MoreSorts, Subject, Sender, MoreReceivers, MoreRoles, MoreModules, RecName, AgainName, Opening, First, Rest, More, State, Outcome, On, Wrong, behind, unless, is_open, step, after, Answer, Refuses, answer}
-use Rattle.rcv_reader.specs.Descent.{Halts, IsNotNext, NoName, starts, waits, is_unguarded, MayBegin}
+use Rattle.rcv_reader.specs.Symbols.{Symbol, Is, Name}
+use Rattle.rcv_reader.specs.Machine.{Place, Item, This, AnyName, Sorts, MoreSorts, Subject, Sender, MoreReceivers, RecName, AgainName, Opening, First, Rest, More, State, Outcome, Wrong, behind, is_open, step, after, Refuses, answer}
+use Rattle.rcv_reader.specs.Descent.{Halts, IsNotNext, starts, waits, is_unguarded, MayBegin}
 
 -- the same step, the same answer
 same_step : (s : State) (k k' : List Item) (t : Symbol) (ts : List Symbol) → step s t ts k ≡ step s t ts k' → answer s k (t ∷ ts) ≡ answer s k' (t ∷ ts)

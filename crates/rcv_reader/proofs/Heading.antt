@@ -1,12 +1,12 @@
 -- The loops of the head: the module's names, the roles and the declarations.
-use Rattle.std.proofs.Common.{◌≡◌, ℕ, ◌+◌, ◌<◌, ◌≤◌, Bool, true, false, List, [], ◌∷◌, ◌++◌, length, map, refl, sym, ap, subst, ◌∙◌, arith, append_assoc}
-use Rattle.std.specs.Prelude.{◌≢◌, cond, codes}
+use Rattle.std.proofs.Common.{◌≡◌, ℕ, ◌<◌, ◌≤◌, true, List, [], ◌∷◌, ◌++◌, length, refl, sym, ap, subst, ◌∙◌, arith}
+use Rattle.std.specs.Prelude.{◌≢◌}
 use Rattle.rcv_tree.specs.declared.protocol.Decl.{Decl}
 use Rattle.rcv_reader.specs.declared.sign.Sign.TheVariants.{Role, Right, Comma, Semicolon, Dot, Global}
 use Rattle.rcv_reader.specs.declared.fault.Fault.TheVariants.{Token}
 use Rattle.rcv_reader.specs.Symbols.{Symbol, Is, Name, Quoted, Other}
 use Rattle.rcv_reader.specs.Grammar.{dotted, roles_behind, decl, decls, AreDecls, is_decl_word}
-use Rattle.rcv_reader.specs.Machine.{Item, This, AnyName, AnyQuoted, MoreModules, Decls, RoleName, MoreRoles, State, Outcome, On, Wrong, step, after, Refuses, answer}
+use Rattle.rcv_reader.specs.Machine.{Item, This, AnyName, AnyQuoted, MoreModules, Decls, RoleName, MoreRoles, State, Outcome, Wrong, step, after, Refuses, answer}
 use Rattle.rcv_reader.specs.Descent.{known, IsNotNext, NoName, NoQuoted, module_list, names_of_roles, AddsName, IsDecl, AreSuch}
 use Rattle.rcv_reader.proofs.Stops.{stops_by}
 use Rattle.rcv_reader.proofs.Reading.{IsSame, IsOther, known_same}

@@ -1,17 +1,15 @@
 -- The steps at the items of the head, of messages and of names.
-use Rattle.std.proofs.Common.{◌≡◌, ℕ, Bool, true, false, cond, codes, List, [], ◌∷◌, ◌++◌, length, refl, sym, ap, subst, ◌∙◌, inl, inr}
-use Rattle.std.specs.Prelude.{◌⊎◌, ◌==◌, nat_le, not, Option, Some, None}
-use Rattle.std.specs.Str.{bytes_eq}
+use Rattle.std.proofs.Common.{◌≡◌, ℕ, Bool, true, false, cond, codes, List, [], ◌∷◌, ◌++◌, length, refl, ap, subst, inl}
+use Rattle.std.specs.Prelude.{◌==◌, nat_le, not, Option, Some, None}
 use Rattle.rcv_tree.specs.declared.protocol.Decl.{Decl}
 use Rattle.rcv_reader.specs.declared.sign.Sign.{Sign}
-use Rattle.rcv_reader.specs.declared.sign.Sign.TheVariants.{Module, Global, Protocol, Role, From, To, Choice, At, Or, Rec, Continue, Par, And, Do, Open, Close, Left, Right, Comma, Semicolon, Dot, Less, Greater}
-use Rattle.rcv_reader.specs.declared.fault.Fault.{Fault}
-use Rattle.rcv_reader.specs.declared.fault.Fault.TheVariants.{Token, Deep, NoName, Twice, SelfMessage, AfterContinue, Unguarded, TooMany, NotYet}
+use Rattle.rcv_reader.specs.declared.sign.Sign.TheVariants.{Global, Role, From, To, Open, Close, Right, Comma, Semicolon, Dot, Less, Greater}
+use Rattle.rcv_reader.specs.declared.fault.Fault.TheVariants.{Token, Deep, NoName, Twice, SelfMessage, TooMany}
 use Rattle.rcv_reader.specs.Symbols.{Symbol, Is, Name, Quoted, Other}
-use Rattle.rcv_reader.specs.Grammar.{Written, NoStmt, AMessage, AChoice, ARec, AContinue, APar, ADo, Blocks, NoBlock, ABlock, is_decl_word, dotted, names_behind, sort_list, roles_behind, decl, decls, stmts, blocks_behind, IsBegun, IsProper, AreProper, AreDecls}
-use Rattle.rcv_reader.specs.Machine.{Place, Item, This, AnyName, AnyQuoted, MoreModules, Decls, Alias, RoleName, MoreRoles, Sorts, MoreSorts, Subject, Sender, Receiver, MoreReceivers, RecName, AgainName, Opening, First, Rest, More, State, Outcome, On, Wrong, holds, place_of, is_listed, behind, inside, inside_rec, unless, named, by_place, role_named, same, meets, quoted, modules, declares, more_roles, sorts, more_sorts, more_receivers, receives, declares_role, opens, is_open, begins, ends, branches, behind_all, step, Front, Derives}
+use Rattle.rcv_reader.specs.Grammar.{is_decl_word, dotted, names_behind, sort_list, roles_behind, decls, stmts, AreDecls}
+use Rattle.rcv_reader.specs.Machine.{Place, Item, This, AnyName, AnyQuoted, MoreModules, Decls, Alias, RoleName, MoreRoles, Sorts, MoreSorts, Subject, Sender, Receiver, MoreReceivers, RecName, AgainName, Opening, First, State, Outcome, On, Wrong, holds, place_of, is_listed, inside, inside_rec, unless, named, by_place, role_named, meets, quoted, modules, declares, more_roles, sorts, more_sorts, more_receivers, receives, declares_role, opens, Derives}
 use Rattle.std.proofs.lemmas.Slice.Eq.{bytes_eq-Decides}
-use Rattle.rcv_reader.proofs.Steps.{HasMore, Both, Never, Agrees, IsOther, has_more, choose, at_fault, tested, same_only, same_itself}
+use Rattle.rcv_reader.proofs.Steps.{HasMore, Both, Never, Agrees, has_more, tested, same_only, same_itself}
 
 pub meets_only : (t m : Symbol) → meets t m ≡ true → t ≡ m
 meets_only (Is a) (Is b) e = ap Is (same_only a b e)

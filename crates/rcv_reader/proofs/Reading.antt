@@ -1,5 +1,5 @@
 -- The loops over names: sorts and receivers.
-use Rattle.std.proofs.Common.{◌≡◌, ℕ, ◌+◌, ◌<◌, ◌≤◌, Bool, true, false, List, [], ◌∷◌, ◌++◌, length, map, refl, sym, ap, subst, ◌∙◌, arith, append_assoc, append-nil, length-append, Some}
+use Rattle.std.proofs.Common.{◌≡◌, ℕ, ◌+◌, ◌<◌, ◌≤◌, false, List, [], ◌∷◌, ◌++◌, length, refl, sym, ap, subst, ◌∙◌, arith, append_assoc, append-nil, length-append}
 use Rattle.std.specs.Prelude.{◌≢◌, ◌==◌}
 use Rattle.rcv_tree.specs.declared.statement.Stmt.{Stmt}
 use Rattle.rcv_tree.specs.declared.statement.Stmt.TheVariants as statements
@@ -8,10 +8,10 @@ use Rattle.rcv_reader.specs.declared.fault.ReadError.{ReadError}
 use Rattle.rcv_reader.specs.declared.fault.ReadError.TheVariants as errors
 use Rattle.rcv_reader.specs.Symbols.{Symbol, Is, Name}
 use Rattle.rcv_reader.specs.Grammar.{names_behind, sort_list}
-use Rattle.rcv_reader.specs.Machine.{Item, This, AnyName, Sorts, MoreSorts, Receiver, MoreReceivers, State, answer, place_of, is_listed}
+use Rattle.rcv_reader.specs.Machine.{Item, This, AnyName, Sorts, MoreSorts, Receiver, MoreReceivers, State, answer, is_listed}
 use Rattle.rcv_reader.specs.Trees.{or_first, role_at, roles_at, MayReceive}
 use Rattle.rcv_reader.specs.Descent.{known, Halts, IsNotNext, messages, IsReceived, AreReceived}
-use Rattle.rcv_reader.proofs.Going.{halts_behind, sorts_is_name, sorts_end, receivers_end}
+use Rattle.rcv_reader.proofs.Going.{sorts_is_name, sorts_end, receivers_end}
 
 -- roles, recursions and points are as before
 abbrev pub IsSame : List (List ℕ) → List (List ℕ) → List (List ℕ) → List (List ℕ) → ℕ → ℕ → Type 0
@@ -116,9 +116,12 @@ messages_push label sorts sender (q ∷ rs) r n =
 may_join : (roles : List (List ℕ)) (label : List ℕ) (sorts : List (List ℕ)) (sender n : ℕ) (before before' : List ℕ) (block block' : List Stmt) (old new : List Symbol) (is : IsReceived roles label sorts sender n before before' block block' old new) (more : List (List ℕ))
     → MayReceive roles sender before' more → MayReceive roles sender before (is.name ∷ more)
 may_join roles label sorts sender n before before' block block' old new is more may =
-    let place : role_at roles is.name ≡ is.role = ap or_first is.is_role in
-    ((is.role, is.is_role), subst (λ (x : ℕ). is_listed x before ≡ false) (sym place) is.first, subst (λ (x : ℕ). (x == sender) ≡ false) (sym place) is.apart,
-    subst (λ (x : List ℕ). MayReceive roles sender x more) (is.joins ∙ ap (λ (x : ℕ). before ++ x ∷ []) (sym place)) may)
+    let place : role_at roles is.name ≡ is.role = ap or_first is.is_role in (
+      (is.role, is.is_role),
+      subst (λ (x : ℕ). is_listed x before ≡ false) (sym place) is.first,
+      subst (λ (x : ℕ). (x == sender) ≡ false) (sym place) is.apart,
+      subst (λ (x : List ℕ). MayReceive roles sender x more) (is.joins ∙ ap (λ (x : ℕ). before ++ x ∷ []) (sym place)) may,
+    )
 
 pub receivers_first : (roles r2 recs q2 : List (List ℕ)) (count c2 : ℕ) (label : List ℕ) (sorts : List (List ℕ)) (sender : ℕ) (none before' : List ℕ) (block block' : List Stmt) (start new : List Symbol) → none ≡ []
     → ((k : List Item) → answer (known roles count) (Receiver sender none ∷ k) start ≡ answer (known r2 c2) (MoreReceivers sender before' ∷ k) new)

@@ -1,15 +1,13 @@
 -- What the machine takes is exactly what the grammar derives.
-use Rattle.std.proofs.Common.{◌≡◌, ℕ, Bool, true, false, cond, codes, List, [], ◌∷◌, ◌++◌, length, refl, sym, ap, subst, ◌∙◌, inl, inr}
-use Rattle.std.specs.Prelude.{◌⊎◌, ◌==◌, nat_le, not, Option, Some, None}
-use Rattle.std.specs.Str.{bytes_eq}
-use Rattle.rcv_tree.specs.declared.protocol.Decl.{Decl}
+use Rattle.std.proofs.Common.{◌≡◌, Bool, true, false, cond, List, [], ◌∷◌, refl, inl}
+use Rattle.std.specs.Prelude.{◌⊎◌}
 use Rattle.rcv_reader.specs.declared.sign.Sign.{Sign}
 use Rattle.rcv_reader.specs.declared.sign.Sign.TheVariants.{Module, Global, Protocol, Role, From, To, Choice, At, Or, Rec, Continue, Par, And, Do, Open, Close, Left, Right, Comma, Semicolon, Dot, Less, Greater}
 use Rattle.rcv_reader.specs.declared.fault.Fault.{Fault}
 use Rattle.rcv_reader.specs.declared.fault.Fault.TheVariants.{Token, Deep, NoName, Twice, SelfMessage, AfterContinue, Unguarded, TooMany, NotYet}
-use Rattle.rcv_reader.specs.Symbols.{Symbol, Is, Name, Quoted, Other}
-use Rattle.rcv_reader.specs.Grammar.{Written, NoStmt, AMessage, AChoice, ARec, AContinue, APar, ADo, Blocks, NoBlock, ABlock, is_decl_word, dotted, names_behind, sort_list, roles_behind, decl, decls, stmts, blocks_behind, IsBegun, IsProper, AreProper, AreDecls}
-use Rattle.rcv_reader.specs.Machine.{Place, Item, This, AnyName, AnyQuoted, MoreModules, Decls, Alias, RoleName, MoreRoles, Sorts, MoreSorts, Subject, Sender, Receiver, MoreReceivers, RecName, AgainName, Opening, First, Rest, More, State, Outcome, On, Wrong, holds, place_of, is_listed, behind, inside, inside_rec, unless, named, by_place, role_named, same, meets, quoted, modules, declares, more_roles, sorts, more_sorts, more_receivers, receives, declares_role, opens, is_open, begins, ends, branches, behind_all, step, Front, Derives}
+use Rattle.rcv_reader.specs.Symbols.{Symbol, Is, Name, Quoted}
+use Rattle.rcv_reader.specs.Grammar.{NoStmt, AContinue, NoBlock}
+use Rattle.rcv_reader.specs.Machine.{Item, This, AnyName, AnyQuoted, MoreModules, Decls, Alias, RoleName, MoreRoles, Sorts, MoreSorts, Subject, Sender, Receiver, MoreReceivers, RecName, AgainName, Opening, First, Rest, More, Outcome, On, Wrong, unless, same, Derives}
 
 -- something is derived by what is awaited, whatever it is
 pub completion : (k : List Item) → (ts : List Symbol) × Derives k ts
@@ -128,4 +126,3 @@ same_itself Semicolon = refl
 same_itself Dot = refl
 same_itself Less = refl
 same_itself Greater = refl
-

@@ -1,10 +1,10 @@
 -- Where the machine stops at a symbol that isn't awaited.
-use Rattle.std.proofs.Common.{◌≡◌, ℕ, Bool, true, false, List, [], ◌∷◌, ◌++◌, length, map, take, drop, refl, sym, ap, subst, ◌∙◌, Option, Some, None}
+use Rattle.std.proofs.Common.{◌≡◌, ℕ, Bool, true, false, List, [], ◌∷◌, refl, ap}
 use Rattle.std.specs.Prelude.{cond}
 use Rattle.rcv_reader.specs.declared.sign.Sign.TheVariants.{Open}
 use Rattle.rcv_reader.specs.declared.fault.Fault.TheVariants.{Token}
 use Rattle.rcv_reader.specs.Symbols.{Symbol, Is, Name, Quoted, Other}
-use Rattle.rcv_reader.specs.Machine.{Place, Item, This, Opening, AnyName, Alias, RoleName, Subject, Sender, Receiver, RecName, AgainName, State, Outcome, On, Wrong, named, meets, same, step, after, Answer, Refuses, answer}
+use Rattle.rcv_reader.specs.Machine.{Place, Item, This, Opening, AnyName, Alias, RoleName, Subject, Sender, Receiver, RecName, AgainName, State, Outcome, On, Wrong, named, meets, step, after, Refuses, answer}
 use Rattle.rcv_reader.specs.Descent.{IsNotNext, NoName}
 use Rattle.rcv_reader.proofs.Heads.{meets_only}
 

@@ -1,21 +1,19 @@
 -- The whole text.
-use Rattle.std.proofs.Common.{◌≡◌, ℕ, ◌+◌, ◌≤◌, Bool, true, false, List, [], ◌∷◌, ◌++◌, length, refl, sym, ap, subst, ◌∙◌}
+use Rattle.std.proofs.Common.{◌≡◌, ℕ, false, List, [], ◌∷◌, refl, sym, ap, subst, ◌∙◌}
 use Rattle.rcv_tree.specs.Lists.{statements, declarations}
 use Rattle.rcv_tree.specs.declared.statement.Stmt.{Stmt}
-use Rattle.rcv_tree.specs.declared.statement.Block.{Block}
 use Rattle.rcv_tree.specs.declared.protocol.Decl.{Decl}
 use Rattle.rcv_tree.specs.declared.protocol.Protocol.{Protocol}
 use Rattle.rcv_model.specs.Text as trees
 use Rattle.rcv_reader.specs.declared.sign.Sign.TheVariants.{Module, Global, Role, Left, Right, Open, Close, Semicolon}
 use Rattle.rcv_reader.specs.declared.sign.Sign.TheVariants as sign
-use Rattle.rcv_reader.specs.declared.fault.Fault.{Fault}
-use Rattle.rcv_reader.specs.declared.fault.Fault.TheVariants.{Token, NotYet}
+use Rattle.rcv_reader.specs.declared.fault.Fault.TheVariants.{Token}
 use Rattle.rcv_reader.specs.declared.fault.ReadError.{ReadError}
 use Rattle.rcv_reader.specs.declared.fault.ReadError.TheVariants as errors
 use Rattle.rcv_reader.specs.Symbols.{Symbol, Is, Name}
-use Rattle.rcv_reader.specs.Grammar.{Written, NoStmt, dotted, decls, roles_behind, stmts, AreDecls}
-use Rattle.rcv_reader.specs.Machine.{Item, This, AnyName, MoreModules, Decls, RoleName, Rest, outermost, step, Wrong, begin, awaited, State, Taken, Refuses, answer, reading}
-use Rattle.rcv_reader.specs.Trees.{Reads, tree_of, IsFit}
+use Rattle.rcv_reader.specs.Grammar.{NoStmt, decls}
+use Rattle.rcv_reader.specs.Machine.{Item, This, AnyName, MoreModules, Decls, RoleName, Rest, outermost, step, Wrong, State, Refuses, answer, reading}
+use Rattle.rcv_reader.specs.Trees.{Reads}
 use Rattle.rcv_reader.specs.Refusals.{IsRead}
 use Rattle.rcv_reader.specs.Descent.{known, IsNotNext, Halts, Ends, EndFails, IsHead, Adds, module_list, names_of_roles, in_front, place_at}
 use Rattle.rcv_reader.proofs.Stops.{stops_by}
@@ -61,9 +59,13 @@ reads p c c2 old mid h d =
     let w = d.2.put NoStmt in
     record {
       source = record { module_name = m.0; module_more = m.1; declared = declarations p.decls; name = p.name; role = ro.0; other_roles = ro.1; body = w };
-      spelled = (h.words, d.2.proper NoStmt tt, h.spelled ∙ ap (λ (x : List (List ℕ)). whole_of x (declarations p.decls) p.name p.roles mid) m.2
-          ∙ ap (λ (x : List (List ℕ)). whole_of (m.0 ∷ m.1) (declarations p.decls) p.name x mid) ro.2
-          ∙ ap (whole_of (m.0 ∷ m.1) (declarations p.decls) p.name (ro.0 ∷ ro.1)) (d.2.spelled NoStmt (Is Close ∷ []) refl));
+      spelled = (
+        h.words,
+        d.2.proper NoStmt tt,
+        h.spelled ∙ ap (λ (x : List (List ℕ)). whole_of x (declarations p.decls) p.name p.roles mid) m.2
+            ∙ ap (λ (x : List (List ℕ)). whole_of (m.0 ∷ m.1) (declarations p.decls) p.name x mid) ro.2
+            ∙ ap (whole_of (m.0 ∷ m.1) (declarations p.decls) p.name (ro.0 ∷ ro.1)) (d.2.spelled NoStmt (Is Close ∷ []) refl),
+      );
       modules = m.2;
       declared = refl;
       named = refl;

@@ -13,7 +13,7 @@ use Rattle.rcv_reader.specs.Grammar as grammar
 use Rattle.rcv_reader.specs.Grammar.{Written, stmts, names_behind, roles_behind, dotted, decl, decls, is_decl_word, AreDecls, blocks_behind, IsBegun, IsProper, AreProper}
 use Rattle.rcv_tree.specs.declared.protocol.Decl.{Decl}
 use Rattle.rcv_reader.specs.Machine.{Item, Decls, State, Refuses, answer, reading, place_of, is_listed, Place, is_open}
-use Rattle.rcv_reader.specs.Trees.{role_at, roles_at, points, points_of, tree_of, trees_of, MayReceive, IsFit, AreFit}
+use Rattle.rcv_reader.specs.Trees.{roles_at, points, points_of, tree_of, trees_of, MayReceive, IsFit, AreFit}
 
 abbrev pub known : List (List ℕ) → ℕ → State
 known roles count = record { roles = roles; count = count }

@@ -1,7 +1,7 @@
 -- What the machine's answer says in the grammar's words.
 use Rattle.std.specs.Prelude.{◌≡◌, ◌⊎◌, List, [], ◌∷◌, ◌++◌}
 use Rattle.rcv_reader.specs.declared.sign.Sign.TheVariants.{Global}
-use Rattle.rcv_reader.specs.declared.fault.Fault.TheVariants.{Token, NotYet}
+use Rattle.rcv_reader.specs.declared.fault.Fault.TheVariants.{Token}
 use Rattle.rcv_reader.specs.Symbols.{Symbol, Is}
 use Rattle.rcv_reader.specs.Grammar.{IsDerived, IsBeginning}
 use Rattle.rcv_reader.specs.Machine.{Answer, Taken, Refuses, reading}

@@ -8,7 +8,6 @@ mod fault;
 mod head;
 mod parser;
 mod read;
-
 mod sign;
 mod words;
 

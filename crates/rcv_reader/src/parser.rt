@@ -8,8 +8,8 @@ ghost use Rattle.rcv_reader.specs.Grammar.{sort_list};
 ghost use Rattle.rcv_reader.specs.Machine.{place_of, holds, is_listed, is_open, This, AnyName, Sorts, MoreSorts, Subject, Sender, Receiver, MoreReceivers, RecName, AgainName, Opening, First, Rest, More, inside, inside_rec, behind};
 ghost use Rattle.rcv_reader.specs.Descent.{a_name, is_unguarded, MayBegin, IsReceived, AreReceived, Adds, AddsSome, Halts, known, place_at, Goes, IsNotNext, IsRoleName, messages, AreStmts, AreSomeStmts, IsBlock, AreBranches};
 
-use crate::fault::{Fault, ReadError};
 use crate::ahead::Ahead;
+use crate::fault::{Fault, ReadError};
 use crate::sign::Sign;
 use rcv_tree::name::{Name, Names};
 use rcv_tree::point::Point;
@@ -208,7 +208,12 @@ impl<'a> Parser<'a> {
     }
 
     // Takes all receivers of a message, and the mark behind them.
-    fn receivers(&mut self, alloc: Global, heading: &Heading, block: &mut Block) -> Result<(), ReadError>
+    fn receivers(
+        &mut self,
+        alloc: Global,
+        heading: &Heading,
+        block: &mut Block,
+    ) -> Result<(), ReadError>
         requires few { length self.old.roles ≤ 8 }
         requires count { self.old.count ≤ 256 }
         ensures goes { Goes result (known self.old.roles self.old.count) (known self.new.roles self.new.count) (λ k. Receiver heading.now.sender [] ∷ k) (λ x k. k) self.old.rest self.new.rest }

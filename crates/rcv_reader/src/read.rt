@@ -116,7 +116,12 @@ fn line_before(list: &[Token], last: u32, left: usize) -> u32
 /// 15 at a receiver that is the sender, 16 at a statement behind a `continue`, 17 at a `continue` to which a walk comes
 /// without a message, 18 at the ninth role or the receiver that makes the 257th point, 19 at what isn't read yet: `par`,
 /// `do` and a second protocol. `Memory` where no memory is left.
-pub fn read_protocol(alloc: Global, bundle: &[u8], list: &[Token], last: u32) -> Result<Protocol, TextError>
+pub fn read_protocol(
+    alloc: Global,
+    bundle: &[u8],
+    list: &[Token],
+    last: u32,
+) -> Result<Protocol, TextError>
     requires inside { All (λ t. LiesIn bundle.now t.span) list.now }
     ensures { MatchResult result (IsRead (symbols_of bundle.now list.now)) (IsRefused bundle.now list.now last) }
 {

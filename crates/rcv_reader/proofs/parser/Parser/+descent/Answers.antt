@@ -1,7 +1,7 @@
-use Rattle.std.proofs.Common.{◌∷◌, [], ℕ, List, ◌++◌, refl, sym, ap, ◌∙◌, arith, length}
+use Rattle.std.proofs.Common.{◌∷◌, [], ℕ, List, ◌++◌, refl, sym, ap, ◌∙◌, arith}
 use Rattle.std.proofs.lemmas.Result.{err_from_is_err_and}
 use Rattle.rcv_tree.specs.declared.statement.Block.{Block}
-use Rattle.rcv_reader.specs.Symbols.{Symbol, Name}
+use Rattle.rcv_reader.specs.Symbols.{Name}
 use Rattle.rcv_reader.specs.Machine.{RecName, First}
 use Rattle.rcv_reader.specs.Descent.{place_at}
 use Rattle.rcv_reader.proofs.Stops.{no_name}

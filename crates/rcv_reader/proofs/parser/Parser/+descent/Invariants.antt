@@ -1,7 +1,5 @@
-use Rattle.std.proofs.Common.{◌+◌, ◌*◌, ◌<◌, ◌≤◌, ◌∷◌, length}
+use Rattle.std.proofs.Common.{◌+◌, ◌*◌, length}
 use Rattle.rcv_tree.specs.Lists.{statements, blocks}
-
-use Rattle.rcv_reader.specs.Descent.{place_at}
 use Rattle.rcv_reader.proofs.Blocks.{StmtsSoFar, BranchesSoFar}
 use Rattle.rcv_reader.proofs.parser.Parser.+descent.Given as goal
 

@@ -1,4 +1,4 @@
-use Rattle.std.proofs.Common.{◌∙◌, sym}
+use Rattle.std.proofs.Common.{◌∙◌}
 use Rattle.std.proofs.lemmas.Result.{err_from_is_err_and}
 use Rattle.rcv_reader.proofs.Whole.{to_body, stmts_fail, end_fails, protocol_read}
 use Rattle.rcv_reader.proofs.parser.Parser.protocol.Goals as goal

@@ -1,5 +1,4 @@
 use Rattle.std.proofs.Common.{length}
-use Rattle.rcv_reader.specs.Descent.{known}
 use Rattle.rcv_reader.proofs.Reading.{SortsSoFar}
 use Rattle.rcv_reader.proofs.parser.Parser.sorts.Given as goal
 
