@@ -20,3 +20,6 @@ pub use sign::Sign;
 pub fn codes_are_fair()
     ensures { CodesAreFair }
 {}
+
+#[cfg(test)]
+mod tests;
