@@ -1,0 +1,36 @@
+use Rattle.std.proofs.Common.{◌+◌, ◌*◌, length}
+use Rattle.rcv_tree.specs.Lists.{statements, blocks}
+use Rattle.rcv_reader.proofs.Blocks.{StmtsSoFar, BranchesSoFar}
+use Rattle.rcv_reader.proofs.parser.Parser.+descent.Given as goal
+
+abbrev pub decreases-block : goal.decreases-block
+decreases-block l = 3 * length l.self.now.rest
+
+abbrev pub decreases-branches : goal.decreases-branches
+decreases-branches l = 3 * length l.self.now.rest + 1
+
+abbrev pub decreases-choice : goal.decreases-choice
+decreases-choice l = 3 * length l.self.now.rest + 2
+
+abbrev pub decreases-recursion : goal.decreases-recursion
+decreases-recursion l = 3 * length l.self.now.rest + 2
+
+abbrev pub decreases-stmt : goal.decreases-stmt
+decreases-stmt l = 3 * length l.self.now.rest
+
+abbrev pub decreases-stmts : goal.decreases-stmts
+decreases-stmts l = 3 * length l.self.now.rest + 1
+
+abbrev pub invariant-stmts-loop-alloc : goal.invariant-stmts-loop-alloc
+invariant-stmts-loop-alloc l =
+    StmtsSoFar l.fn.self.roles l.self.roles l.fn.self.recs.items l.self.recs.items l.fn.self.count l.self.count l.spot.depth l.fn.spot.comes l.fn.spot.ended l.here.depth l.here.comes l.here.ended (statements l.fn.block) (statements l.block) l.fn.self.rest l.self.rest
+
+abbrev pub decreases-stmts-loop-alloc : goal.decreases-stmts-loop-alloc
+decreases-stmts-loop-alloc l = length l.self.rest
+
+abbrev pub invariant-branches-loop-alloc : goal.invariant-branches-loop-alloc
+invariant-branches-loop-alloc l =
+    BranchesSoFar l.fn.self.roles l.self.roles l.fn.self.recs.items l.self.recs.items l.fn.self.count l.self.count l.spot.depth l.spot.comes l.spot.ended (blocks l.branches) l.fn.self.rest l.self.rest
+
+abbrev pub decreases-branches-loop-alloc : goal.decreases-branches-loop-alloc
+decreases-branches-loop-alloc l = length l.self.rest

@@ -1,0 +1,10 @@
+use Rattle.std.proofs.Common.{length}
+use Rattle.rcv_tree.specs.Lists.{declarations}
+use Rattle.rcv_reader.proofs.Heading.{DeclsSoFar}
+use Rattle.rcv_reader.proofs.parser.Parser.decls.Given as goal
+
+abbrev pub invariant-loop-alloc : goal.invariant-loop-alloc
+invariant-loop-alloc l = DeclsSoFar l.fn.self.roles l.self.roles l.fn.self.recs.items l.self.recs.items l.fn.self.count l.self.count l.aliases (declarations l.list) l.fn.self.rest l.self.rest
+
+abbrev pub decreases-loop-alloc : goal.decreases-loop-alloc
+decreases-loop-alloc l = length l.self.rest

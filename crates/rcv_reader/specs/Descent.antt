@@ -1,0 +1,213 @@
+-- What the functions of the descent say: how the machine goes on, and how what was read is spelled.
+use Rattle.std.specs.Prelude.{◌≡◌, ℕ, ◌+◌, ◌==◌, Bool, true, false, List, [], ◌∷◌, ◌++◌, length, Result, Ok, Err, Some}
+use Rattle.rcv_tree.specs.declared.statement.Stmt.{Stmt}
+use Rattle.rcv_tree.specs.declared.statement.Stmt.TheVariants as statements
+use Rattle.rcv_tree.specs.declared.statement.Block.{Block}
+use Rattle.rcv_tree.specs.declared.statement.Blocks.{Blocks}
+use Rattle.rcv_model.specs.Text as trees
+use Rattle.rcv_reader.specs.declared.sign.Sign.TheVariants.{Module, Global, Protocol, Role, Left, Right, Open, Close, Or, Choice, Rec, Continue, Par, Do, Semicolon}
+use Rattle.rcv_reader.specs.declared.fault.ReadError.{ReadError}
+use Rattle.rcv_reader.specs.declared.fault.ReadError.TheVariants as errors
+use Rattle.rcv_reader.specs.Symbols.{Symbol, Is, Name, Quoted}
+use Rattle.rcv_reader.specs.Grammar as grammar
+use Rattle.rcv_reader.specs.Grammar.{Written, stmts, names_behind, roles_behind, dotted, decl, decls, is_decl_word, AreDecls, blocks_behind, IsBegun, IsProper, AreProper}
+use Rattle.rcv_tree.specs.declared.protocol.Decl.{Decl}
+use Rattle.rcv_reader.specs.Machine.{Item, Decls, State, Refuses, answer, reading, place_of, is_listed, Place, is_open}
+use Rattle.rcv_reader.specs.Trees.{roles_at, points, points_of, tree_of, trees_of, MayReceive, IsFit, AreFit}
+
+abbrev pub known : List (List ℕ) → ℕ → State
+known roles count = record { roles = roles; count = count }
+
+abbrev pub place_at : List (List ℕ) → ℕ → ℕ → Bool → Place
+place_at recs depth comes ended = record { depth = depth; recs = recs; comes = comes; ended = ended }
+
+-- From what is awaited in front the machine comes to what is awaited behind, or stops; k is awaited after that.
+abbrev pub Halts : ReadError → State → (List Item → List Item) → List Symbol → List Symbol → Type 0
+Halts errors.Memory s front old new = Unit {0}
+Halts (errors.Refused fault) s front old new = (k : List Item) → answer s (front k) old ≡ Refuses fault new
+
+abbrev pub Goes : {X : Type 0} → Result X ReadError → State → State → (List Item → List Item) → (X → List Item → List Item) → List Symbol → List Symbol → Type 0
+Goes (Ok x) s s' front behind old new = (k : List Item) → answer s (front k) old ≡ answer s' (behind x k) new
+Goes (Err e) s s' front behind old new = Halts e s front old new
+
+-- the symbol isn't the next one
+abbrev pub IsNotNext : Symbol → List Symbol → Type 0
+IsNotNext t ts = (us : List Symbol) → ts ≡ t ∷ us → ⊥
+
+abbrev pub NoName : List Symbol → Type 0
+NoName ts = (n : List ℕ) → IsNotNext (Name n) ts
+
+abbrev pub NoQuoted : List Symbol → Type 0
+NoQuoted ts = (q : List ℕ) → IsNotNext (Quoted q) ts
+
+-- a name at the front
+abbrev pub a_name : List ℕ → List Symbol → List Symbol
+a_name n ts = Name n ∷ ts
+
+-- a statement begins; one that isn't read yet
+abbrev pub starts : List Symbol → Bool
+starts (Name n ∷ ts) = true
+starts (Is Choice ∷ ts) = true
+starts (Is Rec ∷ ts) = true
+starts (Is Continue ∷ ts) = true
+starts (Is Par ∷ ts) = true
+starts (Is Do ∷ ts) = true
+starts _ = false
+
+abbrev pub waits : List Symbol → Bool
+waits (Is Par ∷ ts) = true
+waits (Is Do ∷ ts) = true
+waits _ = false
+
+-- the word continue with the name of a recursion to which a walk comes
+abbrev pub is_unguarded : Place → List Symbol → Bool
+is_unguarded p (Is Continue ∷ ts) = is_open p ts
+is_unguarded p _ = false
+
+-- nothing but the grammar speaks against a statement here
+pub record MayBegin (p : Place) (ts : List Symbol) : Type 0 where
+  pub unended : p.ended ≡ false
+  pub now : waits ts ≡ false
+  pub guarded : is_unguarded p ts ≡ false
+
+-- the name of a role was read
+abbrev pub IsRoleName : List (List ℕ) → ℕ → List Symbol → List Symbol → Type 0
+IsRoleName roles r old new = (n : List ℕ) × (place_of roles n ≡ Some r) × (old ≡ Name n ∷ new)
+
+-- Name , Name ..
+abbrev pub name_list : List (List ℕ) → List Symbol → List Symbol
+name_list [] next = next
+name_list (n ∷ ns) next = Name n ∷ names_behind ns next
+
+-- the messages of one statement, behind n points
+abbrev pub messages : List ℕ → List (List ℕ) → ℕ → List ℕ → ℕ → List Stmt
+messages label sorts sender [] n = []
+messages label sorts sender (r ∷ rs) n = statements.Message label sorts sender r (n + 1) ∷ messages label sorts sender rs (n + 1)
+
+-- these statements in front of a body; these blocks in front of branches
+abbrev pub in_front : List Stmt → trees.Body → trees.Body
+in_front [] rest = rest
+in_front (s ∷ ss) rest = trees.stmt_body s (in_front ss rest)
+
+abbrev pub branches_in_front : List Block → trees.Bodies → trees.Bodies
+branches_in_front [] others = others
+branches_in_front (b ∷ bs) others = trees.Or (trees.body_of b) (branches_in_front bs others)
+
+-- One receiver was read: its name, its role, and its message behind n points.
+pub record IsReceived (roles : List (List ℕ)) (label : List ℕ) (sorts : List (List ℕ)) (sender n : ℕ) (before before' : List ℕ) (block block' : List Stmt) (old new : List Symbol) : Type 0 where
+  pub name : List ℕ
+  pub role : ℕ
+  pub is_role : place_of roles name ≡ Some role
+  pub first : is_listed role before ≡ false
+  pub apart : (role == sender) ≡ false
+  pub joins : before' ≡ before ++ role ∷ []
+  pub added : block' ≡ block ++ statements.Message label sorts sender role (n + 1) ∷ []
+  pub spelled : old ≡ Name name ∷ new
+
+-- All receivers of a message were read, and the mark behind them.
+pub record AreReceived (roles : List (List ℕ)) (label : List ℕ) (sorts : List (List ℕ)) (sender n n' : ℕ) (block block' : List Stmt) (old new : List Symbol) : Type 0 where
+  pub first : List ℕ
+  pub others : List (List ℕ)
+  pub may : MayReceive roles sender [] (first ∷ others)
+  pub counted : n' ≡ n + (1 + length others)
+  pub added : block' ≡ block ++ messages label sorts sender (roles_at roles (first ∷ others)) n
+  pub spelled : old ≡ Name first ∷ names_behind others (Is Semicolon ∷ new)
+
+-- Statements were read: what is written, in front of any others of its block, with its symbols and its tree.
+pub record AreStmts (roles : List (List ℕ)) (n n' : ℕ) (added : List Stmt) (old new : List Symbol) : Type 0 where
+  pub put : Written → Written
+  pub proper : (rest : Written) → IsProper rest → IsProper (put rest)
+  pub fit : (rest : Written) → IsFit roles rest → IsFit roles (put rest)
+  pub spelled : (rest : Written) (next : List Symbol) → new ≡ stmts rest next → old ≡ stmts (put rest) next
+  pub counted : (rest : Written) → n + points (put rest) ≡ n' + points rest
+  pub tree : (rest : Written) → tree_of roles n (put rest) ≡ in_front added (tree_of roles n' rest)
+
+-- at least one statement was read
+pub record AreSomeStmts (roles : List (List ℕ)) (n n' : ℕ) (added : List Stmt) (old new : List Symbol) : Type 0 where
+  pub stmts : AreStmts roles n n' added old new
+  pub begun : (rest : Written) → IsBegun (stmts.put rest)
+
+-- A block was read, with its braces.
+pub record IsBlock (roles : List (List ℕ)) (n n' : ℕ) (b : Block) (old new : List Symbol) : Type 0 where
+  pub written : Written
+  pub begun : IsBegun written
+  pub proper : IsProper written
+  pub fit : IsFit roles written
+  pub spelled : old ≡ Is Open ∷ stmts written (Is Close ∷ new)
+  pub counted : n' ≡ n + points written
+  pub tree : trees.body_of b ≡ tree_of roles n written
+
+-- The blocks of a choice were read.
+pub record AreBranches (roles : List (List ℕ)) (n n' : ℕ) (bs : Blocks) (old new : List Symbol) : Type 0 where
+  pub first : Written
+  pub others : grammar.Blocks
+  pub begun : IsBegun first
+  pub proper : IsProper first
+  pub all_proper : AreProper others
+  pub fit : IsFit roles first
+  pub all_fit : AreFit roles others
+  pub spelled : old ≡ Is Open ∷ stmts first (Is Close ∷ blocks_behind Or others new)
+  pub counted : n' ≡ n + (points first + points_of others)
+  pub tree : trees.bodies_of bs ≡ trees.Or (tree_of roles n first) (trees_of roles (n + points first) others)
+
+-- statements were added to a block
+abbrev pub Adds : List (List ℕ) → ℕ → ℕ → List Stmt → List Stmt → List Symbol → List Symbol → Type 0
+Adds roles n n' block block' old new = (added : List Stmt) × (block' ≡ block ++ added) × AreStmts roles n n' added old new
+
+abbrev pub AddsSome : List (List ℕ) → ℕ → ℕ → List Stmt → List Stmt → List Symbol → List Symbol → Type 0
+AddsSome roles n n' block block' old new = (added : List Stmt) × (block' ≡ block ++ added) × AreSomeStmts roles n n' added old new
+
+-- ---- the head
+
+abbrev pub a_name_of : List ℕ → Symbol
+a_name_of n = Name n
+
+abbrev pub a_quoted : List ℕ → List Symbol → List Symbol
+a_quoted q ts = Quoted q ∷ ts
+
+-- Name . Name ..
+abbrev pub module_list : List (List ℕ) → List Symbol → List Symbol
+module_list [] next = next
+module_list (n ∷ ns) next = Name n ∷ dotted ns next
+
+-- Name , role Name ..
+abbrev pub names_of_roles : List (List ℕ) → List Symbol → List Symbol
+names_of_roles [] next = next
+names_of_roles (n ∷ ns) next = Name n ∷ roles_behind ns next
+
+-- one more name was read
+pub record AddsName (names names' : List (List ℕ)) (old new : List Symbol) : Type 0 where
+  pub name : List ℕ
+  pub added : names' ≡ names ++ name ∷ []
+  pub spelled : old ≡ Name name ∷ new
+
+-- a declaration was read
+pub record IsDecl (d : Decl) (old new : List Symbol) : Type 0 where
+  pub word : is_decl_word d.word ≡ true
+  pub spelled : old ≡ decl d new
+
+-- declarations were read
+pub record AreSuch (ds : List Decl) (old new : List Symbol) : Type 0 where
+  pub words : AreDecls ds
+  pub spelled : old ≡ decls ds new
+
+-- decl* and the word global
+abbrev pub declaring : List (List ℕ) → Item
+declaring aliases = Decls aliases
+
+-- the whole answer
+abbrev pub Ends : ReadError → List Symbol → List Symbol → Type 0
+Ends errors.Memory old new = Unit {0}
+Ends (errors.Refused fault) old new = reading old ≡ Refuses fault new
+
+-- the head of a module was read, with the first brace of the body
+pub record IsHead (modules : List (List ℕ)) (ds : List Decl) (name : List ℕ) (roles : List (List ℕ)) (old new : List Symbol) : Type 0 where
+  pub some_module : modules ≡ [] → ⊥
+  pub some_role : roles ≡ [] → ⊥
+  pub words : AreDecls ds
+  pub spelled : old ≡ Is Module ∷ module_list modules (Is Semicolon ∷ decls ds (Is Global ∷ Is Protocol ∷ Name name ∷ Is Left ∷ Is Role ∷ names_of_roles roles (Is Right ∷ Is Open ∷ new)))
+
+-- the fault behind the protocol
+abbrev pub EndFails : ReadError → State → List Symbol → Type 0
+EndFails errors.Memory s left = Unit {0}
+EndFails (errors.Refused fault) s left = answer s [] left ≡ Refuses fault left

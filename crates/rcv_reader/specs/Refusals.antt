@@ -1,0 +1,30 @@
+-- What the reader answers.
+use Rattle.std.specs.Prelude.{◌≡◌, ℕ, ◌-◌, List, [], ◌∷◌, length, drop}
+use Rattle.rcv_tree.specs.declared.refusal.Refusal.TheVariants as refusals
+use Rattle.rcv_tree.specs.declared.protocol.Protocol.{Protocol}
+use Rattle.rcv_lexer.specs.declared.token.Token.{Token}
+use Rattle.rcv_lexer.specs.declared.token.TextError.{TextError}
+use Rattle.rcv_lexer.specs.declared.token.TextError.TheVariants as errors
+use Rattle.rcv_reader.specs.declared.fault.Fault.{Fault}
+use Rattle.rcv_reader.specs.Symbols.{Symbol, symbols_of}
+use Rattle.rcv_reader.specs.Machine.{State, Taken, Refuses, reading, code_of}
+use Rattle.rcv_reader.specs.Trees.{Reads}
+
+-- the line of the first token, or of the end where there is none
+abbrev pub line_of : List Token → ℕ → ℕ
+line_of [] last = last
+line_of (t ∷ ts) last = t.line
+
+-- the line of the token from which on n are left, or of the end
+abbrev pub line_before : List Token → ℕ → ℕ → ℕ
+line_before tokens last n = line_of (drop (length tokens - n) tokens) last
+
+-- no code holds in the symbols, and this is their tree
+abbrev pub IsRead : List Symbol → Protocol → Type 0
+IsRead symbols p = (state : State) × (reading symbols ≡ Taken state) × Reads symbols p
+
+-- At the first token at which a code holds, or at the end, this is the least code that holds, with its line.
+abbrev pub IsRefused : List ℕ → List Token → ℕ → TextError → Type 0
+IsRefused bundle tokens last errors.Memory = Unit {0}
+IsRefused bundle tokens last (errors.Refused r) =
+    (fault : Fault) × (left : List Symbol) × (reading (symbols_of bundle tokens) ≡ Refuses fault left) × (r ≡ refusals.Text (code_of fault) (line_before tokens last (length left)))

@@ -1,0 +1,198 @@
+// What stands before the statements: the names of the module, the declarations and the roles.
+
+ghost use Rattle.std.specs.Prelude.{◌≡◌, ◌≢◌, ◌<◌, ◌≤◌, ◌+◌, ◌++◌, ◌∷◌, [], length, ℕ, List, codes, IfOk, OnOk, IfErr, true, false};
+ghost use Rattle.rcv_tree.specs.Lists.{declarations};
+ghost use Rattle.rcv_reader.specs.Symbols.{Is};
+ghost use Rattle.rcv_reader.specs.Grammar.{decls, is_decl_word};
+ghost use Rattle.rcv_reader.specs.Machine.{This, AnyName, AnyQuoted, MoreModules, Alias, RoleName, MoreRoles};
+ghost use Rattle.rcv_reader.specs.Descent.{declaring, a_name, a_name_of, a_quoted, AddsName, module_list, names_of_roles, known, Goes, IsNotNext, IsDecl, AreSuch};
+
+use crate::fault::{Fault, ReadError};
+use crate::parser::{Parser, holds};
+use crate::sign::Sign;
+use crate::words::is;
+use rcv_tree::name::{Name, Names};
+use rcv_tree::protocol::{Decl, Decls};
+use std::alloc::Global;
+
+// Whether a declaration begins with the word.
+fn is_decl_word(word: &[u8]) -> bool
+    ensures { result ≡ is_decl_word word.now }
+{
+    is(word, b"type") || is(word, b"data")
+}
+
+impl<'a> Parser<'a> {
+    // Takes what stands between two quotes.
+    fn quoted(&mut self, alloc: Global) -> Result<Name, ReadError>
+        ensures goes { Goes result (known self.old.roles self.old.count) (known self.new.roles self.new.count) (λ k. AnyQuoted ∷ k) (λ x k. k) self.old.rest self.new.rest }
+        ensures read { IfOk result (λ q. self.old.rest ≡ a_quoted q self.new.rest) }
+        ensures kept { (self.new.roles ≡ self.old.roles) × (self.new.recs.items ≡ self.old.recs.items) × (self.new.count ≡ self.old.count) }
+        ensures shorter { length self.new.rest ≤ length self.old.rest }
+    {
+        let Some((bytes, after)) = self.rest.quoted() else {
+            return Err(ReadError::Refused(Fault::Token));
+        };
+        let text = Name::of(alloc, bytes)?;
+        self.rest = after;
+        Ok(text)
+    }
+
+    /// Takes the names of the module, and the mark behind them.
+    pub fn modules(&mut self, alloc: Global) -> Result<Names, ReadError>
+        ensures goes { Goes result (known self.old.roles self.old.count) (known self.new.roles self.new.count) (λ k. AnyName ∷ MoreModules ∷ k) (λ x k. k) self.old.rest self.new.rest }
+        ensures read { IfOk result (λ names. (names ≢ []) × (self.old.rest ≡ module_list names (Is Sign.Semicolon ∷ self.new.rest))) }
+        ensures kept { (self.new.roles ≡ self.old.roles) × (self.new.recs.items ≡ self.old.recs.items) × (self.new.count ≡ self.old.count) }
+        ensures shorter { length self.new.rest ≤ length self.old.rest }
+    {
+        let mut names = Names::new(alloc);
+        let first = self.name(alloc)?;
+        names.push(first)?;
+        while self.takes(Sign::Dot) {
+            let name = self.name(alloc)?;
+            names.push(name)?;
+        }
+        self.expect(Sign::Semicolon)?;
+        Ok(names)
+    }
+
+    // Takes the name of one more role.
+    fn add_role(&mut self, alloc: Global) -> Result<(), ReadError>
+        requires few { length self.old.roles ≤ 8 }
+        ensures goes { Goes result (known self.old.roles self.old.count) (known self.new.roles self.new.count) (λ k. RoleName ∷ k) (λ x k. MoreRoles ∷ k) self.old.rest self.new.rest }
+        ensures read { OnOk result (AddsName self.old.roles self.new.roles self.old.rest self.new.rest) }
+        ensures few { length self.new.roles ≤ 8 }
+        ensures kept { (self.new.recs.items ≡ self.old.recs.items) × (self.new.count ≡ self.old.count) }
+        ensures shorter { length self.new.rest ≤ length self.old.rest }
+    {
+        let Some((bytes, after)) = self.rest.name() else {
+            return Err(ReadError::Refused(Fault::Token));
+        };
+        if holds(bytes, self.roles.as_slice()) {
+            return Err(ReadError::Refused(Fault::Twice));
+        }
+        if self.roles.as_slice().len() >= 8 {
+            return Err(ReadError::Refused(Fault::TooMany));
+        }
+        self.roles.push(Name::of(alloc, bytes)?)?;
+        self.rest = after;
+        Ok(())
+    }
+
+    /// Takes the roles behind the first word `role`, and the parenthesis behind them.
+    pub fn role_names(&mut self, alloc: Global) -> Result<(), ReadError>
+        requires none { self.old.roles ≡ [] }
+        ensures goes { Goes result (known self.old.roles self.old.count) (known self.new.roles self.new.count) (λ k. RoleName ∷ k) (λ x k. k) self.old.rest self.new.rest }
+        ensures read { OnOk result ((self.new.roles ≢ []) × (self.old.rest ≡ names_of_roles self.new.roles (Is Sign.Right ∷ self.new.rest))) }
+        ensures few { length self.new.roles ≤ 8 }
+        ensures kept { (self.new.recs.items ≡ self.old.recs.items) × (self.new.count ≡ self.old.count) }
+        ensures shorter { length self.new.rest ≤ length self.old.rest }
+    {
+        self.add_role(alloc)?;
+        while self.takes(Sign::Comma) {
+            self.expect(Sign::Role)?;
+            self.add_role(alloc)?;
+        }
+        self.expect(Sign::Right)
+    }
+
+    // Takes the word `as`.
+    fn word_as(&mut self) -> Result<(), ReadError>
+        ensures goes { Goes result (known self.old.roles self.old.count) (known self.new.roles self.new.count) (λ k. This (a_name_of (codes "as")) ∷ k) (λ x k. k) self.old.rest self.new.rest }
+        ensures read { OnOk result (self.old.rest ≡ a_name (codes "as") self.new.rest) }
+        ensures kept { (self.new.roles ≡ self.old.roles) × (self.new.recs.items ≡ self.old.recs.items) × (self.new.count ≡ self.old.count) }
+        ensures shorter { length self.new.rest ≤ length self.old.rest }
+    {
+        let Some((bytes, after)) = self.rest.name() else {
+            return Err(ReadError::Refused(Fault::Token));
+        };
+        if !is(bytes, b"as") {
+            return Err(ReadError::Refused(Fault::Token));
+        }
+        self.rest = after;
+        Ok(())
+    }
+
+    // Takes the alias of a declaration.
+    fn alias(&mut self, alloc: Global, aliases: &mut Names) -> Result<Name, ReadError>
+        ensures goes { Goes result (known self.old.roles self.old.count) (known self.new.roles self.new.count) (λ k. Alias aliases.old ∷ k) (λ x k. This (Is Sign.Semicolon) ∷ declaring aliases.new ∷ k) self.old.rest self.new.rest }
+        ensures read { IfOk result (λ n. self.old.rest ≡ a_name n self.new.rest) }
+        ensures kept { (self.new.roles ≡ self.old.roles) × (self.new.recs.items ≡ self.old.recs.items) × (self.new.count ≡ self.old.count) }
+        ensures shorter { length self.new.rest ≤ length self.old.rest }
+    {
+        let Some((bytes, after)) = self.rest.name() else {
+            return Err(ReadError::Refused(Fault::Token));
+        };
+        if holds(bytes, aliases.as_slice()) {
+            return Err(ReadError::Refused(Fault::Twice));
+        }
+        aliases.push(Name::of(alloc, bytes)?)?;
+        let alias = Name::of(alloc, bytes)?;
+        self.rest = after;
+        Ok(alias)
+    }
+
+    // Takes the word that begins a declaration.
+    fn decl_word(&mut self, alloc: Global, aliases: &Names) -> Result<Name, ReadError>
+        requires { IsNotNext (Is Sign.Global) self.old.rest }
+        ensures goes { Goes result (known self.old.roles self.old.count) (known self.new.roles self.new.count) (λ k. declaring aliases.now ∷ k) (λ x k. This (Is Sign.Less) ∷ AnyName ∷ This (Is Sign.Greater) ∷ AnyQuoted ∷ This (Is Sign.From) ∷ AnyQuoted ∷ This (a_name_of (codes "as")) ∷ Alias aliases.now ∷ k) self.old.rest self.new.rest }
+        ensures read { IfOk result (λ n. (is_decl_word n ≡ true) × (self.old.rest ≡ a_name n self.new.rest)) }
+        ensures kept { (self.new.roles ≡ self.old.roles) × (self.new.recs.items ≡ self.old.recs.items) × (self.new.count ≡ self.old.count) }
+        ensures shorter { length self.new.rest ≤ length self.old.rest }
+        ensures taken { OnOk result (length self.new.rest < length self.old.rest) }
+    {
+        let Some((bytes, after)) = self.rest.name() else {
+            return Err(ReadError::Refused(Fault::Token));
+        };
+        if !is_decl_word(bytes) {
+            return Err(ReadError::Refused(Fault::Token));
+        }
+        let word = Name::of(alloc, bytes)?;
+        self.rest = after;
+        Ok(word)
+    }
+
+    // Takes a declaration.
+    fn decl(&mut self, alloc: Global, aliases: &mut Names) -> Result<Decl, ReadError>
+        requires { IsNotNext (Is Sign.Global) self.old.rest }
+        ensures goes { Goes result (known self.old.roles self.old.count) (known self.new.roles self.new.count) (λ k. declaring aliases.old ∷ k) (λ x k. declaring aliases.new ∷ k) self.old.rest self.new.rest }
+        ensures read { IfOk result (λ d. IsDecl d self.old.rest self.new.rest) }
+        ensures kept { (self.new.roles ≡ self.old.roles) × (self.new.recs.items ≡ self.old.recs.items) × (self.new.count ≡ self.old.count) }
+        ensures shorter { length self.new.rest ≤ length self.old.rest }
+        ensures taken { OnOk result (length self.new.rest < length self.old.rest) }
+    {
+        let word = self.decl_word(alloc, aliases)?;
+        self.expect(Sign::Less)?;
+        let schema = self.name(alloc)?;
+        self.expect(Sign::Greater)?;
+        let extern_name = self.quoted(alloc)?;
+        self.expect(Sign::From)?;
+        let file = self.quoted(alloc)?;
+        self.word_as()?;
+        let alias = self.alias(alloc, aliases)?;
+        self.expect(Sign::Semicolon)?;
+        Ok(Decl {
+            word,
+            schema,
+            extern_name,
+            file,
+            alias,
+        })
+    }
+
+    /// Takes the declarations, and the word `global` behind them.
+    pub fn decls(&mut self, alloc: Global) -> Result<Decls, ReadError>
+        ensures goes { Goes result (known self.old.roles self.old.count) (known self.new.roles self.new.count) (λ k. declaring [] ∷ k) (λ x k. k) self.old.rest self.new.rest }
+        ensures read { IfOk result (λ ds. AreSuch (declarations ds) self.old.rest (Is Sign.Global ∷ self.new.rest)) }
+        ensures kept { (self.new.roles ≡ self.old.roles) × (self.new.recs.items ≡ self.old.recs.items) × (self.new.count ≡ self.old.count) }
+        ensures shorter { length self.new.rest ≤ length self.old.rest }
+    {
+        let mut list = Decls::new(alloc);
+        let mut aliases = Names::new(alloc);
+        while !self.takes(Sign::Global) {
+            let decl = self.decl(alloc, &mut aliases)?;
+            list.push(decl)?;
+        }
+        Ok(list)
+    }
+}

@@ -1,0 +1,142 @@
+// Reads the text of a whole protocol.
+
+ghost use Rattle.std.specs.Prelude.{◌≡◌, ◌<◌, ◌≤◌, ◌+◌, ◌^◌, ◌∷◌, [], length, MatchResult, IfOk, IfErr, OnOk};
+ghost use Rattle.std.specs.List.{All};
+ghost use Rattle.rcv_tree.specs.Lists.{statements, declarations};
+ghost use Rattle.rcv_lexer.specs.Parts.{LiesIn};
+ghost use Rattle.rcv_reader.specs.Symbols.{Is, symbols_of};
+ghost use Rattle.rcv_reader.specs.Machine.{Taken, answer, This, AnyName, MoreModules, RoleName, Rest, outermost};
+ghost use Rattle.rcv_reader.specs.Descent.{declaring, known, Goes, Ends, EndFails, IsHead, Adds};
+ghost use Rattle.rcv_reader.specs.Refusals.{IsRead, IsRefused, line_before};
+
+use crate::ahead::Ahead;
+use crate::fault::{Fault, ReadError};
+use crate::parser::{Parser, Spot, copy_of};
+use crate::sign::Sign;
+use rcv_lexer::token::{TextError, Token};
+use rcv_tree::name::{Name, Names};
+use rcv_tree::protocol::{Decls, Protocol};
+use rcv_tree::refusal::Refusal;
+use rcv_tree::statement::Block;
+use std::alloc::Global;
+
+// What stands before the body, but for the roles.
+#[derive(Drop)]
+struct Head {
+    module: Names,
+    decls: Decls,
+    name: Name,
+}
+
+impl<'a> Parser<'a> {
+    // Takes what stands before the body, with its first brace.
+    fn head(&mut self, alloc: Global) -> Result<Head, ReadError>
+        requires none { self.old.roles ≡ [] }
+        ensures goes { Goes result (known self.old.roles self.old.count) (known self.new.roles self.new.count)
+            (λ k. This (Is Sign.Module) ∷ AnyName ∷ MoreModules ∷ declaring [] ∷ This (Is Sign.Protocol) ∷ AnyName ∷ This (Is Sign.Left) ∷ This (Is Sign.Role) ∷ RoleName ∷ This (Is Sign.Open) ∷ k)
+            (λ x k. k) self.old.rest self.new.rest }
+        ensures read { IfOk result (λ h. IsHead h.«module» (declarations h.decls) h.name self.new.roles self.old.rest self.new.rest) }
+        ensures few { OnOk result (length self.new.roles ≤ 8) }
+        ensures kept { OnOk result ((self.new.recs.items ≡ self.old.recs.items) × (self.new.count ≡ self.old.count)) }
+    {
+        self.expect(Sign::Module)?;
+        let module = self.modules(alloc)?;
+        let decls = self.decls(alloc)?;
+        self.expect(Sign::Protocol)?;
+        let name = self.name(alloc)?;
+        self.expect(Sign::Left)?;
+        self.expect(Sign::Role)?;
+        self.role_names(alloc)?;
+        self.expect(Sign::Open)?;
+        Ok(Head {
+            module,
+            decls,
+            name,
+        })
+    }
+
+    // Nothing may stand behind the protocol.
+    fn end(&self) -> Result<(), ReadError>
+        ensures done { OnOk result (self.now.rest ≡ []) }
+        ensures err { IfErr result (λ e. EndFails e (known self.now.roles self.now.count) self.now.rest) }
+    {
+        if self.rest.is_empty() {
+            return Ok(());
+        }
+        let Some(_behind) = self.rest.sign(Sign::Global) else {
+            return Err(ReadError::Refused(Fault::Token));
+        };
+        Err(ReadError::Refused(Fault::NotYet))
+    }
+
+    // Takes a whole protocol.
+    fn protocol(&mut self, alloc: Global) -> Result<Protocol, ReadError>
+        requires none { self.old.roles ≡ [] }
+        requires outside { self.old.recs.items ≡ [] }
+        requires fresh { self.old.count ≡ 0 }
+        ensures ok { IfOk result (IsRead self.old.rest) }
+        ensures err { IfErr result (λ e. Ends e self.old.rest self.new.rest) }
+    {
+        let head = self.head(alloc)?;
+        let mut body = Block::new(alloc);
+        let spot = Spot {
+            depth: 1,
+            comes: 0,
+            ended: false,
+        };
+        self.stmts(alloc, spot, &mut body)?;
+        self.end()?;
+        let roles = copy_of(alloc, &self.roles)?;
+        Ok(Protocol {
+            module: head.module,
+            decls: head.decls,
+            name: head.name,
+            roles,
+            body,
+        })
+    }
+}
+
+// The line of the token from which on so many are left, or of the end.
+fn line_before(list: &[Token], last: u32, left: usize) -> u32
+    ensures { result ≡ line_before list.now last left }
+{
+    let place = list.len().saturating_sub(left);
+    match &list[place..] {
+        [first, ..] => first.line,
+        [] => last,
+    }
+}
+
+/// The protocol that the tokens of a part of the bundle spell. `last` is the line of the part's end.
+///
+/// Refused at the first token at which a code holds, or at the part's end, with the least code at it and its line:
+/// 11 where the grammar doesn't have the token or the end there, 12 at the brace of the 33rd nested block, 13 at a role
+/// that isn't declared or the name of no enclosing recursion, 14 at a role, an alias or a receiver that stands before,
+/// 15 at a receiver that is the sender, 16 at a statement behind a `continue`, 17 at a `continue` to which a walk comes
+/// without a message, 18 at the ninth role or the receiver that makes the 257th point, 19 at what isn't read yet: `par`,
+/// `do` and a second protocol. `Memory` where no memory is left.
+pub fn read_protocol(
+    alloc: Global,
+    bundle: &[u8],
+    list: &[Token],
+    last: u32,
+) -> Result<Protocol, TextError>
+    requires inside { All (λ t. LiesIn bundle.now t.span) list.now }
+    ensures { MatchResult result (IsRead (symbols_of bundle.now list.now)) (IsRefused bundle.now list.now last) }
+{
+    let mut parser = Parser {
+        rest: Ahead::new(bundle, list),
+        roles: Names::new(alloc),
+        recs: Vec::new(alloc),
+        count: 0,
+    };
+    match parser.protocol(alloc) {
+        Ok(protocol) => Ok(protocol),
+        Err(ReadError::Memory) => Err(TextError::Memory),
+        Err(ReadError::Refused(fault)) => Err(TextError::Refused(Refusal::Text {
+            code: fault.code(),
+            line: line_before(list, last, parser.rest.len()),
+        })),
+    }
+}
