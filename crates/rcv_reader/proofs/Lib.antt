@@ -7,4 +7,5 @@ pub mod Going
 pub mod Reading
 pub mod Blocks
 pub mod Heading
+pub mod Formed
 pub mod Whole

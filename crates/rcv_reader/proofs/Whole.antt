@@ -1,10 +1,12 @@
 -- The whole text.
-use Rattle.std.proofs.Common.{◌≡◌, ℕ, false, List, [], ◌∷◌, refl, sym, ap, subst, ◌∙◌}
+use Rattle.std.proofs.Common.{◌≡◌, ℕ, false, List, [], ◌∷◌, refl, sym, ap, subst, ◌∙◌, ◌≤◌, length, arith, ◌++◌}
 use Rattle.rcv_tree.specs.Lists.{statements, declarations}
 use Rattle.rcv_tree.specs.declared.statement.Stmt.{Stmt}
+use Rattle.rcv_tree.specs.declared.statement.Block.{Block}
 use Rattle.rcv_tree.specs.declared.protocol.Decl.{Decl}
 use Rattle.rcv_tree.specs.declared.protocol.Protocol.{Protocol}
 use Rattle.rcv_model.specs.Text as trees
+use Rattle.rcv_model.specs.Form.{HasForm}
 use Rattle.rcv_reader.specs.declared.sign.Sign.TheVariants.{Module, Global, Role, Left, Right, Open, Close, Semicolon}
 use Rattle.rcv_reader.specs.declared.sign.Sign.TheVariants as sign
 use Rattle.rcv_reader.specs.declared.fault.Fault.TheVariants.{Token}
@@ -13,12 +15,13 @@ use Rattle.rcv_reader.specs.declared.fault.ReadError.TheVariants as errors
 use Rattle.rcv_reader.specs.Symbols.{Symbol, Is, Name}
 use Rattle.rcv_reader.specs.Grammar.{NoStmt, decls}
 use Rattle.rcv_reader.specs.Machine.{Item, This, AnyName, MoreModules, Decls, RoleName, Rest, outermost, step, Wrong, State, Refuses, answer, reading}
-use Rattle.rcv_reader.specs.Trees.{Reads}
+use Rattle.rcv_reader.specs.Trees.{Reads, tree_of}
 use Rattle.rcv_reader.specs.Refusals.{IsRead}
 use Rattle.rcv_reader.specs.Descent.{known, IsNotNext, Halts, Ends, EndFails, IsHead, Adds, module_list, names_of_roles, in_front, place_at}
 use Rattle.rcv_reader.proofs.Stops.{stops_by}
 use Rattle.rcv_reader.proofs.Reading.{known_same}
 use Rattle.rcv_reader.proofs.Blocks.{body_of-in_front}
+use Rattle.rcv_reader.proofs.Formed.{tree_has_form}
 
 -- a list that isn't empty
 abbrev Parts : List (List ℕ) → Type 0
@@ -92,3 +95,15 @@ no_second s _ ts h = refl
 pub no_global : (s : State) (ts : List Symbol) → (ts ≡ [] → ⊥) → IsNotNext (Is Global) ts → answer s [] ts ≡ Refuses Token ts
 no_global s [] some h = absurd (some refl)
 no_global s (t ∷ ts) some h = stops_by s [] t ts (no_second s t ts (λ e. h ts (ap (λ (x : Symbol). x ∷ ts) e)))
+
+-- the body's tree is that of what is written
+body_tree : (b : Block) (r : List (List ℕ)) (c c2 : ℕ) (none : List Stmt) (mid left : List Symbol) (d : Adds r c c2 none (statements b) mid (Is Close ∷ left)) → none ≡ [] → c ≡ 0 → trees.body_of b ≡ tree_of r 0 (d.2.put NoStmt)
+body_tree b r c c2 none mid left d empty fresh =
+    sym (body_of-in_front b) ∙ ap (λ (x : List Stmt). in_front x trees.End) (d.1 ∙ ap (λ (x : List Stmt). x ++ d.0) empty) ∙ sym (d.2.tree NoStmt) ∙ ap (λ (n : ℕ). tree_of r n (d.2.put NoStmt)) fresh
+
+pub protocol_form : (b : Block) (rs r : List (List ℕ)) (c c2 : ℕ) (none : List Stmt) (mid left : List Symbol) → Adds r c c2 none (statements b) mid (Is Close ∷ left) → none ≡ [] → c ≡ 0 → rs ≡ r → length r ≤ 8 → c2 ≤ 256
+    → HasForm (trees.body_of b) (length rs)
+protocol_form b rs r c c2 none mid left d empty fresh roles few short =
+    let n = d.2.counted NoStmt in
+    let form = tree_has_form r (d.2.put NoStmt) (d.2.fit NoStmt tt) few (omega (arith, n, fresh, short)) in
+    subst (λ (x : List (List ℕ)). HasForm (trees.body_of b) (length x)) (sym roles) (subst (λ (x : trees.Body). HasForm x (length r)) (sym (body_tree b r c c2 none mid left d empty fresh)) form)

@@ -3,6 +3,8 @@
 ghost use Rattle.std.specs.Prelude.{◌≡◌, ◌<◌, ◌≤◌, ◌+◌, ◌^◌, ◌∷◌, [], length, MatchResult, IfOk, IfErr, OnOk};
 ghost use Rattle.std.specs.List.{All};
 ghost use Rattle.rcv_tree.specs.Lists.{statements, declarations};
+ghost use Rattle.rcv_model.specs.Form.{HasForm};
+ghost use Rattle.rcv_model.specs.Text.{body_of};
 ghost use Rattle.rcv_lexer.specs.Parts.{LiesIn};
 ghost use Rattle.rcv_reader.specs.Symbols.{Is, symbols_of};
 ghost use Rattle.rcv_reader.specs.Machine.{Taken, answer, This, AnyName, MoreModules, RoleName, Rest, outermost};
@@ -75,6 +77,7 @@ impl<'a> Parser<'a> {
         requires outside { self.old.recs.items ≡ [] }
         requires fresh { self.old.count ≡ 0 }
         ensures ok { IfOk result (IsRead self.old.rest) }
+        ensures form { IfOk result (λ p. HasForm (body_of p.body) (length p.roles)) }
         ensures err { IfErr result (λ e. Ends e self.old.rest self.new.rest) }
     {
         let head = self.head(alloc)?;
@@ -123,7 +126,8 @@ pub fn read_protocol(
     last: u32,
 ) -> Result<Protocol, TextError>
     requires inside { All (λ t. LiesIn bundle.now t.span) list.now }
-    ensures { MatchResult result (IsRead (symbols_of bundle.now list.now)) (IsRefused bundle.now list.now last) }
+    ensures read { MatchResult result (IsRead (symbols_of bundle.now list.now)) (IsRefused bundle.now list.now last) }
+    ensures form { IfOk result (λ p. HasForm (body_of p.body) (length p.roles)) }
 {
     let mut parser = Parser {
         rest: Ahead::new(bundle, list),
