@@ -15,9 +15,10 @@ use Rattle.rcv_tree.specs.declared.entry.Entry.TheVariants.{Send, Recv, Crash, R
 use Rattle.rcv_model.specs.Net.{Net, IsIn, HasTwoEnds, last_of}
 use Rattle.rcv_model.specs.Run.{put_by, put, taken, channel, IsRun}
 use Rattle.rcv_model.specs.Next.{IsNext, AreNext, IsProper}
-use Rattle.rcv_model.specs.Journal.{Rules, State, IsDue, start, place, after, after_event, reading_from, reading, MaySend, MayRecv, May, IsLegal, KeepsRuns}
+use Rattle.rcv_model.specs.Journal.{Rules, State, IsDue, start, place, after, after_event, reading, MaySend, MayRecv, May, IsLegal, KeepsRuns}
 use Rattle.rcv_model.specs.Final.{IsActOf, CanAct, IsFinal, IsStep}
 use Rattle.rcv_model.proofs.OneThread.{one_step}
+use Rattle.rcv_model.proofs.StableLines.{reading_join}
 use Rattle.rcv_model.proofs.Forms.{proper}
 use Rattle.rcv_model.proofs.Walks.{walk_back}
 use Rattle.rcv_model.proofs.Numbers.{bounded, bare_bounded, put_stamps}
@@ -163,11 +164,6 @@ pub able_by_step : (book : BookView) (r : ℕ) (o : Option Entry) (able : Bool) 
 able_by_step book r None able none e = ((λ t. absurd (cc)), λ a. absurd (none a))
 able_by_step book r (Some x) able act e = ((λ t. (x, act)), λ a. e)
 
--- one entry more
-pub reading_more : (rules : Rules) (s : State) (journal : List Entry) (e : Entry) → reading_from rules s (journal ++ e ∷ []) ≡ after rules (reading_from rules s journal) e
-reading_more rules s [] e = refl
-reading_more rules s (d ∷ journal) e = reading_more rules (after rules s d) journal e
-
 -- the ends of an event that may come
 pub of_send : (setup : SetupView) (entries : List Entry) (e : Event) → IsPlainProtocol setup.protocol → MaySend (rules_of setup) (reading (rules_of setup) entries) e → IsOfText setup e.point
 of_send setup entries e plain may = of_next setup e.role (place (reading (rules_of setup) entries) e.role) e.point plain (may.next.sound e.point may.among)
@@ -190,7 +186,7 @@ with_event setup entries standings channels channels' e x book may is lt inside 
 }
   where
     next : reading (rules_of setup) (entries ++ x ∷ []) ≡ after_event (reading (rules_of setup) entries) e
-    next = reading_more (rules_of setup) (start (roles_of setup)) entries x ∙ is
+    next = reading_join (rules_of setup) (start (roles_of setup)) entries (x ∷ []) ∙ is
 
 pub with_send : (setup : SetupView) (entries entries' : List Entry) (standings standings' : List Standing) (channels channels' : List ChannelView) (e : Event) (to : ℕ) → IsBook setup entries standings channels → MaySend (rules_of setup) (reading (rules_of setup) entries) e → to ≡ (net_for setup).receiver e.point → entries' ≡ entries ++ Send e ∷ [] → channels' ≡ with_put channels e.role to (record { point = e.point; value = e.value; stamp = e.stamp }) → standings' ≡ moved standings e → IsBook setup entries' standings' channels'
 with_send setup entries entries' standings standings' channels channels' e to book may which j c t =

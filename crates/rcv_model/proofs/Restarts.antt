@@ -159,7 +159,7 @@ pub marks_more : (net : Net) (m : List ℕ) (b : List ℕ) (x : ℕ) → marks n
 marks_more net m [] x = refl
 marks_more net m (y ∷ b) x = marks_more net (mark net m y) b x
 
-mark_keeps : (net : Net) (m : List ℕ) (x q : ℕ) → IsIn q m → IsIn q (mark net m x)
+pub mark_keeps : (net : Net) (m : List ℕ) (x q : ℕ) → IsIn q m → IsIn q (mark net m x)
 mark_keeps net m x q i = go (list_any (λ r. r == net.sender x) m)
   where
     go : (b : Bool) → IsIn q (if b then net.receiver x ∷ m else m)

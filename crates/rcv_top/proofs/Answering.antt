@@ -25,8 +25,8 @@ use Rattle.rcv_model.proofs.Cuts.{undo_exactly}
 use Rattle.rcv_model.proofs.Forms.{proper}
 use Rattle.rcv_model.proofs.Legal.{accepted_runs}
 use Rattle.rcv_model.proofs.PlainNets.{plain_accepted, plain_reach}
+use Rattle.rcv_model.proofs.StableLines.{reading_join}
 use Rattle.rcv_core.specs.Setup.{rules_of}
-use Rattle.rcv_core.proofs.Books.{reading_more}
 use Rattle.rcv_top.specs.declared.status.Status.{Status}
 use Rattle.rcv_top.specs.declared.status.Status.TheVariants as statuses
 use Rattle.rcv_top.specs.Outcome.{IsCommand, usage_line, most_bytes, session_of, IsSession, IsOutcome, usage, too_long, refused, completed, limited}
@@ -68,7 +68,7 @@ headline_of protocol journal plain form alone = record {
     exact front rest p concerned kept undone e =
         let before = reading (rules_of (session_of protocol)) front in
         let sets = undo_exactly (rules_of (session_of protocol)).net (only p (durable (rules_of (session_of protocol)) before p) before.kept) before.kept (run front rest e).1.queued in
-        record { has = sets.0; exact = sets.1; left = ap (λ s. s.kept) (reading_more (rules_of (session_of protocol)) (start (length protocol.roles)) front (Recover p concerned kept undone)) }
+        record { has = sets.0; exact = sets.1; left = ap (λ s. s.kept) (reading_join (rules_of (session_of protocol)) (start (length protocol.roles)) front (Recover p concerned kept undone ∷ [])) }
 
 -- the same for what the call wrote
 pub wrote_headline : (words : List (List ℕ)) (call : Around) (input bytes : List ℕ) (status result : Status) → IsInput words call input → IsCommand words → IsOutcome words input status bytes → Wrote call.written_before call.written_after call.write_faults_before call.write_faults_after bytes status result → (result ≡ statuses.Completed) ⊎ (result ≡ statuses.Limited) → WritesLegalJournal call
