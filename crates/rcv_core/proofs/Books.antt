@@ -15,7 +15,7 @@ use Rattle.rcv_tree.specs.declared.entry.Entry.TheVariants.{Send, Recv, Crash, R
 use Rattle.rcv_model.specs.Net.{Net, IsIn, HasTwoEnds, last_of}
 use Rattle.rcv_model.specs.Run.{put_by, put, taken, channel, IsRun}
 use Rattle.rcv_model.specs.Next.{IsNext, AreNext, IsProper}
-use Rattle.rcv_model.specs.Journal.{Rules, State, IsDue, start, place, after, after_event, reading, MaySend, MayRecv, May, IsLegal, KeepsRuns}
+use Rattle.rcv_model.specs.Journal.{IsDue, start, place, after, after_event, reading, MaySend, MayRecv, May, IsLegal, KeepsRuns}
 use Rattle.rcv_model.specs.Final.{IsActOf, CanAct, IsFinal, IsStep}
 use Rattle.rcv_model.proofs.OneThread.{one_step}
 use Rattle.rcv_model.proofs.StableLines.{reading_join}

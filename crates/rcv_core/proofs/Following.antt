@@ -13,9 +13,11 @@ use Rattle.rcv_core.specs.declared.standing.Standing.{Standing}
 use Rattle.rcv_model.specs.Net.{Net}
 use Rattle.rcv_model.specs.Run.{Act, acts, place_of, is_sent, puts_on, takes_on, put_by, taken_by, put, taken}
 use Rattle.rcv_model.specs.Journal.{State, after_event}
-use Rattle.rcv_model.proofs.Steps.{acts_own, acts_other}
 use Rattle.rcv_model.proofs.Numbers.{bump_at, bump_other}
 use Rattle.rcv_core.specs.Book.{ChannelView, empty, between, channel_at, with_put, with_taken, Carry, at_start, moved, StandsAt, Stand}
+use Rattle.rcv_model.proofs.Parts.{acts_own, acts_other}
+use Rattle.rcv_model.proofs.Steps.{not_taken}
+use Rattle.rcv_model.proofs.Keeping.{put_none, taken_none}
 
 place_snoc : (k : ℕ) (done : List Act) (a : Act) → place_of k (done ++ a ∷ []) ≡ a.point
 place_snoc k [] a = refl
@@ -109,17 +111,8 @@ got_else net a b e other = go (e.role == b) (net.sender e.point == a) refl refl
     go true false f g = step (is_sent e.dir)
     go false q f g = step (is_sent e.dir)
 
-no_take : (net : Net) (a b : ℕ) (e : Event) → e.dir ≡ Sent → takes_on net a b e ≡ false
-no_take net a b e d = ap (λ v. not (is_sent v) && ((e.role == b) && (net.sender e.point == a))) d
-
 no_put : (net : Net) (a b : ℕ) (e : Event) → e.dir ≡ Got → puts_on net a b e ≡ false
 no_put net a b e d = ap (λ v. is_sent v && ((e.role == a) && (net.receiver e.point == b))) d
-
-put_same : (net : Net) (a b : ℕ) (h : List Event) (e : Event) → puts_on net a b e ≡ false → put net a b (h ++ e ∷ []) ≡ put net a b h
-put_same net a b h e idle = left_out (put_by net a b) h e (ap (λ v. cond v (Some (message_of e)) None) idle)
-
-taken_same : (net : Net) (a b : ℕ) (h : List Event) (e : Event) → takes_on net a b e ≡ false → taken net a b (h ++ e ∷ []) ≡ taken net a b h
-taken_same net a b h e idle = left_out (taken_by net a b) h e (ap (λ v. cond v (Some (record { point = e.point; value = e.value; stamp = e.sent })) None) idle)
 
 -- the channel of a place, as kept events have it
 abbrev carried : Net → List Event → ℕ → ℕ → ChannelView
@@ -138,7 +131,7 @@ carry_put net h channels e d la lb carry = record {
     own =
         let old = carry.each e.role (net.receiver e.point) la lb in
         let more : put net e.role (net.receiver e.point) (h ++ e ∷ []) ≡ put net e.role (net.receiver e.point) h ++ message_of e ∷ [] = mapped (put_by net e.role (net.receiver e.point)) h e (message_of e) (ap (λ v. cond v (Some (message_of e)) None) (sent_here net e.role (net.receiver e.point) e d refl refl)) in
-        let same = taken_same net e.role (net.receiver e.point) h e (no_take net e.role (net.receiver e.point) e d) in
+        let same = taken_none net e.role (net.receiver e.point) h e (not_taken net e.role (net.receiver e.point) e d) in
         get_or-set_at channels (between e.role (net.receiver e.point)) (between e.role (net.receiver e.point)) _ empty refl (omega (arith, carry.all))
         ∙ ap (λ (c : ChannelView). record { put = c.put ++ message_of e ∷ []; taken = c.taken }) old
         ∙ ap (λ (p : List Message). record { put = p; taken = length (taken net e.role (net.receiver e.point) h) }) (sym more)
@@ -148,8 +141,8 @@ carry_put net h channels e d la lb carry = record {
     others a b low lower other =
         get_or-set_other channels (between e.role (net.receiver e.point)) (between a b) _ empty (apart e.role (net.receiver e.point) a b la lb low lower other)
         ∙ carry.each a b low lower
-        ∙ ap (λ (p : List Message). record { put = p; taken = length (taken net a b h) }) (sym (put_same net a b h e (sent_else net a b e other)))
-        ∙ ap (λ (t : List Message). record { put = put net a b (h ++ e ∷ []); taken = length t }) (sym (taken_same net a b h e (no_take net a b e d)))
+        ∙ ap (λ (p : List Message). record { put = p; taken = length (taken net a b h) }) (sym (put_none net a b h e (sent_else net a b e other)))
+        ∙ ap (λ (t : List Message). record { put = put net a b (h ++ e ∷ []); taken = length t }) (sym (taken_none net a b h e (not_taken net a b e d)))
 
     go : (a b : ℕ) → a < 8 → b < 8 → (e.role ≡ a) ⊎ (e.role ≡ a → ⊥) → (net.receiver e.point ≡ b) ⊎ (net.receiver e.point ≡ b → ⊥) → channel_at (with_put channels e.role (net.receiver e.point) (message_of e)) a b ≡ carried net (h ++ e ∷ []) a b
     go a b low lower (inl f) (inl g) = subst (λ x. channel_at (with_put channels e.role (net.receiver e.point) (message_of e)) x b ≡ carried net (h ++ e ∷ []) x b) f (subst (λ y. channel_at (with_put channels e.role (net.receiver e.point) (message_of e)) e.role y ≡ carried net (h ++ e ∷ []) e.role y) g own)
@@ -166,7 +159,7 @@ carry_take net h channels e d la lb carry = record {
     own =
         let old = carry.each (net.sender e.point) e.role la lb in
         let more : taken net (net.sender e.point) e.role (h ++ e ∷ []) ≡ taken net (net.sender e.point) e.role h ++ answer_of e ∷ [] = mapped (taken_by net (net.sender e.point) e.role) h e (answer_of e) (ap (λ v. cond v (Some (answer_of e)) None) (got_here net (net.sender e.point) e.role e d refl refl)) in
-        let same = put_same net (net.sender e.point) e.role h e (no_put net (net.sender e.point) e.role e d) in
+        let same = put_none net (net.sender e.point) e.role h e (no_put net (net.sender e.point) e.role e d) in
         let count : length (taken net (net.sender e.point) e.role h) + 1 ≡ length (taken net (net.sender e.point) e.role (h ++ e ∷ [])) = sym (ap length more ∙ length-append (taken net (net.sender e.point) e.role h) (answer_of e ∷ [])) in
         get_or-set_at channels (between (net.sender e.point) e.role) (between (net.sender e.point) e.role) _ empty refl (omega (arith, carry.all))
         ∙ ap (λ (c : ChannelView). record { put = c.put; taken = c.taken + 1 }) old
@@ -177,8 +170,8 @@ carry_take net h channels e d la lb carry = record {
     others a b low lower other =
         get_or-set_other channels (between (net.sender e.point) e.role) (between a b) _ empty (apart (net.sender e.point) e.role a b la lb low lower other)
         ∙ carry.each a b low lower
-        ∙ ap (λ (p : List Message). record { put = p; taken = length (taken net a b h) }) (sym (put_same net a b h e (no_put net a b e d)))
-        ∙ ap (λ (t : List Message). record { put = put net a b (h ++ e ∷ []); taken = length t }) (sym (taken_same net a b h e (got_else net a b e other)))
+        ∙ ap (λ (p : List Message). record { put = p; taken = length (taken net a b h) }) (sym (put_none net a b h e (no_put net a b e d)))
+        ∙ ap (λ (t : List Message). record { put = put net a b (h ++ e ∷ []); taken = length t }) (sym (taken_none net a b h e (got_else net a b e other)))
 
     go : (a b : ℕ) → a < 8 → b < 8 → (net.sender e.point ≡ a) ⊎ (net.sender e.point ≡ a → ⊥) → (e.role ≡ b) ⊎ (e.role ≡ b → ⊥) → channel_at (with_taken channels (net.sender e.point) e.role) a b ≡ carried net (h ++ e ∷ []) a b
     go a b low lower (inl f) (inl g) = subst (λ x. channel_at (with_taken channels (net.sender e.point) e.role) x b ≡ carried net (h ++ e ∷ []) x b) f (subst (λ y. channel_at (with_taken channels (net.sender e.point) e.role) (net.sender e.point) y ≡ carried net (h ++ e ∷ []) (net.sender e.point) y) g own)

@@ -11,14 +11,14 @@ use Rattle.rcv_model.specs.Form.{HasForm}
 use Rattle.rcv_model.specs.Journal.{reading, IsLegal}
 use Rattle.rcv_model.specs.Final.{IsFinal, AreDone, IsCompleted, HasOneAtLimit, ChoosesOffered, IsOneThread}
 use Rattle.rcv_model.specs.Plain.{IsPlain, bare_rules, HasNoCrashes}
-use Rattle.rcv_model.proofs.Choices.{prefix_length}
 use Rattle.rcv_model.proofs.Forms.{proper}
 use Rattle.rcv_model.proofs.Legal.{accepted_runs}
-use Rattle.rcv_model.proofs.PlainNets.{alone, accepted}
 use Rattle.rcv_model.proofs.Quiet.{quiet_end, crash_free}
 use Rattle.rcv_model.proofs.Finals.{done_or_limited}
 use Rattle.rcv_model.proofs.OneThread.{one_journal}
 use Rattle.rcv_model.proofs.Threads.{one_thread}
+use Rattle.rcv_model.proofs.Lists.{prefix_length}
+use Rattle.rcv_model.proofs.PlainNets.{alone, accepted}
 
 pub no_crashes : (body : Body) (roles : ℕ) (journal : List Entry) → IsLegal (bare_rules body roles) journal → HasNoCrashes (bare_rules body roles) journal
 no_crashes body roles journal legal = crash_free (bare_rules body roles) (λ r. refl) journal legal

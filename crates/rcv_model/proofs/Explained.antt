@@ -13,9 +13,9 @@ use Rattle.rcv_model.specs.Undo.{keep, only}
 use Rattle.rcv_model.specs.Next.{AreNext}
 use Rattle.rcv_model.specs.Journal.{Rules, State, durable, after, reading_from, MaySend, MayRecv, May, IsLegalFrom}
 use Rattle.rcv_model.specs.Transparent.{IsSteady}
-use Rattle.rcv_model.proofs.Lists.{split_end}
 use Rattle.rcv_model.proofs.Keeping.{is_by, by_role, by_role_other, acts_through, scan_of}
 use Rattle.rcv_model.proofs.Legal.{SendsKeep, run_after}
+use Rattle.rcv_model.proofs.Lists.{split_end}
 
 -- what is said of an event of r behind these events of r
 pub data Explained (rules : Rules) (r : ℕ) (front : List Event) (e : Event) : Type 0 where

@@ -13,17 +13,15 @@ use Rattle.rcv_model.specs.Undo.{PutsAt, TakesAt}
 use Rattle.rcv_model.specs.Journal.{Rules}
 use Rattle.rcv_model.specs.Line.{IsWithin, IsStable, IsLine}
 use Rattle.rcv_model.proofs.Keeping.{is_recv}
-use Rattle.rcv_model.proofs.Undoing.{eqb_role}
 use Rattle.rcv_model.proofs.StableLines.{floor_high}
 use Rattle.rcv_model.proofs.Search.{In, some_of}
 use Rattle.rcv_model.proofs.NextLists.{in_range}
 use Rattle.rcv_model.proofs.Refusals.{Known}
+use Rattle.rcv_model.proofs.Undoing.{eqb_role}
+use Rattle.rcv_model.proofs.Lists.{some_same}
 
 sent_to : (net : Net) (s r : ℕ) (e : Event) → puts_on net s r e ≡ true → net.receiver e.point ≡ r
 sent_to net s r e t = grind (arith, nat_tests)
-
-some_same : {x y : Event} → Some x ≡ Some y → x ≡ y
-some_same e = cc
 
 -- a Recv within the line whose Send is outside
 record Breach (net : Net) (h : List Event) (line : ℕ → ℕ) (i j : ℕ) : Type 0 where

@@ -4,25 +4,18 @@ use Rattle.rcv_tree.specs.declared.event.Event.{Event}
 use Rattle.rcv_tree.specs.declared.entry.Entry.{Entry}
 use Rattle.rcv_tree.specs.declared.entry.Entry.TheVariants.{Send, Recv, Crash, Recover}
 use Rattle.rcv_tree.specs.declared.event.Dir.TheVariants.{Sent}
-use Rattle.rcv_model.specs.Net.{IsIn, IsStraight, HasTwoEnds}
+use Rattle.rcv_model.specs.Net.{IsIn, HasTwoEnds}
 use Rattle.rcv_model.specs.Run.{acts, place_of, IsRun, IsRunOf}
 use Rattle.rcv_model.specs.Undo.{only}
 use Rattle.rcv_model.specs.Next.{AreNext, IsProper, IsAccepted}
 use Rattle.rcv_model.specs.Journal.{Rules, State, start, durable, after, reading_from, May, IsLegalFrom, IsLegal, KeepsRuns}
 use Rattle.rcv_model.proofs.Keeping.{keep_is_run, queued_nil}
-use Rattle.rcv_model.proofs.Steps.{recv_keeps}
-use Rattle.rcv_model.proofs.Straight.{send_keeps_straight}
-use Rattle.rcv_model.proofs.Choices.{send_keeps}
+use Rattle.rcv_model.proofs.Steps.{recv_keeps, send_keeps}
 
 -- a Send of a next point, where all next points are sends, keeps runs
 pub SendsKeep : Rules → Type 0
 SendsKeep rules =
     (w : List ℕ) (h : List Event) (e : Event) (zs : List ℕ) → e.role < rules.roles → IsRunOf rules.net w h → AreNext rules.net e.role (place_of 0 (acts e.role h)) zs → ((z : ℕ) → IsIn z zs → rules.net.sender z ≡ e.role) → IsIn e.point zs → e.dir ≡ Sent → IsRun rules.net (h ++ e ∷ [])
-
-pub sends_keep_straight : (rules : Rules) → IsStraight rules.net → SendsKeep rules
-unfolding SendsKeep
-sends_keep_straight rules one w h e zs lt run next sends among d =
-    send_keeps_straight rules.net w h e one run (next.sound e.point among) (sends e.point among) d
 
 pub run_after : (rules : Rules) (s : State) (e : Entry) → HasTwoEnds rules.net → SendsKeep rules → May rules s e → IsRun rules.net s.kept → IsRun rules.net (after rules s e).kept
 unfolding SendsKeep

@@ -19,8 +19,8 @@ use Rattle.rcv_model.specs.Journal.{Rules, State, start, bump, durable, is_among
 use Rattle.rcv_model.specs.Text.{Body}
 use Rattle.rcv_model.specs.Plain.{bare_rules}
 use Rattle.rcv_model.specs.Numbers.{lines_of, HasNumbers, IsBounded}
-use Rattle.rcv_model.proofs.Steps.{acts_own, acts_other}
 use Rattle.rcv_model.proofs.Cuts.{flag, picked_are_kept}
+use Rattle.rcv_model.proofs.Parts.{acts_own, acts_other}
 
 -- picked events: as the whole list has them, and no more
 picked_all : (P : Event → Type 0) (has : ℕ → Bool) (h : List Event) → All P h → All P (picked has h)

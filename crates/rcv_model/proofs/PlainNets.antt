@@ -13,9 +13,16 @@ use Rattle.rcv_model.specs.Accept.{choices, IsFirstOf, HasSubjects}
 use Rattle.rcv_model.specs.Form.{IsNumberedFrom, HasForm}
 use Rattle.rcv_model.specs.Journal.{reading, IsLegal}
 use Rattle.rcv_model.specs.Plain.{IsPlain, bare_rules}
-use Rattle.rcv_model.proofs.Straight.{meet}
 use Rattle.rcv_model.proofs.Forms.{proper}
 use Rattle.rcv_model.proofs.Reached.{reach}
+
+-- two ways to a first point of r from one place lead to the same point
+pub meet : (net : Net) (r k : ℕ) (a b : List ℕ) (x y : ℕ) → IsStraight net → IsWalk net k (a ++ x ∷ []) → IsWalk net k (b ++ y ∷ []) → HasNone net r a → HasNone net r b → IsOf net r x → IsOf net r y → x ≡ y
+meet net r k [] [] x y one u v h i o q = one k x y u.0 v.0
+meet net r k [] (c ∷ b) x y one u v h i o q = absurd (i.0 (subst (IsOf net r) (one k x c u.0 v.0) o))
+meet net r k (c ∷ a) [] x y one u v h i o q = absurd (h.0 (subst (IsOf net r) (one k y c v.0 u.0) q))
+meet net r k (c ∷ a) (d ∷ b) x y one u v h i o q =
+    meet net r c a b x y one u.1 (subst (λ z. IsWalk net z (b ++ y ∷ [])) (one k d c v.0 u.0) v.1) h.1 i.1 o q
 
 -- one point where some are left, and none where none is
 abbrev line : Bool → ℕ → List ℕ

@@ -19,9 +19,9 @@ use Rattle.rcv_model.proofs.LeastRefusal.{accepted_or_refused}
 use Rattle.std.specs.List.Sorted.{IsStrictlyIncreasing}
 use Rattle.rcv_model.specs.Table.{mark, marks, IsMarkedAt, IsConcerned}
 use Rattle.rcv_model.specs.Undo.{keep}
-use Rattle.rcv_model.proofs.Walks.{walk_front}
 use Rattle.rcv_model.proofs.Same.{one_next}
 use Rattle.rcv_model.proofs.Cases.{plain, ping, says, hears, send, recv, recover, two_buyer, shop, two_crashes, until_first, four_roles, workers}
+use Rattle.rcv_model.proofs.Walks.{walk_front}
 
 abbrev after_two : List Entry
 after_two = send 0 1 1 ∷ recv 1 1 2 1 ∷ []

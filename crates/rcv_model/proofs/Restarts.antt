@@ -1,192 +1,25 @@
 -- Where a role loses events, its first lost one is at a point of the table.
-use Rattle.std.proofs.Common.{◌≡◌, ℕ, ◌+◌, ◌<◌, ◌≤◌, zero, suc, Bool, true, false, cond, ◌||◌, Some, None, List, [], ◌∷◌, ◌++◌, length, refl, sym, ◌∙◌, ap, subst, ◌⊎◌, inl, inr, ⊎_elim, append_assoc, append-nil, arith, length-append, eq-eqb, ne_eqb}
-use Rattle.std.specs.Prelude.{◌==◌, if◌then◌else◌, slice_get}
-use Rattle.std.specs.List.{filter_map, cons_option, list_any}
-use Rattle.std.proofs.lemmas.Bool.{cases_lt, cases_eq, cases_Bool}
-use Rattle.std.proofs.lemmas.Bool.Decides.{nat_tests}
+use Rattle.std.proofs.Common.{◌≡◌, ℕ, ◌+◌, ◌<◌, ◌≤◌, Some, None, List, [], ◌∷◌, ◌++◌, length, refl, sym, ◌∙◌, ap, subst, ◌⊎◌, inl, inr, ⊎_elim, append_assoc, append-nil, arith, length-append, eq-eqb, ne_eqb}
+use Rattle.std.specs.Prelude.{slice_get}
+use Rattle.std.specs.List.{filter_map, cons_option}
+use Rattle.std.proofs.lemmas.Bool.{cases_lt}
 use Rattle.std.proofs.lemmas.List.Elements.{filter_map-append}
 use Rattle.rcv_tree.specs.declared.event.Event.{Event}
 use Rattle.rcv_tree.specs.declared.event.Dir.TheVariants.{Sent, Got}
 use Rattle.rcv_model.specs.Net.{Net, IsIn, IsWalk, IsPrefix, HasTwoEnds}
-use Rattle.rcv_model.specs.Run.{Act, act_at, act_of, acts, part, put, taken, is_sent, IsQueued, IsRun, IsRunOf}
-use Rattle.rcv_model.specs.Undo.{Kept, is_stopped, is_behind, is_starved, is_blocked, keep_one, keep_from, keep, only, scanned}
+use Rattle.rcv_model.specs.Run.{Act, act_at, act_of, acts, part, put, taken, IsRun, IsRunOf}
+use Rattle.rcv_model.specs.Undo.{Kept, keep, only, scanned}
 use Rattle.rcv_model.specs.Next.{IsOf}
 use Rattle.rcv_model.specs.Table.{mark, marks, IsMarkedAt, IsRestart}
-use Rattle.rcv_model.proofs.Lists.{prefix_trans, prefix_map, prefix_shorter}
-use Rattle.rcv_model.proofs.Keeping.{by_role, Scan, scan_of, or_false, queued_now, keep_is_run, taken_same, acts_through}
-use Rattle.rcv_model.proofs.Walks.{walk_back, part_join, ActCase, none, sends, gets, act_case}
-use Rattle.rcv_model.proofs.Steps.{sent_to, got_from, points, crossing, put_points, taken_points, part_sent, part_got, acts_own, acts_other}
-use Rattle.rcv_model.proofs.Choices.{prefix_length, whole_prefix}
-use Rattle.rcv_model.proofs.Undoing.{Step, lost, held, step, still, keep_join, acts_same, among, is_among, behind_count}
-use Rattle.rcv_model.proofs.Stuck.{length_points}
-
--- the first event that a role lost in the scan
-record FirstLost (net : Net) (bound : ℕ → ℕ) (q : ℕ) (kept : Kept) (h : List Event) : Type 0 where
-  front : List Event
-  event : Event
-  back : List Event
-  whole : front ++ event ∷ back ≡ h
-  role : event.role ≡ q
-  free : IsIn q (keep_from net bound kept front).stopped → ⊥
-  blocked : is_blocked net bound (keep_from net bound kept front) event ≡ true
-  last : by_role q (keep_from net bound kept h).events ≡ by_role q (keep_from net bound kept front).events
-
--- a role that hasn't lost one at first has kept all, or has a first lost event
-first_lost : (net : Net) (bound : ℕ → ℕ) (q : ℕ) (kept : Kept) (h : List Event) → (IsIn q kept.stopped → ⊥) → (IsIn q (keep_from net bound kept h).stopped → ⊥) ⊎ FirstLost net bound q kept h
-first_lost net bound q kept [] n = inl n
-first_lost net bound q kept (e ∷ h) n = go (step net bound kept e) (cases_eq e.role q) (λ m. first_lost net bound q (keep_one net bound kept e) h m)
-  where
-    later : (FirstLost net bound q (keep_one net bound kept e) h) → FirstLost net bound q kept (e ∷ h)
-    later x = record { front = e ∷ x.front; event = x.event; back = x.back; whole = ap (λ l. e ∷ l) x.whole; role = x.role; free = x.free; blocked = x.blocked; last = x.last }
-
-    rest : ((IsIn q (keep_from net bound (keep_one net bound kept e) h).stopped → ⊥) ⊎ FirstLost net bound q (keep_one net bound kept e) h) → (IsIn q (keep_from net bound (keep_one net bound kept e) h).stopped → ⊥) ⊎ FirstLost net bound q kept (e ∷ h)
-    rest (inl x) = inl x
-    rest (inr x) = inr (later x)
-
-    go : Step net bound kept e → (e.role ≡ q) ⊎ (e.role ≡ q → ⊥) → ((IsIn q (keep_one net bound kept e).stopped → ⊥) → (IsIn q (keep_from net bound (keep_one net bound kept e) h).stopped → ⊥) ⊎ FirstLost net bound q (keep_one net bound kept e) h) → (IsIn q (keep_from net bound (keep_one net bound kept e) h).stopped → ⊥) ⊎ FirstLost net bound q kept (e ∷ h)
-    go (lost t f) (inl r) ih =
-        inr (record { front = []; event = e; back = h; whole = refl; role = r; free = n; blocked = t; last = still net bound q (keep_one net bound kept e) h (subst (λ (k : Kept). IsIn q k.stopped) (sym f) (inl (sym r))) ∙ ap (λ (k : Kept). by_role q k.events) f })
-    go (lost t f) (inr m) ih = rest (ih (λ i. ⊎_elim (λ g. m (sym g)) n (subst (λ (k : Kept). IsIn q k.stopped) f i)))
-    go (held t f) r ih = rest (ih (λ i. n (subst (λ (k : Kept). IsIn q k.stopped) f i)))
-
--- how many of its events a role keeps
-abbrev pub kept_of : Net → ℕ → ℕ → ℕ → List Event → ℕ
-kept_of net p c q h = length (acts q (keep net p c h))
-
--- why a role's first lost event was lost
-data Why (net : Net) (p c q : ℕ) (h : List Event) : Type 0 where
-  all_kept : kept_of net p c q h ≡ length (acts q h) → Why net p c q h
-  own_loss : q ≡ p → c ≤ kept_of net p c q h → Why net p c q h
-  starved : (front back : List Event) (e : Event) → front ++ e ∷ back ≡ h → e.role ≡ q → e.dir ≡ Got → length (acts q front) ≡ kept_of net p c q h → length (put net (net.sender e.point) q (scanned net (only p c h) front).events) ≤ length (taken net (net.sender e.point) q front) → Why net p c q h
-
-got_dir : (d : _) → is_sent d ≡ false → d ≡ Got
-got_dir Sent e = absurd (cc)
-got_dir Got e = refl
-
-starved_got : (net : Net) (kept : Kept) (e : Event) → is_starved net kept e ≡ true → is_sent e.dir ≡ false
-starved_got net kept e u = grind (arith, nat_tests)
-
-starved_low : (net : Net) (kept : Kept) (e : Event) → is_starved net kept e ≡ true → length (put net (net.sender e.point) e.role kept.events) ≤ length (taken net (net.sender e.point) e.role kept.events)
-starved_low net kept e u = grind (arith, nat_tests)
-
-or_last : (a b d : Bool) → (a || (b || d)) ≡ true → a ≡ false → b ≡ false → d ≡ true
-or_last a b d e f g = ap (λ x. x || d) (sym g) ∙ ap (λ x. x || (b || d)) (sym f) ∙ e
-
--- the bound where p alone loses
-pub only_own : (p c q : ℕ) (h : List Event) → q ≡ p → only p c h q ≡ c
-only_own p c q h e = ap (λ b. cond b c (length (acts q h))) (eq-eqb q p e)
-
-pub only_other : (p c q : ℕ) (h : List Event) → (q ≡ p → ⊥) → only p c h q ≡ length (acts q h)
-only_other p c q h n = ap (λ b. cond b c (length (acts q h))) (ne_eqb q p n)
-
-why : (net : Net) (p c q : ℕ) (h : List Event) → IsQueued net h → Why net p c q h
-why net p c q h queued = go (first_lost net (only p c h) q (record { events = []; stopped = [] }) h (λ i. i))
-  where
-    go : (IsIn q (scanned net (only p c h) h).stopped → ⊥) ⊎ FirstLost net (only p c h) q (record { events = []; stopped = [] }) h → Why net p c q h
-    go (inl n) = all_kept (ap length (acts_same q (keep net p c h) h (⊎_elim (λ i. absurd (n i)) (λ f. f) ((scan_of net (only p c h) h queued).same q))))
-    go (inr x) = second (cases_Bool (is_behind (only p c h) (scanned net (only p c h) x.front) x.event))
-      where
-        scan : Scan net x.front (scanned net (only p c h) x.front)
-        scan = scan_of net (only p c h) x.front (λ f b g s r. queued f (b ++ x.event ∷ x.back) (sym (append_assoc f b (x.event ∷ x.back)) ∙ ap (λ l. l ++ x.event ∷ x.back) g ∙ x.whole) s r)
-
-        same : by_role q (scanned net (only p c h) x.front).events ≡ by_role q x.front
-        same = ⊎_elim (λ i. absurd (x.free i)) (λ f. f) (scan.same q)
-
-        count : kept_of net p c q h ≡ length (acts q x.front)
-        count = ap length (acts_same q (keep net p c h) (scanned net (only p c h) x.front).events x.last ∙ acts_same q (scanned net (only p c h) x.front).events x.front same)
-
-        moving : is_stopped (scanned net (only p c h) x.front) x.event ≡ false
-        moving = ⊎_elim (λ t. absurd (x.free (subst (λ z. IsIn z (scanned net (only p c h) x.front).stopped) x.role (is_among x.event.role (scanned net (only p c h) x.front).stopped t)))) (λ t. t) (cases_Bool (is_stopped (scanned net (only p c h) x.front) x.event))
-
-        scan_whole : (r : ℕ) → IsPrefix (acts r x.front) (acts r h)
-        scan_whole r = prefix_map (act_of r) x.front h (x.event ∷ x.back, x.whole)
-
-        second : (is_behind (only p c h) (scanned net (only p c h) x.front) x.event ≡ true) ⊎ (is_behind (only p c h) (scanned net (only p c h) x.front) x.event ≡ false) → Why net p c q h
-        second (inl t) =
-            let n : only p c h q ≤ length (acts q (scanned net (only p c h) x.front).events) = subst (λ z. only p c h z ≤ length (acts z (scanned net (only p c h) x.front).events)) x.role (behind_count (only p c h) (scanned net (only p c h) x.front) x.event t) in
-            ⊎_elim
-            (λ r. own_loss r (omega (arith, n, only_own p c q h r, count, ap length (acts_same q (scanned net (only p c h) x.front).events x.front same))))
-            (λ m. all_kept (omega (arith, n, only_other p c q h m, count, ap length (acts_same q (scanned net (only p c h) x.front).events x.front same), prefix_length _ _ (scan_whole q))))
-            (cases_eq q p)
-        second (inr t) =
-            let u : is_starved net (scanned net (only p c h) x.front) x.event ≡ true = or_last (is_stopped (scanned net (only p c h) x.front) x.event) (is_behind (only p c h) (scanned net (only p c h) x.front) x.event) (is_starved net (scanned net (only p c h) x.front) x.event) x.blocked moving t in
-            let low = subst (λ z. length (put net (net.sender x.event.point) z (scanned net (only p c h) x.front).events) ≤ length (taken net (net.sender x.event.point) z (scanned net (only p c h) x.front).events)) x.role (starved_low net (scanned net (only p c h) x.front) x.event u) in
-            starved x.front x.back x.event x.whole x.role (got_dir x.event.dir (starved_got net (scanned net (only p c h) x.front) x.event u)) (sym count) (subst (λ l. length (put net (net.sender x.event.point) q (scanned net (only p c h) x.front).events) ≤ length l) (taken_same net (net.sender x.event.point) q (scanned net (only p c h) x.front).events x.front same) low)
-
--- a role keeps at most as many as the bound says
-pub at_most : (net : Net) (bound : ℕ → ℕ) (r : ℕ) (kept : Kept) (h : List Event) → length (acts r kept.events) ≤ bound r → length (acts r (keep_from net bound kept h).events) ≤ bound r
-at_most net bound r kept [] n = n
-at_most net bound r kept (e ∷ h) n = at_most net bound r (keep_one net bound kept e) h (go (step net bound kept e))
-  where
-    go : Step net bound kept e → length (acts r (keep_one net bound kept e).events) ≤ bound r
-    go (lost t f) = subst (λ (k : Kept). length (acts r k.events) ≤ bound r) (sym f) n
-    go (held t f) = subst (λ (k : Kept). length (acts r k.events) ≤ bound r) (sym f) (⊎_elim mine other (cases_eq e.role r))
-      where
-        open' : is_behind bound kept e ≡ false
-        open' = (or_false (is_behind bound kept e) (is_starved net kept e) (or_false (is_stopped kept e) (is_behind bound kept e || is_starved net kept e) t).1).0
-
-        below : length (acts e.role kept.events) < bound e.role
-        below = grind (arith, nat_tests)
-
-        mine : e.role ≡ r → length (acts r (kept.events ++ e ∷ [])) ≤ bound r
-        mine f =
-            let more : length (acts e.role (kept.events ++ e ∷ [])) ≡ length (acts e.role kept.events) + 1 = ap length (acts_own kept.events e) ∙ length-append (acts e.role kept.events) (record { dir = e.dir; point = e.point } ∷ []) in
-            subst (λ z. length (acts z (kept.events ++ e ∷ [])) ≤ bound z) f (omega (arith, more, below))
-
-        other : (e.role ≡ r → ⊥) → length (acts r (kept.events ++ e ∷ [])) ≤ bound r
-        other m = subst (λ l. length l ≤ bound r) (sym (acts_other r kept.events e m)) n
-
-ends_same : {A : Type 0} (xs ys : List A) (x y : A) → xs ++ x ∷ [] ≡ ys ++ y ∷ [] → length xs ≡ length ys → (xs ≡ ys) × (x ≡ y)
-ends_same [] [] x y e n = (refl, cc)
-ends_same [] (b ∷ ys) x y e n = absurd (omega (arith, n))
-ends_same (a ∷ xs) [] x y e n = absurd (omega (arith, n))
-ends_same (a ∷ xs) (b ∷ ys) x y e n =
-    let f : a ≡ b = cc in
-    let g : xs ++ x ∷ [] ≡ ys ++ y ∷ [] = cc in
-    let r = ends_same xs ys x y g (omega (arith, n)) in
-    (ap (λ l. a ∷ l) r.0 ∙ ap (λ z. z ∷ ys) f, r.1)
-
-pub cases_in : (q : ℕ) (xs : List ℕ) → IsIn q xs ⊎ (IsIn q xs → ⊥)
-cases_in q [] = inr (λ i. i)
-cases_in q (x ∷ xs) = go (cases_eq q x) (cases_in q xs)
-  where
-    go : (q ≡ x) ⊎ (q ≡ x → ⊥) → IsIn q xs ⊎ (IsIn q xs → ⊥) → IsIn q (x ∷ xs) ⊎ (IsIn q (x ∷ xs) → ⊥)
-    go (inl e) d = inl (inl e)
-    go (inr n) (inl i) = inl (inr i)
-    go (inr n) (inr m) = inr (⊎_elim n m)
-
-pub marks_more : (net : Net) (m : List ℕ) (b : List ℕ) (x : ℕ) → marks net m (b ++ x ∷ []) ≡ mark net (marks net m b) x
-marks_more net m [] x = refl
-marks_more net m (y ∷ b) x = marks_more net (mark net m y) b x
-
-pub mark_keeps : (net : Net) (m : List ℕ) (x q : ℕ) → IsIn q m → IsIn q (mark net m x)
-mark_keeps net m x q i = go (list_any (λ r. r == net.sender x) m)
-  where
-    go : (b : Bool) → IsIn q (if b then net.receiver x ∷ m else m)
-    go true = inr i
-    go false = i
-
-mark_here : (net : Net) (m : List ℕ) (x : ℕ) → IsIn (net.sender x) m → IsIn (net.receiver x) (mark net m x)
-mark_here net m x i = subst (λ b. IsIn (net.receiver x) (if b then net.receiver x ∷ m else m)) (sym (among (net.sender x) m i)) (inl refl)
-
-mark_cases : (net : Net) (m : List ℕ) (x q : ℕ) → IsIn q (mark net m x) → IsIn q m ⊎ ((q ≡ net.receiver x) × IsIn (net.sender x) m)
-mark_cases net m x q i = go (list_any (λ r. r == net.sender x) m) refl i
-  where
-    go : (b : Bool) → list_any (λ r. r == net.sender x) m ≡ b → IsIn q (if b then net.receiver x ∷ m else m) → IsIn q m ⊎ ((q ≡ net.receiver x) × IsIn (net.sender x) m)
-    go true e (inl f) = inr (f, is_among (net.sender x) m e)
-    go true e (inr j) = inl j
-    go false e j = inl j
-
-split_two : (a v b t : List ℕ) (x : ℕ) → a ++ x ∷ v ≡ b ++ t → ((m : List ℕ) × (b ++ m ≡ a) × (m ++ x ∷ v ≡ t)) ⊎ ((m : List ℕ) × (a ++ x ∷ m ≡ b))
-split_two a v [] t x e = inl (a, refl, e)
-split_two [] v (y ∷ b) t x e = inr (b, let f : x ≡ y = cc in ap (λ z. z ∷ b) f)
-split_two (z ∷ a) v (y ∷ b) t x e =
-    let f : z ≡ y = cc in
-    let g : a ++ x ∷ v ≡ b ++ t = cc in
-    ⊎_elim
-    (λ r. inl (r.0, ap (λ l. y ∷ l) r.1 ∙ ap (λ n. n ∷ a) (sym f), r.2))
-    (λ r. inr (r.0, ap (λ l. z ∷ l) r.1 ∙ ap (λ n. n ∷ b) f))
-    (split_two a v b t x g)
+use Rattle.rcv_model.proofs.Keeping.{by_role, Scan, scan_of, queued_now, keep_is_run, acts_through}
+use Rattle.rcv_model.proofs.Crossing.{sent_to, got_from, points, put_points, taken_points, crossing, part_sent, part_got, length_points}
+use Rattle.rcv_model.proofs.Lists.{prefix_trans, prefix_shorter, prefix_map, prefix_length, whole_prefix}
+use Rattle.rcv_model.proofs.Located.{ends_same, split_two, get_front, get_below, locate}
+use Rattle.rcv_model.proofs.Losses.{kept_of, Why, all_kept, own_loss, starved, only_own, why, at_most}
+use Rattle.rcv_model.proofs.Marks.{cases_in, marks_more, mark_keeps, mark_here, mark_cases}
+use Rattle.rcv_model.proofs.Parts.{part_join, ActCase, none, sends, gets, act_case, acts_own, acts_other}
+use Rattle.rcv_model.proofs.Scanning.{keep_join, still, acts_same}
+use Rattle.rcv_model.proofs.Ways.{mark_is_restart}
 
 -- a Recv isn't starved where what its sender did up to the same point is whole
 fed : (net : Net) (p c : ℕ) (w : List ℕ) (h : List Event) → HasTwoEnds net → IsRunOf net w h → (x : ℕ) (a : List ℕ) (front back : List Event) (e : Event) → front ++ e ∷ back ≡ h → e.role ≡ net.receiver x → e.dir ≡ Got → e.point ≡ x → part net (net.receiver x) (a ++ x ∷ []) ≡ part net (net.receiver x) a ++ record { dir = Got; point = x } ∷ [] → acts (net.receiver x) front ≡ part net (net.receiver x) a → length (put net (net.sender x) (net.receiver x) (scanned net (only p c h) front).events) ≤ length (taken net (net.sender x) (net.receiver x) front) → IsPrefix (part net (net.sender x) (a ++ x ∷ [])) (part net (net.sender x) w) → (length (acts (net.sender x) h) ≤ kept_of net p c (net.sender x) h) ⊎ (length (part net (net.sender x) (a ++ x ∷ [])) ≤ kept_of net p c (net.sender x) h) → ⊥
@@ -444,13 +277,9 @@ module _ (net : Net) (p c : ℕ) (w : List ℕ) (h : List Event) (two : HasTwoEn
           let m = marked_to w0 [] b.0 (x ∷ v) (ap (λ l. w0 ++ l) b.2 ∙ e) (marked_at_start w0 (n ∷ u) e cnt) in
           let m' = marked_more w0 b.0 v x (ap (λ l. w0 ++ l) b.2 ∙ e) m in
           let end : w0 ++ (b.0 ++ x ∷ []) ≡ a ++ x ∷ [] = sym (append_assoc w0 b.0 (x ∷ [])) ∙ ap (λ l. l ++ x ∷ []) b.1 in
-          record {
-            before = b.0;
-            after = v;
-            walk = (u, (walk_back net 0 w0 (n ∷ u) (subst (IsWalk net 0) (sym e) run.walk)).1, b.2);
-            not_yet = λ i. ⊎_elim (λ k. other k.0) (λ k. omega (arith, k, here, ap (λ l. length (part net q l)) b.1)) (m.marked q i);
-            now = ⊎_elim (λ i. i) (λ i. absurd (⊎_elim (λ l. omega (arith, l, lost')) (λ l. omega (arith, l, long, here, ap (λ l. length (part net q l)) end)) (m'.unmarked q i))) (cases_in q (marks net (p ∷ []) (b.0 ++ x ∷ [])));
-          }
+          let not_yet : IsIn q (marks net (p ∷ []) b.0) → ⊥ = λ i. ⊎_elim (λ k. other k.0) (λ k. omega (arith, k, here, ap (λ l. length (part net q l)) b.1)) (m.marked q i) in
+          let now : IsIn q (marks net (p ∷ []) (b.0 ++ x ∷ [])) = ⊎_elim (λ i. i) (λ i. absurd (⊎_elim (λ l. omega (arith, l, lost')) (λ l. omega (arith, l, long, here, ap (λ l. length (part net q l)) end)) (m'.unmarked q i))) (cases_in q (marks net (p ∷ []) (b.0 ++ x ∷ []))) in
+          mark_is_restart net p n q x w0 u b.0 v (subst (IsWalk net 0) (sym e) run.walk) b.2 not_yet now
 
   -- a Send that is lost marks its receiver
   pub lost_send : (w0 u a v : List ℕ) (n x : ℕ) → w0 ++ n ∷ u ≡ w → length (part net p w0) ≡ c → a ++ x ∷ v ≡ w → kept_of net p c (net.sender x) h ≤ length (part net (net.sender x) a) → length (part net (net.sender x) a) < length (acts (net.sender x) h) → (b : List ℕ) × (b ++ x ∷ v ≡ n ∷ u) × IsIn (net.receiver x) (marks net (p ∷ []) (b ++ x ∷ []))
@@ -482,44 +311,6 @@ module _ (net : Net) (p c : ℕ) (w : List ℕ) (h : List Event) (two : HasTwoEn
 
           sender : IsIn (net.sender x) (marks net (p ∷ []) b.0)
           sender = ⊎_elim (λ i. i) (λ i. absurd (two x i.0)) (mark_cases net (marks net (p ∷ []) b.0) x (net.sender x) (subst (IsIn (net.sender x)) (marks_more net (p ∷ []) b.0 x) after))
-
-pub get_front : {A : Type 0} (xs zs : List A) (i : ℕ) (b : A) → slice_get xs i ≡ Some b → slice_get (xs ++ zs) i ≡ Some b
-get_front [] zs i b e = absurd (cc)
-get_front (x ∷ xs) zs zero b e = e
-get_front (x ∷ xs) zs (suc i) b e = get_front xs zs i b e
-
-pub get_below : {A : Type 0} (xs : List A) (i : ℕ) (b : A) → slice_get xs i ≡ Some b → i < length xs
-get_below [] i b e = absurd (cc)
-get_below (x ∷ xs) zero b e = omega arith
-get_below (x ∷ xs) (suc i) b e = omega (arith, get_below xs i b e)
-
--- where the act number i of a role stands in a walk
-pub record Where (net : Net) (q : ℕ) (w : List ℕ) (i : ℕ) (b : Act) : Type 0 where
-  pub before : List ℕ
-  pub after : List ℕ
-  pub whole : before ++ b.point ∷ after ≡ w
-  pub count : length (part net q before) ≡ i
-  pub own : IsOf net q b.point
-
-pub locate : (net : Net) (q : ℕ) (w : List ℕ) (i : ℕ) (b : Act) → slice_get (part net q w) i ≡ Some b → Where net q w i b
-locate net q [] i b e = absurd (cc)
-locate net q (x ∷ w) i b e = go (act_case net q x) i e (λ j f. locate net q w j b f)
-  where
-    some : (d : Act) → act_at net q x ≡ Some d → d.point ≡ x → IsOf net q x → (i : ℕ) → slice_get (part net q (x ∷ w)) i ≡ Some b → ((j : ℕ) → slice_get (part net q w) j ≡ Some b → Where net q w j b) → Where net q (x ∷ w) i b
-    some d f g o zero e ih =
-        let same : d ≡ b = (let k = subst (λ z. slice_get (cons_option z (part net q w)) 0 ≡ Some b) f e in cc) in
-        let at' : x ≡ b.point = sym g ∙ ap (λ (z : Act). z.point) same in
-        record { before = []; after = w; whole = ap (λ z. z ∷ w) (sym at'); count = refl; own = subst (IsOf net q) at' o }
-    some d f g o (suc i) e ih =
-        let y = ih i (subst (λ z. slice_get (cons_option z (part net q w)) (suc i) ≡ Some b) f e) in
-        record { before = x ∷ y.before; after = y.after; whole = ap (λ l. x ∷ l) y.whole; count = ap (λ z. length (cons_option z (part net q y.before))) f ∙ ap suc y.count; own = y.own }
-
-    go : ActCase net q x → (i : ℕ) → slice_get (part net q (x ∷ w)) i ≡ Some b → ((j : ℕ) → slice_get (part net q w) j ≡ Some b → Where net q w j b) → Where net q (x ∷ w) i b
-    go (none f n) i e ih =
-        let y = ih i (subst (λ z. slice_get (cons_option z (part net q w)) i ≡ Some b) f e) in
-        record { before = x ∷ y.before; after = y.after; whole = ap (λ l. x ∷ l) y.whole; count = ap (λ z. length (cons_option z (part net q y.before))) f ∙ y.count; own = y.own }
-    go (sends f g) i e ih = some _ f refl (inl g) i e ih
-    go (gets f g n) i e ih = some _ f refl (inr g) i e ih
 
 pub restarts : (net : Net) (p c q : ℕ) (h : List Event) (first own : Act) → HasTwoEnds net → IsRun net h → slice_get (acts p h) c ≡ Some first → (q ≡ p → ⊥) → slice_get (acts q h) (length (acts q (keep net p c h))) ≡ Some own → IsRestart net p first.point q own.point
 restarts net p c q h first own two run at_p n at_q =

@@ -14,17 +14,16 @@ use Rattle.rcv_model.specs.Undo.{Link, Depends, one, more, keep, keep_within, on
 use Rattle.rcv_model.specs.Next.{IsProper, IsAccepted}
 use Rattle.rcv_model.specs.Journal.{Rules, State, start, durable, after, reading_from, reading, IsLegalFrom, IsLegal}
 use Rattle.rcv_model.specs.Line.{IsStable, IsLine, LineHolds}
-use Rattle.rcv_model.proofs.Lists.{prefix_map}
 use Rattle.rcv_model.proofs.Keeping.{by_role, is_recv, scan_of}
-use Rattle.rcv_model.proofs.Choices.{prefix_length}
-use Rattle.rcv_model.proofs.Steps.{acts_own}
-use Rattle.rcv_model.proofs.Bystanders.{as_many}
-use Rattle.rcv_model.proofs.Undoing.{eqb_role}
 use Rattle.rcv_model.proofs.Queues.{around}
 use Rattle.rcv_model.proofs.Cuts.{latest}
 use Rattle.rcv_model.proofs.Numbers.{acts_cons}
 use Rattle.rcv_model.proofs.Legal.{SendsKeep, run_after, sends_keep_accepted, accepted_runs}
 use Rattle.rcv_model.proofs.Lines.{take_same, by_role_front, first_of, Counts, Closed, closed_of_counts, counts_of_closed}
+use Rattle.rcv_model.proofs.Bystanders.{as_many}
+use Rattle.rcv_model.proofs.Lists.{prefix_map, prefix_length, some_same}
+use Rattle.rcv_model.proofs.Parts.{acts_own}
+use Rattle.rcv_model.proofs.Undoing.{eqb_role}
 
 -- the set has the events of a role that are among its first, where n stand before the list
 abbrev HasFirst : ℕ → ℕ → ℕ → (ℕ → Bool) → List Event → Type 0
@@ -62,28 +61,25 @@ take_grows (suc i) (suc j) [] le = ([], refl)
 take_grows (suc i) (suc j) (x ∷ h) le = let r = take_grows i j h (omega arith) in (r.0, ap (λ l. x ∷ l) r.1)
 
 -- the event at a position is within the line
-mark : (ℕ → ℕ) → List Event → ℕ → Option Event → Bool
-mark line h i None = false
-mark line h i (Some e) = nat_lt (length (acts e.role (take i h))) (line e.role)
+unfoldable pub is_within : (ℕ → ℕ) → List Event → ℕ → Option Event → Bool
+is_within line h i None = false
+is_within line h i (Some e) = nat_lt (length (acts e.role (take i h))) (line e.role)
 
 module _ (net : Net) (h : List Event) (line bound : ℕ → ℕ) (queued : IsQueued net h) (closed : Closed net h line) (low : (r : ℕ) → line r ≤ bound r) where
   test : ℕ → Bool
-  test i = mark line h i (slice_get h i)
+  test i = is_within line h i (slice_get h i)
 
   to_test : (i : ℕ) (e : Event) → slice_get h i ≡ Some e → length (acts e.role (take i h)) < line e.role → test i ≡ true
-  unfolding test mark
-  to_test i e at' lt = ap (mark line h i) at' ∙ (let a = lt in grind (arith, nat_tests))
+  unfolding test is_within
+  to_test i e at' lt = ap (is_within line h i) at' ∙ (let a = lt in grind (arith, nat_tests))
 
   of_test : (i : ℕ) → test i ≡ true → (e : Event) × (slice_get h i ≡ Some e) × (length (acts e.role (take i h)) < line e.role)
-  unfolding test mark
+  unfolding test is_within
   of_test i t = go (slice_get h i) refl t
     where
-      go : (o : Option Event) → slice_get h i ≡ o → mark line h i o ≡ true → (e : Event) × (slice_get h i ≡ Some e) × (length (acts e.role (take i h)) < line e.role)
+      go : (o : Option Event) → slice_get h i ≡ o → is_within line h i o ≡ true → (e : Event) × (slice_get h i ≡ Some e) × (length (acts e.role (take i h)) < line e.role)
       go None f t = absurd (cc)
       go (Some e) f t = (e, f, grind (arith, nat_tests))
-
-  same_event : {x y : Event} → Some x ≡ Some y → x ≡ y
-  same_event e = cc
 
   earlier : (r i j : ℕ) → i ≤ j → length (acts r (take i h)) ≤ length (acts r (take j h))
   earlier r i j le = prefix_length _ _ (prefix_map (act_of r) _ _ (take_grows i j h le))
@@ -91,13 +87,13 @@ module _ (net : Net) (h : List Event) (line bound : ℕ → ℕ) (queued : IsQue
   on_link : (i j : ℕ) → Link net h i j → test j ≡ true → test i ≡ true
   on_link i j (lt, inl s) t =
       let e = of_test j t in
-      let same : e.0 ≡ s.second = same_event (sym e.1 ∙ s.at_j) in
+      let same : e.0 ≡ s.second = some_same (sym e.1 ∙ s.at_j) in
       let role : e.0.role ≡ s.first.role = ap (λ (x : Event). x.role) same ∙ sym s.same in
       let within : length (acts s.first.role (take j h)) < line s.first.role = subst (λ r. length (acts r (take j h)) < line r) role e.2 in
       to_test i s.first s.at_i (omega (arith, within, earlier s.first.role i j (omega arith)))
   on_link i j (lt, inr m) t =
       let e = of_test j t in
-      let same : e.0 ≡ m.takes.event = same_event (sym e.1 ∙ m.takes.at) in
+      let same : e.0 ≡ m.takes.event = some_same (sym e.1 ∙ m.takes.at) in
       let role : e.0.role ≡ m.r = ap (λ (x : Event). x.role) same ∙ (is_recv net m.s m.r m.takes.event m.takes.takes).1 in
       let within : length (acts m.r (take j h)) < line m.r = subst (λ r. length (acts r (take j h)) < line r) role e.2 in
       to_test i m.puts.event m.puts.at (subst (λ r. length (acts r (take i h)) < line r) (sym (eqb_role net m.s m.r m.puts.event m.puts.puts)) (closed m.s m.r m.k i j m.puts m.takes within))
@@ -111,7 +107,7 @@ module _ (net : Net) (h : List Event) (line bound : ℕ → ℕ) (queued : IsQue
     inside = λ i t. let e = of_test i t in slice_get_within h i e.0 e.1;
     lacks = λ i t lost.
         let e = of_test i t in
-        let same : e.0 ≡ lost.event = same_event (sym e.1 ∙ lost.at) in
+        let same : e.0 ≡ lost.event = some_same (sym e.1 ∙ lost.at) in
         let within : length (acts lost.event.role (take i h)) < line lost.event.role = subst (λ (x : Event). length (acts x.role (take i h)) < line x.role) same e.2 in
         omega (arith, within, lost.behind, low lost.event.role);
     holds = λ i j t d. on_chain d t;

@@ -1,75 +1,17 @@
 -- An event is kept exactly where its position isn't undone.
-use Rattle.std.proofs.Common.{◌≡◌, ℕ, zero, suc, ◌+◌, ◌<◌, ◌≤◌, Bool, true, false, cond, ◌||◌, Some, None, List, [], ◌∷◌, ◌++◌, length, take, refl, sym, ◌∙◌, ap, subst, ◌⊎◌, inl, inr, ⊎_elim, append_assoc, arith, length-append, ne_eqb, eq-eqb}
-use Rattle.std.specs.Prelude.{◌==◌, ◌↔◌, slice_get}
-use Rattle.std.specs.List.{list_any, cons_option}
-use Rattle.std.proofs.lemmas.Bool.{cases_Bool, cases_eq}
+use Rattle.std.proofs.Common.{◌≡◌, ℕ, zero, suc, ◌+◌, ◌<◌, ◌≤◌, Bool, true, false, cond, ◌||◌, Some, None, List, [], ◌∷◌, ◌++◌, length, take, refl, sym, ◌∙◌, ap, subst, ◌⊎◌, inl, inr, ⊎_elim, append_assoc, arith, length-append, eq-eqb}
+use Rattle.std.specs.Prelude.{◌↔◌, slice_get}
+use Rattle.std.specs.List.{cons_option}
+use Rattle.std.proofs.lemmas.Bool.{cases_Bool}
 use Rattle.std.proofs.lemmas.List.Elements.{filter_map-append}
 use Rattle.std.proofs.lemmas.Bool.Decides.{nat_tests}
 use Rattle.rcv_tree.specs.declared.event.Event.{Event}
 use Rattle.rcv_model.specs.Net.{Net, IsIn, IsPrefix}
 use Rattle.rcv_model.specs.Run.{acts, is_sent, puts_on, takes_on, put_by, put, taken, IsQueued}
 use Rattle.rcv_model.specs.Undo.{SameRole, SameMessage, Link, Depends, one, more, IsLost, IsUndone, Kept, is_stopped, is_behind, is_starved, is_blocked, keep_one, keep_from, scanned}
-use Rattle.rcv_model.proofs.Lists.{prefix_refl, prefix_trans, prefix_map}
-use Rattle.rcv_model.proofs.Keeping.{by_role, Scan, scan_of, put_front, taken_same, acts_through, put_through, by_role_other, or_false, not_among, put_none, taken_some, is_recv, not_put, message_of}
-
-pub keep_join : (net : Net) (bound : ℕ → ℕ) (kept : Kept) (f g : List Event) → keep_from net bound kept (f ++ g) ≡ keep_from net bound (keep_from net bound kept f) g
-keep_join net bound kept [] g = refl
-keep_join net bound kept (e ∷ f) g = keep_join net bound (keep_one net bound kept e) f g
-
-abbrev pub lose : Kept → Event → Kept
-lose kept e = record { events = kept.events; stopped = e.role ∷ kept.stopped }
-
-abbrev pub hold : Kept → Event → Kept
-hold kept e = record { events = kept.events ++ e ∷ []; stopped = kept.stopped }
-
--- one step of the scan, by its test
-pub data Step (net : Net) (bound : ℕ → ℕ) (kept : Kept) (e : Event) : Type 0 where
-  lost : is_blocked net bound kept e ≡ true → keep_one net bound kept e ≡ lose kept e → Step net bound kept e
-  held : is_blocked net bound kept e ≡ false → keep_one net bound kept e ≡ hold kept e → Step net bound kept e
-
-pub step : (net : Net) (bound : ℕ → ℕ) (kept : Kept) (e : Event) → Step net bound kept e
-step net bound kept e = ⊎_elim
-    (λ t. lost t (ap (λ b. cond b (lose kept e) (hold kept e)) t))
-    (λ t. held t (ap (λ b. cond b (lose kept e) (hold kept e)) t))
-    (cases_Bool (is_blocked net bound kept e))
-
-pub stays : (net : Net) (bound : ℕ → ℕ) (r : ℕ) (kept : Kept) (g : List Event) → IsIn r kept.stopped → IsIn r (keep_from net bound kept g).stopped
-stays net bound r kept [] i = i
-stays net bound r kept (e ∷ g) i = stays net bound r (keep_one net bound kept e) g (go (step net bound kept e))
-  where
-    go : Step net bound kept e → IsIn r (keep_one net bound kept e).stopped
-    go (lost t f) = subst (λ (k : Kept). IsIn r k.stopped) (sym f) (inr i)
-    go (held t f) = subst (λ (k : Kept). IsIn r k.stopped) (sym f) i
-
--- what is kept only grows
-pub grows : (net : Net) (bound : ℕ → ℕ) (kept : Kept) (g : List Event) → IsPrefix kept.events (keep_from net bound kept g).events
-grows net bound kept [] = prefix_refl kept.events
-grows net bound kept (e ∷ g) = prefix_trans _ _ _ (go (step net bound kept e)) (grows net bound (keep_one net bound kept e) g)
-  where
-    go : Step net bound kept e → IsPrefix kept.events (keep_one net bound kept e).events
-    go (lost t f) = subst (λ (k : Kept). IsPrefix kept.events k.events) (sym f) (prefix_refl kept.events)
-    go (held t f) = subst (λ (k : Kept). IsPrefix kept.events k.events) (sym f) (e ∷ [], refl)
-
-pub among : (r : ℕ) (xs : List ℕ) → IsIn r xs → list_any (λ x. x == r) xs ≡ true
-among r [] i = absurd i
-among r (x ∷ xs) (inl e) = let f = eq-eqb x r (sym e) in grind (arith, nat_tests)
-among r (x ∷ xs) (inr i) = let f = among r xs i in go (x == r) f
-  where
-    go : (b : Bool) → list_any (λ x. x == r) xs ≡ true → (b || list_any (λ x. x == r) xs) ≡ true
-    go true f = refl
-    go false f = f
-
--- a stopped role keeps nothing more
-pub still : (net : Net) (bound : ℕ → ℕ) (r : ℕ) (kept : Kept) (g : List Event) → IsIn r kept.stopped → by_role r (keep_from net bound kept g).events ≡ by_role r kept.events
-still net bound r kept [] i = refl
-still net bound r kept (e ∷ g) i = go (step net bound kept e) (λ k j. still net bound r k g j)
-  where
-    go : Step net bound kept e → ((k : Kept) → IsIn r k.stopped → by_role r (keep_from net bound k g).events ≡ by_role r k.events) → by_role r (keep_from net bound (keep_one net bound kept e) g).events ≡ by_role r kept.events
-    go (lost t f) ih = subst (λ (k : Kept). by_role r (keep_from net bound k g).events ≡ by_role r kept.events) (sym f) (ih (lose kept e) (inr i))
-    go (held t f) ih =
-        let free : is_stopped kept e ≡ false = (or_false (is_stopped kept e) (is_behind bound kept e || is_starved net kept e) t).0 in
-        let n : e.role ≡ r → ⊥ = λ h. not_among e.role kept.stopped free (subst (λ x. IsIn x kept.stopped) (sym h) i) in
-        subst (λ (k : Kept). by_role r (keep_from net bound k g).events ≡ by_role r kept.events) (sym f) (ih (hold kept e) i ∙ by_role_other r kept.events e n)
+use Rattle.rcv_model.proofs.Keeping.{by_role, Scan, scan_of, put_front, taken_same, put_through, or_false, not_among, put_none, taken_some, is_recv, not_put, message_of}
+use Rattle.rcv_model.proofs.Lists.{prefix_map, some_same}
+use Rattle.rcv_model.proofs.Scanning.{keep_join, lose, hold, Step, lost, held, step, stays, grows, among, still, is_among, acts_same}
 
 -- an event of the list, with those before and behind it
 record Place (f : List Event) : Type 0 where
@@ -171,28 +113,14 @@ put_longer net s r xs e t =
     let a : put net s r (xs ++ e ∷ []) ≡ put net s r xs ++ record { point = e.point; value = e.value; stamp = e.stamp } ∷ [] = filter_map-append (put_by net s r) xs (e ∷ []) ∙ ap (λ b. put net s r xs ++ cons_option (cond b (Some (record { point = e.point; value = e.value; stamp = e.stamp })) None) []) t in
     omega (arith, ap length a, length-append (put net s r xs) (record { point = e.point; value = e.value; stamp = e.stamp } ∷ []))
 
-pub is_among : (r : ℕ) (xs : List ℕ) → list_any (λ x. x == r) xs ≡ true → IsIn r xs
-is_among r [] e = absurd (cc)
-is_among r (x ∷ xs) e = go (cases_eq x r) (is_among r xs)
-  where
-    go : (x ≡ r) ⊎ (x ≡ r → ⊥) → (list_any (λ x. x == r) xs ≡ true → IsIn r xs) → IsIn r (x ∷ xs)
-    go (inl f) ih = inl (sym f)
-    go (inr n) ih = inr (ih (sym (ap (λ b. b || list_any (λ x. x == r) xs) (ne_eqb x r n)) ∙ e))
-
-pub acts_same : (r : ℕ) (xs ys : List Event) → by_role r xs ≡ by_role r ys → acts r xs ≡ acts r ys
-acts_same r xs ys e = acts_through r xs ∙ ap (acts r) e ∙ sym (acts_through r ys)
-
 pub behind_count : (bound : ℕ → ℕ) (kept : Kept) (e : Event) → is_behind bound kept e ≡ true → bound e.role ≤ length (acts e.role kept.events)
 behind_count bound kept e u = grind (arith, nat_tests)
 
 starved_takes : (net : Net) (kept : Kept) (e : Event) → is_starved net kept e ≡ true → takes_on net (net.sender e.point) e.role e ≡ true
 starved_takes net kept e u = let a = eq-eqb e.role e.role refl in let b = eq-eqb (net.sender e.point) (net.sender e.point) refl in grind (arith, nat_tests)
 
-starved_few : (net : Net) (kept : Kept) (e : Event) → is_starved net kept e ≡ true → length (put net (net.sender e.point) e.role kept.events) ≤ length (taken net (net.sender e.point) e.role kept.events)
+pub starved_few : (net : Net) (kept : Kept) (e : Event) → is_starved net kept e ≡ true → length (put net (net.sender e.point) e.role kept.events) ≤ length (taken net (net.sender e.point) e.role kept.events)
 starved_few net kept e u = grind (arith, nat_tests)
-
-some_same : {A : Type 0} {x y : A} → Some x ≡ Some y → x ≡ y
-some_same e = cc
 
 pub or_left : (a b d : Bool) → b ≡ true → (a || (b || d)) ≡ true
 or_left true b d e = refl
@@ -222,7 +150,7 @@ cut_inside (z ∷ f) g (y ∷ front) back x e eq lt =
     (r.0, ap (λ l. z ∷ l) r.1 ∙ ap (λ v. v ∷ front) h)
 
 -- a link begins at an event
-link_from : (net : Net) (h : List Event) (i j : ℕ) → Link net h i j → (e : Event) × (slice_get h i ≡ Some e)
+pub link_from : (net : Net) (h : List Event) (i j : ℕ) → Link net h i j → (e : Event) × (slice_get h i ≡ Some e)
 link_from net h i j l = ⊎_elim (λ (s : SameRole h i j). (s.first, s.at_i)) (λ (m : SameMessage net h i j). (m.puts.event, m.puts.at)) l.1
 
 link_on : (net : Net) (h : List Event) (bound : ℕ → ℕ) (i j : ℕ) → IsUndone net h bound i → Link net h i j → IsUndone net h bound j

@@ -10,13 +10,13 @@ use Rattle.rcv_reader.specs.Machine.{Place, Item, This, AnyName, Sorts, MoreSort
 use Rattle.rcv_reader.specs.Descent.{Halts, IsNotNext, starts, waits, is_unguarded, MayBegin}
 
 -- the same step, the same answer
-same_step : (s : State) (k k' : List Item) (t : Symbol) (ts : List Symbol) → step s t ts k ≡ step s t ts k' → answer s k (t ∷ ts) ≡ answer s k' (t ∷ ts)
+pub same_step : (s : State) (k k' : List Item) (t : Symbol) (ts : List Symbol) → step s t ts k ≡ step s t ts k' → answer s k (t ∷ ts) ≡ answer s k' (t ∷ ts)
 same_step s k k' t ts e = ap (λ (o : Outcome). after o (t ∷ ts) (λ s' k''. answer s' k'' ts)) e
 
 wrong_step : (s : State) (k : List Item) (f : Fault) (t : Symbol) (ts : List Symbol) → step s t ts k ≡ Wrong f → answer s k (t ∷ ts) ≡ Refuses f (t ∷ ts)
 wrong_step s k f t ts e = ap (λ (o : Outcome). after o (t ∷ ts) (λ s' k''. answer s' k'' ts)) e
 
-not_first : (m t : Symbol) (ts : List Symbol) → IsNotNext m (t ∷ ts) → t ≡ m → ⊥
+pub not_first : (m t : Symbol) (ts : List Symbol) → IsNotNext m (t ∷ ts) → t ≡ m → ⊥
 not_first m t ts h e = h ts (ap (λ (x : Symbol). x ∷ ts) e)
 
 pub halts_behind : (e : ReadError) (s s' : State) (front behind : List Item → List Item) (start mid new : List Symbol)

@@ -9,12 +9,10 @@ use Rattle.rcv_reader.specs.Grammar.{dotted, roles_behind, decl, decls, AreDecls
 use Rattle.rcv_reader.specs.Machine.{Item, This, AnyName, AnyQuoted, MoreModules, Decls, RoleName, MoreRoles, State, Outcome, Wrong, step, after, Refuses, answer}
 use Rattle.rcv_reader.specs.Descent.{known, IsNotNext, NoName, NoQuoted, module_list, names_of_roles, AddsName, IsDecl, AreSuch}
 use Rattle.rcv_reader.proofs.Stops.{stops_by}
-use Rattle.rcv_reader.proofs.Reading.{IsSame, IsOther, known_same}
+use Rattle.rcv_reader.proofs.Reading.{IsSame, IsOther, known_same, not_empty}
+use Rattle.rcv_reader.proofs.Going.{same_step, not_first}
 
 -- ---- where nothing of the kind stands
-
-not_at : (m t : Symbol) (ts : List Symbol) → IsNotNext m (t ∷ ts) → t ≡ m → ⊥
-not_at m t ts h e = h ts (ap (λ (x : Symbol). x ∷ ts) e)
 
 unquoted_step : (s : State) (k : List Item) (t : Symbol) (ts : List Symbol) → ((q : List ℕ) → t ≡ Quoted q → ⊥) → step s t ts (AnyQuoted ∷ k) ≡ Wrong Token
 unquoted_step s k (Quoted q) ts h = absurd (h q refl)
@@ -24,7 +22,7 @@ unquoted_step s k Other ts h = refl
 
 pub no_quoted : (s : State) (ts : List Symbol) → NoQuoted ts → (k : List Item) → answer s (AnyQuoted ∷ k) ts ≡ Refuses Token ts
 no_quoted s [] h k = refl
-no_quoted s (t ∷ ts) h k = stops_by s (AnyQuoted ∷ k) t ts (unquoted_step s k t ts (λ q. not_at (Quoted q) t ts (h q)))
+no_quoted s (t ∷ ts) h k = stops_by s (AnyQuoted ∷ k) t ts (unquoted_step s k t ts (λ q. not_first (Quoted q) t ts (h q)))
 
 undeclared_step : (s : State) (aliases : List (List ℕ)) (k : List Item) (t : Symbol) (ts : List Symbol) → (t ≡ Is Global → ⊥) → ((n : List ℕ) → t ≡ Name n → ⊥) → step s t ts (Decls aliases ∷ k) ≡ Wrong Token
 undeclared_step s aliases k (Is Global) ts g h = absurd (g refl)
@@ -33,10 +31,7 @@ undeclared_step s aliases k _ ts g h = refl
 
 pub no_decl : (s : State) (aliases : List (List ℕ)) (ts : List Symbol) → IsNotNext (Is Global) ts → NoName ts → (k : List Item) → answer s (Decls aliases ∷ k) ts ≡ Refuses Token ts
 no_decl s aliases [] g h k = refl
-no_decl s aliases (t ∷ ts) g h k = stops_by s (Decls aliases ∷ k) t ts (undeclared_step s aliases k t ts (not_at (Is Global) t ts g) (λ n. not_at (Name n) t ts (h n)))
-
-same_step : (s : State) (k k' : List Item) (t : Symbol) (ts : List Symbol) → step s t ts k ≡ step s t ts k' → answer s k (t ∷ ts) ≡ answer s k' (t ∷ ts)
-same_step s k k' t ts e = ap (λ (o : Outcome). after o (t ∷ ts) (λ s' k''. answer s' k'' ts)) e
+no_decl s aliases (t ∷ ts) g h k = stops_by s (Decls aliases ∷ k) t ts (undeclared_step s aliases k t ts (not_first (Is Global) t ts g) (λ n. not_first (Name n) t ts (h n)))
 
 modules_over : (s : State) (t : Symbol) (ts : List Symbol) (k : List Item) → (t ≡ Is Dot → ⊥) → step s t ts (MoreModules ∷ k) ≡ step s t ts (This (Is Semicolon) ∷ k)
 modules_over s (Is Dot) ts k h = absurd (h refl)
@@ -44,7 +39,7 @@ modules_over s _ ts k h = refl
 
 modules_end : (s : State) (ts : List Symbol) → IsNotNext (Is Dot) ts → (k : List Item) → answer s (MoreModules ∷ k) ts ≡ answer s (This (Is Semicolon) ∷ k) ts
 modules_end s [] h k = refl
-modules_end s (t ∷ ts) h k = same_step s (MoreModules ∷ k) (This (Is Semicolon) ∷ k) t ts (modules_over s t ts k (not_at (Is Dot) t ts h))
+modules_end s (t ∷ ts) h k = same_step s (MoreModules ∷ k) (This (Is Semicolon) ∷ k) t ts (modules_over s t ts k (not_first (Is Dot) t ts h))
 
 roles_over : (s : State) (t : Symbol) (ts : List Symbol) (k : List Item) → (t ≡ Is Comma → ⊥) → step s t ts (MoreRoles ∷ k) ≡ step s t ts (This (Is Right) ∷ k)
 roles_over s (Is Comma) ts k h = absurd (h refl)
@@ -52,11 +47,7 @@ roles_over s _ ts k h = refl
 
 roles_end : (s : State) (ts : List Symbol) → IsNotNext (Is Comma) ts → (k : List Item) → answer s (MoreRoles ∷ k) ts ≡ answer s (This (Is Right) ∷ k) ts
 roles_end s [] h k = refl
-roles_end s (t ∷ ts) h k = same_step s (MoreRoles ∷ k) (This (Is Right) ∷ k) t ts (roles_over s t ts k (not_at (Is Comma) t ts h))
-
-not_empty : (ns : List (List ℕ)) (m : List ℕ) → ns ++ m ∷ [] ≢ []
-not_empty [] m e = cc
-not_empty (n ∷ ns) m e = cc
+roles_end s (t ∷ ts) h k = same_step s (MoreRoles ∷ k) (This (Is Right) ∷ k) t ts (roles_over s t ts k (not_first (Is Comma) t ts h))
 
 -- ---- the module's names
 

@@ -35,7 +35,7 @@ sort_push : (ns : List (List ℕ)) (m : List ℕ) (next : List Symbol) → ns �
 sort_push [] m next some = absurd (some refl)
 sort_push (n ∷ ns) m next some = ap (λ (x : List Symbol). Name n ∷ x) (names_push ns m next)
 
-not_empty : (ns : List (List ℕ)) (m : List ℕ) → ns ++ m ∷ [] ≢ []
+pub not_empty : (ns : List (List ℕ)) (m : List ℕ) → ns ++ m ∷ [] ≢ []
 not_empty [] m e = cc
 not_empty (n ∷ ns) m e = cc
 

@@ -3,11 +3,12 @@ use Rattle.std.proofs.Common.{◌≡◌, ℕ, zero, suc, ◌<◌, ◌≤◌, Som
 use Rattle.std.specs.Prelude.{slice_get}
 use Rattle.std.proofs.lemmas.Bool.{cases_lt, cases_eq}
 use Rattle.std.proofs.lemmas.Option.{slice_get_within}
-use Rattle.rcv_model.proofs.Bystanders.{item}
 use Rattle.rcv_model.specs.Journal.{Rules, State}
 use Rattle.rcv_theory.specs.Round.{Timed, IsLog, IsRound, Placed, IsBefore, IsBeforeAll, IsAscending, IsByStamp}
 use Rattle.rcv_theory.proofs.BesideRounds.{declared}
 use Rattle.rcv_theory.proofs.Stamps.{Among, among_at, at_among}
+use Rattle.rcv_model.proofs.Located.{item}
+use Rattle.rcv_model.proofs.Lists.{some_same}
 
 -- two entries stand at different places
 abbrev Apart : Placed → Placed → Type 0
@@ -76,9 +77,6 @@ module _ (logs : ℕ → List Timed) where
     below : (b.role < r) ⊎ ((b.role ≡ r) × (b.place < n))
     stands : slice_get (logs b.role) b.place ≡ Some b.timed
 
-  same_timed : {x y : Timed} → Some x ≡ Some y → x ≡ y
-  same_timed e = cc
-
   one_more : (r n : ℕ) (x : Timed) → slice_get (logs r) n ≡ Some x → (xs : List Placed) × IsListOf (IsUpTo r n) xs → (ys : List Placed) × IsListOf (IsUpTo r (suc n)) ys
   one_more r n x e (xs, list) = (made.0, record { up = made.1.up; sound = sound; complete = complete })
     where
@@ -95,7 +93,7 @@ module _ (logs : ℕ → List Timed) where
           (made.1.sound b i)
 
       here : (b : Placed) → b.role ≡ r → b.place ≡ n → slice_get (logs b.role) b.place ≡ Some b.timed → b ≡ record { role = r; place = n; timed = x }
-      here b f g s = let t : b.timed ≡ x = same_timed (sym s ∙ ap (λ q. slice_get (logs q) b.place) f ∙ ap (slice_get (logs r)) g ∙ e) in equal b.role r b.place n b.timed x f g t
+      here b f g s = let t : b.timed ≡ x = some_same (sym s ∙ ap (λ q. slice_get (logs q) b.place) f ∙ ap (slice_get (logs r)) g ∙ e) in equal b.role r b.place n b.timed x f g t
         where
           equal : (q r k n : ℕ) (y x : Timed) → q ≡ r → k ≡ n → y ≡ x → placed_at q k y ≡ placed_at r n x
           equal q r k n y x f g h = cc

@@ -12,14 +12,13 @@ use Rattle.rcv_tree.specs.declared.entry.Entry.{Entry}
 use Rattle.rcv_tree.specs.declared.entry.Entry.TheVariants.{Send, Recv, Crash, Recover}
 use Rattle.rcv_model.specs.Run.{is_sent, puts_on, takes_on, put_by, taken_by, put, taken}
 use Rattle.rcv_model.specs.Journal.{Rules, State, after, reading, IsLegal}
-use Rattle.rcv_model.proofs.Lists.{prefix_map}
-use Rattle.rcv_model.proofs.Choices.{prefix_length}
 use Rattle.rcv_model.proofs.Keeping.{message_of}
-use Rattle.rcv_model.proofs.Undoing.{put_longer}
 use Rattle.rcv_model.proofs.Queues.{get_here, From, from_of, at_number, prefix_at, put_message, put_by_true, taken_by_some}
 use Rattle.rcv_model.proofs.Numbers.{bounded}
 use Rattle.rcv_theory.specs.Round.{Timed, role_of, event_of, events_in, of_role, IsLocal, IsLog, IsRound, IsMerge, Placed, IsBefore, IsBeforeAll, IsAscending, IsByStamp, in_order}
 use Rattle.rcv_theory.proofs.Merging.{events_join, in_all, own_takes}
+use Rattle.rcv_model.proofs.Lists.{prefix_map, prefix_length}
+use Rattle.rcv_model.proofs.Undoing.{put_longer}
 
 -- a is an element
 abbrev pub Among : {A : Type 0} → A → List A → Type 0

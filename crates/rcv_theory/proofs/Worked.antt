@@ -30,6 +30,7 @@ use Rattle.rcv_theory.proofs.Besides.{keeps}
 use Rattle.rcv_theory.proofs.Merging.{merged_round}
 use Rattle.rcv_theory.proofs.Stamps.{stamp_order}
 use Rattle.rcv_theory.proofs.BesideRounds.{legal_front, beside_recovery}
+use Rattle.rcv_model.proofs.Lists.{some_same}
 
 abbrev net : Net
 net = net_of ping
@@ -142,17 +143,14 @@ sound (suc (suc (suc (suc zero)))) a e = let f : at 0 1 (record { time = 4; entr
 sound (suc (suc (suc (suc (suc zero))))) a e = let f : at 0 2 (record { time = 4; entry = Crash 0 }) ≡ a = cc in subst (λ (z : Placed). slice_get (logs z.role) z.place ≡ Some z.timed) f refl
 sound (suc (suc (suc (suc (suc (suc i)))))) a e = absurd (cc)
 
-same_timed : {x y : Timed} → Some x ≡ Some y → x ≡ y
-same_timed e = cc
-
 complete : (r k : ℕ) (x : Timed) → slice_get (logs r) k ≡ Some x → (i : ℕ) × (slice_get placed i ≡ Some (at r k x))
-complete zero zero x e = (0, ap (λ y. Some (at 0 0 y)) (same_timed e))
-complete zero (suc zero) x e = (4, ap (λ y. Some (at 0 1 y)) (same_timed e))
-complete zero (suc (suc zero)) x e = (5, ap (λ y. Some (at 0 2 y)) (same_timed e))
+complete zero zero x e = (0, ap (λ y. Some (at 0 0 y)) (some_same e))
+complete zero (suc zero) x e = (4, ap (λ y. Some (at 0 1 y)) (some_same e))
+complete zero (suc (suc zero)) x e = (5, ap (λ y. Some (at 0 2 y)) (some_same e))
 complete zero (suc (suc (suc k))) x e = absurd (cc)
-complete (suc zero) zero x e = (1, ap (λ y. Some (at 1 0 y)) (same_timed e))
-complete (suc zero) (suc zero) x e = (2, ap (λ y. Some (at 1 1 y)) (same_timed e))
-complete (suc zero) (suc (suc zero)) x e = (3, ap (λ y. Some (at 1 2 y)) (same_timed e))
+complete (suc zero) zero x e = (1, ap (λ y. Some (at 1 0 y)) (some_same e))
+complete (suc zero) (suc zero) x e = (2, ap (λ y. Some (at 1 1 y)) (some_same e))
+complete (suc zero) (suc (suc zero)) x e = (3, ap (λ y. Some (at 1 2 y)) (some_same e))
 complete (suc zero) (suc (suc (suc k))) x e = absurd (cc)
 complete (suc (suc r)) k x e = absurd (cc)
 
