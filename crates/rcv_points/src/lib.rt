@@ -1,0 +1,2 @@
+// The points of a text, and what follows what.
+#![tactic(auto)]
