@@ -1,6 +1,9 @@
 -- What contracts see of the points of a text: what each place offers, the message of each point, and what each choice offers.
-use Rattle.std.specs.Prelude.{◌≡◌, ℕ, ◌+◌, ◌≤◌, Bool, true, false, List, [], ◌∷◌, length, map, slice_index_or}
+use Rattle.std.specs.Prelude.{◌≡◌, ℕ, ◌+◌, ◌-◌, ◌≤◌, ◌==◌, Bool, true, false, if◌then◌else◌, List, [], ◌∷◌, length, map, slice_index_or}
+use Rattle.std.specs.List.Sorted.{IsStrictlyIncreasing}
 use Rattle.rcv_model.specs.Text.{Body}
+use Rattle.rcv_model.specs.Net.{Net}
+use Rattle.rcv_model.specs.Next.{IsProper}
 use Rattle.rcv_model.specs.Places.{Spot, Single_at, singles, offers_at, net_of}
 use Rattle.rcv_model.specs.Accept.{choices}
 
@@ -16,11 +19,41 @@ pub record ChoiceView : Type 0 where
   pub subject : ℕ
   pub offered : List ℕ
 
--- By place, from the start on: the points that can come next, ascending; by point; and the choices, in text order.
+-- By place, from the start on: the points that can come next; by point: its message; and the choices, in text order.
 pub record PointsView : Type 0 where
   pub places : List (List ℕ)
   pub messages : List PointView
   pub choices : List ChoiceView
+
+-- what a place offers
+abbrev pub offered_at : PointsView → ℕ → List ℕ
+offered_at points k = slice_index_or points.places k []
+
+-- no message, whose ends differ too
+abbrev pub no_message : PointView
+no_message = record { label = []; sender = 0; receiver = 1; payload = false }
+
+-- the message of a point, which counts from 1
+abbrev pub message_at : PointsView → ℕ → PointView
+message_at points p = if p == 0 then no_message else slice_index_or points.messages (p - 1) no_message
+
+-- The protocol that the points say.
+abbrev pub net_in : PointsView → Net
+net_in points =
+    record {
+      count = length points.messages;
+      offers = offered_at points;
+      sender = λ p. (message_at points p).sender;
+      receiver = λ p. (message_at points p).receiver;
+      label = λ p. (message_at points p).label;
+    }
+
+-- What holds of all points: at most 256 of them, with a place behind each; what places offer ascends and stands in the text.
+pub record AreWithin (points : PointsView) : Type 0 where
+  pub few : length points.messages ≤ 256
+  pub all : length points.places ≡ length points.messages + 1
+  pub ascending : (k : ℕ) → IsStrictlyIncreasing (offered_at points k)
+  pub proper : IsProper (net_in points) 8
 
 abbrev pub has_some : List (List ℕ) → Bool
 has_some [] = false
@@ -31,10 +64,6 @@ message_of e = record { label = e.1.label; sender = e.1.sender; receiver = e.1.r
 
 abbrev pub choice_of : ℕ × Spot → ChoiceView
 choice_of e = record { subject = e.0; offered = offers_at e.1 }
-
--- what a place offers
-abbrev pub offered_at : PointsView → ℕ → List ℕ
-offered_at points k = slice_index_or points.places k []
 
 -- These are the points of a text: each place offers what the definition says, and messages and choices are those of the text.
 pub record ArePointsOf (body : Body) (points : PointsView) : Type 0 where

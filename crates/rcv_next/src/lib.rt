@@ -1,0 +1,2 @@
+// What lies ahead of a role: the search through the places of a text.
+#![tactic(auto)]
