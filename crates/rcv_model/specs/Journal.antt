@@ -113,6 +113,7 @@ abbrev pub reading_from : Rules → State → List Entry → State
 reading_from rules s [] = s
 reading_from rules s (e ∷ journal) = reading_from rules (after rules s e) journal
 
+-- The state behind a journal, from the start.
 abbrev pub reading : Rules → List Entry → State
 reading rules journal = reading_from rules (start rules.roles) journal
 
@@ -185,6 +186,7 @@ abbrev pub IsLegalFrom : Rules → State → List Entry → Type 0
 IsLegalFrom rules s [] = Unit {0}
 IsLegalFrom rules s (e ∷ journal) = May rules s e × IsLegalFrom rules (after rules s e) journal
 
+-- The journal is legal: its entries may come one after another from the start.
 abbrev pub IsLegal : Rules → List Entry → Type 0
 IsLegal rules journal = IsLegalFrom rules (start rules.roles) journal
 

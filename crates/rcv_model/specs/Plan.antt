@@ -21,6 +21,7 @@ every_in (CrashLine q n ∷ lines) r = every_in lines r
 every_in (LimitLine n ∷ lines) r = every_in lines r
 every_in (RoomLine n ∷ lines) r = every_in lines r
 
+-- How many events each role may make: 10,000 where no line says.
 abbrev pub limit_in : List PlanLine → ℕ
 limit_in [] = 10000
 limit_in (EveryLine q n ∷ lines) = limit_in lines
@@ -28,6 +29,7 @@ limit_in (CrashLine q n ∷ lines) = limit_in lines
 limit_in (LimitLine n ∷ lines) = n
 limit_in (RoomLine n ∷ lines) = limit_in lines
 
+-- How many messages a channel holds: 64 where no line says.
 abbrev pub room_in : List PlanLine → ℕ
 room_in [] = 64
 room_in (EveryLine q n ∷ lines) = room_in lines

@@ -28,6 +28,7 @@ pub record IsAnswerTo (net : Net) (h : List Event) (s r k j : ℕ) (got : Event)
   pub value : got.value ≡ puts.event.value
   pub sent : got.sent ≡ puts.event.stamp
 
+-- Each Recv of each channel answers the Send of its number.
 abbrev pub IsQueuedByPlaces : Net → List Event → Type 0
 IsQueuedByPlaces net h = (s r k j : ℕ) (t : TakesAt net h s r k j) → IsAnswerTo net h s r k j t.event
 
@@ -100,6 +101,7 @@ keep_one net bound kept e =
     then record { events = kept.events; stopped = e.role ∷ kept.stopped }
     else record { events = kept.events ++ e ∷ []; stopped = kept.stopped }
 
+-- All of a list's events, one after another.
 abbrev pub keep_from : Net → (ℕ → ℕ) → Kept → List Event → Kept
 keep_from net bound kept [] = kept
 keep_from net bound kept (e ∷ h) = keep_from net bound (keep_one net bound kept e) h

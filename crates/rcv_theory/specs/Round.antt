@@ -15,12 +15,14 @@ pub record Timed : Type 0 where
   pub time : ℕ
   pub entry : Entry
 
+-- Whose entry it is.
 abbrev pub role_of : Entry → ℕ
 role_of (Send e) = e.role
 role_of (Recv e) = e.role
 role_of (Crash p) = p
 role_of (Recover p concerned kept undone) = p
 
+-- The event of a Send or Recv.
 abbrev pub event_of : Entry → Option Event
 event_of (Send e) = Some e
 event_of (Recv e) = Some e
@@ -83,10 +85,12 @@ IsBefore a b =
     (a.timed.time < b.timed.time)
     ⊎ ((a.timed.time ≡ b.timed.time) × ((a.role < b.role) ⊎ ((a.role ≡ b.role) × (a.place < b.place))))
 
+-- It stands before each of these.
 abbrev pub IsBeforeAll : Placed → List Placed → Type 0
 IsBeforeAll a [] = Unit {0}
 IsBeforeAll a (b ∷ rest) = IsBefore a b × IsBeforeAll a rest
 
+-- Each stands before all that follow.
 abbrev pub IsAscending : List Placed → Type 0
 IsAscending [] = Unit {0}
 IsAscending (a ∷ rest) = IsBeforeAll a rest × IsAscending rest
@@ -97,5 +101,6 @@ pub record IsByStamp (logs : ℕ → List Timed) (placed : List Placed) : Type 0
   pub sound : (i : ℕ) (a : Placed) → slice_get placed i ≡ Some a → slice_get (logs a.role) a.place ≡ Some a.timed
   pub complete : (r k : ℕ) (x : Timed) → slice_get (logs r) k ≡ Some x → (i : ℕ) × (slice_get placed i ≡ Some (record { role = r; place = k; timed = x }))
 
+-- The timed entries alone, in this order.
 abbrev pub in_order : List Placed → List Timed
 in_order placed = map (λ a. a.timed) placed
