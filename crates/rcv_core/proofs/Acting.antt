@@ -22,7 +22,7 @@ running_at : (n r : ℕ) → r < n → slice_get (replicate n false) r ≡ Some 
 running_at n r lt = slice_get-get_or (replicate n false) r false (let e = length-replicate n false in omega arith) ∙ ap Some (get_or-replicate n r false false lt)
 
 -- without a plan a role that is below the limit is free
-pub free : (body : Body) (roles : ℕ) (s : State) (r : ℕ) → s.crashed ≡ replicate roles false → r < roles → slice_index s.raw r < 10000 → IsFree (bare_rules body roles) s r
+pub free : (body : Body) (roles : ℕ) (s : State) (r : ℕ) → s.crashed ≡ replicate roles false → r < roles → slice_index s.raw r < 10000 → IsFree (bare_rules body roles (λ r. [])) s r
 free body roles s r calm lt below = record {
   declared = lt;
   running = ap (λ l. slice_get l r) calm ∙ running_at roles r lt;
@@ -34,7 +34,7 @@ only : (net : Net) (p z : ℕ) → IsIn z (p ∷ []) → z ≡ p
 only net p z (inl e) = e
 only net p z (inr f) = absurd f
 
-pub can_send : (body : Body) (roles : ℕ) (s : State) (r p stamp : ℕ) → s.crashed ≡ replicate roles false → r < roles → slice_index s.raw r < 10000 → AreNext (net_of body) r (place s r) (p ∷ []) → (net_of body).sender p ≡ r → stamp ≡ slice_index s.clocks r + 1 → length (channel (net_of body) r ((net_of body).receiver p) s.kept) < 64 → IsActOf (bare_rules body roles) s r (Send (record { role = r; dir = Sent; point = p; value = pos 0; stamp = stamp; sent = stamp }))
+pub can_send : (body : Body) (roles : ℕ) (s : State) (r p stamp : ℕ) → s.crashed ≡ replicate roles false → r < roles → slice_index s.raw r < 10000 → AreNext (net_of body) r (place s r) (p ∷ []) → (net_of body).sender p ≡ r → stamp ≡ slice_index s.clocks r + 1 → length (channel (net_of body) r ((net_of body).receiver p) s.kept) < 64 → IsActOf (bare_rules body roles (λ r. [])) s r (Send (record { role = r; dir = Sent; point = p; value = pos 0; stamp = stamp; sent = stamp }))
 can_send body roles s r p stamp calm lt below next own clock room = (
   refl,
   record {
@@ -52,7 +52,7 @@ can_send body roles s r p stamp calm lt below next own clock room = (
   room,
 )
 
-pub can_recv : (body : Body) (roles : ℕ) (s : State) (r p stamp : ℕ) (m : Message) (rest : List Message) → s.crashed ≡ replicate roles false → r < roles → slice_index s.raw r < 10000 → AreNext (net_of body) r (place s r) (p ∷ []) → (net_of body).receiver p ≡ r → channel (net_of body) ((net_of body).sender p) r s.kept ≡ m ∷ rest → m.point ≡ p → stamp ≡ max (slice_index s.clocks r) m.stamp + 1 → IsActOf (bare_rules body roles) s r (Recv (record { role = r; dir = Got; point = p; value = m.value; stamp = stamp; sent = m.stamp }))
+pub can_recv : (body : Body) (roles : ℕ) (s : State) (r p stamp : ℕ) (m : Message) (rest : List Message) → s.crashed ≡ replicate roles false → r < roles → slice_index s.raw r < 10000 → AreNext (net_of body) r (place s r) (p ∷ []) → (net_of body).receiver p ≡ r → channel (net_of body) ((net_of body).sender p) r s.kept ≡ m ∷ rest → m.point ≡ p → stamp ≡ max (slice_index s.clocks r) m.stamp + 1 → IsActOf (bare_rules body roles (λ r. [])) s r (Recv (record { role = r; dir = Got; point = p; value = m.value; stamp = stamp; sent = m.stamp }))
 can_recv body roles s r p stamp m rest calm lt below next own front at clock = (
   refl,
   record {
@@ -72,10 +72,10 @@ can_recv body roles s r p stamp m rest calm lt below next own front at clock = (
 at_next : (body : Body) (roles : ℕ) (s : State) (r : ℕ) (zs : List ℕ) (e : Event) (offered : List ℕ) → AreNext (net_of body) r (place s r) zs → e.role ≡ r → AreNext (net_of body) e.role (place s e.role) offered → offered ≡ zs
 at_next body roles s r zs e offered next f other = one_next (net_of body) r (place s r) offered zs (subst (λ q. AreNext (net_of body) q (place s q) offered) f other) next
 
-pub none_without_next : (body : Body) (roles : ℕ) (s : State) (r : ℕ) → AreNext (net_of body) r (place s r) [] → CanAct (bare_rules body roles) s r → ⊥
+pub none_without_next : (body : Body) (roles : ℕ) (s : State) (r : ℕ) → AreNext (net_of body) r (place s r) [] → CanAct (bare_rules body roles (λ r. [])) s r → ⊥
 none_without_next body roles s r next a = go a.0 a.1
   where
-    go : (e : Entry) → IsActOf (bare_rules body roles) s r e → ⊥
+    go : (e : Entry) → IsActOf (bare_rules body roles (λ r. [])) s r e → ⊥
     go (Send e) x = subst (IsIn e.point) (at_next body roles s r [] e x.1.offered next x.0 x.1.next) x.1.among
     go (Recv e) x = subst (IsIn e.point) (at_next body roles s r [] e x.1.offered next x.0 x.1.next) x.1.among
     go (Crash p) x = absurd x
@@ -86,10 +86,10 @@ same_point : (body : Body) (roles : ℕ) (s : State) (r p : ℕ) (e : Event) (of
 same_point body roles s r p e offered next f other among = only (net_of body) p e.point (subst (IsIn e.point) (at_next body roles s r (p ∷ []) e offered next f other) among)
 
 -- a Send waits for room
-pub none_without_room : (body : Body) (roles : ℕ) (s : State) (r p : ℕ) → HasTwoEnds (net_of body) → AreNext (net_of body) r (place s r) (p ∷ []) → (net_of body).sender p ≡ r → 64 ≤ length (channel (net_of body) r ((net_of body).receiver p) s.kept) → CanAct (bare_rules body roles) s r → ⊥
+pub none_without_room : (body : Body) (roles : ℕ) (s : State) (r p : ℕ) → HasTwoEnds (net_of body) → AreNext (net_of body) r (place s r) (p ∷ []) → (net_of body).sender p ≡ r → 64 ≤ length (channel (net_of body) r ((net_of body).receiver p) s.kept) → CanAct (bare_rules body roles (λ r. [])) s r → ⊥
 none_without_room body roles s r p two next own full a = go a.0 a.1
   where
-    go : (e : Entry) → IsActOf (bare_rules body roles) s r e → ⊥
+    go : (e : Entry) → IsActOf (bare_rules body roles (λ r. [])) s r e → ⊥
     go (Send e) x =
         let at : e.point ≡ p = same_point body roles s r p e x.1.offered next x.0 x.1.next x.1.among in
         let room : length (channel (net_of body) r ((net_of body).receiver p) s.kept) < 64 = subst (λ q. length (channel (net_of body) q ((net_of body).receiver p) s.kept) < 64) x.0 (subst (λ z. length (channel (net_of body) e.role ((net_of body).receiver z) s.kept) < 64) at x.2) in
@@ -101,10 +101,10 @@ none_without_room body roles s r p two next own full a = go a.0 a.1
     go (Recover p c k u) x = absurd x
 
 -- a Recv waits for its message
-pub none_without_message : (body : Body) (roles : ℕ) (s : State) (r p : ℕ) → AreNext (net_of body) r (place s r) (p ∷ []) → (net_of body).sender p ≢ r → ((m : Message) (rest : List Message) → channel (net_of body) ((net_of body).sender p) r s.kept ≡ m ∷ rest → m.point ≡ p → ⊥) → CanAct (bare_rules body roles) s r → ⊥
+pub none_without_message : (body : Body) (roles : ℕ) (s : State) (r p : ℕ) → AreNext (net_of body) r (place s r) (p ∷ []) → (net_of body).sender p ≢ r → ((m : Message) (rest : List Message) → channel (net_of body) ((net_of body).sender p) r s.kept ≡ m ∷ rest → m.point ≡ p → ⊥) → CanAct (bare_rules body roles (λ r. [])) s r → ⊥
 none_without_message body roles s r p next other none a = go a.0 a.1
   where
-    go : (e : Entry) → IsActOf (bare_rules body roles) s r e → ⊥
+    go : (e : Entry) → IsActOf (bare_rules body roles (λ r. [])) s r e → ⊥
     go (Send e) x =
         let at : e.point ≡ p = same_point body roles s r p e x.1.offered next x.0 x.1.next x.1.among in
         other (subst (λ z. (net_of body).sender z ≡ r) at (x.1.sends e.point x.1.among ∙ x.0))

@@ -66,7 +66,7 @@ inside (x ∷ xs) (suc i) m e = let r = inside xs i m e in omega arith
 pub small_clock : (setup : SetupView) (entries : List Entry) (r : ℕ) → IsPlainProtocol setup.protocol → IsLegal (rules_of setup) entries → slice_index (reading (rules_of setup) entries).clocks r ≤ 80000
 small_clock setup entries r plain legal =
     let a = (bounded (rules_of setup) entries legal).clocks r in
-    let b = bare_bounded (text_of setup) (roles_of setup) entries legal in
+    let b = bare_bounded (text_of setup) (roles_of setup) (λ r. []) entries legal in
     let c = plain.form.few_roles in
     omega arith
 
@@ -75,7 +75,7 @@ small_stamp setup entries a b i m plain legal at =
     let h = (reading (rules_of setup) entries).kept in
     let all = put_stamps (net_for setup) a b (length entries) h (bounded (rules_of setup) entries legal).stamps in
     let s : m.stamp ≤ length entries = subst (λ (x : Message). x.stamp ≤ length entries) (get_or_from_slice_get (put (net_for setup) a b h) i m m at) (all i m (inside (put (net_for setup) a b h) i m at)) in
-    let t = bare_bounded (text_of setup) (roles_of setup) entries legal in
+    let t = bare_bounded (text_of setup) (roles_of setup) (λ r. []) entries legal in
     let c = plain.form.few_roles in
     omega arith
 
@@ -285,7 +285,7 @@ few_put book setup entries standings channels a b n kept view la lb is =
     let here = ap (λ c. length c.put) (told setup entries standings channels a b kept (low_role setup a kept.protocol low) (low_role setup b kept.protocol lower)) in
     let shorter = no_longer (put_by (net_for setup) a b) (reading (rules_of setup) entries).kept in
     let events = (bounded (rules_of setup) entries kept.legal).events in
-    let short = bare_bounded (text_of setup) (roles_of setup) entries kept.legal in
+    let short = bare_bounded (text_of setup) (roles_of setup) (λ r. []) entries kept.legal in
     let few = kept.protocol.form.few_roles in
     omega arith
 
@@ -390,7 +390,7 @@ final_by_step book (Some x) told e = absurd (cc)
 -- a book is short
 pub short_book : (setup : SetupView) (entries : List Entry) (standings : List Standing) (channels : List ChannelView) → IsBook setup entries standings channels → length entries ≤ 80000
 short_book setup entries standings channels book =
-    let a = bare_bounded (text_of setup) (roles_of setup) entries book.legal in
+    let a = bare_bounded (text_of setup) (roles_of setup) (λ r. []) entries book.legal in
     let b = book.protocol.form.few_roles in
     omega arith
 

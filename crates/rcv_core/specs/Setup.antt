@@ -24,7 +24,7 @@ abbrev pub net_for : SetupView → Net
 net_for setup = net_of (text_of setup)
 
 abbrev pub rules_of : SetupView → Rules
-rules_of setup = bare_rules (text_of setup) (roles_of setup)
+rules_of setup = bare_rules (text_of setup) (roles_of setup) (λ r. [])
 
 -- The body holds messages only and has the form that the reader gives, for so many roles.
 pub record IsPlainForm (body : Body) (roles : ℕ) : Type 0 where

@@ -21,7 +21,7 @@ use Rattle.rcv_model.proofs.Bare.{no_crashes, completes}
 use Rattle.rcv_model.proofs.Ends.{rules, net, t0, t4, calm, final, ping_journal}
 
 abbrev bare : Rules
-bare = bare_rules ping 2
+bare = bare_rules ping 2 (λ r. [])
 
 chosen : (r : ℕ) (h : List Event) (a : ℕ) (zs : List ℕ) → rules.chosen r h a zs ≡ bare.chosen r h a zs
 chosen r h a [] = refl
@@ -73,13 +73,13 @@ bare_final : IsFinal bare (reading bare journal)
 bare_final = record { none_crashed = final.none_crashed; none_due = final.none_due; none_acts = λ r lt a. final.none_acts r lt (acts_back t4 r a) }
 
 quiet : HasNoCrashes bare journal
-quiet = no_crashes ping 2 journal legal
+quiet = no_crashes ping 2 (λ r. []) journal legal
 
 short : length journal ≤ 2 * 10000
-short = bare_bounded ping 2 journal legal
+short = bare_bounded ping 2 (λ r. []) journal legal
 
 completed : IsCompleted bare (reading bare journal)
-completed = completes ping 2 journal tt ping_form legal bare_final
+completed = completes ping 2 (λ r. []) journal tt ping_form legal bare_final
 
 done : AreDone bare (reading bare journal) ⊎ HasOneAtLimit bare (reading bare journal)
 done = done_or_limited bare journal ping_proper ping_accepted (chosen_in net (λ r. [])) (omega arith) legal bare_final

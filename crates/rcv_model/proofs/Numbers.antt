@@ -15,6 +15,7 @@ use Rattle.rcv_tree.specs.declared.entry.Entry.TheVariants.{Send, Recv, Crash, R
 use Rattle.rcv_model.specs.Net.{Net}
 use Rattle.rcv_model.specs.Run.{acts, puts_on, put, taken, channel}
 use Rattle.rcv_model.specs.Undo.{keep, only, picked}
+use Rattle.rcv_model.specs.Script.{Line}
 use Rattle.rcv_model.specs.Journal.{Rules, State, start, bump, durable, is_among, attempts_after, greatest, clocks_after, after_event, after_recovery, after, reading_from, reading, May, IsLegalFrom, IsLegal}
 use Rattle.rcv_model.specs.Text.{Body}
 use Rattle.rcv_model.specs.Plain.{bare_rules}
@@ -299,5 +300,5 @@ no_lines : (n a : ℕ) → sum_by (λ (r : ℕ). 0) (range_with_len a n) ≡ 0
 no_lines zero a = refl
 no_lines (suc n) a = let ih = no_lines n (a + 1) in omega (arith, ih, sum_by-cons (λ (r : ℕ). 0) a (range_with_len (a + 1) n))
 
-pub bare_bounded : (body : Body) (roles : ℕ) (journal : List Entry) → IsLegal (bare_rules body roles) journal → length journal ≤ roles * 10000
-bare_bounded body roles journal legal = omega (arith, (bounded (bare_rules body roles) journal legal).entries, no_lines roles 0)
+pub bare_bounded : (body : Body) (roles : ℕ) (scripts : ℕ → List Line) (journal : List Entry) → IsLegal (bare_rules body roles scripts) journal → length journal ≤ roles * 10000
+bare_bounded body roles scripts journal legal = omega (arith, (bounded (bare_rules body roles scripts) journal legal).entries, no_lines roles 0)

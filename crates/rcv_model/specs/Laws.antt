@@ -144,7 +144,7 @@ PlainIsAccepted =
 -- So after each entry of a legal journal of a plain text the protocol reaches the joint state.
 abbrev pub PlainJournalsReachStates : Type 0
 PlainJournalsReachStates =
-    (body : Body) (roles : ℕ) (front back : List Entry) → IsPlain body → HasForm body roles → IsLegal (bare_rules body roles) (front ++ back) → IsReachedState (net_of body) (joint_of (net_of body) (reading (bare_rules body roles) front).kept)
+    (body : Body) (roles : ℕ) (scripts : ℕ → List Line) (front back : List Entry) → IsPlain body → HasForm body roles → IsLegal (bare_rules body roles scripts) (front ++ back) → IsReachedState (net_of body) (joint_of (net_of body) (reading (bare_rules body roles scripts) front).kept)
 
 -- A legal journal has at most so many entries, and its numbers are bounded.
 abbrev pub JournalsAreBounded : Type 0
@@ -154,7 +154,7 @@ JournalsAreBounded =
 -- Without crash lines each role has at most 10,000 entries.
 abbrev pub BareJournalsAreShort : Type 0
 BareJournalsAreShort =
-    (body : Body) (roles : ℕ) (journal : List Entry) → IsLegal (bare_rules body roles) journal → length journal ≤ roles * 10000
+    (body : Body) (roles : ℕ) (scripts : ℕ → List Line) (journal : List Entry) → IsLegal (bare_rules body roles scripts) journal → length journal ≤ roles * 10000
 
 -- Whatever each role loses, exactly the lost events and what depends on them are undone.
 abbrev pub RecoveriesUndoExactly : Type 0
@@ -169,12 +169,12 @@ JournalsUndoExactly =
 -- In a session without a plan nobody crashes, and nobody is to.
 abbrev pub BareJournalsHaveNoCrashes : Type 0
 BareJournalsHaveNoCrashes =
-    (body : Body) (roles : ℕ) (journal : List Entry) → IsLegal (bare_rules body roles) journal → HasNoCrashes (bare_rules body roles) journal
+    (body : Body) (roles : ℕ) (scripts : ℕ → List Line) (journal : List Entry) → IsLegal (bare_rules body roles scripts) journal → HasNoCrashes (bare_rules body roles scripts) journal
 
 -- A legal journal of a plain text that is final is completed.
 abbrev pub PlainJournalsComplete : Type 0
 PlainJournalsComplete =
-    (body : Body) (roles : ℕ) (journal : List Entry) → IsPlain body → HasForm body roles → IsLegal (bare_rules body roles) journal → IsFinal (bare_rules body roles) (reading (bare_rules body roles) journal) → IsCompleted (bare_rules body roles) (reading (bare_rules body roles) journal)
+    (body : Body) (roles : ℕ) (scripts : ℕ → List Line) (journal : List Entry) → IsPlain body → HasForm body roles → IsLegal (bare_rules body roles scripts) journal → IsFinal (bare_rules body roles scripts) (reading (bare_rules body roles scripts) journal) → IsCompleted (bare_rules body roles scripts) (reading (bare_rules body roles scripts) journal)
 
 -- Each role has its list of next points at each place.
 abbrev pub NextListsExist : Type 0
@@ -216,7 +216,7 @@ OneThreadJournalsExist = (rules : Rules) → IsProper rules.net rules.roles → 
 -- For a plain text without a plan it ends completed.
 abbrev pub OneThreadCompletesPlain : Type 0
 OneThreadCompletesPlain =
-    (body : Body) (roles : ℕ) → IsPlain body → HasForm body roles → (journal : List Entry) × IsOneThread (bare_rules body roles) journal × IsCompleted (bare_rules body roles) (reading (bare_rules body roles) journal)
+    (body : Body) (roles : ℕ) (scripts : ℕ → List Line) → IsPlain body → HasForm body roles → (journal : List Entry) × IsOneThread (bare_rules body roles scripts) journal × IsCompleted (bare_rules body roles scripts) (reading (bare_rules body roles scripts) journal)
 
 -- In each legal journal that goes on, a stable line stays stable, and the events within it stay.
 abbrev pub StableLinesHold : Type 0

@@ -53,7 +53,7 @@ answered words call input bytes status result is short outcome (inr w) = subst (
 pub headline_of : (protocol : Protocol) (journal : List Entry) → IsPlain (body_of protocol.body) → HasForm (body_of protocol.body) (length protocol.roles) → IsOneThread (rules_of (session_of protocol)) journal → IsHeadline (rules_of (session_of protocol)) journal
 headline_of protocol journal plain form alone = record {
   legal = law.legal alone;
-  reaches = λ front back e. plain_reach (body_of protocol.body) (length protocol.roles) front back plain form (subst (IsLegal (rules_of (session_of protocol))) (sym e) (law.legal alone));
+  reaches = λ front back e. plain_reach (body_of protocol.body) (length protocol.roles) (λ r. []) front back plain form (subst (IsLegal (rules_of (session_of protocol))) (sym e) (law.legal alone));
   undoes = λ front back p concerned kept undone e. exact front (Recover p concerned kept undone ∷ back) p concerned kept undone e;
   final = law.final alone;
 }

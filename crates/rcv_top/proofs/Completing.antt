@@ -49,7 +49,7 @@ all_done rules s done = record {
 pub plain_texts_complete : PlainTextsComplete
 plain_texts_complete input p short reads =
     let plain = reads.spelled.plain_body in
-    let j = one_completes (body_of p.body) (length p.roles) plain.plain plain.form in
+    let j = one_completes (body_of p.body) (length p.roles) (λ r. []) plain.plain plain.form in
     let s = reading (rules_of (session_of p)) j.0 in
     let lines = done_lines s 0 (length p.roles) in
     (journal_text (session_of p) j.0 lines, completed p j.0 (record { command = refl; short = short }) (record { reads = reads; alone = j.1; text = record { lines = lines; are_lines = all_done (rules_of (session_of p)) s j.2.1; is_text = refl } }) j.2)

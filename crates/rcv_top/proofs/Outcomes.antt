@@ -32,7 +32,7 @@ both : {A : Type 0} (f : List (List ℕ) → Body → A) (p q : Protocol) → p.
 both f p q roles bodies = ap (λ rs. f rs (body_of p.body)) roles ∙ ap (λ b. f q.roles b) bodies
 
 same_rules : (p q : Protocol) → p.roles ≡ q.roles → body_of p.body ≡ body_of q.body → rules_of (session_of p) ≡ rules_of (session_of q)
-same_rules p q = both (λ roles body. bare_rules body (length roles)) p q
+same_rules p q = both (λ roles body. bare_rules body (length roles) (λ r. [])) p q
 
 -- a line says the same of two protocols that say the same
 abbrev event_words : Event → List (List ℕ) → Body → List ℕ
