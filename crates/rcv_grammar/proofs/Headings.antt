@@ -43,9 +43,9 @@ decls_follow s aliases (d ∷ ds) k next st e =
     let c = decls_follow s (aliases ++ d.alias ∷ []) ds k next st b.1 in (
       c.0,
       λ us.
-        over (is_decl_word d.word) on (Name d.word) (word_behind d (decls ds (Is Global ∷ us))) a.0
-        ∙ past (holds d.alias aliases) Twice alias_on (Name d.alias) (Is Semicolon ∷ decls ds (Is Global ∷ us)) b.0
-        ∙ c.1 us,
+          over (is_decl_word d.word) on (Name d.word) (word_behind d (decls ds (Is Global ∷ us))) a.0
+          ∙ past (holds d.alias aliases) Twice alias_on (Name d.alias) (Is Semicolon ∷ decls ds (Is Global ∷ us)) b.0
+          ∙ c.1 us,
     )
 
 roles_follow : (before : List (List ℕ)) (ns : List (List ℕ)) (k : List Item) (next : List Symbol) (st : State) → answer (known before 0) (MoreRoles ∷ k) (roles_behind ns (Is Right ∷ next)) ≡ Taken st
@@ -63,10 +63,10 @@ roles_follow before (n ∷ ns) k next st e =
     let same : (before ++ n ∷ []) ++ ns ≡ before ++ n ∷ ns = append_assoc before (n ∷ []) ns in (
       subst (λ (x : List (List ℕ)). answer (known x 0) k next ≡ Taken st) same c.0,
       λ us.
-        past (holds n before) Twice (unless (nat_le 8 (length before)) TooMany on) (Name n) (roles_behind ns (Is Right ∷ us)) a.0
-        ∙ past (nat_le 8 (length before)) TooMany on (Name n) (roles_behind ns (Is Right ∷ us)) b.0
-        ∙ c.1 us
-        ∙ ap (λ (x : List (List ℕ)). answer (known x 0) k us) same,
+          past (holds n before) Twice (unless (nat_le 8 (length before)) TooMany on) (Name n) (roles_behind ns (Is Right ∷ us)) a.0
+          ∙ past (nat_le 8 (length before)) TooMany on (Name n) (roles_behind ns (Is Right ∷ us)) b.0
+          ∙ c.1 us
+          ∙ ap (λ (x : List (List ℕ)). answer (known x 0) k us) same,
     )
 
 -- the symbols from the declarations to the statements of the body, and all of them in front of the statements
@@ -86,7 +86,7 @@ head_follows s next st e =
     let c = roles_follow (s.role ∷ []) s.other_roles (This (Is Open) ∷ k) (Is Open ∷ next) st b.0 in (
       c.0,
       λ us.
-        modules_go begin s.module_more (Decls [] ∷ named_on) (decls s.declared (Is Global ∷ named_front s us))
-        ∙ b.1 (named_front s us)
-        ∙ c.1 (Is Open ∷ us),
+          modules_go begin s.module_more (Decls [] ∷ named_on) (decls s.declared (Is Global ∷ named_front s us))
+          ∙ b.1 (named_front s us)
+          ∙ c.1 (Is Open ∷ us),
     )

@@ -150,9 +150,6 @@ more_is_rest s p (ADo m r rs rest) k next = refl
 
 -- ---- all statements of a block, up to the brace behind it
 
-
-
-
 message_taken : (roles : List (List ℕ)) (n : ℕ) (p : Place) (label : List ℕ) (ss : List (List ℕ)) (s r : List ℕ) (rs : List (List ℕ)) (k : List Item) (next : List Symbol) (st : State)
     → answer (known roles n) (Rest p ∷ k) (Name label ∷ Is Left ∷ sort_list ss (Is Right ∷ Is From ∷ Name s ∷ Is To ∷ Name r ∷ on_receivers rs next)) ≡ Taken st
     → (p.ended ≡ false) × IsDeclared roles s × AreTaken roles (role_at roles s) n [] (r ∷ rs) × (answer (known roles (n + (1 + length rs))) (Rest (behind p false) ∷ k) next ≡ Taken st)
