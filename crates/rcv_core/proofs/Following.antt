@@ -12,54 +12,68 @@ use Rattle.rcv_tree.specs.declared.event.Dir.TheVariants.{Sent, Got}
 use Rattle.rcv_core.specs.declared.standing.Standing.{Standing}
 use Rattle.rcv_model.specs.Net.{Net}
 use Rattle.rcv_model.specs.Run.{Act, acts, place_of, is_sent, puts_on, takes_on, put_by, taken_by, put, taken}
-use Rattle.rcv_model.specs.Journal.{State, after_event}
+use Rattle.rcv_model.specs.Script.{Line, first_vars, carry_out, vars_from, vars_of}
+use Rattle.rcv_model.specs.Journal.{State, events_of, after_event}
 use Rattle.rcv_model.proofs.Numbers.{bump_at, bump_other}
 use Rattle.rcv_core.specs.Book.{ChannelView, empty, between, channel_at, with_put, with_taken, Carry, at_start, moved, StandsAt, Stand}
 use Rattle.rcv_model.proofs.Parts.{acts_own, acts_other}
 use Rattle.rcv_model.proofs.Steps.{not_taken}
-use Rattle.rcv_model.proofs.Keeping.{put_none, taken_none}
+use Rattle.rcv_model.proofs.Keeping.{put_none, taken_none, by_role_other}
+use Rattle.rcv_model.proofs.Explained.{by_role_own}
 
 place_snoc : (k : ℕ) (done : List Act) (a : Act) → place_of k (done ++ a ∷ []) ≡ a.point
 place_snoc k [] a = refl
 place_snoc k (b ∷ done) a = place_snoc b.point done a
 
-stands_own : (roles : ℕ) (s : State) (standings : List Standing) (e : Event) → e.role < roles → Stand roles s standings → StandsAt (after_event s e) e.role (get_or (moved standings e) e.role at_start)
-stands_own roles s standings e lt stand = subst (StandsAt (after_event s e) e.role) (sym here) (record {
-  place = sym (ap (place_of 0) (acts_own s.kept e) ∙ place_snoc 0 (acts e.role s.kept) _);
-  kept = ap (λ n. n + 1) before.kept ∙ sym (ap length (acts_own s.kept e) ∙ length-append (acts e.role s.kept) _);
-  raw = ap (λ n. n + 1) before.raw ∙ sym (bump_at s.raw e.role (omega (arith, stand.raws)));
-  clock = sym (get_or-set_at s.clocks e.role e.role e.stamp 0 refl (omega (arith, stand.clocks)));
-  few = let x = before.few in omega arith;
-})
-  where
-    before : StandsAt s e.role (get_or standings e.role at_start)
-    before = stand.each e.role lt
+-- the variables behind one event more
+vars_more : (net : Net) (lines : List Line) (vars : List ℤ) (h : List Event) (e : Event) → vars_from net lines vars (h ++ e ∷ []) ≡ carry_out (net.label e.point) e.value lines (vars_from net lines vars h)
+vars_more net lines vars [] e = refl
+vars_more net lines vars (x ∷ h) e = vars_more net lines (carry_out (net.label x.point) x.value lines vars) h e
 
-    here : get_or (moved standings e) e.role at_start ≡ record { place = e.point; kept = (get_or standings e.role at_start).kept + 1; raw = (get_or standings e.role at_start).raw + 1; clock = e.stamp }
-    here = get_or-set_at standings e.role e.role _ at_start refl (omega (arith, stand.all))
+-- these are the variables of the event's role behind the event
+abbrev pub AreBehind : Net → (ℕ → List Line) → State → Event → List ℤ → Type 0
+AreBehind net scripts s e vars = vars ≡ carry_out (net.label e.point) e.value (scripts e.role) (vars_of net (scripts e.role) (events_of e.role s.kept))
 
-stands_other : (roles : ℕ) (s : State) (standings : List Standing) (e : Event) (r : ℕ) → r < roles → (e.role ≡ r → ⊥) → Stand roles s standings → StandsAt (after_event s e) r (get_or (moved standings e) r at_start)
-stands_other roles s standings e r lt other stand = subst (StandsAt (after_event s e) r) (sym (get_or-set_other standings e.role r _ at_start (λ f. other (sym f)))) (record {
-  place = before.place ∙ sym (ap (place_of 0) (acts_other r s.kept e other));
-  kept = before.kept ∙ sym (ap length (acts_other r s.kept e other));
-  raw = before.raw ∙ sym (bump_other s.raw e.role r other);
-  clock = before.clock ∙ sym (get_or-set_other s.clocks e.role r e.stamp 0 (λ f. other (sym f)));
-  few = before.few;
-})
-  where
-    before : StandsAt s r (get_or standings r at_start)
-    before = stand.each r lt
+module _ (net : Net) (scripts : ℕ → List Line) (roles : ℕ) (s : State) (standings : List Standing) (e : Event) (vars : List ℤ) (stand : Stand net scripts roles s standings) where
+  stands_own : e.role < roles → AreBehind net scripts s e vars → StandsAt net (scripts e.role) (after_event s e) e.role (get_or (moved standings e vars) e.role at_start)
+  stands_own lt behind = subst (StandsAt net (scripts e.role) (after_event s e) e.role) (sym here) (record {
+    place = sym (ap (place_of 0) (acts_own s.kept e) ∙ place_snoc 0 (acts e.role s.kept) _);
+    kept = ap (λ n. n + 1) before.kept ∙ sym (ap length (acts_own s.kept e) ∙ length-append (acts e.role s.kept) _);
+    raw = ap (λ n. n + 1) before.raw ∙ sym (bump_at s.raw e.role (omega (arith, stand.raws)));
+    clock = sym (get_or-set_at s.clocks e.role e.role e.stamp 0 refl (omega (arith, stand.clocks)));
+    vars = behind ∙ sym (ap (vars_of net (scripts e.role)) (by_role_own e.role s.kept e refl) ∙ vars_more net (scripts e.role) (first_vars (scripts e.role)) (events_of e.role s.kept) e);
+    few = let x = before.few in omega arith;
+  })
+    where
+      before : StandsAt net (scripts e.role) s e.role (get_or standings e.role at_start)
+      before = stand.each e.role lt
 
-pub stand_more : (roles : ℕ) (s : State) (standings : List Standing) (e : Event) → e.role < roles → Stand roles s standings → Stand roles (after_event s e) (moved standings e)
-stand_more roles s standings e lt stand = record {
-  all = length-set standings e.role _ ∙ stand.all;
-  raws = length-set s.raw e.role _ ∙ stand.raws;
-  clocks = length-set s.clocks e.role _ ∙ stand.clocks;
-  each = λ r low. ⊎_elim
-      (λ f. subst (λ q. StandsAt (after_event s e) q (get_or (moved standings e) q at_start)) f (stands_own roles s standings e lt stand))
-      (λ other. stands_other roles s standings e r low other stand)
-      (cases_eq e.role r);
-}
+      here : get_or (moved standings e vars) e.role at_start ≡ record { place = e.point; kept = (get_or standings e.role at_start).kept + 1; raw = (get_or standings e.role at_start).raw + 1; clock = e.stamp; vars = vars }
+      here = get_or-set_at standings e.role e.role _ at_start refl (omega (arith, stand.all))
+
+  stands_other : (r : ℕ) → r < roles → (e.role ≡ r → ⊥) → StandsAt net (scripts r) (after_event s e) r (get_or (moved standings e vars) r at_start)
+  stands_other r lt other = subst (StandsAt net (scripts r) (after_event s e) r) (sym (get_or-set_other standings e.role r _ at_start (λ f. other (sym f)))) (record {
+    place = before.place ∙ sym (ap (place_of 0) (acts_other r s.kept e other));
+    kept = before.kept ∙ sym (ap length (acts_other r s.kept e other));
+    raw = before.raw ∙ sym (bump_other s.raw e.role r other);
+    clock = before.clock ∙ sym (get_or-set_other s.clocks e.role r e.stamp 0 (λ f. other (sym f)));
+    vars = before.vars ∙ sym (ap (vars_of net (scripts r)) (by_role_other r s.kept e other));
+    few = before.few;
+  })
+    where
+      before : StandsAt net (scripts r) s r (get_or standings r at_start)
+      before = stand.each r lt
+
+  pub stand_more : e.role < roles → AreBehind net scripts s e vars → Stand net scripts roles (after_event s e) (moved standings e vars)
+  stand_more lt behind = record {
+    all = length-set standings e.role _ ∙ stand.all;
+    raws = length-set s.raw e.role _ ∙ stand.raws;
+    clocks = length-set s.clocks e.role _ ∙ stand.clocks;
+    each = λ r low. ⊎_elim
+        (λ f. subst (λ q. StandsAt net (scripts q) (after_event s e) q (get_or (moved standings e vars) q at_start)) f (stands_own lt behind))
+        (λ other. stands_other r low other)
+        (cases_eq e.role r);
+  }
 
 -- one more element that a map takes, or leaves out
 mapped : {A B : Type 0} (f : A → Option B) (xs : List A) (x : A) (y : B) → f x ≡ Some y → filter_map f (xs ++ x ∷ []) ≡ filter_map f xs ++ y ∷ []

@@ -4,9 +4,10 @@ ghost use Rattle.std.specs.Prelude.{◌≡◌, ◌<◌, ◌≤◌, ◌+◌, ◌�
 ghost use Rattle.rcv_model.specs.Run.{acts, put, taken, IsRun};
 ghost use Rattle.rcv_model.specs.Act.{IsDone};
 ghost use Rattle.rcv_tree.specs.declared.entry.Entry.TheVariants.{Send, Recv};
-ghost use Rattle.rcv_model.specs.Journal.{May, MaySend, MayRecv, IsLegal, KeepsRuns};
+ghost use Rattle.rcv_model.specs.Journal.{May, MaySend, MayRecv, events_of, IsLegal, KeepsRuns};
 ghost use Rattle.rcv_model.specs.Final.{CanAct, IsActOf, IsFinal, AreDone, IsStep};
-ghost use Rattle.rcv_core.specs.Setup.{roles_of, net_for, rules_of};
+ghost use Rattle.rcv_model.specs.Script.{carry_out, vars_of};
+ghost use Rattle.rcv_core.specs.Setup.{roles_of, net_for, lines_of, rules_of};
 ghost use Rattle.rcv_core.specs.Book.{BookView, state_of, IsOutcome, GoesOn, EndsAlone, IsNextSend, IsNextRecv};
 
 use crate::channel::Channels;
@@ -18,6 +19,7 @@ use rcv_tree::entry::Entry;
 use rcv_tree::event::{Dir, Event};
 use rcv_tree::point::Point;
 use rcv_tree::role::RoleId;
+use rcv_tree::variables::Vars;
 use std::alloc::{AllocError, Global};
 use std::marker::Model;
 
@@ -57,11 +59,11 @@ impl<'a> Book<'a> {
     pub fn new(alloc: Global, setup: &'a Setup) -> Result<Book<'a>, AllocError>
         ensures { IfOk result (λ book. book ≡ record { setup = setup.now; entries = [] }) }
     {
-        // Tells the proof that the protocol is plain.
+        // Tells the proof that the protocol is accepted.
         let _protocol = setup.protocol();
         let mut standings = Vec::new(alloc);
-        for _ in 0..setup.roles() {
-            standings.push(Standing::START)?;
+        for role in 0..setup.roles() {
+            standings.push(Standing::new(setup.start(RoleId(role))))?;
         }
         Ok(Book {
             setup,
@@ -88,7 +90,7 @@ impl<'a> Book<'a> {
         }
     }
 
-    /// What a declared role does next: the Send of its next point, or the Recv of the message that it waits for.
+    /// What a declared role does next: the Send that its script chooses, or the Recv of the message that it waits for.
     /// None where it is done, where its raw count is at the limit, where its channel is full, and where no message waits.
     pub fn step(&self, role: RoleId) -> Option<Entry>
         requires { role < roles_of self.now.setup }
@@ -98,13 +100,15 @@ impl<'a> Book<'a> {
         if standing.raw >= LIMIT {
             return None;
         }
-        let Some(point) = self.setup.next(role, standing.place) else {
+        let offered = self.setup.next(role, standing.place);
+        let [first, ..] = offered else {
             return None;
         };
-        if self.setup.sender(point) == role {
-            self.send(role, point, standing.clock)
+        let sender = self.setup.sender(*first);
+        if sender == role {
+            self.send(role, offered, standing)
         } else {
-            self.recv(role, point, standing.clock)
+            self.recv(role, sender, standing)
         }
     }
 
@@ -158,7 +162,7 @@ impl<'a> Book<'a> {
         ensures { IsTrue result ↔ IsDone (net_for self.now.setup) role (state_of self.now).kept }
     {
         let standing = &self.standings[role.0 as usize];
-        self.setup.next(role, standing.place).is_none()
+        self.setup.next(role, standing.place).is_empty()
     }
 
     /// How many kept Sends, and how many kept Recvs, the channel from one declared role to another has.
@@ -247,11 +251,12 @@ impl<'a> Book<'a> {
         }
     }
 
-    // The Send of the point, which is the role's next one, if its channel has room.
-    fn send(&self, role: RoleId, point: Point, clock: u64) -> Option<Entry>
-        requires { IsNextSend self.now role point clock }
+    // The Send of the offered point that the role's script chooses, if its channel has room.
+    fn send(&self, role: RoleId, offered: &[Point], standing: &Standing) -> Option<Entry>
+        requires { IsNextSend self.now role offered.now standing.now }
         ensures { MatchOption result (CanAct (rules_of self.now.setup) (state_of self.now) role → ⊥) (λ e. IsActOf (rules_of self.now.setup) (state_of self.now) role e) }
     {
+        let point = self.setup.choose(role, &standing.vars, offered);
         let (put, taken) = self.channels.counts(role, self.setup.receiver(point));
         if put - taken >= ROOM {
             return None;
@@ -260,31 +265,37 @@ impl<'a> Book<'a> {
             role,
             dir: Dir::Sent,
             point,
-            value: 0,
-            stamp: clock + 1,
-            sent: clock + 1,
+            value: self.setup.value(role, &standing.vars, point),
+            stamp: standing.clock + 1,
+            sent: standing.clock + 1,
         }))
     }
 
-    // The Recv of the point, which is the role's next one, if its message is in front of its channel.
-    fn recv(&self, role: RoleId, point: Point, clock: u64) -> Option<Entry>
-        requires { IsNextRecv self.now role point clock }
+    // The Recv of the message in front of the channel from the role that all next points are to be received from.
+    fn recv(&self, role: RoleId, from: RoleId, standing: &Standing) -> Option<Entry>
+        requires { IsNextRecv self.now role from standing.now }
         ensures { MatchOption result (CanAct (rules_of self.now.setup) (state_of self.now) role → ⊥) (λ e. IsActOf (rules_of self.now.setup) (state_of self.now) role e) }
     {
-        let Some(message) = self.channels.front(self.setup.sender(point), role) else {
-            return None;
-        };
-        if message.point != point {
-            return None;
-        }
+        let message = self.channels.front(from, role)?;
         Some(Entry::Recv(Event {
             role,
             dir: Dir::Got,
-            point,
+            point: message.point,
             value: message.value,
-            stamp: clock.max(message.stamp) + 1,
+            stamp: standing.clock.max(message.stamp) + 1,
             sent: message.stamp,
         }))
+    }
+
+    // The variables of the event's role behind the event.
+    fn vars_behind(&self, event: &Event) -> Vars
+        requires declared { event.now.role < roles_of self.now.setup }
+        requires first { 1 ≤ event.now.point }
+        requires last { event.now.point ≤ (net_for self.now.setup).count }
+        ensures { result ≡ carry_out ((net_for self.now.setup).label event.now.point) event.now.value (lines_of self.now.setup event.now.role) (vars_of (net_for self.now.setup) (lines_of self.now.setup event.now.role) (events_of event.now.role (state_of self.now).kept)) }
+    {
+        let standing = &self.standings[event.role.0 as usize];
+        self.setup.vars_behind(&standing.vars, event)
     }
 
     // Adds a Send, which goes on the channel to the receiver of its point.
@@ -295,12 +306,14 @@ impl<'a> Book<'a> {
         ensures run { IsRun (net_for self.new.setup) (state_of self.new).kept }
     {
         let receiver = self.setup.receiver(event.point);
+        let vars = self.vars_behind(event);
         record_send(
             &mut self.entries,
             &mut self.channels,
             &mut self.standings,
             receiver,
             event,
+            vars,
         )
     }
 
@@ -312,12 +325,14 @@ impl<'a> Book<'a> {
         ensures run { IsRun (net_for self.new.setup) (state_of self.new).kept }
     {
         let sender = self.setup.sender(event.point);
+        let vars = self.vars_behind(event);
         record_recv(
             &mut self.entries,
             &mut self.channels,
             &mut self.standings,
             sender,
             event,
+            vars,
         )
     }
 }

@@ -1,26 +1,30 @@
-// The setup of a session: its protocol, and what is found once for all of its roles.
+// The setup of a session: its accepted protocol and its scripts.
 
-ghost use Rattle.std.specs.Prelude.{◌≡◌, ◌<◌, ◌≤◌, IfOk};
-ghost use Rattle.rcv_core.specs.Setup.{SetupView, IsPlainProtocol, IsNextPoint, roles_of, net_for};
+ghost use Rattle.std.specs.Prelude.{◌≡◌, ◌<◌, ◌≤◌, [], length};
+ghost use Rattle.rcv_model.specs.Next.{IsPlaceOf, AreNext};
+ghost use Rattle.rcv_model.specs.Script.{first_vars, carry_out, pick, number_for};
+ghost use Rattle.rcv_accept.specs.Accepted.{IsAcceptedProtocol};
+ghost use Rattle.rcv_core.specs.Setup.{SetupView, roles_of, net_for, lines_of};
 
-use crate::next::NextPoints;
-use crate::single::{Single, single_at};
+use rcv_accept::accepted::Accepted;
+use rcv_script::scripts::Scripts;
+use rcv_tree::event::Event;
 use rcv_tree::point::Point;
 use rcv_tree::protocol::Protocol;
 use rcv_tree::role::RoleId;
-use std::alloc::{AllocError, Global};
+use rcv_tree::variables::Vars;
 use std::marker::Model;
 
-/// A protocol to be run. Contracts see the protocol; each role's next point behind each place follows from it.
+/// A protocol to be run, and its roles' scripts. Contracts see both; each role's next points follow from the protocol.
 #[derive(Drop)]
 pub struct Setup {
-    protocol: Protocol,
-    // For each role of the protocol.
-    next: Vec<NextPoints>,
+    accepted: Accepted,
+    scripts: Scripts,
 }
 
 impl Model for Setup {
-    ghost use Rattle.rcv_core.specs.Setup.{SetupView, IsSetup};
+    ghost use Rattle.rcv_core.specs.Setup.{SetupView};
+    ghost use Rattle.rcv_accept.specs.Accepted.{IsAcceptedProtocol};
     ghost use Rattle.rcv_tree.specs.contracts.statement.Stmt as e;
     ghost use Rattle.std.specs.Coded.{codes};
 
@@ -28,38 +32,34 @@ impl Model for Setup {
 
     ghost coded = { Prim.hlevel (codes, e.the_row.coded) };
 
-    ghost view = { λ a. record { protocol = a.protocol } };
+    ghost view = { λ a. record { protocol = a.accepted.protocol; scripts = a.scripts } };
 
-    ghost invariant = { λ a. IsSetup a.protocol a.next.items };
+    ghost invariant = { λ a. IsAcceptedProtocol a.accepted.protocol };
 }
 
 impl Setup {
-    /// The setup of a session of a protocol of messages alone, without scripts and without a plan.
-    /// Fails where memory runs out.
-    pub fn plain(alloc: Global, protocol: Protocol) -> Result<Setup, AllocError>
-        requires { IsPlainProtocol protocol }
-        ensures { IfOk result (λ setup. setup ≡ record { protocol = protocol }) }
+    /// The setup of a session of an accepted protocol with these scripts and without a plan. It takes no memory.
+    pub fn of(accepted: Accepted, scripts: Scripts) -> Setup
+        ensures { result ≡ record { protocol = accepted.protocol; scripts = scripts } }
     {
-        let mut next = Vec::new(alloc);
-        for role in 0..protocol.roles.as_slice().len() {
-            next.push(NextPoints::of(alloc, &protocol, RoleId(role as u8))?)?;
-        }
-        Ok(Setup { protocol, next })
+        // Tells the proof that the protocol is accepted.
+        let _protocol = accepted.protocol();
+        Setup { accepted, scripts }
     }
 
-    /// The protocol, which holds messages alone.
+    /// The protocol, which is accepted.
     pub fn protocol(&self) -> &Protocol
         ensures value { result.now ≡ self.now.protocol }
-        ensures plain { IsPlainProtocol self.now.protocol }
+        ensures accepted { IsAcceptedProtocol self.now.protocol }
     {
-        &self.protocol
+        self.accepted.protocol()
     }
 
     /// How many roles the protocol declares, which are at most eight.
     pub fn roles(&self) -> u8
         ensures { result ≡ roles_of self.now }
     {
-        self.protocol.roles.as_slice().len() as u8
+        self.accepted.roles()
     }
 
     /// The label of a point of the text, which counts from 1.
@@ -68,7 +68,7 @@ impl Setup {
         requires last { point ≤ (net_for self.now).count }
         ensures { result.now ≡ (net_for self.now).label point }
     {
-        self.single(point).label.as_slice()
+        self.accepted.points().label(point)
     }
 
     /// The role that sends the message of a point of the text.
@@ -77,7 +77,7 @@ impl Setup {
         requires last { point ≤ (net_for self.now).count }
         ensures { result ≡ (net_for self.now).sender point }
     {
-        self.single(point).sender
+        self.accepted.points().sender(point)
     }
 
     /// The role that receives the message of a point of the text.
@@ -86,27 +86,53 @@ impl Setup {
         requires last { point ≤ (net_for self.now).count }
         ensures { result ≡ (net_for self.now).receiver point }
     {
-        self.single(point).receiver
+        self.accepted.points().receiver(point)
     }
 
-    /// The next point of a declared role behind a place, which is 0 for the start, or a point of the text.
-    /// None where the role's part ends there.
-    pub fn next(&self, role: RoleId, place: u16) -> Option<Point>
+    /// The next points of a declared role at a place of its own, which is 0 for the start or one of the role's points:
+    /// ascending, none where the role's part ends there.
+    pub fn next(&self, role: RoleId, place: u16) -> &[Point]
         requires role { role < roles_of self.now }
-        requires place { place ≤ (net_for self.now).count }
-        ensures { IsNextPoint (net_for self.now) role place result }
+        requires place { IsPlaceOf (net_for self.now) role place }
+        ensures { AreNext (net_for self.now) role place result.now }
     {
-        self.next[role.0 as usize].at(place)
+        self.accepted.next(role, place)
     }
 
-    // The message of a point of the text.
-    fn single(&self, point: Point) -> Single<'_>
+    /// The variables of a role's script before any event.
+    pub fn start(&self, role: RoleId) -> Vars
+        requires { role < roles_of self.now }
+        ensures { result ≡ first_vars (lines_of self.now role) }
+    {
+        self.scripts.start(role)
+    }
+
+    /// Which of the offered points, of which there are some and which the role sends, its script chooses.
+    pub fn choose(&self, role: RoleId, vars: &Vars, offered: &[Point]) -> Point
+        requires role { role < roles_of self.now }
+        requires some { offered.now ≡ [] → ⊥ }
+        ensures { result ≡ pick (net_for self.now) (lines_of self.now role) vars.now 0 offered.now }
+    {
+        self.scripts.choose(role, vars, 0, offered, self.accepted.points())
+    }
+
+    /// The number that the role sends at a point.
+    pub fn value(&self, role: RoleId, vars: &Vars, point: Point) -> i64
+        requires role { role < roles_of self.now }
         requires first { 1 ≤ point }
         requires last { point ≤ (net_for self.now).count }
-        ensures label { result.label.now ≡ (net_for self.now).label point }
-        ensures sender { result.sender ≡ (net_for self.now).sender point }
-        ensures receiver { result.receiver ≡ (net_for self.now).receiver point }
+        ensures { result ≡ number_for ((net_for self.now).label point) (lines_of self.now role) vars.now 0 }
     {
-        single_at(&self.protocol.body, point)
+        self.scripts.value(role, vars, 0, point, self.accepted.points())
+    }
+
+    /// The variables behind an event of the role.
+    pub fn vars_behind(&self, vars: &Vars, event: &Event) -> Vars
+        requires role { event.now.role < roles_of self.now }
+        requires first { 1 ≤ event.now.point }
+        requires last { event.now.point ≤ (net_for self.now).count }
+        ensures { result ≡ carry_out ((net_for self.now).label event.now.point) event.now.value (lines_of self.now event.now.role) vars.now }
+    {
+        self.scripts.received(event.role, vars, event.point, event.value, self.accepted.points())
     }
 }

@@ -1,0 +1,40 @@
+-- What the lines of the program say.
+use Rattle.std.specs.Prelude.{◌≡◌, ◌≤◌, length, ℕ, Bool, true, false, ◌||◌, List, [], ◌∷◌, map, Option, Some, None, slice_index_or}
+use Rattle.rcv_model.specs.Script as script
+use Rattle.rcv_model.specs.Script.{Expr, Test}
+use Rattle.rcv_script.specs.declared.line.Comparison.{Comparison}
+use Rattle.rcv_script.specs.declared.line.Comparison.TheVariants.{Less, AtMost, Same, Differ, More, AtLeast}
+use Rattle.rcv_script.specs.declared.line.Condition.{Condition}
+use Rattle.rcv_script.specs.declared.line.Line.{Line}
+use Rattle.rcv_script.specs.declared.line.Line.TheVariants.{Var, Send, Pick, On}
+use Rattle.rcv_points.specs.Follow.{PointsView}
+use Rattle.rcv_script.specs.Expressions.{sum_expr}
+
+abbrev pub test_of : Comparison → Test
+test_of Less = script.Less
+test_of AtMost = script.AtMost
+test_of Same = script.Same
+test_of Differ = script.Differ
+test_of More = script.More
+test_of AtLeast = script.AtLeast
+
+abbrev pub condition_of : Condition → script.Condition
+condition_of c = record { left = sum_expr c.left; test = test_of c.comparison; right = sum_expr c.right }
+
+abbrev pub when_of : Option Condition → Option script.Condition
+when_of None = None
+when_of (Some c) = Some (condition_of c)
+
+abbrev pub line_of : Line → script.Line
+line_of (Var first) = script.VarLine first
+line_of (Send label number) = script.SendLine label (sum_expr number)
+line_of (Pick label when) = script.PickLine label (when_of when)
+line_of (On label place number) = script.OnLine label place (sum_expr number)
+
+-- the lines of role r; a role without a script has none
+abbrev pub lines_at : List (List script.Line) → ℕ → List script.Line
+lines_at scripts r = slice_index_or scripts r []
+
+-- a point of the text
+abbrev pub IsPointOf : PointsView → ℕ → Type 0
+IsPointOf points p = (1 ≤ p) × (p ≤ length points.messages)

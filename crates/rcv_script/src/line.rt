@@ -1,0 +1,101 @@
+// Lines of a script, and what each kind of line does.
+
+ghost use Rattle.std.specs.Prelude.{◌≡◌, Option, pos, slice_set};
+ghost use Rattle.std.specs.Str.{bytes_eq};
+ghost use Rattle.rcv_model.specs.Script.{calculate, holds, is_met};
+ghost use Rattle.rcv_script.specs.Expressions.{sum_expr};
+ghost use Rattle.rcv_script.specs.Lines.{test_of, when_of};
+
+use crate::expression::Sum;
+use rcv_tree::name::Name;
+use rcv_tree::variables::Vars;
+
+/// How two numbers compare.
+#[derive(Clone, Copy, Debug, PartialEq, Eq)]
+pub enum Comparison {
+    Less,
+    AtMost,
+    Same,
+    Differ,
+    More,
+    AtLeast,
+}
+
+/// Two expressions and how they compare.
+#[derive(Drop)]
+pub struct Condition {
+    pub left: Sum,
+    pub comparison: Comparison,
+    pub right: Sum,
+}
+
+/// A line of a script.
+#[derive(Drop)]
+pub enum Line {
+    /// A variable, with its first value.
+    Var {
+        first: i64,
+    },
+    /// The number that is sent with a label.
+    Send {
+        label: Name,
+        number: Sum,
+    },
+    /// The label that is picked where the condition holds; without one it always holds.
+    Pick {
+        label: Name,
+        when: Option<Condition>,
+    },
+    /// The variable that is set behind each event with a label.
+    On {
+        label: Name,
+        place: u8,
+        number: Sum,
+    },
+}
+
+impl Comparison {
+    /// Whether it holds of these numbers.
+    pub fn holds(self, left: i64, right: i64) -> bool
+        ensures { result ≡ holds (test_of self) left right }
+    {
+        match self {
+            Comparison::Less => left < right,
+            Comparison::AtMost => left <= right,
+            Comparison::Same => left == right,
+            Comparison::Differ => left != right,
+            Comparison::More => left > right,
+            Comparison::AtLeast => left >= right,
+        }
+    }
+}
+
+/// Whether the condition of a pick line holds. It takes no memory.
+pub fn is_met(when: &Option<Condition>, vars: &Vars, attempt: u32) -> bool
+    ensures { result ≡ is_met (when_of when.now) vars.now attempt }
+{
+    match when {
+        None => true,
+        Some(condition) => {
+            let left = condition.left.value(vars, 0, attempt);
+            let right = condition.right.value(vars, 0, attempt);
+            condition.comparison.holds(left, right)
+        }
+    }
+}
+
+/// Sets the variable at a place; beyond the last one there is none.
+pub fn set(vars: &mut Vars, place: usize, number: i64)
+    ensures { vars.new ≡ slice_set vars.old place number }
+{
+    if place < vars.0.len() {
+        vars.0[place] = number;
+    }
+}
+
+/// Whether the two are the same.
+pub fn is(word: &[u8], other: &[u8]) -> bool
+    ensures { result ≡ bytes_eq word.now other.now }
+{
+    word == other
+}
