@@ -1,3 +1,4 @@
 pub mod Expressions
 pub mod Lines
 pub mod Codes
+pub mod Attempts

@@ -4,7 +4,8 @@ ghost use Rattle.std.specs.Prelude.{◌≡◌, Option, pos, slice_set};
 ghost use Rattle.std.specs.Str.{bytes_eq};
 ghost use Rattle.rcv_model.specs.Script.{calculate, holds, is_met};
 ghost use Rattle.rcv_script.specs.Expressions.{sum_expr};
-ghost use Rattle.rcv_script.specs.Lines.{test_of, when_of};
+ghost use Rattle.rcv_script.specs.Lines.{test_of, when_of, line_of};
+ghost use Rattle.rcv_script.specs.Attempts.{line_reads};
 
 use crate::expression::Sum;
 use rcv_tree::name::Name;
@@ -66,6 +67,22 @@ impl Comparison {
             Comparison::Differ => left != right,
             Comparison::More => left > right,
             Comparison::AtLeast => left >= right,
+        }
+    }
+}
+
+impl Line {
+    /// Whether the attempt stands in the line, which picks or sends. It takes no memory.
+    pub fn reads_attempt(&self) -> bool
+        ensures { result ≡ line_reads (line_of self.now) }
+    {
+        match self {
+            Line::Send { number, .. } => number.reads_attempt(),
+            Line::Pick {
+                when: Some(condition),
+                ..
+            } => condition.left.reads_attempt() || condition.right.reads_attempt(),
+            Line::Pick { when: None, .. } | Line::Var { .. } | Line::On { .. } => false,
         }
     }
 }
