@@ -2,3 +2,4 @@ pub mod Pieces
 pub mod Saying
 pub mod Lines
 pub mod Spelled
+pub mod Whole

@@ -38,18 +38,24 @@ pub says_sorts : (ns : List (List ℕ)) {next : List ℕ} {s : List Symbol} → 
 says_sorts [] h said stop = said
 says_sorts (n ∷ ns) h said stop = says_list n ns h.0 h.1 said stop
 
+pub dots_stop : (ns : List (List ℕ)) (next : List ℕ) → StopsAt is_word_byte next → StopsAt is_word_byte (listed (codes ".") (codes ".") ns next)
+dots_stop ns next stop = stops_more (codes ".") ns next (λ x. refl) stop
+
 -- .a.b
 pub says_modules : (ns : List (List ℕ)) {next : List ℕ} {s : List Symbol} → AreNames ns → Says next s → StopsAt is_word_byte next
     → Says (listed (codes ".") (codes ".") ns next) (dotted ns s)
 says_modules [] h said stop = said
-says_modules (n ∷ ns) {next} h said stop = dot (name n h.0 (says_modules ns h.1 said stop) (stops_more (codes ".") ns next (λ x. refl) stop))
+says_modules (n ∷ ns) {next} h said stop = dot (name n h.0 (says_modules ns h.1 said stop) (dots_stop ns next stop))
+
+pub roles_stop : (ns : List (List ℕ)) (next : List ℕ) → StopsAt is_word_byte next → StopsAt is_word_byte (listed (codes ", role ") (codes ", role ") ns next)
+roles_stop ns next stop = stops_more (codes ", role ") ns next (λ x. refl) stop
 
 -- , role A, role B
 pub says_roles : (ns : List (List ℕ)) {next : List ℕ} {s : List Symbol} → AreNames ns → Says next s → StopsAt is_word_byte next
     → Says (listed (codes ", role ") (codes ", role ") ns next) (roles_behind ns s)
 says_roles [] h said stop = said
 says_roles (n ∷ ns) {next} h said stop =
-    comma (keyword (codes "role") Role (name n h.0 (says_roles ns h.1 said stop) (stops_more (codes ", role ") ns next (λ x. refl) stop)) refl refl (λ before. refl))
+    comma (keyword (codes "role") Role (name n h.0 (says_roles ns h.1 said stop) (roles_stop ns next stop)) refl refl (λ before. refl))
 
 -- ---- declarations
 

@@ -9,11 +9,11 @@ use Rattle.rcv_reader.specs.declared.sign.Sign.{Sign}
 use Rattle.rcv_reader.specs.declared.sign.Sign.TheVariants as sign
 use Rattle.rcv_reader.specs.Symbols.{Symbol, Is, Name, Quoted}
 use Rattle.rcv_reader.specs.Grammar.{stmts, blocks_behind, dotted, decls, roles_behind, spelling}
-use Rattle.rcv_grammar.specs.Canonical.{name_at, names_at, written_of, blocks_of, source_of}
-use Rattle.rcv_printer.specs.CanonicalText.{inner, listed, body_text, blocks_text, head_line, canonical}
+use Rattle.rcv_grammar.specs.Canonical.{name_at, names_at, first_name, more_names, written_of, blocks_of, source_of}
+use Rattle.rcv_printer.specs.CanonicalText.{inner, module_line, body_text, blocks_text, head_line, canonical}
 use Rattle.rcv_printer.specs.Printable.{IsName, AreNames, SomeNames, IsPrintableBody, ArePrintableBlocks, SomeBlocks, TwoBlocks, IsPrintable}
 use Rattle.rcv_printer.proofs.Saying.{Says, space, feed, left, dot, close, call_end, right, comma, greater, semicolon, opened, name, keyword, says_piece, says_nothing}
-use Rattle.rcv_printer.proofs.Lines.{IsMargin, behind_margin, inner_margin, says_list, says_modules, says_roles, says_decls, says_message}
+use Rattle.rcv_printer.proofs.Lines.{IsMargin, behind_margin, inner_margin, says_list, dots_stop, roles_stop, says_modules, says_roles, says_decls, says_message}
 
 -- the word in front of a brace says this sign
 abbrev pub Joins : List ℕ → Sign → Type 0
@@ -61,3 +61,27 @@ mutual
   says_blocks roles margin between word (Or body others) next s m joins h said =
       let more = close (says_blocks roles margin between word others next s m joins h.1 said) in
       joins _ _ (says_body roles (inner margin) body _ _ (inner_margin margin m) h.0 (behind_margin margin m more))
+
+-- ---- the whole text
+
+says_module : (names : List (List ℕ)) {next : List ℕ} {s : List Symbol} → SomeNames names → Says next s
+    → Says (module_line names next) (Is sign.Module ∷ Name (first_name names) ∷ dotted (more_names names) (Is sign.Semicolon ∷ s))
+says_module [] h said = absurd h
+says_module (n ∷ ns) h said =
+    let after = semicolon said in
+    keyword (codes "module") sign.Module (name n h.0 (says_modules ns h.1 after refl) (dots_stop ns _ refl)) refl refl (λ before. refl)
+
+says_head : (n : List ℕ) (roles : List (List ℕ)) {next : List ℕ} {s : List Symbol} → IsName n → SomeNames roles → Says next s
+    → Says (head_line n roles next)
+    (Is sign.Global ∷ Is sign.Protocol ∷ Name n ∷ Is sign.Left ∷ Is sign.Role ∷ Name (first_name roles) ∷ roles_behind (more_names roles) (Is sign.Right ∷ Is sign.Open ∷ s))
+says_head n [] h names said = absurd names
+says_head n (r ∷ rs) h names said =
+    let roles = name r names.0 (says_roles rs names.1 (right (opened said)) refl) (roles_stop rs _ refl) in
+    let called = name n h (left (keyword (codes "role") sign.Role roles refl refl (λ before. refl))) refl in
+    keyword (codes "global") sign.Global (keyword (codes "protocol") sign.Protocol called refl refl (λ before. refl)) refl refl (λ before. refl)
+
+pub says_canonical : (p : Protocol) → IsPrintable p → Says (canonical p) (spelling (source_of p))
+says_canonical p h =
+    let end = close (feed says_nothing) in
+    let body = says_body p.roles (inner []) (body_of p.body) _ _ (refl, (refl, tt)) h.body end in
+    says_module p.«module» h.modules (says_decls (declarations p.decls) h.declared (feed (says_head p.name p.roles h.named h.role_names body)))
