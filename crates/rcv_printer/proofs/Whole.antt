@@ -21,7 +21,7 @@ use Rattle.rcv_printer.proofs.Saying.{symbol_if, symbols_in, breaks, Says}
 
 none_here : (fresh : Bool) (place b : ℕ) (bs : List ℕ) → (b == 37 && fresh) ≡ false → here true fresh place (b ∷ bs) ≡ None
 none_here false place b bs e = refl
-none_here true place b bs e = let other : (37 == b) ≡ false = grind (arith, nat_tests) in rw other refl
+none_here true place b bs e = let other : (37 == b) ≡ false = grind (arith, nat_tests) in rw other (refl {a = None})
 
 none_from : (text : List ℕ) (fresh : Bool) (place : ℕ) → breaks fresh text ≡ false → first_from true fresh place text ≡ None
 none_from [] fresh place calm = refl
