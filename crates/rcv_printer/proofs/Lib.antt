@@ -5,3 +5,4 @@ pub mod Spelled
 pub mod Whole
 pub mod Tokens
 pub mod Printables
+pub mod ReadBack

@@ -35,3 +35,21 @@ CanonicalTextsAreSpelled = (p : Protocol) → IsPrintable p → IsTextOf (canoni
 abbrev pub ReadProtocolsArePrintable : Type 0
 ReadProtocolsArePrintable =
     (bundle : List ℕ) (part : Span) (tokens : List Token) (p : Protocol) → AreTokens bundle part tokens → IsRead (symbols_of bundle tokens) p → IsPrintable p
+
+-- The text is one part, and its tokens are read as this protocol.
+pub record IsReadAs (text : List ℕ) (p : Protocol) : Type 0 where
+  pub one_part : IsOnePart text
+  pub tokens : List Token
+  pub are_tokens : AreTokens text (whole text) tokens
+  pub read : IsRead (symbols_of text tokens) p
+
+-- The canonical text of a protocol that was read is read as this protocol.
+abbrev pub CanonicalTextsReadBack : Type 0
+CanonicalTextsReadBack =
+    (bundle : List ℕ) (part : Span) (tokens : List Token) (p : Protocol) → AreTokens bundle part tokens → IsRead (symbols_of bundle tokens) p → IsReadAs (canonical p) p
+
+-- What is read from the canonical text of a protocol that was read has this same canonical text.
+abbrev pub CanonicalTextsStay : Type 0
+CanonicalTextsStay =
+    (bundle : List ℕ) (part : Span) (tokens : List Token) (p q : Protocol) → AreTokens bundle part tokens → IsRead (symbols_of bundle tokens) p
+    → IsReadAs (canonical p) q → canonical q ≡ canonical p
