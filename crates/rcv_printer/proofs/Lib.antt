@@ -6,3 +6,4 @@ pub mod Whole
 pub mod Tokens
 pub mod Printables
 pub mod ReadBack
+pub mod Examples

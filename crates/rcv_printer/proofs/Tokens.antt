@@ -73,6 +73,7 @@ word_holds b bs letter = by_test (b ∷ bs) (nat_le (length run) 64) _ None shor
   where
     run : List ℕ
     run = take_while is_word_byte (b ∷ bs)
+
     short : nat_le (length run) 64 ≡ true → IsWord (take (length run) (b ∷ bs))
     short e =
         let begins : run ≡ b ∷ take_while is_word_byte bs = run_cases is_word_byte b bs true (letter_is_word_byte b letter) in
@@ -93,6 +94,7 @@ quoted_holds b bs (Some x) e = by_test (b ∷ bs) (x == 34 && nat_le (length run
   where
     run : List ℕ
     run = take_while is_inside bs
+
     short : (x == 34 && nat_le (length run) 64) ≡ true → IsQuotable (unquoted (take (length run + 2) (b ∷ bs)))
     short t =
         let le : length run ≤ 64 = grind (arith, nat_tests) in
