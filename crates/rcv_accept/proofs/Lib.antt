@@ -1,3 +1,5 @@
 pub mod Lists
 pub mod Firsts
 pub mod Unsent
+pub mod Rules
+pub mod Faults

@@ -1,5 +1,6 @@
 -- Lists of points, item by item.
-use Rattle.std.proofs.Common.{◌≡◌, ℕ, zero, suc, ◌+◌, ◌<◌, ◌≤◌, List, [], ◌∷◌, length, get_or, refl, sym, ◌∙◌, ap, subst, ◌⊎◌, inl, inr, ⊎_elim, arith}
+use Rattle.std.proofs.Common.{◌≡◌, ℕ, Bool, false, true, zero, suc, ◌+◌, ◌<◌, ◌≤◌, List, [], ◌∷◌, length, get_or, refl, sym, ◌∙◌, ap, subst, ◌⊎◌, inl, inr, ⊎_elim, arith}
+use Rattle.std.specs.Prelude.{IsTrue, ◌==◌}
 use Rattle.std.proofs.lemmas.Bool.{cases_lt}
 use Rattle.rcv_model.specs.Net.{IsIn}
 
@@ -36,3 +37,12 @@ none_next P zs i x lt e n all j low p = ⊎_elim
 
 pub none_in : (P : ℕ → Type 0) (zs : List ℕ) (i : ℕ) → length zs ≤ i → NoneBefore P zs i → (x : ℕ) × IsIn x zs × P x → ⊥
 none_in P zs i past all a = let k = index_of a.0 zs 0 a.1 in all k.0 (omega (arith, k.1)) (subst P (sym k.2) a.2)
+
+-- what is told false isn't so
+pub not_so : {P : Type 0} (b : Bool) → b ≡ false → (P → IsTrue b) → P → ⊥
+not_so b f tells p = let t = tells p in absurd (cc)
+
+-- the first item of a list that isn't empty
+pub first_in : (zs : List ℕ) (x : ℕ) → (length zs == 0) ≡ false → x ≡ get_or zs 0 x → IsIn x zs
+first_in [] x f e = absurd (cc)
+first_in (z ∷ zs) x f e = inl e

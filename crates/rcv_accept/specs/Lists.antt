@@ -1,8 +1,9 @@
 -- The rules on what a role does next at one place, where its next points are a list.
-use Rattle.std.specs.Prelude.{◌≡◌, ℕ, ◌≤◌, ◌⊎◌, List, Option, Some, None}
+use Rattle.std.specs.Prelude.{◌≡◌, ℕ, ◌≤◌, ◌⊎◌, Bool, IsTrue, List, [], Option, Some, None}
 use Rattle.rcv_model.specs.Text.{Body}
 use Rattle.rcv_model.specs.Net.{Net, IsIn}
 use Rattle.rcv_model.specs.Accept.{Fails}
+use Rattle.rcv_next.specs.Ahead.{IsMetBy}
 
 -- It is a point of the text; and all of these are.
 abbrev pub IsInText : Net → ℕ → Type 0
@@ -27,6 +28,21 @@ pub record AreTwins (net : Net) (x y : ℕ) : Type 0 where
   pub apart : x ≡ y → ⊥
   pub label : net.label x ≡ net.label y
   pub receiver : net.receiver x ≡ net.receiver y
+
+-- The rule on sends and receives fails; and the one on senders, where nothing is sent.
+abbrev pub IsMixed : Net → ℕ → List ℕ → Type 0
+IsMixed net r zs = HasSend net r zs × HasReceive net r zs
+
+abbrev pub HasManySenders : Net → ℕ → List ℕ → Type 0
+HasManySenders net r zs = HasReceive net r zs × HasTwoSenders net zs
+
+-- The rule on enabled choices fails, where nothing is received.
+abbrev pub IsLeftBehind : Net → ℕ → ℕ → List ℕ → Type 0
+IsLeftBehind net r k zs = HasSend net r zs × (IsMetBy net r k zs → ⊥)
+
+-- The rule on ended walks fails.
+abbrev pub IsForgotten : List ℕ → Bool → Type 0
+IsForgotten zs may_end = (zs ≡ [] → ⊥) × IsTrue may_end
 
 -- This point has a twin among these.
 abbrev pub HasTwin : Net → ℕ → List ℕ → Type 0

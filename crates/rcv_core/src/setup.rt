@@ -1,10 +1,11 @@
 // The setup of a session: its accepted protocol and its scripts.
 
-ghost use Rattle.std.specs.Prelude.{◌≡◌, ◌<◌, ◌≤◌, [], length};
+ghost use Rattle.std.specs.Prelude.{◌≡◌, ◌≢◌, ◌<◌, ◌≤◌, [], length};
+ghost use Rattle.std.specs.List.{All};
 ghost use Rattle.rcv_model.specs.Next.{IsPlaceOf, AreNext};
 ghost use Rattle.rcv_model.specs.Script.{first_vars, carry_out, pick, number_for};
 ghost use Rattle.rcv_accept.specs.Accepted.{IsAcceptedProtocol};
-ghost use Rattle.rcv_core.specs.Setup.{SetupView, roles_of, net_for, lines_of};
+ghost use Rattle.rcv_core.specs.Setup.{SetupView, roles_of, net_for, lines_of, IsPointOf};
 
 use rcv_accept::accepted::Accepted;
 use rcv_script::scripts::Scripts;
@@ -110,7 +111,8 @@ impl Setup {
     /// Which of the offered points, of which there are some and which the role sends, its script chooses.
     pub fn choose(&self, role: RoleId, vars: &Vars, offered: &[Point]) -> Point
         requires role { role < roles_of self.now }
-        requires some { offered.now ≡ [] → ⊥ }
+        requires some { offered.now ≢ [] }
+        requires points { All (IsPointOf self.now) offered.now }
         ensures { result ≡ pick (net_for self.now) (lines_of self.now role) vars.now 0 offered.now }
     {
         self.scripts.choose(role, vars, 0, offered, self.accepted.points())

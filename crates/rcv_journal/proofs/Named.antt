@@ -10,7 +10,8 @@ use Rattle.rcv_model.specs.Net.{Net, IsIn, IsWalk}
 use Rattle.rcv_model.specs.Next.{IsNext, AreNext, IsProper}
 use Rattle.rcv_model.specs.Journal.{State, start, after, May, IsLegalFrom, IsLegal}
 use Rattle.rcv_model.proofs.Forms.{proper}
-use Rattle.rcv_core.specs.Setup.{SetupView, IsPlainProtocol, text_of, roles_of, net_for, rules_of}
+use Rattle.rcv_accept.specs.Accepted.{IsAcceptedProtocol}
+use Rattle.rcv_core.specs.Setup.{SetupView, text_of, roles_of, net_for, rules_of}
 use Rattle.rcv_journal.specs.JournalText.{IsNamedEvent, IsNamed, AreNamed}
 
 -- the last point of a walk is offered somewhere
@@ -43,6 +44,6 @@ module _ (setup : SetupView) (form : IsProper (net_for setup) (roles_of setup)) 
   named_from s (e ∷ entries) size legal =
       All-cons (IsNamed setup) e entries (named s e size legal.0) (named_from (after (rules_of setup) s e) entries (keeps_size s e size) legal.1)
 
-pub legal_is_named : (setup : SetupView) (entries : List Entry) → IsPlainProtocol setup.protocol → IsLegal (rules_of setup) entries → AreNamed setup entries
+pub legal_is_named : (setup : SetupView) (entries : List Entry) → IsAcceptedProtocol setup.protocol → IsLegal (rules_of setup) entries → AreNamed setup entries
 legal_is_named setup entries plain legal =
     named_from setup (proper (text_of setup) (roles_of setup) plain.form) (start (roles_of setup)) entries (length-replicate (roles_of setup) _) legal

@@ -3,7 +3,8 @@ use Rattle.std.specs.Prelude.{◌≡◌, ℕ, ◌↔◌, List, codes}
 use Rattle.rcv_tree.specs.declared.entry.Entry.{Entry}
 use Rattle.rcv_model.specs.Journal.{State, IsLegal}
 use Rattle.rcv_model.specs.Final.{AreDone}
-use Rattle.rcv_core.specs.Setup.{SetupView, IsPlainProtocol, rules_of}
+use Rattle.rcv_accept.specs.Accepted.{IsAcceptedProtocol}
+use Rattle.rcv_core.specs.Setup.{SetupView, rules_of}
 use Rattle.rcv_journal.specs.declared.line.RoleLine.{RoleLine}
 use Rattle.rcv_journal.specs.JournalText.{AreNamed, last_line}
 use Rattle.rcv_journal.specs.Lines.{AreLinesOf, IsTextOf}
@@ -11,7 +12,7 @@ use Rattle.rcv_journal.specs.Lines.{AreLinesOf, IsTextOf}
 -- Each role and each point in a legal journal has a name.
 abbrev pub LegalJournalsAreNamed : Type 0
 LegalJournalsAreNamed =
-    (setup : SetupView) (entries : List Entry) → IsPlainProtocol setup.protocol → IsLegal (rules_of setup) entries → AreNamed setup entries
+    (setup : SetupView) (entries : List Entry) → IsAcceptedProtocol setup.protocol → IsLegal (rules_of setup) entries → AreNamed setup entries
 
 -- A journal has one text.
 abbrev pub JournalsHaveOneText : Type 0

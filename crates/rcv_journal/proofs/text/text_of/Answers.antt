@@ -1,7 +1,8 @@
 -- The entries of a legal journal are named, and so are the roles of the lines; the lines are the book's.
 use Rattle.std.proofs.Common.{◌≡◌, sym, ◌∙◌, ap, subst}
 use Rattle.std.proofs.lemmas.Result.{IfOk-weaker}
-use Rattle.rcv_core.specs.Setup.{SetupView, IsPlainProtocol}
+use Rattle.rcv_accept.specs.Accepted.{IsAcceptedProtocol}
+use Rattle.rcv_core.specs.Setup.{SetupView}
 use Rattle.rcv_core.specs.Book.{state_of}
 use Rattle.rcv_journal.specs.JournalText.{AreNamed, HaveRoles, journal_text}
 use Rattle.rcv_journal.proofs.Named.{legal_is_named}
@@ -10,7 +11,7 @@ use Rattle.rcv_journal.proofs.text.text_of.Goals as goal
 
 pub write_journal-requires-clause-entries : goal.write_journal-requires-clause-entries
 write_journal-requires-clause-entries c =
-    let plain : IsPlainProtocol c.args.book.now.setup.protocol = subst (λ (v : SetupView). IsPlainProtocol v.protocol) c.setup-setup.ensures c.protocol.ensures.plain in
+    let plain : IsAcceptedProtocol c.args.book.now.setup.protocol = subst (λ (v : SetupView). IsAcceptedProtocol v.protocol) c.setup-setup.ensures c.protocol.ensures.accepted in
     let named : AreNamed c.args.book.now.setup c.args.book.now.entries = legal_is_named c.args.book.now.setup c.args.book.now.entries plain c.entries.ensures.legal in
     subst (λ v. AreNamed v c.entries.result.now) (sym c.setup-setup.ensures) (subst (AreNamed c.args.book.now.setup) (sym c.entries.ensures.value) named)
 
