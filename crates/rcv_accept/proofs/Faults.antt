@@ -1,12 +1,12 @@
 -- The faults of a text, part by part.
-use Rattle.std.proofs.Common.{◌≡◌, ℕ, ◌+◌, ◌<◌, ◌≤◌, refl, sym, ◌∙◌, ap, subst, ◌⊎◌, inl, inr, ⊎_elim, arith}
+use Rattle.std.proofs.Common.{◌≡◌, ℕ, ◌+◌, ◌<◌, ◌≤◌, refl, sym, ◌∙◌, ap, subst, inl, inr, ⊎_elim, arith}
 use Rattle.std.specs.Prelude.{Option, Some, None}
 use Rattle.std.proofs.lemmas.Bool.{cases_lt}
 use Rattle.rcv_model.specs.Text.{Body}
 use Rattle.rcv_model.specs.Next.{IsPlaceOf, IsAccepted}
 use Rattle.rcv_model.specs.Places.{net_of}
 use Rattle.rcv_model.specs.Form.{HasForm}
-use Rattle.rcv_model.specs.Accept.{HasSubjects, IsReached, Fails, unreachable, IsNotAfter, IsRefusal}
+use Rattle.rcv_model.specs.Accept.{HasSubjects, IsReached, Fails, unreachable, IsNotAfter}
 use Rattle.rcv_model.proofs.Decided.{faultless}
 use Rattle.rcv_model.proofs.Refusals.{Case, IsUnreached, SubjectIsSilent}
 use Rattle.rcv_model.proofs.LeastRefusal.{told}
@@ -77,35 +77,20 @@ module _ (body : Body) (roles : ℕ) (form : HasForm body roles) where
       go (inr (inr (inr (inr (inr (inr a)))))) = (a.0, a.1)
 
   -- the first fault of a text
-  pub refused : (low high : ℕ) (f : Fault) → ((c r n : ℕ) → Fails body roles c r n → c < low → ⊥) → IsFirst (FailsWithin body roles low high) (Some f) → IsRefusal body roles f.code f.role f.number
-  refused low high f none a = record { fails = a.0.2; least = least }
-    where
-      least : (d q m : ℕ) → Fails body roles d q m → IsNotAfter f.code f.role f.number d q m
-      least d q m g = ⊎_elim
-          (λ before. absurd (none d q m g before))
-          (λ from. ⊎_elim
-          (λ past. inl (let b = a.0.1 in omega arith))
-          (λ within. a.1 d q m (from, within, g))
-          (cases_lt high d))
-          (cases_lt d low)
+  pub first_of_all : (a b ab d first : Option Fault) → IsFirst (FailsWithin body roles 20 20) a → IsFirst (FailsWithin body roles 21 25) b → IsEarlier a b ab → IsFirst (FailsWithin body roles 26 26) d → IsEarlier ab d first → IsFirst (Fails body roles) first
+  first_of_all a b ab d first x y e z f =
+      first_both (FailsWithin body roles 20 25) (FailsWithin body roles 26 26) (Fails body roles) ab d first
+      (first_both (FailsWithin body roles 20 20) (FailsWithin body roles 21 25) (FailsWithin body roles 20 25) a b ab x y e
+      (λ c r n w. (w.0, let high = w.1 in omega arith, w.2))
+      (λ c r n w. (let low = w.0 in omega arith, w.1, w.2))
+      (λ c r n w. ⊎_elim (λ lt. inl (w.0, omega arith, w.2)) (λ ge. inr (ge, w.1, w.2)) (cases_lt c 21)))
+      z f
+      (λ c r n w. w.2)
+      (λ c r n w. w.2)
+      (λ c r n w. ⊎_elim (λ lt. inl ((codes w).0, omega arith, w)) (λ ge. inr (ge, (codes w).1, w)) (cases_lt c 26))
 
-  pub accepted : IsFirst (FailsWithin body roles 20 20) None → IsFirst (FailsWithin body roles 21 25) None → IsFirst (FailsWithin body roles 26 26) None → IsAccepted (net_of body) roles × HasSubjects body
-  accepted a b d = (faultless body roles form).0 (λ c r n f. none c r n f (codes f))
-    where
-      none : (c r n : ℕ) → Fails body roles c r n → (20 ≤ c) × (c ≤ 26) → ⊥
-      none c r n f k = ⊎_elim
-          (λ low. a c r n (k.0, omega arith, f))
-          (λ from. ⊎_elim (λ mid. b c r n (from, omega arith, f)) (λ high. d c r n (high, k.1, f)) (cases_lt c 26))
-          (cases_lt c 21)
-
-  pub none_before_rules : IsFirst (FailsWithin body roles 20 20) None → (c r n : ℕ) → Fails body roles c r n → c < 21 → ⊥
-  none_before_rules a c r n f low = a c r n ((codes f).0, omega arith, f)
-
-  pub none_before_reach : IsFirst (FailsWithin body roles 20 20) None → IsFirst (FailsWithin body roles 21 25) None → (c r n : ℕ) → Fails body roles c r n → c < 26 → ⊥
-  none_before_reach a b c r n f low = ⊎_elim (λ lt. none_before_rules a c r n f lt) (λ from. b c r n (from, omega arith, f)) (cases_lt c 21)
-
-  pub none_before_subjects : (c r n : ℕ) → Fails body roles c r n → c < 20 → ⊥
-  none_before_subjects c r n f low = let k = codes f in absurd (omega (arith, k.0))
+  pub accepted : IsFirst (Fails body roles) None → IsAccepted (net_of body) roles × HasSubjects body
+  accepted none = (faultless body roles form).0 none
 
   -- at a place
   pub elsewhere : (r k : ℕ) → (IsPlaceOf (net_of body) r k → ⊥) → IsFirst (FailsAtPlace body roles r k) None

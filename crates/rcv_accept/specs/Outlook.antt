@@ -1,5 +1,5 @@
 -- What lies ahead of each role at each of its places.
-use Rattle.std.specs.Prelude.{◌≡◌, ℕ, ◌+◌, List, length, slice_get, Some, Option}
+use Rattle.std.specs.Prelude.{◌≡◌, ℕ, ◌+◌, List, length, slice_get, Some}
 use Rattle.std.specs.declared.alloc.Global.{Global}
 use Rattle.std.specs.declared.vec.Vec.{Vec}
 use Rattle.rcv_model.specs.Net.{Net}
@@ -10,7 +10,7 @@ use Rattle.rcv_next.specs.Ahead.{IsAhead}
 -- A role's row: what lies ahead at each place, from the start on, that is one of the role's.
 pub record IsRow (net : Net) (r : ℕ) (row : List Ahead) : Type 0 where
   pub all : length row ≡ net.count + 1
-  pub each : (k : ℕ) (a : Ahead) → IsPlaceOf net r k → slice_get row k ≡ Some a → IsAhead net r k a.next.items a.may_end
+  pub each : (k : ℕ) (a : Ahead) → slice_get row k ≡ Some a → IsPlaceOf net r k → IsAhead net r k a.next.items a.may_end
 
 -- The rows of so many roles.
 pub record AreRows (net : Net) (roles : ℕ) (rows : List (Vec Ahead Global)) : Type 0 where

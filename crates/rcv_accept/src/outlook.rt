@@ -44,7 +44,7 @@ pub fn row_of(alloc: Global, points: &Points, role: RoleId) -> Result<Vec<Ahead>
     ensures { IfOk result (λ row. IsRow (net_in points.now) role row.items) }
 {
     let mut row = Vec::new(alloc);
-    for place in 0..=points.count() {
+    for place in 0..points.count() + 1 {
         row.push(ahead_at(alloc, points, role, place)?)?;
     }
     Ok(row)

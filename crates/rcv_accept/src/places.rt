@@ -99,7 +99,7 @@ fn fault_in_row(points: &Points, role: RoleId, row: &[Ahead]) -> Option<Fault>
     ensures { (body : Body) (roles : ℕ) → role < roles → AreOf body roles points.now → IsFirst (FailsAtRole body roles role) result }
 {
     let mut first = None;
-    for place in 0..=points.count() {
+    for place in 0..points.count() + 1 {
         first = earlier(first, fault_at(points, role, place, &row[place as usize]));
     }
     first
@@ -112,7 +112,10 @@ pub fn fault_in_rows(points: &Points, roles: u8, rows: &[Vec<Ahead>]) -> Option<
 {
     let mut first = None;
     for role in 0..roles {
-        first = earlier(first, fault_in_row(points, RoleId(role), &rows[role as usize]));
+        first = earlier(
+            first,
+            fault_in_row(points, RoleId(role), &rows[role as usize]),
+        );
     }
     first
 }

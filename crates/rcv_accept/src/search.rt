@@ -1,21 +1,42 @@
 // Acceptance: the search for the first fault.
 
-ghost use Rattle.std.specs.Prelude.{◌≡◌, [], length, MatchResult};
-ghost use Rattle.rcv_model.specs.Text.{body_of};
+ghost use Rattle.std.specs.Prelude.{◌≡◌, ℕ, [], length, IfOk, MatchResult};
+ghost use Rattle.rcv_model.specs.Text.{Body, body_of};
 ghost use Rattle.rcv_model.specs.Places.{IsFull};
 ghost use Rattle.rcv_model.specs.Form.{HasForm};
+ghost use Rattle.rcv_model.specs.Accept.{Fails};
+ghost use Rattle.rcv_points.specs.Follow.{net_in};
+ghost use Rattle.rcv_accept.specs.Faults.{AreOf, IsFirst};
+ghost use Rattle.rcv_accept.specs.Outlook.{AreRows};
 ghost use Rattle.rcv_accept.specs.Accepted.{IsRefusedBy};
 
 use crate::accepted::Accepted;
-use crate::fault::Fault;
+use crate::fault::{Fault, earlier};
 use crate::outlook::rows_of;
 use crate::places::fault_in_rows;
 use crate::reach::first_unreached;
 use crate::subjects::fault_in_choices;
 use rcv_lexer::token::TextError;
+use rcv_next::ahead::Ahead;
 use rcv_points::filling::points_of;
+use rcv_points::points::Points;
 use rcv_tree::protocol::Protocol;
-use std::alloc::Global;
+use std::alloc::{AllocError, Global};
+
+// The first fault of a text, by its points and by what lies ahead of its roles. Fails where memory runs out.
+fn first_fault(
+    alloc: Global,
+    points: &Points,
+    roles: u8,
+    rows: &[Vec<Ahead>],
+) -> Result<Option<Fault>, AllocError>
+    requires text { (body : Body) × AreOf body roles points.now }
+    requires rows { AreRows (net_in points.now) roles rows.now }
+    ensures { IfOk result (λ first. (body : Body) → AreOf body roles points.now → IsFirst (Fails body roles) first) }
+{
+    let found = earlier(fault_in_choices(points), fault_in_rows(points, roles, rows));
+    Ok(earlier(found, first_unreached(alloc, points)?))
+}
 
 /// The protocol as an accepted one, or its refusal: the rule of acceptance that fails with the least code,
 /// at the least role, at the least number.
@@ -26,15 +47,9 @@ pub fn accept(alloc: Global, protocol: Protocol) -> Result<Accepted, TextError>
 {
     let points = points_of(alloc, &protocol)?;
     let roles = protocol.roles.as_slice().len() as u8;
-    if let Some(fault) = fault_in_choices(&points) {
-        return Err(TextError::Refused(fault.refusal()));
-    }
     let rows = rows_of(alloc, &points, roles)?;
-    if let Some(fault) = fault_in_rows(&points, roles, rows.as_slice()) {
-        return Err(TextError::Refused(fault.refusal()));
+    match first_fault(alloc, &points, roles, rows.as_slice())? {
+        Some(fault) => Err(TextError::Refused(fault.refusal())),
+        None => Ok(Accepted::of(protocol, points, rows)),
     }
-    if let Some(fault) = first_unreached(alloc, &points)? {
-        return Err(TextError::Refused(fault.refusal()));
-    }
-    Ok(Accepted::of(protocol, points, rows))
 }
