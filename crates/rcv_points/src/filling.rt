@@ -1,18 +1,17 @@
 // One walk along a text from its end to its start, which finds what each place offers.
 
-ghost use Rattle.std.specs.Prelude.{◌≡◌, ◌≤◌, length, IfOk};
+ghost use Rattle.std.specs.Prelude.{◌≡◌, [], List, ℕ, length, IfOk};
 ghost use Rattle.rcv_model.specs.Form.{HasForm};
 ghost use Rattle.rcv_model.specs.Places.{IsFull};
-ghost use Rattle.rcv_model.specs.Text.{body_of};
+ghost use Rattle.rcv_model.specs.Text.{Body, body_of, bodies_of, stmt_body};
 ghost use Rattle.rcv_points.specs.Follow.{ArePointsOf};
+ghost use Rattle.rcv_points.specs.Walk.{Found, AddsFull, AddsFullOf, IsFirstIn, IsFirstInOne};
+ghost use Rattle.rcv_points.specs.Filling.{found};
 
 use crate::offered::Offered;
 use crate::points::{ChoicePoints, Message, Points};
 use crate::recs::Recs;
-use rcv_tree::name::{Name, Names};
-use rcv_tree::point::Point;
 use rcv_tree::protocol::Protocol;
-use rcv_tree::role::RoleId;
 use rcv_tree::statement::{Block, Blocks, Stmt};
 use std::alloc::{AllocError, Global};
 
@@ -50,9 +49,11 @@ pub fn points_of(alloc: Global, protocol: &Protocol) -> Result<Points, AllocErro
 impl<'a> Filling<'a> {
     // Fills a block's places, where this is offered behind the block, and answers what the block offers.
     #[cycle(fill)]
-    fn block(&mut self, block: &'a Block, behind: &Offered) -> Result<Offered, AllocError> {
+    fn block(&mut self, block: &'a Block, behind: &Offered) -> Result<Offered, AllocError>
+        ensures { IfOk result (λ ahead. AddsFull (found self.old) behind.now (body_of block.now) (found self.new) ahead) }
+    {
         let stmts = block.as_slice();
-        let mut ahead = Offered::of(self.alloc, behind.as_slice())?;
+        let mut ahead = behind.copy(self.alloc)?;
         for index in (0..stmts.len()).rev() {
             ahead = self.stmt(&stmts[index], ahead)?;
         }
@@ -61,19 +62,23 @@ impl<'a> Filling<'a> {
 
     // The same for each of these blocks, and what one or the other offers.
     #[cycle(fill)]
-    fn blocks(&mut self, blocks: &'a Blocks, behind: &Offered) -> Result<Offered, AllocError> {
+    fn blocks(&mut self, blocks: &'a Blocks, behind: &Offered) -> Result<Offered, AllocError>
+        ensures { IfOk result (λ ahead. AddsFullOf (found self.old) behind.now (bodies_of blocks.now) (found self.new) ahead) }
+    {
         let branches = blocks.as_slice();
         let mut union = Offered::none(self.alloc);
         for index in (0..branches.len()).rev() {
             let first = self.block(&branches[index], behind)?;
-            union = Offered::union(self.alloc, first.as_slice(), union.as_slice())?;
+            union = first.union(&union, self.alloc)?;
         }
         Ok(union)
     }
 
     // The same for a statement.
     #[cycle(fill)]
-    fn stmt(&mut self, stmt: &'a Stmt, behind: Offered) -> Result<Offered, AllocError> {
+    fn stmt(&mut self, stmt: &'a Stmt, behind: Offered) -> Result<Offered, AllocError>
+        ensures { IfOk result (λ ahead. (before : Found) (next : List ℕ) (rest : Body) → AddsFull before next rest (found self.old) behind → AddsFull before next (stmt_body stmt.now rest) (found self.new) ahead) }
+    {
         match stmt {
             Stmt::Message {
                 label,
@@ -82,51 +87,38 @@ impl<'a> Filling<'a> {
                 receiver,
                 point,
             } => {
-                self.message(label, sorts, *sender, *receiver)?;
+                let message = Message::of(self.alloc, label, sorts, *sender, *receiver)?;
+                self.messages.push(message)?;
                 self.places.push(behind)?;
                 Offered::one(self.alloc, *point)
             }
             Stmt::Choice { subject, branches } => {
                 let offered = self.blocks(branches, &behind)?;
-                self.choice(*subject, &offered)?;
+                self.choices.push(ChoicePoints {
+                    subject: *subject,
+                    offered: offered.copy(self.alloc)?,
+                })?;
                 Ok(offered)
             }
             Stmt::Rec { name, body } => {
                 let offered = first_of_block(self.alloc, &self.recs, body)?;
-                self.recs.enter(name, Offered::of(self.alloc, offered.as_slice())?)?;
+                self.recs.enter(name, offered.copy(self.alloc)?)?;
                 self.block(body, &behind)?;
                 self.recs.leave();
                 Ok(offered)
             }
-            Stmt::Continue { name } => Offered::of(self.alloc, self.recs.offered_by(name)),
+            Stmt::Continue { name } => self.recs.offered_by(name, self.alloc),
             Stmt::Par { .. } => Ok(Offered::none(self.alloc)),
             Stmt::Do { .. } => Ok(Offered::none(self.alloc)),
         }
-    }
-
-    // Keeps the message of a point.
-    fn message(&mut self, label: &Name, sorts: &Names, sender: RoleId, receiver: RoleId) -> Result<(), AllocError> {
-        let message = Message {
-            label: Name::of(self.alloc, label.as_slice())?,
-            sender,
-            receiver,
-            payload: !sorts.as_slice().is_empty(),
-        };
-        self.messages.push(message)?;
-        Ok(())
-    }
-
-    // Keeps what a choice offers.
-    fn choice(&mut self, subject: RoleId, offered: &Offered) -> Result<(), AllocError> {
-        let offered = Offered::of(self.alloc, offered.as_slice())?;
-        self.choices.push(ChoicePoints { subject, offered })?;
-        Ok(())
     }
 }
 
 // What a block that isn't empty offers, whatever stands behind it: its first statement tells.
 #[cycle(first)]
-fn first_of_block(alloc: Global, recs: &Recs<'_>, block: &Block) -> Result<Offered, AllocError> {
+fn first_of_block(alloc: Global, recs: &Recs<'_>, block: &Block) -> Result<Offered, AllocError>
+    ensures { IfOk result (λ first. IsFirstIn recs.now (body_of block.now) first) }
+{
     match block.as_slice().first() {
         Some(stmt) => first_of_stmt(alloc, recs, stmt),
         None => Ok(Offered::none(alloc)),
@@ -135,24 +127,28 @@ fn first_of_block(alloc: Global, recs: &Recs<'_>, block: &Block) -> Result<Offer
 
 // What one or the other of these blocks offers, none of which is empty.
 #[cycle(first)]
-fn first_of_blocks(alloc: Global, recs: &Recs<'_>, blocks: &Blocks) -> Result<Offered, AllocError> {
+fn first_of_blocks(alloc: Global, recs: &Recs<'_>, blocks: &Blocks) -> Result<Offered, AllocError>
+    ensures { IfOk result (λ first. IsFirstInOne recs.now (bodies_of blocks.now) first) }
+{
     let branches = blocks.as_slice();
     let mut union = Offered::none(alloc);
     for index in (0..branches.len()).rev() {
         let first = first_of_block(alloc, recs, &branches[index])?;
-        union = Offered::union(alloc, first.as_slice(), union.as_slice())?;
+        union = first.union(&union, alloc)?;
     }
     Ok(union)
 }
 
 // What a statement offers, whatever stands behind it.
 #[cycle(first)]
-fn first_of_stmt(alloc: Global, recs: &Recs<'_>, stmt: &Stmt) -> Result<Offered, AllocError> {
+fn first_of_stmt(alloc: Global, recs: &Recs<'_>, stmt: &Stmt) -> Result<Offered, AllocError>
+    ensures { IfOk result (λ first. (rest : Body) → IsFirstIn recs.now (stmt_body stmt.now rest) first) }
+{
     match stmt {
         Stmt::Message { point, .. } => Offered::one(alloc, *point),
         Stmt::Choice { branches, .. } => first_of_blocks(alloc, recs, branches),
         Stmt::Rec { body, .. } => first_of_block(alloc, recs, body),
-        Stmt::Continue { name } => Offered::of(alloc, recs.offered_by(name)),
+        Stmt::Continue { name } => recs.offered_by(name, alloc),
         Stmt::Par { .. } => Ok(Offered::none(alloc)),
         Stmt::Do { .. } => Ok(Offered::none(alloc)),
     }

@@ -8,6 +8,7 @@ ghost use Rattle.rcv_model.specs.Places.{net_of};
 ghost use Rattle.rcv_points.specs.Follow.{PointsView, ArePointsOf, net_in};
 
 pub mod filling;
+mod merge;
 pub mod offered;
 pub mod points;
 mod recs;

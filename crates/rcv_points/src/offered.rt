@@ -1,14 +1,15 @@
-// Points that a place offers, ascending.
+// Points that are offered, ascending.
 
 ghost use Rattle.std.specs.Prelude.{◌≡◌, [], ◌∷◌, IfOk};
 ghost use Rattle.std.specs.List.Sorted.{IsStrictlyIncreasing};
 ghost use Rattle.rcv_model.specs.Places.{union};
 
+use crate::merge::merged;
 use rcv_tree::point::Point;
 use std::alloc::{AllocError, Global};
 use std::marker::Model;
 
-/// Points, in order.
+/// Points, ascending.
 #[derive(Drop)]
 pub struct Offered {
     items: Vec<Point>,
@@ -16,10 +17,13 @@ pub struct Offered {
 
 impl Model for Offered {
     ghost use Rattle.std.specs.Prelude.{List, ℕ};
+    ghost use Rattle.std.specs.List.Sorted.{IsStrictlyIncreasing};
 
     ghost Value = { List ℕ };
 
     ghost view = { λ a. a.items.items };
+
+    ghost invariant = { λ a. IsStrictlyIncreasing a.items.items };
 }
 
 impl Offered {
@@ -36,46 +40,34 @@ impl Offered {
     pub fn one(alloc: Global, point: Point) -> Result<Self, AllocError>
         ensures { IfOk result (λ one. one ≡ point ∷ []) }
     {
-        Offered::of(alloc, &[point])
+        Ok(Offered {
+            items: vec![in alloc; point]?,
+        })
     }
 
-    /// These points. Fails where memory runs out.
-    pub fn of(alloc: Global, points: &[Point]) -> Result<Self, AllocError>
-        ensures { IfOk result (λ offered. offered ≡ points.now) }
+    /// The same points once more. Fails where memory runs out.
+    pub fn copy(&self, alloc: Global) -> Result<Self, AllocError>
+        ensures { IfOk result (λ copy. copy ≡ self.now) }
     {
         Ok(Offered {
-            items: Vec::from_slice(alloc, points)?,
+            items: Vec::from_slice(alloc, self.as_slice())?,
+        })
+    }
+
+    /// The points of both, in one walk along them. Fails where memory runs out.
+    pub fn union(&self, other: &Offered, alloc: Global) -> Result<Self, AllocError>
+        ensures { IfOk result (λ both. both ≡ union self.now other.now) }
+    {
+        Ok(Offered {
+            items: merged(alloc, self.as_slice(), other.as_slice())?,
         })
     }
 
     /// The points. It takes no memory.
     pub fn as_slice(&self) -> &[Point]
-        ensures { result.now ≡ self.now }
+        ensures value { result.now ≡ self.now }
+        ensures ascending { IsStrictlyIncreasing result.now }
     {
         self.items.as_slice()
-    }
-
-    /// The points of both ascending lists, ascending, in one walk along them. Fails where memory runs out.
-    pub fn union(alloc: Global, left: &[Point], right: &[Point]) -> Result<Self, AllocError>
-        requires left { IsStrictlyIncreasing left.now }
-        requires right { IsStrictlyIncreasing right.now }
-        ensures { IfOk result (λ both. both ≡ union left.now right.now) }
-    {
-        let mut items = Vec::new(alloc);
-        let mut i = 0;
-        let mut j = 0;
-        while i < left.len() && j < right.len() {
-            let (x, y) = (left[i], right[j]);
-            if x <= y {
-                i += 1;
-            }
-            if y <= x {
-                j += 1;
-            }
-            items.push(x.min(y))?;
-        }
-        items.extend_from_slice(&left[i..])?;
-        items.extend_from_slice(&right[j..])?;
-        Ok(Offered { items })
     }
 }

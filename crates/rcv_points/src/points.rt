@@ -1,12 +1,13 @@
 // The points of a text: what each place offers, the message of each point, and what each choice offers.
 
-ghost use Rattle.std.specs.Prelude.{◌≡◌, ◌≤◌, length};
-ghost use Rattle.rcv_points.specs.Follow.{PointsView, AreWithin, net_in, offered_at, message_at};
+ghost use Rattle.std.specs.Prelude.{◌≡◌, ◌≤◌, length, IfOk};
+ghost use Rattle.rcv_points.specs.Follow.{PointsView, AreWithin, net_in, offered_at, message_at, has_some};
 
 use crate::offered::Offered;
-use rcv_tree::name::Name;
+use rcv_tree::name::{Name, Names};
 use rcv_tree::point::Point;
 use rcv_tree::role::RoleId;
+use std::alloc::{AllocError, Global};
 use std::marker::Model;
 
 /// The message of a point.
@@ -25,6 +26,20 @@ impl Model for Message {
     ghost Value = { PointView };
 
     ghost view = { λ a. record { label = a.label; sender = a.sender; receiver = a.receiver; payload = a.payload } };
+}
+
+impl Message {
+    /// The message that a statement says, with a copy of its label. Fails where memory runs out.
+    pub fn of(alloc: Global, label: &Name, sorts: &Names, sender: RoleId, receiver: RoleId) -> Result<Message, AllocError>
+        ensures { IfOk result (λ message. message ≡ record { label = label.now; sender = sender; receiver = receiver; payload = has_some sorts.now }) }
+    {
+        Ok(Message {
+            label: Name::of(alloc, label.as_slice())?,
+            sender,
+            receiver,
+            payload: !sorts.as_slice().is_empty(),
+        })
+    }
 }
 
 /// A choice: its subject, and the points that it offers, ascending.

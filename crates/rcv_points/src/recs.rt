@@ -1,11 +1,10 @@
 // The recursions that enclose a place of the text, each with the points that it offers.
 
-ghost use Rattle.std.specs.Prelude.{◌≡◌, ℕ, List, [], ◌∷◌, OnOk, OnErr};
+ghost use Rattle.std.specs.Prelude.{◌≡◌, ℕ, List, [], ◌∷◌, IfOk, OnOk};
 ghost use Rattle.rcv_model.specs.Places.{offered_by};
 
 use crate::offered::Offered;
 use rcv_tree::name::Name;
-use rcv_tree::point::Point;
 use std::alloc::{AllocError, Global};
 use std::marker::Model;
 
@@ -64,16 +63,17 @@ impl<'a> Recs<'a> {
         self.items.pop();
     }
 
-    /// What the innermost recursion of this name offers; nothing where none of this name encloses. It takes no memory.
-    pub fn offered_by(&self, name: &Name) -> &[Point]
-        ensures { result.now ≡ offered_by name.now self.now }
+    /// What the innermost recursion of this name offers; nothing where none of this name encloses.
+    /// Fails where memory runs out.
+    pub fn offered_by(&self, name: &Name, alloc: Global) -> Result<Offered, AllocError>
+        ensures { IfOk result (λ offered. offered ≡ offered_by name.now self.now) }
     {
         for index in (0..self.items.len()).rev() {
             let recursion = &self.items[index];
             if recursion.name.as_slice() == name.as_slice() {
-                return recursion.offered.as_slice();
+                return recursion.offered.copy(alloc);
             }
         }
-        &[]
+        Ok(Offered::none(alloc))
     }
 }
