@@ -1,6 +1,6 @@
 -- One statement more of a walk along a text, from its end to its start.
-use Rattle.std.proofs.Common.{◌≡◌, ℕ, List, [], ◌∷◌, ◌++◌, map, reverse, refl, sym, ◌∙◌, ap, subst, append_assoc, append-nil}
-use Rattle.std.proofs.lemmas.List.{reverse-append, map-append}
+use Rattle.std.proofs.Common.{◌≡◌, ◌<◌, ◌≤◌, ◌+◌, ◌-◌, ℕ, zero, suc, List, [], ◌∷◌, ◌++◌, length, get_or, drop, map, reverse, refl, sym, ◌∙◌, ap, subst, append_assoc, append-nil, arith}
+use Rattle.std.proofs.lemmas.List.{reverse-append, map-append, drop_more}
 use Rattle.rcv_model.specs.Text.{Body, End, Single, Choose, Loop, Again, Beside, Call, Bodies, NoMore, Or}
 use Rattle.rcv_model.specs.Places.{Single_at, union, offered_by, firsts, firsts_of, singles, singles_of, IsNothing, IsFull}
 use Rattle.rcv_points.specs.Follow.{PointView, ChoiceView, message_of}
@@ -137,3 +137,14 @@ adds_par before old after next bs rest ahead recs bare full = absurd full
 
 pub adds_do : (before after : Found) (next : List ℕ) (name roles : List ℕ) (rest : Body) (ahead : List ℕ) → AddsFull before next (Call name roles rest) after ahead
 adds_do before after next name roles rest ahead recs bare full = absurd full
+
+-- what is left of a list where a walk from its end comes to an item
+pub step_back : {A : Type 0} (xs : List A) (i : ℕ) (x : A) → 0 < i → i ≤ length xs → x ≡ get_or xs (i - 1) x → drop (i - 1) xs ≡ x ∷ drop i xs
+step_back xs i x some last e =
+    let n : i - 1 + 1 ≡ i = omega arith in
+    drop_more xs (i - 1) x (omega arith) ∙ ap (λ y. y ∷ drop (i - 1 + 1) xs) (sym e) ∙ ap (λ k. x ∷ drop k xs) n
+
+-- the same where nothing is left in front
+pub all_left : {A : Type 0} (xs : List A) (i : ℕ) → i ≤ 0 → drop i xs ≡ xs
+all_left xs zero le = refl
+all_left xs (suc i) le = absurd (omega arith)

@@ -87,10 +87,11 @@ impl<'a> Filling<'a> {
                 receiver,
                 point,
             } => {
+                let offered = Offered::one(self.alloc, *point)?;
                 let message = Message::of(self.alloc, label, sorts, *sender, *receiver)?;
                 self.messages.push(message)?;
                 self.places.push(behind)?;
-                Offered::one(self.alloc, *point)
+                Ok(offered)
             }
             Stmt::Choice { subject, branches } => {
                 let offered = self.blocks(branches, &behind)?;
