@@ -1,15 +1,15 @@
 -- The points that were found for a text in the form which the reader gives are the points of the text, and say its protocol.
-use Rattle.std.proofs.Common.{◌≡◌, ℕ, zero, suc, ◌+◌, ◌-◌, ◌<◌, ◌≤◌, ◌×◌, Bool, true, false, cond, Some, None, List, [], ◌∷◌, ◌++◌, length, map, get_or, reverse, refl, sym, ◌∙◌, ap, subst, ◌⊎◌, inl, inr, arith, length-append}
+use Rattle.std.proofs.Common.{◌≡◌, ℕ, zero, suc, ◌+◌, ◌-◌, ◌<◌, ◌≤◌, Bool, true, false, cond, Some, None, List, [], ◌∷◌, ◌++◌, length, map, get_or, reverse, refl, sym, ◌∙◌, ap, subst, ◌⊎◌, inl, inr, arith, length-append}
 use Rattle.std.specs.Prelude.{◌==◌, slice_index_or}
 use Rattle.std.proofs.lemmas.Bool.{cases_lt}
 use Rattle.std.proofs.lemmas.Bool.Decides.{nat_tests}
-use Rattle.std.proofs.lemmas.List.{map-append, length-map}
+use Rattle.std.proofs.lemmas.List.{map-append, length-map, reverse-append, reverse-reverse}
 use Rattle.std.specs.List.Sorted.{IsStrictlyIncreasing}
 use Rattle.rcv_model.specs.Text.{Body, End, Single, Choose, Loop, Again, Beside, Call, Bodies, NoMore, Or}
 use Rattle.rcv_model.specs.Net.{Net}
 use Rattle.rcv_model.specs.Next.{IsProper}
 use Rattle.rcv_model.specs.Form.{HasForm, IsNumberedFrom}
-use Rattle.rcv_model.specs.Places.{Frame, Behind, Inside, Spot, Single_at, spots, spots_of, singles, singles_of, single_at, find_spot, spot_of, offers_at, offers_of, next_of, env_of, firsts, net_of}
+use Rattle.rcv_model.specs.Places.{Frame, Behind, Inside, Spot, Single_at, spots, spots_of, singles, singles_of, single_at, find_spot, spot_of, offers_at, offers_of, next_of, env_of, firsts, IsFull, net_of}
 use Rattle.rcv_model.specs.Accept.{choices, choices_of}
 use Rattle.rcv_model.proofs.Same.{text_rises}
 use Rattle.rcv_model.proofs.Forms.{proper}
@@ -112,11 +112,18 @@ no_spot n k (e ∷ es) count lt =
     let no : (e.0 == k) ≡ false = grind (arith, nat_tests) in
     ap (λ b. cond b (Some e.1) (find_spot k es)) no ∙ no_spot (n + 1) k es count.1 (omega arith)
 
+not_zero : (k : ℕ) → (suc k == 0) ≡ false
+not_zero k = grind (arith, nat_tests)
+
+-- a place behind a message is that of its spot
+behind_start : (body : Body) (k : ℕ) → (net_of body).offers (suc k) ≡ offers_of (find_spot (suc k) (spots [] body))
+behind_start body k = ap (λ b. offers_of (cond b (Some (record { left = body; frames = [] })) (find_spot (suc k) (spots [] body)))) (not_zero k)
+
 -- the places of a text, from the start on
 pub places_told : (body : Body) (k : ℕ) → IsNumberedFrom 1 (singles body) → get_or (firsts [] [] body ∷ follows [] [] body) k [] ≡ (net_of body).offers k
 places_told body zero num = refl
 places_told body (suc k) num =
-    ap (λ l. get_or l k []) (follows_spots [] body) ∙ sym (found_spot 1 (suc k) (spots [] body) (spots_count body num) (omega arith) ∙ ap (λ i. get_or (map offers_behind (spots [] body)) i []) (omega arith))
+    ap (λ l. get_or l k []) (follows_spots [] body) ∙ sym (behind_start body k ∙ found_spot 1 (suc k) (spots [] body) (spots_count body num) (omega arith) ∙ ap (λ i. get_or (map offers_behind (spots [] body)) i []) (omega arith))
 
 -- the same for messages
 message_told : (n p : ℕ) (es : List (ℕ × Single_at)) → IsNumberedFrom n es → n ≤ p → get_or (map message_of es) (p - n) no_message ≡ message_of (p, single_at p es)
@@ -142,7 +149,106 @@ no_single n p (e ∷ es) num lt =
 
 pub messages_told : (body : Body) (points : PointsView) (p : ℕ) → IsNumberedFrom 1 (singles body) → points.messages ≡ map message_of (singles body) → message_at points p ≡ message_of (p, single_at p (singles body))
 messages_told body points zero num e = sym (ap (λ m. message_of (zero, m)) (no_single 1 zero (singles body) num (omega arith)))
-messages_told body points (suc p) num e = ap (λ l. get_or l p no_message) e ∙ ap (λ i. get_or (map message_of (singles body)) i no_message) (omega arith) ∙ message_told 1 (suc p) (singles body) num (omega arith)
+messages_told body points (suc p) num e =
+    ap (λ b. cond b no_message (get_or points.messages (suc p - 1) no_message)) (not_zero p) ∙ ap (λ l. get_or l (suc p - 1) no_message) e ∙ message_told 1 (suc p) (singles body) num (omega arith)
 
 function_same : {A B : Type 0} (f g : A → B) → ((x : A) → f x ≡ g x) → f ≡ g
 function_same f g e = λ i x. e x i
+
+past_end : {A : Type 0} (xs : List A) (k : ℕ) (d : A) → length xs ≤ k → get_or xs k d ≡ d
+past_end [] k d le = refl
+past_end (x ∷ xs) zero d le = absurd (omega arith)
+past_end (x ∷ xs) (suc k) d le = past_end xs k d (omega arith)
+
+-- as many spots as messages
+as_many : (body : Body) → length (map offers_behind (spots [] body)) ≡ length (singles body)
+as_many body = length-map (spots [] body) offers_behind ∙ sym (length-map (spots [] body) spot_point) ∙ ap length (same_points [] body) ∙ length-map (singles body) single_point
+
+-- behind the last place nothing is offered
+none_beyond : (body : Body) (k : ℕ) → IsNumberedFrom 1 (singles body) → (net_of body).count < k → (net_of body).offers k ≡ []
+none_beyond body zero num lt = absurd (omega arith)
+none_beyond body (suc k) num lt =
+    let e = as_many body in
+    behind_start body k ∙ found_spot 1 (suc k) (spots [] body) (spots_count body num) (omega arith) ∙ past_end (map offers_behind (spots [] body)) (suc k - 1) [] (omega arith)
+
+pub offers_told : (body : Body) (roles : ℕ) (points : PointsView) (k : ℕ) → HasForm body roles → ArePointsOf body points → offered_at points k ≡ (net_of body).offers k
+offers_told body roles points k form told = go (cases_lt (net_of body).count k)
+  where
+    go : ((net_of body).count < k) ⊎ (k ≤ (net_of body).count) → offered_at points k ≡ (net_of body).offers k
+    go (inl lt) = let e = told.all in past_end points.places k [] (omega arith) ∙ sym (none_beyond body k form.numbered lt)
+    go (inr le) = told.offered k le
+
+-- the points of a text say the protocol that the text says
+pub same_net : (body : Body) (roles : ℕ) (points : PointsView) → HasForm body roles → ArePointsOf body points → net_in points ≡ net_of body
+same_net body roles points form told = λ i. record {
+  count = count i;
+  offers = offers i;
+  sender = senders i;
+  receiver = receivers i;
+  label = labels i;
+}
+  where
+    count : length points.messages ≡ length (singles body)
+    count = ap length told.messages ∙ length-map (singles body) message_of
+
+    offers : offered_at points ≡ (net_of body).offers
+    offers = function_same _ _ (λ k. offers_told body roles points k form told)
+
+    message : (p : ℕ) → message_at points p ≡ message_of (p, single_at p (singles body))
+    message p = messages_told body points p form.numbered told.messages
+
+    senders : (net_in points).sender ≡ (net_of body).sender
+    senders = function_same _ _ (λ p. ap (λ m. m.sender) (message p))
+
+    receivers : (net_in points).receiver ≡ (net_of body).receiver
+    receivers = function_same _ _ (λ p. ap (λ m. m.receiver) (message p))
+
+    labels : (net_in points).label ≡ (net_of body).label
+    labels = function_same _ _ (λ p. ap (λ m. m.label) (message p))
+
+-- what holds of all points
+more_roles : (net : Net) (roles : ℕ) → roles ≤ 8 → IsProper net roles → IsProper net 8
+more_roles net roles few p = record {
+  in_text = p.in_text;
+  senders = λ k q i. let a = p.senders k q i in omega arith;
+  receivers = λ k q i. let a = p.receivers k q i in omega arith;
+  two_ends = p.two_ends;
+}
+
+pub within : (body : Body) (roles : ℕ) (points : PointsView) → HasForm body roles → ArePointsOf body points → AreWithin points
+within body roles points form told = record {
+  few = let a = form.few_points in omega (arith, count);
+  all = told.all ∙ ap (λ n. n + 1) (sym count);
+  ascending = λ k. subst IsStrictlyIncreasing (sym (offers_told body roles points k form told)) (text_rises body k);
+  proper = subst (λ net. IsProper net 8) (sym (same_net body roles points form told)) (more_roles (net_of body) roles form.few_roles (proper body roles form));
+}
+  where
+    count : length points.messages ≡ length (singles body)
+    count = ap length told.messages ∙ length-map (singles body) message_of
+
+forward : {A : Type 0} (found xs : List A) → found ≡ [] ++ reverse xs → reverse found ≡ xs
+forward found xs e = ap reverse e ∙ reverse-reverse xs
+
+-- what the walk along the whole text found, in text order
+pub walked : (body : Body) (roles : ℕ) (after : Found) (start : List ℕ) (points : PointsView) → HasForm body roles → IsFull [] [] body → AddsFull (record { recs = []; places = []; messages = []; choices = [] }) [] body after start → points.places ≡ reverse (after.places ++ start ∷ []) → points.messages ≡ reverse after.messages → points.choices ≡ reverse after.choices → ArePointsOf body points
+walked body roles after start points form full adds pl me ch = record {
+  all = ap length places ∙ ap suc (ap length (follows_spots [] body) ∙ as_many body) ∙ omega arith;
+  offered = λ k le. ap (λ l. get_or l k []) places ∙ places_told body k form.numbered;
+  messages = me ∙ forward after.messages (map message_of (singles body)) had.all.messages_more;
+  choices = ch ∙ forward after.choices (chosen [] [] body) had.all.choices_more ∙ chosen_choices [] body;
+}
+  where
+    had : Adds (record { recs = []; places = []; messages = []; choices = [] }) [] body after start
+    had = adds [] [] full
+
+    places : points.places ≡ firsts [] [] body ∷ follows [] [] body
+    places = pl ∙ reverse-append after.places (start ∷ []) ∙ ap (λ l. start ∷ l) (forward after.places (follows [] [] body) had.all.places_more) ∙ ap (λ x. x ∷ follows [] [] body) had.offered
+
+-- the walk begins with nothing
+pub from_nothing : (before : Found) (next : List ℕ) (body : Body) (after : Found) (start : List ℕ) → before.recs ≡ [] → before.places ≡ [] → before.messages ≡ [] → before.choices ≡ [] → next ≡ [] → AddsFull before next body after start → AddsFull (record { recs = []; places = []; messages = []; choices = [] }) [] body after start
+from_nothing before next body after start re pl me ch ne adds =
+    subst (λ n. AddsFull (record { recs = []; places = []; messages = []; choices = [] }) n body after start) ne
+      (subst (λ b. AddsFull b next body after start) none adds)
+  where
+    none : before ≡ record { recs = []; places = []; messages = []; choices = [] }
+    none = λ i. record { recs = re i; places = pl i; messages = me i; choices = ch i }
