@@ -12,6 +12,8 @@ mod merge;
 pub mod offered;
 pub mod points;
 mod recs;
+#[cfg(test)]
+mod tests;
 
 /// The points of a text say the protocol that the text says.
 pub fn points_are_the_text()
