@@ -4,7 +4,7 @@ use Rattle.rcv_tree.specs.declared.statement.Stmt.{Stmt}
 use Rattle.rcv_tree.specs.declared.statement.Block.{Block}
 use Rattle.rcv_model.specs.Text.{body_of, bodies_of, body_from, bodies_from, stmt_body}
 use Rattle.rcv_model.proofs.Text.{bodies_of_lem, stmt_body-Message, stmt_body-Choice, stmt_body-Rec, stmt_body-Continue}
-use Rattle.rcv_points.specs.Follow.{ChoiceView}
+use Rattle.rcv_points.specs.Follow.{ChoiceView, message_of}
 use Rattle.rcv_points.specs.Filling.{found}
 use Rattle.rcv_points.specs.Walk.{Found, AddsFull, AddsFullOf}
 use Rattle.rcv_points.proofs.Firsts.{if_ok_map}
@@ -26,9 +26,10 @@ blocks-returns t c =
 pub stmt-returns-in_ok-push-in-Message-2 : goal.stmt-returns-in_ok-push-in-Message-2
 stmt-returns-in_ok-push-in-Message-2 t c before next rest so =
     let after : Found = record { recs = c.args.self.now.recs; places = c.push-in-Message.new.self.items; messages = c.push.new.self.items; choices = c.args.self.now.choices.items } in
+    let pushed : c.push.new.self.items ≡ c.args.self.now.messages.items ++ message_of (c.in-Message.point, record { label = c.in-Message.label; sorts = c.in-Message.sorts; sender = c.in-Message.sender; receiver = c.in-Message.receiver }) ∷ [] = c.in_ok-push-in-Message.ensures.items ∙ ap (λ m. c.args.self.now.messages.items ++ m ∷ []) c.in_ok-message-in-Message.ensures in
     subst (λ b. AddsFull before next b after c.in_ok-offered-in-Message.offered)
       (sym (ap (λ s. stmt_body s rest) c.in-Message.is ∙ stmt_body-Message c.in-Message.label c.in-Message.sorts c.in-Message.sender c.in-Message.receiver c.in-Message.point rest))
-      (adds_message before (found c.args.self.now) after next c.in-Message.label c.in-Message.sorts c.in-Message.sender c.in-Message.receiver c.in-Message.point rest c.args.behind c.in_ok-offered-in-Message.offered so refl c.in_ok-push-in-Message-2.ensures.items (c.in_ok-push-in-Message.ensures.items ∙ ap (λ m. c.args.self.now.messages.items ++ m ∷ []) c.in_ok-message-in-Message.ensures) refl c.in_ok-offered-in-Message.ensures)
+      (adds_message before (found c.args.self.now) after next c.in-Message.label c.in-Message.sorts c.in-Message.sender c.in-Message.receiver c.in-Message.point rest c.args.behind c.in_ok-offered-in-Message.offered so refl c.in_ok-push-in-Message-2.ensures.items pushed refl c.in_ok-offered-in-Message.ensures)
 
 pub stmt-returns-in_ok-push-in-Choice : goal.stmt-returns-in_ok-push-in-Choice
 stmt-returns-in_ok-push-in-Choice t c before next rest so =
