@@ -11,7 +11,13 @@ use std::alloc::{AllocError, Global};
 use std::test::Fail;
 
 // A message with no payload.
-fn message(alloc: Global, label: &[u8], sender: u8, receiver: u8, point: u16) -> Result<Stmt, AllocError> {
+fn message(
+    alloc: Global,
+    label: &[u8],
+    sender: u8,
+    receiver: u8,
+    point: u16,
+) -> Result<Stmt, AllocError> {
     Ok(Stmt::Message {
         label: Name::of(alloc, label)?,
         sorts: Names::new(alloc),
@@ -22,7 +28,13 @@ fn message(alloc: Global, label: &[u8], sender: u8, receiver: u8, point: u16) ->
 }
 
 // The same with one sort.
-fn with_sort(alloc: Global, label: &[u8], sender: u8, receiver: u8, point: u16) -> Result<Stmt, AllocError> {
+fn with_sort(
+    alloc: Global,
+    label: &[u8],
+    sender: u8,
+    receiver: u8,
+    point: u16,
+) -> Result<Stmt, AllocError> {
     let mut sorts = Names::new(alloc);
     sorts.push(Name::of(alloc, b"Int")?)?;
     Ok(Stmt::Message {
@@ -121,7 +133,9 @@ fn says(found: &Filling<'_>, point: usize, label: &[u8], sender: u8, receiver: u
 {
     match found.messages.as_slice().get(point - 1) {
         Some(message) => {
-            message.label.as_slice() == label && message.sender.0 == sender && message.receiver.0 == receiver
+            message.label.as_slice() == label
+                && message.sender.0 == sender
+                && message.receiver.0 == receiver
         }
         None => false,
     }

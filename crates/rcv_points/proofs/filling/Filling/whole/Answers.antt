@@ -12,5 +12,5 @@ returns c roles form full =
     let points : PointsView = record { places = c.reverse.new.self.items; messages = c.reverse-2.new.self.items; choices = c.reverse-3.new.self.items } in
     let before : Found = record { recs = c.new.result; places = c.new-2.result.items; messages = c.new-3.result.items; choices = c.new-4.result.items } in
     walked (body_of c.args.body.now) roles (found c.block-2.new.self) c.in_ok-start.start points form full
-      (from_nothing before c.none.result (body_of c.args.body.now) (found c.block-2.new.self) c.in_ok-start.start c.new.ensures c.new-2.ensures.items c.new-3.ensures.items c.new-4.ensures.items c.none.ensures c.in_ok-start.ensures)
-      (c.reverse.ensures.items ∙ ap reverse c.in_ok-push.ensures.items) c.reverse-2.ensures.items c.reverse-3.ensures.items
+    (from_nothing before c.none.result (body_of c.args.body.now) (found c.block-2.new.self) c.in_ok-start.start c.new.ensures c.new-2.ensures.items c.new-3.ensures.items c.new-4.ensures.items c.none.ensures c.in_ok-start.ensures)
+    (c.reverse.ensures.items ∙ ap reverse c.in_ok-push.ensures.items) c.reverse-2.ensures.items c.reverse-3.ensures.items
