@@ -22,6 +22,12 @@ next_in_text net roles r k z form next =
     let there = last_offered net k z next.way next.walk in
     form.in_text there.0 z there.1
 
+-- and is sent by a role of the protocol
+pub sender_declared : (net : Net) (roles r k z : ℕ) → IsProper net roles → IsNext net r k z → net.sender z < roles
+sender_declared net roles r k z form next =
+    let there = last_offered net k z next.way next.walk in
+    form.senders there.0 z there.1
+
 -- each point of an accepted text is received by a role of the protocol
 pub receiver_declared : (body : Body) (roles p : ℕ) → HasForm body roles → IsAccepted (net_of body) roles → 1 ≤ p → p ≤ (net_of body).count → (net_of body).receiver p < roles
 receiver_declared body roles p form accepted low high =

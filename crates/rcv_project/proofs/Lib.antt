@@ -1,3 +1,4 @@
 pub mod Acting
 pub mod Machine
 pub mod OneText
+pub mod Texts

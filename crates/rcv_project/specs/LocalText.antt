@@ -1,5 +1,5 @@
 -- The text of a role: a line for each of its places.
-use Rattle.std.specs.Prelude.{◌≡◌, ℕ, ◌+◌, Bool, ◌==◌, ◌||◌, List, [], ◌∷◌, ◌++◌, map, flat_map, slice_index_or, codes, decimal}
+use Rattle.std.specs.Prelude.{◌≡◌, ℕ, ◌<◌, ◌≤◌, Bool, ◌==◌, ◌||◌, List, [], ◌∷◌, ◌++◌, map, flat_map, slice_index_or, codes, decimal}
 use Rattle.std.specs.List.{All, filter, range_with_len, join_by}
 use Rattle.rcv_tree.specs.declared.event.Dir.{Dir}
 use Rattle.rcv_tree.specs.declared.event.Dir.TheVariants.{Sent, Got}
@@ -47,6 +47,19 @@ act_text names net Ended = codes " done"
 -- A line: the place, and what the role does there.
 abbrev pub line_text : List (List ℕ) → Net → LineView → List ℕ
 line_text names net line = decimal line.place ++ act_text names net line.act ++ codes "\n"
+
+-- The text goes on by what the role does at this place; and by the line of this place.
+abbrev pub AddsAct : LocalView → ℕ → List ℕ → List ℕ → Type 0
+AddsAct local k before after =
+    (act : ActView) × IsActAt (net_seen local) local.role k act × (after ≡ before ++ act_text (names_seen local) (net_seen local) act)
+
+abbrev pub AddsLine : LocalView → ℕ → List ℕ → List ℕ → Type 0
+AddsLine local k before after =
+    (act : ActView) × IsActAt (net_seen local) local.role k act × (after ≡ before ++ line_text (names_seen local) (net_seen local) (record { place = k; act = act }))
+
+-- These points stand in the text.
+abbrev pub AreInText : Net → List ℕ → Type 0
+AreInText net zs = All (λ z. (1 ≤ z) × (z ≤ net.count)) zs
 
 -- These bytes are the lines of the role as far as point n.
 pub record IsTextTo (local : LocalView) (n : ℕ) (bytes : List ℕ) : Type 0 where

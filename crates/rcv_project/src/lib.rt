@@ -5,6 +5,8 @@ ghost use Rattle.rcv_project.specs.Laws.{ThereIsOneAct, RolesHaveOneText};
 
 pub mod act;
 pub mod local;
+pub mod text;
+mod writer;
 
 /// A role of an accepted protocol does one thing at each of its places.
 pub fn there_is_one_act()

@@ -4,7 +4,7 @@ ghost use Rattle.std.specs.Prelude.{◌≡◌, ◌<◌, ◌≤◌};
 ghost use Rattle.rcv_model.specs.Next.{IsPlaceOf};
 ghost use Rattle.rcv_accept.specs.Accepted.{roles_of};
 ghost use Rattle.rcv_project.specs.Act.{view_of, IsActAt};
-ghost use Rattle.rcv_project.specs.Local.{net_seen, names_seen};
+ghost use Rattle.rcv_project.specs.Local.{IsLocal, net_seen, names_seen};
 ghost use Rattle.rcv_project.specs.LocalText.{is_own, name_of};
 
 use crate::act::Act;
@@ -50,7 +50,8 @@ impl<'a> Local<'a> {
     /// It takes no memory.
     pub fn next(&self, place: u16) -> Act<'_>
         requires { IsPlaceOf (net_seen self.now) self.now.role place }
-        ensures { IsActAt (net_seen self.now) self.now.role place (view_of result) }
+        ensures act { IsActAt (net_seen self.now) self.now.role place (view_of result) }
+        ensures lawful { IsLocal self.now.accepted self.now.role }
     {
         let points = self.accepted.next(self.role, place);
         match points.first() {

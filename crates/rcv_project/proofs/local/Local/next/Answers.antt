@@ -20,16 +20,16 @@ sender-sender-requires-clause-last c =
     let next = subst (λ (local : LocalView). AreNext (net_seen local) local.role c.args.place c.next-points.result.now) c.self.view_is c.next-points.ensures in
     (in_text c.args.self.now c.args.place c.in-Some.first.now c.next-points.result.now keeps next (sym c.first.ensures.value ∙ ap option_copied c.in-Some.is)).1
 
-pub returns-then-eq : goal.returns-then-eq
-returns-then-eq c =
+pub returns-then-eq-clause-act : goal.returns-then-eq-clause-act
+returns-then-eq-clause-act c =
     let keeps = subst (λ (local : LocalView). IsLocal local.accepted local.role) c.self.view_is c.self.invariant in
     let next = subst (λ (local : LocalView). AreNext (net_seen local) local.role c.args.place c.next-points.result.now) c.self.view_is c.next-points.ensures in
     let role : c.self.inside.role ≡ c.args.self.now.role = ap (λ (local : LocalView). local.role) c.self.view_is in
     let same : c.sender-sender.result ≡ c.self.inside.role = let e = c.if-eq.ensures in grind (arith, nat_tests) in
     sends c.args.self.now c.args.place c.in-Some.first.now c.next-points.result.now keeps next (sym c.first.ensures.value ∙ ap option_copied c.in-Some.is) c.requires (sym c.sender-sender.ensures ∙ same ∙ role)
 
-pub returns-else-eq : goal.returns-else-eq
-returns-else-eq c =
+pub returns-else-eq-clause-act : goal.returns-else-eq-clause-act
+returns-else-eq-clause-act c =
     let keeps = subst (λ (local : LocalView). IsLocal local.accepted local.role) c.self.view_is c.self.invariant in
     let next = subst (λ (local : LocalView). AreNext (net_seen local) local.role c.args.place c.next-points.result.now) c.self.view_is c.next-points.ensures in
     let role : c.self.inside.role ≡ c.args.self.now.role = ap (λ (local : LocalView). local.role) c.self.view_is in
