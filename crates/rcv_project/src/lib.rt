@@ -5,6 +5,8 @@ ghost use Rattle.rcv_project.specs.Laws.{ThereIsOneAct, RolesHaveOneText};
 
 pub mod act;
 pub mod local;
+#[cfg(test)]
+mod tests;
 pub mod text;
 mod writer;
 
