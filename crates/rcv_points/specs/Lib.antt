@@ -1,1 +1,3 @@
 pub mod Follow
+pub mod Walk
+pub mod Filling

@@ -1,0 +1,4 @@
+pub mod Merging
+pub mod Firsts
+pub mod Walks
+pub mod Whole

@@ -1,0 +1,6 @@
+-- What the walk keeps, as lists.
+use Rattle.rcv_points.specs.declared.filling.Filling.{Filling}
+use Rattle.rcv_points.specs.Walk.{Found}
+
+abbrev pub found : Filling → Found
+found filling = record { recs = filling.recs; places = filling.places.items; messages = filling.messages.items; choices = filling.choices.items }
