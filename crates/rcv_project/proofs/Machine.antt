@@ -5,7 +5,7 @@ use Rattle.rcv_model.specs.Net.{Net, IsIn}
 use Rattle.rcv_model.specs.Next.{IsNext, AreNext, IsPlaceOf}
 use Rattle.rcv_model.proofs.Forms.{proper}
 use Rattle.rcv_points.specs.Follow.{PointsView, ArePointsOf, net_in}
-use Rattle.rcv_points.proofs.SameNet.{same_net}
+use Rattle.rcv_points.proofs.Whole.{same_net}
 use Rattle.rcv_accept.specs.Accepted.{AcceptedView, roles_of, text_of, net_for}
 use Rattle.rcv_project.specs.Act.{ActView, Sending, Receiving, AreReceivedBy, IsActAt}
 use Rattle.rcv_project.specs.Local.{LocalView, IsLocal, net_seen}
