@@ -1,2 +1,8 @@
 // What lies ahead of a role: the search through the places of a text.
 #![tactic(auto)]
+
+pub mod ahead;
+pub mod chain;
+mod places;
+pub mod reached;
+mod search;
