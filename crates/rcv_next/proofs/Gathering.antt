@@ -1,12 +1,12 @@
 -- What the places that can come offer to a role, and whether one of them offers nothing, is what lies ahead.
-use Rattle.std.proofs.Common.{◌≡◌, ℕ, ◌+◌, ◌<◌, ◌≤◌, Bool, true, false, List, [], ◌∷◌, ◌++◌, length, take, get_or, refl, sym, ◌∙◌, ap, subst, ◌⊎◌, inl, inr, ⊎_elim, arith}
+use Rattle.std.proofs.Common.{◌≡◌, ℕ, ◌+◌, ◌<◌, Bool, true, false, List, [], ◌∷◌, length, take, get_or, refl, sym, ◌∙◌, ap, subst, inl, inr, ⊎_elim, arith}
 use Rattle.std.specs.Prelude.{◌↔◌, ◌==◌, IsTrue}
 use Rattle.std.proofs.lemmas.Bool.Decides.{nat_tests}
-use Rattle.rcv_model.specs.Net.{Net, IsIn, IsWalk, IsEnded, last_of}
-use Rattle.rcv_model.specs.Next.{IsOf, HasNone, IsNext, AreNext}
+use Rattle.rcv_model.specs.Net.{Net, IsIn, last_of}
+use Rattle.rcv_model.specs.Next.{IsNext, AreNext}
 use Rattle.rcv_next.specs.Ahead.{MayEnd, IsAhead}
-use Rattle.rcv_next.specs.Found.{Adds, IsOwn, IsOwnOf, IsWay, HasEnd, ArePlacesAhead, AreAscending}
-use Rattle.rcv_next.proofs.Adding.{in_more, last_in, in_at, adds_both, adds_same}
+use Rattle.rcv_next.specs.Found.{Adds, IsOwn, IsOwnOf, HasEnd, ArePlacesAhead, AreAscending}
+use Rattle.rcv_next.proofs.Adding.{in_more, last_in, adds_both}
 use Rattle.rcv_next.proofs.Searching.{walk_on, walk_back}
 
 module _ (net : Net) (r : ℕ) where

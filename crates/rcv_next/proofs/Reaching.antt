@@ -1,13 +1,12 @@
 -- The places that can come from the start, where nobody has a point, are the points that walks hold.
-use Rattle.std.proofs.Common.{◌≡◌, ℕ, zero, suc, ◌+◌, ◌-◌, ◌<◌, ◌≤◌, Bool, true, false, List, [], ◌∷◌, ◌++◌, length, get_or, refl, sym, ◌∙◌, ap, subst, ◌⊎◌, inl, inr, ⊎_elim, arith}
+use Rattle.std.proofs.Common.{◌≡◌, ℕ, ◌+◌, ◌-◌, ◌<◌, ◌≤◌, Bool, true, false, List, [], ◌∷◌, ◌++◌, length, get_or, refl, sym, ◌∙◌, subst, ⊎_elim, arith}
 use Rattle.std.specs.Prelude.{◌↔◌}
 use Rattle.std.proofs.lemmas.Bool.{cases_eq}
 use Rattle.rcv_model.specs.Net.{Net, IsIn, IsWalk, last_of}
-use Rattle.rcv_model.specs.Next.{IsOf, HasNone, IsProper}
+use Rattle.rcv_model.specs.Next.{HasNone, IsProper}
 use Rattle.rcv_model.specs.Accept.{IsReached}
 use Rattle.rcv_next.specs.Found.{IsWay, ArePlacesAhead}
 use Rattle.rcv_next.specs.Reached.{AreReached}
-use Rattle.rcv_next.proofs.Searching.{walk_on, walk_back}
 
 -- the flags of the first points
 pub record FlagsSoFar (places : List ℕ) (flags : List Bool) (before : ℕ) : Type 0 where

@@ -1,5 +1,5 @@
 -- Offered points are those of the text, and these are few.
-use Rattle.std.proofs.Common.{◌≡◌, ℕ, ◌<◌, ◌≤◌, List, length, get_or, sym, ◌∙◌, subst, arith}
+use Rattle.std.proofs.Common.{◌≡◌, ℕ, ◌<◌, ◌≤◌, List, length, get_or, sym, subst, arith}
 use Rattle.rcv_model.specs.Net.{IsIn}
 use Rattle.rcv_points.specs.Follow.{PointsView, AreWithin, offered_at}
 use Rattle.rcv_next.proofs.Adding.{in_at}

@@ -56,7 +56,8 @@ fn add_own(points: &Points, role: RoleId, place: u16, own: &mut Places)
     requires { place ≤ length points.now.messages }
     ensures { Adds (IsOwn (net_in points.now) role place) own.old own.new }
 {
-    let count = points.count();
+    // The points keep within the text.
+    points.count();
     for point in points.offered(place) {
         if is_of(points, role, *point) {
             own.add(point.0);

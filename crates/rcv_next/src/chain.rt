@@ -17,7 +17,8 @@ pub fn chain_meets(points: &Points, role: RoleId, place: u16, wanted: &[Point]) 
     requires { place ≤ length points.now.messages }
     ensures { IsTrue result ↔ IsMetBy (net_in points.now) role place wanted.now }
 {
-    let count = points.count();
+    // The points keep within the text.
+    points.count();
     let mut met = Places::new();
     let mut at = place;
     while !met.has(at) {
@@ -45,7 +46,8 @@ fn forced(points: &Points, role: RoleId, place: u16) -> Option<Point>
     requires { place ≤ length points.now.messages }
     ensures { MatchOption result ((p : ℕ) → IsForced (net_in points.now) role place p → ⊥) (λ p. IsForced (net_in points.now) role place p) }
 {
-    let count = points.count();
+    // The points keep within the text.
+    points.count();
     match points.offered(place) {
         [point] if !is_of(points, role, *point) => Some(*point),
         _ => None,

@@ -26,7 +26,8 @@ pub fn places_ahead(points: &Points, role: RoleId, place: u16) -> Places
     ensures ahead { ArePlacesAhead (net_in points.now) role place result }
     ensures within { (j : ℕ) → IsIn j result → j ≤ length points.now.messages }
 {
-    let count = points.count();
+    // The points keep within the text.
+    points.count();
     let mut places = Places::new();
     places.add(place);
     let mut done = 0;
@@ -43,7 +44,8 @@ fn add_others(points: &Points, role: RoleId, place: u16, places: &mut Places)
     requires { place ≤ length points.now.messages }
     ensures { Adds (IsOther (net_in points.now) role place) places.old places.new }
 {
-    let count = points.count();
+    // The points keep within the text.
+    points.count();
     for point in points.offered(place) {
         if !is_of(points, role, *point) {
             places.add(point.0);

@@ -1,5 +1,5 @@
 -- Each offered point that isn't the role's is added in turn.
-use Rattle.std.proofs.Common.{◌≡◌, ◌∙◌, ℕ, ◌+◌, take, refl, sym, subst}
+use Rattle.std.proofs.Common.{◌≡◌, ◌∙◌, ◌+◌, take, refl, sym, subst}
 use Rattle.rcv_model.specs.Next.{IsOf}
 use Rattle.rcv_points.specs.Follow.{net_in}
 use Rattle.rcv_next.specs.Found.{Adds}
@@ -10,13 +10,13 @@ use Rattle.rcv_next.proofs.search.add_others.Goals as goal
 use Rattle.rcv_next.proofs.search.add_others.Goals.{then-not-is_of, else-not-is_of}
 
 pub is_of-requires-clause-first : goal.is_of-requires-clause-first
-is_of-requires-clause-first c = (offered_is c.args.points.now c.args.place c.offered-point-items.result.now c.loop-point.point-index c.point.inside.0 c.count-count.ensures.within c.offered-point-items.ensures c.loop-point-test.true (c.point.view_is ∙ item_of c.offered-point-items.result.now c.loop-point.point-index c.point-item.result c.loop-point-test.true c.point-item.is)).first
+is_of-requires-clause-first c = (offered_is c.args.points.now c.args.place c.offered-point-items.result.now c.loop-point.point-index c.point.inside.0 c.count.ensures.within c.offered-point-items.ensures c.loop-point-test.true (c.point.view_is ∙ item_of c.offered-point-items.result.now c.loop-point.point-index c.point-item.result c.loop-point-test.true c.point-item.is)).first
 
 pub is_of-requires-clause-last : goal.is_of-requires-clause-last
-is_of-requires-clause-last c = (offered_is c.args.points.now c.args.place c.offered-point-items.result.now c.loop-point.point-index c.point.inside.0 c.count-count.ensures.within c.offered-point-items.ensures c.loop-point-test.true (c.point.view_is ∙ item_of c.offered-point-items.result.now c.loop-point.point-index c.point-item.result c.loop-point-test.true c.point-item.is)).last
+is_of-requires-clause-last c = (offered_is c.args.points.now c.args.place c.offered-point-items.result.now c.loop-point.point-index c.point.inside.0 c.count.ensures.within c.offered-point-items.ensures c.loop-point-test.true (c.point.view_is ∙ item_of c.offered-point-items.result.now c.loop-point.point-index c.point-item.result c.loop-point-test.true c.point-item.is)).last
 
 pub add-requires : goal.add-requires
-add-requires c = (offered_is c.args.points.now c.args.place c.offered-point-items.result.now c.loop-point.point-index c.point.inside.0 c.count-count.ensures.within c.offered-point-items.ensures c.loop-point-test.true (c.point.view_is ∙ item_of c.offered-point-items.result.now c.loop-point.point-index c.point-item.result c.loop-point-test.true c.point-item.is)).few
+add-requires c = (offered_is c.args.points.now c.args.place c.offered-point-items.result.now c.loop-point.point-index c.point.inside.0 c.count.ensures.within c.offered-point-items.ensures c.loop-point-test.true (c.point.view_is ∙ item_of c.offered-point-items.result.now c.loop-point.point-index c.point-item.result c.loop-point-test.true c.point-item.is)).few
 
 pub loop-point-preserved : goal.loop-point-preserved
 loop-point-preserved c =

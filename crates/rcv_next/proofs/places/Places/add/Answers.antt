@@ -1,5 +1,5 @@
 -- A place that wasn't found yet has room, and stands last from now on.
-use Rattle.std.proofs.Common.{ℕ, ◌+◌, List, take, subst, sym, set}
+use Rattle.std.proofs.Common.{◌+◌, take, subst, sym, set}
 use Rattle.rcv_model.specs.Net.{IsIn}
 use Rattle.rcv_next.specs.Found.{Adds, Is}
 use Rattle.rcv_next.proofs.Finding.{no_flag_is_up, has_room, added, one_more, adds_one}
