@@ -4,21 +4,23 @@ use Rattle.std.specs.Prelude.{◌↔◌, ◌==◌, IsTrue}
 use Rattle.std.proofs.lemmas.Bool.Decides.{nat_tests}
 use Rattle.rcv_model.specs.Net.{Net, IsIn, last_of}
 use Rattle.rcv_model.specs.Next.{IsNext, AreNext}
+use Rattle.rcv_model.proofs.Walks.{walk_join, walk_front, walk_back}
 use Rattle.rcv_next.specs.Ahead.{MayEnd, IsAhead}
 use Rattle.rcv_next.specs.Found.{Adds, IsOwn, IsOwnOf, HasEnd, ArePlacesAhead, AreAscending}
 use Rattle.rcv_next.proofs.Adding.{in_more, last_in, adds_both}
-use Rattle.rcv_next.proofs.Searching.{walk_on, walk_back}
 
 module _ (net : Net) (r : ℕ) where
   to_next : (k : ℕ) (js : List ℕ) (z : ℕ) → ArePlacesAhead net r k js → IsOwnOf net r js z → IsNext net r k z
   to_next k js z all a =
       let way = (all a.0).0 a.1 in
-      record { way = way.0; walk = walk_on net r k z way.0 way.1 (subst (λ x. IsIn z (net.offers x)) (sym way.3) a.2.0); none = way.2; own = a.2.1 }
+      record { way = way.0; walk = walk_join net k way.0 (z ∷ []) way.1 (subst (λ x. IsIn z (net.offers x)) (sym way.3) a.2.0, tt); none = way.2; own = a.2.1 }
 
   of_next : (k : ℕ) (js : List ℕ) (z : ℕ) → ArePlacesAhead net r k js → IsNext net r k z → IsOwnOf net r js z
   of_next k js z all n =
-      let back = walk_back net r k z n.way n.walk in
-      (last_of k n.way, (all (last_of k n.way)).1 (n.way, back.0, n.none, refl), (back.1, n.own))
+      ( last_of k n.way
+      , (all (last_of k n.way)).1 (n.way, walk_front net k n.way (z ∷ []) n.walk, n.none, refl)
+      , ((walk_back net k n.way (z ∷ []) n.walk).0, n.own)
+      )
 
   pub next_of : (k : ℕ) (js own zs : List ℕ) → ArePlacesAhead net r k js → Adds (IsOwnOf net r js) [] own → AreAscending own zs → AreNext net r k zs
   next_of k js own zs all a up = record {

@@ -5,6 +5,7 @@ use Rattle.std.proofs.lemmas.Bool.{cases_eq}
 use Rattle.rcv_model.specs.Net.{Net, IsIn, IsWalk, last_of}
 use Rattle.rcv_model.specs.Next.{HasNone, IsProper}
 use Rattle.rcv_model.specs.Accept.{IsReached}
+use Rattle.rcv_model.proofs.Parts.{last_more}
 use Rattle.rcv_next.specs.Found.{IsWay, ArePlacesAhead}
 use Rattle.rcv_next.specs.Reached.{AreReached}
 
@@ -28,12 +29,8 @@ module _ (net : Net) where
   pub reached_both : (p : ℕ) → IsProper net 8 → 1 ≤ p → IsWay net 8 0 p ↔ IsReached net p
   reached_both p proper low = (λ a. to_reached 0 p a.0 a.1 a.3 (λ e. omega (arith, e, low)), of)
     where
-      last : (k : ℕ) (w : List ℕ) → last_of k (w ++ p ∷ []) ≡ p
-      last k [] = refl
-      last k (q ∷ w) = last q w
-
       of : IsReached net p → IsWay net 8 0 p
-      of a = (a.0 ++ p ∷ [], a.1, nobodys 0 (a.0 ++ p ∷ []) proper a.1, last 0 a.0)
+      of a = (a.0 ++ p ∷ [], a.1, nobodys 0 (a.0 ++ p ∷ []) proper a.1, last_more 0 p a.0)
 
   pub all_flags : (places : List ℕ) (flags : List Bool) (before : ℕ) → IsProper net 8 → ArePlacesAhead net 8 0 places → before ≡ net.count → FlagsSoFar places flags before → AreReached net flags
   all_flags places flags before proper all e f = record { all = f.all ∙ e; each = each }

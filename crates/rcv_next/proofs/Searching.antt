@@ -1,8 +1,10 @@
 -- A search that visits places in turn has found all that can come.
-use Rattle.std.proofs.Common.{◌≡◌, ℕ, ◌+◌, ◌<◌, ◌≤◌, List, [], ◌∷◌, ◌++◌, length, get_or, refl, sym, ◌∙◌, ap, subst, ◌⊎◌, inl, inr, ⊎_elim, arith}
+use Rattle.std.proofs.Common.{◌≡◌, ℕ, ◌+◌, ◌<◌, ◌≤◌, List, [], ◌∷◌, ◌++◌, length, length-append, get_or, refl, sym, ◌∙◌, ap, subst, ◌⊎◌, inl, inr, ⊎_elim, arith}
 use Rattle.std.proofs.lemmas.Bool.{cases_eq}
 use Rattle.rcv_model.specs.Net.{Net, IsIn, IsWalk, IsPrefix, last_of}
 use Rattle.rcv_model.specs.Next.{IsOf, HasNone, IsProper}
+use Rattle.rcv_model.proofs.Walks.{walk_join}
+use Rattle.rcv_model.proofs.Parts.{last_more, none_join}
 use Rattle.rcv_next.specs.Found.{Adds, Is, IsOther, IsWay, ArePlacesAhead}
 use Rattle.rcv_next.proofs.Adding.{in_at, place_in, in_kept, at_kept}
 
@@ -14,24 +16,8 @@ pub record SoFar (net : Net) (r k : ℕ) (places : List ℕ) (done : ℕ) : Type
   pub within : done ≤ length places
 
 module _ (net : Net) (r : ℕ) where
-  pub walk_on : (k p : ℕ) (w : List ℕ) → IsWalk net k w → IsIn p (net.offers (last_of k w)) → IsWalk net k (w ++ p ∷ [])
-  walk_on k p [] walk i = (i, tt)
-  walk_on k p (q ∷ w) walk i = (walk.0, walk_on q p w walk.1 i)
-
-  pub walk_back : (k p : ℕ) (w : List ℕ) → IsWalk net k (w ++ p ∷ []) → IsWalk net k w × IsIn p (net.offers (last_of k w))
-  walk_back k p [] walk = (tt, walk.0)
-  walk_back k p (q ∷ w) walk = let rest = walk_back q p w walk.1 in ((walk.0, rest.0), rest.1)
-
-  none_on : (p : ℕ) (w : List ℕ) → HasNone net r w → (IsOf net r p → ⊥) → HasNone net r (w ++ p ∷ [])
-  none_on p [] none n = (n, tt)
-  none_on p (q ∷ w) none n = (none.0, none_on p w none.1 n)
-
-  last_on : (k p : ℕ) (w : List ℕ) → last_of k (w ++ p ∷ []) ≡ p
-  last_on k p [] = refl
-  last_on k p (q ∷ w) = last_on q p w
-
   way_on : (k j p : ℕ) → IsWay net r k j → IsOther net r j p → IsWay net r k p
-  way_on k j p a o = (a.0 ++ p ∷ [], walk_on k p a.0 a.1 (subst (λ x. IsIn p (net.offers x)) (sym a.3) o.0), none_on p a.0 a.2 o.1, last_on k p a.0)
+  way_on k j p a o = (a.0 ++ p ∷ [], walk_join net k a.0 (p ∷ []) a.1 (subst (λ x. IsIn p (net.offers x)) (sym a.3) o.0, tt), none_join net r a.0 (p ∷ []) a.2 (o.1, tt), last_more k p a.0)
 
   -- a way keeps within the text
   walk_within : (roles k : ℕ) (w : List ℕ) → IsProper net roles → k ≤ net.count → IsWalk net k w → last_of k w ≤ net.count
@@ -50,11 +36,7 @@ module _ (net : Net) (r : ℕ) where
   }
 
   length_kept : (old now : List ℕ) → IsPrefix old now → length old ≤ length now
-  length_kept old now p = subst (λ l. length old ≤ length l) p.1 (front_le old p.0)
-    where
-      front_le : (xs ys : List ℕ) → length xs ≤ length (xs ++ ys)
-      front_le [] ys = omega arith
-      front_le (x ∷ xs) ys = let ih = front_le xs ys in omega arith
+  length_kept old now p = let e = ap length p.1 in omega (arith, length-append old p.0, e)
 
   pub visited : (k : ℕ) (places new : List ℕ) (done : ℕ) → SoFar net r k places done → done < length places → Adds (IsOther net r (get_or places done 0)) places new → SoFar net r k new (done + 1)
   visited k places new done s lt a = record {
