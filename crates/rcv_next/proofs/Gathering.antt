@@ -16,11 +16,11 @@ module _ (net : Net) (r : ℕ) where
       record { way = way.0; walk = walk_join net k way.0 (z ∷ []) way.1 (subst (λ x. IsIn z (net.offers x)) (sym way.3) a.2.0, tt); none = way.2; own = a.2.1 }
 
   of_next : (k : ℕ) (js : List ℕ) (z : ℕ) → ArePlacesAhead net r k js → IsNext net r k z → IsOwnOf net r js z
-  of_next k js z all n =
-      ( last_of k n.way
-      , (all (last_of k n.way)).1 (n.way, walk_front net k n.way (z ∷ []) n.walk, n.none, refl)
-      , ((walk_back net k n.way (z ∷ []) n.walk).0, n.own)
-      )
+  of_next k js z all n = (
+    last_of k n.way,
+    (all (last_of k n.way)).1 (n.way, walk_front net k n.way (z ∷ []) n.walk, n.none, refl),
+    ((walk_back net k n.way (z ∷ []) n.walk).0, n.own),
+  )
 
   pub next_of : (k : ℕ) (js own zs : List ℕ) → ArePlacesAhead net r k js → Adds (IsOwnOf net r js) [] own → AreAscending own zs → AreNext net r k zs
   next_of k js own zs all a up = record {

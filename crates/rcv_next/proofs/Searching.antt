@@ -2,7 +2,7 @@
 use Rattle.std.proofs.Common.{◌≡◌, ℕ, ◌+◌, ◌<◌, ◌≤◌, List, [], ◌∷◌, ◌++◌, length, length-append, get_or, refl, sym, ◌∙◌, ap, subst, ◌⊎◌, inl, inr, ⊎_elim, arith}
 use Rattle.std.proofs.lemmas.Bool.{cases_eq}
 use Rattle.rcv_model.specs.Net.{Net, IsIn, IsWalk, IsPrefix, last_of}
-use Rattle.rcv_model.specs.Next.{IsOf, HasNone, IsProper}
+use Rattle.rcv_model.specs.Next.{HasNone, IsProper}
 use Rattle.rcv_model.proofs.Walks.{walk_join}
 use Rattle.rcv_model.proofs.Parts.{last_more, none_join}
 use Rattle.rcv_next.specs.Found.{Adds, Is, IsOther, IsWay, ArePlacesAhead}

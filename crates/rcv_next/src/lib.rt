@@ -6,3 +6,5 @@ pub mod chain;
 mod places;
 pub mod reached;
 mod search;
+#[cfg(test)]
+mod tests;
