@@ -6,7 +6,7 @@ use Rattle.rcv_model.specs.Text.{Body}
 use Rattle.rcv_model.specs.Next.{IsPlaceOf, IsAccepted}
 use Rattle.rcv_model.specs.Places.{net_of}
 use Rattle.rcv_model.specs.Form.{HasForm}
-use Rattle.rcv_model.specs.Accept.{HasSubjects, IsReached, Fails, unreachable, IsNotAfter, IsRefusal}
+use Rattle.rcv_model.specs.Accept.{HasSubjects, IsReached, Fails, unreachable, IsNotAfter}
 use Rattle.rcv_model.proofs.Decided.{faultless}
 use Rattle.rcv_model.proofs.Refusals.{Case, IsUnreached, SubjectIsSilent}
 use Rattle.rcv_model.proofs.LeastRefusal.{told}
@@ -88,9 +88,6 @@ module _ (body : Body) (roles : ℕ) (form : HasForm body roles) where
       (λ c r n w. w.2)
       (λ c r n w. w.2)
       (λ c r n w. ⊎_elim (λ lt. inl ((codes w).0, omega arith, w)) (λ ge. inr (ge, (codes w).1, w)) (cases_lt c 26))
-
-  pub refused : (f : Fault) → IsFirst (Fails body roles) (Some f) → IsRefusal body roles f.code f.role f.number
-  refused f a = record { fails = a.0; least = a.1 }
 
   pub accepted : IsFirst (Fails body roles) None → IsAccepted (net_of body) roles × HasSubjects body
   accepted none = (faultless body roles form).0 none

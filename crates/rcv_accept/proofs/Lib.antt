@@ -5,3 +5,4 @@ pub mod Rules
 pub mod Faults
 pub mod Choices
 pub mod Rows
+pub mod Accepting
