@@ -1,0 +1,8 @@
+use Rattle.std.proofs.Common.{take}
+use Rattle.rcv_points.specs.Follow.{net_in}
+use Rattle.rcv_next.specs.Found.{Adds}
+use Rattle.rcv_next.proofs.Adding.{Others}
+use Rattle.rcv_next.proofs.search.add_others.Given as goal
+
+abbrev pub invariant-loop-point : goal.invariant-loop-point
+invariant-loop-point l = Adds (Others (net_in l.points) l.role (take l.point-index l.point-items)) l.fn.places l.places

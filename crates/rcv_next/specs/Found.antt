@@ -1,0 +1,56 @@
+-- What a search has found so far, each place once.
+use Rattle.std.specs.Prelude.{◌≡◌, ◌↔◌, ℕ, ◌+◌, ◌⊎◌, Bool, true, false, not, List, [], ◌∷◌, length, take, slice_index_or}
+use Rattle.std.specs.List.{count_by}
+use Rattle.std.specs.List.Sorted.{IsStrictlyIncreasing}
+use Rattle.rcv_model.specs.Net.{Net, IsIn, IsPrefix, IsWalk, last_of}
+use Rattle.rcv_model.specs.Next.{IsOf, HasNone}
+
+-- Each of the first items has its flag, and each flag is of one of them; as many flags are left as there is room.
+pub record AreOnce (flags : List Bool) (items : List ℕ) (count : ℕ) : Type 0 where
+  pub flags_all : length flags ≡ 257
+  pub items_all : length items ≡ 257
+  pub flagged : (j : ℕ) → IsIn j (take count items) → slice_index_or flags j false ≡ true
+  pub found : (j : ℕ) → slice_index_or flags j false ≡ true → IsIn j (take count items)
+  pub room : count_by not flags + count ≡ 257
+
+-- this very number
+abbrev pub Is : ℕ → ℕ → Type 0
+Is p j = j ≡ p
+
+-- Behind what was found stand these, all of them and no others.
+pub record Adds (These : ℕ → Type 0) (old now : List ℕ) : Type 0 where
+  pub kept : IsPrefix old now
+  pub all : (j : ℕ) → These j → IsIn j now
+  pub only : (j : ℕ) → IsIn j now → IsIn j old ⊎ These j
+
+-- The place offers the point, which isn't one of role r; or which is.
+abbrev pub IsOther : Net → ℕ → ℕ → ℕ → Type 0
+IsOther net r k p = IsIn p (net.offers k) × (IsOf net r p → ⊥)
+
+abbrev pub IsOwn : Net → ℕ → ℕ → ℕ → Type 0
+IsOwn net r k p = IsIn p (net.offers k) × IsOf net r p
+
+-- A walk from place k comes to place j, and holds no point of role r.
+abbrev pub IsWay : Net → ℕ → ℕ → ℕ → Type 0
+IsWay net r k j = (w : List ℕ) × IsWalk net k w × HasNone net r w × (last_of k w ≡ j)
+
+-- The places that can come from place k on with no point of role r before them.
+abbrev pub ArePlacesAhead : Net → ℕ → ℕ → List ℕ → Type 0
+ArePlacesAhead net r k js = (j : ℕ) → IsIn j js ↔ IsWay net r k j
+
+-- Some of these places offers the point, which is one of role r.
+abbrev pub IsOwnOf : Net → ℕ → List ℕ → ℕ → Type 0
+IsOwnOf net r js p = (j : ℕ) × IsIn j js × IsOwn net r j p
+
+-- Some of these places offers nothing.
+abbrev pub HasEnd : Net → List ℕ → Type 0
+HasEnd net js = (j : ℕ) × IsIn j js × (net.offers j ≡ [])
+
+-- The place offers this point alone, which isn't one of role r.
+abbrev pub IsForced : Net → ℕ → ℕ → ℕ → Type 0
+IsForced net r k p = (net.offers k ≡ p ∷ []) × (IsOf net r p → ⊥)
+
+-- The same numbers, ascending.
+pub record AreAscending (js zs : List ℕ) : Type 0 where
+  pub ascending : IsStrictlyIncreasing zs
+  pub same : (z : ℕ) → IsIn z zs ↔ IsIn z js
