@@ -1,5 +1,5 @@
 -- The text of each role, computed: rec X { choice at A { more to B; continue X; } or { stop to B; stop to C; } }
-use Rattle.std.proofs.Common.{◌≡◌, ℕ, List, [], ◌∷◌, flat_map, map, refl, codes}
+use Rattle.std.proofs.Common.{◌≡◌, ℕ, List, [], ◌∷◌, flat_map, refl, codes}
 use Rattle.std.specs.Fmt.{digits}
 use Rattle.rcv_model.specs.Net.{Net}
 use Rattle.rcv_model.specs.Text.{Body, End, Single, Choose, Loop, Again, NoMore, Or}

@@ -1,13 +1,13 @@
 -- What a machine's answers say, from what it keeps.
-use Rattle.std.proofs.Common.{◌≡◌, ◌≢◌, ℕ, zero, suc, ◌<◌, ◌≤◌, Some, List, [], ◌∷◌, length, get_or, arith, refl, sym, ◌∙◌, ap, subst, inl, inr}
+use Rattle.std.proofs.Common.{◌≡◌, ◌≢◌, ℕ, zero, suc, ◌<◌, ◌≤◌, Some, List, [], ◌∷◌, length, get_or, arith, refl, subst, inl, inr}
 use Rattle.std.specs.Prelude.{slice_get}
-use Rattle.rcv_model.specs.Net.{Net, IsIn}
+use Rattle.rcv_model.specs.Net.{IsIn}
 use Rattle.rcv_model.specs.Next.{IsNext, AreNext, IsPlaceOf}
 use Rattle.rcv_model.proofs.Forms.{proper}
 use Rattle.rcv_points.specs.Follow.{PointsView, ArePointsOf, net_in}
 use Rattle.rcv_points.proofs.Whole.{same_net}
 use Rattle.rcv_accept.specs.Accepted.{AcceptedView, roles_of, text_of, net_for}
-use Rattle.rcv_project.specs.Act.{ActView, Sending, Receiving, AreReceivedBy, IsActAt}
+use Rattle.rcv_project.specs.Act.{Sending, Receiving, AreReceivedBy, IsActAt}
 use Rattle.rcv_project.specs.Local.{LocalView, IsLocal, net_seen}
 use Rattle.rcv_project.specs.LocalText.{AreInText}
 use Rattle.rcv_project.proofs.Acting.{next_in_text, sender_declared, receiver_declared, all_sent, all_received}

@@ -1,5 +1,5 @@
 -- What contracts see of the machine of a role.
-use Rattle.std.specs.Prelude.{ℕ, ◌<◌, List, length}
+use Rattle.std.specs.Prelude.{ℕ, ◌<◌, List}
 use Rattle.rcv_accept.specs.Accepted.{AcceptedView, IsAcceptedProtocol, roles_of, net_for}
 use Rattle.rcv_model.specs.Net.{Net}
 

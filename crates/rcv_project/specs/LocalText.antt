@@ -1,5 +1,5 @@
 -- The text of a role: a line for each of its places.
-use Rattle.std.specs.Prelude.{◌≡◌, ℕ, ◌<◌, ◌≤◌, Bool, ◌==◌, ◌||◌, List, [], ◌∷◌, ◌++◌, map, flat_map, slice_index_or, codes, decimal}
+use Rattle.std.specs.Prelude.{◌≡◌, ℕ, ◌≤◌, Bool, ◌==◌, ◌||◌, List, [], ◌∷◌, ◌++◌, map, flat_map, slice_index_or, codes, decimal}
 use Rattle.std.specs.List.{All, filter, range_with_len, join_by}
 use Rattle.rcv_tree.specs.declared.event.Dir.{Dir}
 use Rattle.rcv_tree.specs.declared.event.Dir.TheVariants.{Sent, Got}

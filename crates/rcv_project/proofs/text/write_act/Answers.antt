@@ -1,5 +1,5 @@
 -- What is next stands in the text.
-use Rattle.std.proofs.Common.{◌≡◌, ◌++◌, ◌∙◌, ap, codes}
+use Rattle.std.proofs.Common.{◌++◌, ◌∙◌, ap, codes}
 use Rattle.std.proofs.lemmas.Result.{on_ok_weaker}
 use Rattle.rcv_tree.specs.declared.event.Dir.TheVariants.{Got}
 use Rattle.rcv_project.specs.Act.{Receiving}
@@ -24,5 +24,5 @@ returns-in_ok-word-in-Receives-3 c =
     let names = names_seen c.args.local.now in
     let named = c.in_ok-word-in-Receives-2.ensures ∙ ap (λ name. c.word-in-Receives.new.self ++ name) c.name.ensures in
     on_ok_weaker c.write_points-in-Receives.result
-      (λ written. (Receiving c.in-Receives.from c.in-Receives.points.now, c.in-Receives.ensures.act, four_words c.args.text.now (codes " receives from ") (name_of names c.in-Receives.from) (codes ": ") (points_text names net Got c.in-Receives.points.now) c.word-in-Receives.new.self c.word-in-Receives-2.new.self c.word-in-Receives-3.new.self c.write_points-in-Receives.new.text c.in_ok-word-in-Receives.ensures named c.in_ok-word-in-Receives-3.ensures written))
-      c.write_points-in-Receives.ensures
+    (λ written. (Receiving c.in-Receives.from c.in-Receives.points.now, c.in-Receives.ensures.act, four_words c.args.text.now (codes " receives from ") (name_of names c.in-Receives.from) (codes ": ") (points_text names net Got c.in-Receives.points.now) c.word-in-Receives.new.self c.word-in-Receives-2.new.self c.word-in-Receives-3.new.self c.write_points-in-Receives.new.text c.in_ok-word-in-Receives.ensures named c.in_ok-word-in-Receives-3.ensures written))
+    c.write_points-in-Receives.ensures

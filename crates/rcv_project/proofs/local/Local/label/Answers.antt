@@ -1,7 +1,7 @@
 -- The points say what the text says.
-use Rattle.std.proofs.Common.{◌≡◌, sym, ◌∙◌, ap, subst}
+use Rattle.std.proofs.Common.{◌∙◌, ap}
 use Rattle.rcv_model.specs.Net.{Net}
-use Rattle.rcv_project.specs.Local.{LocalView, IsLocal, net_seen}
+use Rattle.rcv_project.specs.Local.{LocalView, net_seen}
 use Rattle.rcv_project.proofs.Machine.{says_text}
 use Rattle.rcv_project.proofs.local.Local.label.Goals as goal
 

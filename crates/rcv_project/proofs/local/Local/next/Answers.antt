@@ -1,5 +1,5 @@
 -- The first next point tells what all of them are.
-use Rattle.std.proofs.Common.{◌≡◌, ℕ, ◌≤◌, Some, sym, ◌∙◌, ap, subst, arith}
+use Rattle.std.proofs.Common.{◌≡◌, sym, ◌∙◌, ap, subst, arith}
 use Rattle.std.specs.Option.{option_copied}
 use Rattle.std.proofs.lemmas.Bool.Decides.{nat_tests}
 use Rattle.rcv_model.specs.Next.{AreNext}
@@ -35,4 +35,4 @@ returns-else-eq-clause-act c =
     let role : c.self.inside.role ≡ c.args.self.now.role = ap (λ (local : LocalView). local.role) c.self.view_is in
     let other : c.sender-sender.result ≡ c.self.inside.role → ⊥ = λ same. let e = c.if-eq.ensures in absurd (grind (arith, nat_tests)) in
     subst (λ from. IsActAt (net_seen c.args.self.now) c.args.self.now.role c.args.place (Receiving from c.next-points.result.now)) (sym c.sender-sender.ensures)
-      (receives c.args.self.now c.args.place c.in-Some.first.now c.next-points.result.now keeps next (sym c.first.ensures.value ∙ ap option_copied c.in-Some.is) c.requires (λ same. other (c.sender-sender.ensures ∙ same ∙ sym role)))
+    (receives c.args.self.now c.args.place c.in-Some.first.now c.next-points.result.now keeps next (sym c.first.ensures.value ∙ ap option_copied c.in-Some.is) c.requires (λ same. other (c.sender-sender.ensures ∙ same ∙ sym role)))

@@ -1,5 +1,5 @@
 -- The points say what the text says.
-use Rattle.std.proofs.Common.{◌≡◌, ◌<◌, sym, ◌∙◌, ap, subst}
+use Rattle.std.proofs.Common.{◌<◌, sym, ◌∙◌, ap, subst}
 use Rattle.rcv_model.specs.Net.{Net}
 use Rattle.rcv_accept.specs.Accepted.{roles_of}
 use Rattle.rcv_project.specs.Local.{LocalView, IsLocal, net_seen}
