@@ -1,14 +1,14 @@
 -- The choices of a text, by their list of points.
-use Rattle.std.proofs.Common.{◌≡◌, ℕ, zero, suc, ◌+◌, ◌<◌, ◌≤◌, List, [], ◌∷◌, ◌++◌, length, map, get_or, refl, sym, ◌∙◌, ap, subst, ◌⊎◌, inl, inr, ⊎_elim, arith}
-use Rattle.std.specs.Prelude.{Option, Some, None}
+use Rattle.std.proofs.Common.{◌≡◌, ℕ, zero, suc, ◌<◌, ◌≤◌, List, [], ◌∷◌, length, map, get_or, refl, sym, ◌∙◌, ap, subst, ◌⊎◌, inl, inr, ⊎_elim, arith}
+use Rattle.std.specs.Prelude.{Option}
 use Rattle.std.proofs.lemmas.List.{get_or_read}
 use Rattle.rcv_model.specs.Text.{Body, End, Single, Choose, Loop, Again, Beside, Call, Bodies, NoMore, Or}
-use Rattle.rcv_model.specs.Net.{Net, IsIn}
+use Rattle.rcv_model.specs.Net.{IsIn}
 use Rattle.rcv_model.specs.Places.{Frame, Behind, Inside, Spot, singles, singles_of, net_of}
 use Rattle.rcv_model.specs.Form.{HasForm}
 use Rattle.rcv_model.specs.Accept.{choices, choices_of, IsFirstOf, Fails, subject}
 use Rattle.rcv_model.proofs.PlacesLemmas.{offers_sound, offers_complete}
-use Rattle.rcv_model.proofs.Forms.{Has, has_left, has_right, InFrames, offered, Within, AllWithin, within_join, in_range}
+use Rattle.rcv_model.proofs.Forms.{Has, has_left, has_right, InFrames, offered, AllWithin, within_join, in_range}
 use Rattle.rcv_points.specs.Follow.{ChoiceView, PointsView, choice_of, net_in}
 use Rattle.rcv_points.proofs.Whole.{same_net}
 use Rattle.rcv_accept.specs.declared.fault.Fault.{Fault}
@@ -23,10 +23,12 @@ mutual
   within : (P : ℕ → Type 0) (fs : List Frame) (b : Body) → ((p : ℕ) → Has p (singles b) ⊎ InFrames p fs → P p) → AllWithin P (choices fs b)
   within P fs End all = tt
   within P fs (Single label sorts s r n rest) all = within P fs rest (λ p i. all p (⊎_elim (λ h. inl (inr h)) (λ h. inr h) i))
-  within P fs (Choose s bs rest) all =
-      (all, within_join P (choices_of (Behind rest ∷ fs) bs) (choices fs rest)
-      (within_of P (Behind rest ∷ fs) bs (λ p i. all p (⊎_elim (λ h. inl (has_left p (singles_of bs) (singles rest) h)) (λ i. ⊎_elim (λ h. inl (has_right p (singles_of bs) (singles rest) h)) (λ h. inr h) i) i)))
-      (within P fs rest (λ p i. all p (⊎_elim (λ h. inl (has_right p (singles_of bs) (singles rest) h)) (λ h. inr h) i))))
+  within P fs (Choose s bs rest) all = (
+    all,
+    within_join P (choices_of (Behind rest ∷ fs) bs) (choices fs rest)
+        (within_of P (Behind rest ∷ fs) bs (λ p i. all p (⊎_elim (λ h. inl (has_left p (singles_of bs) (singles rest) h)) (λ i. ⊎_elim (λ h. inl (has_right p (singles_of bs) (singles rest) h)) (λ h. inr h) i) i)))
+        (within P fs rest (λ p i. all p (⊎_elim (λ h. inl (has_right p (singles_of bs) (singles rest) h)) (λ h. inr h) i))),
+  )
   within P fs (Loop name body rest) all = within_join P (choices (Inside name body rest ∷ fs) body) (choices fs rest)
       (within P (Inside name body rest ∷ fs) body (λ p i. all p (⊎_elim (λ h. inl (has_left p (singles body) (singles rest) h)) (λ i. ⊎_elim (λ h. inl (has_left p (singles body) (singles rest) h)) (λ i. ⊎_elim (λ h. inl (has_right p (singles body) (singles rest) h)) (λ h. inr h) i) i) i)))
       (within P fs rest (λ p i. all p (⊎_elim (λ h. inl (has_right p (singles body) (singles rest) h)) (λ h. inr h) i)))

@@ -1,9 +1,9 @@
 -- The rules on a role's next points as a list, and the faults of the text.
-use Rattle.std.proofs.Common.{◌≡◌, ℕ, ◌<◌, ◌≤◌, Bool, List, [], ◌∷◌, ◌++◌, refl, sym, ◌∙◌, subst, ◌⊎◌, inl, inr, ⊎_elim, arith}
-use Rattle.std.specs.Prelude.{IsTrue, ◌↔◌, Some, None}
+use Rattle.std.proofs.Common.{◌≡◌, ℕ, ◌<◌, ◌≤◌, Bool, List, [], ◌∷◌, ◌++◌, refl, sym, ◌∙◌, subst, inl, inr, ⊎_elim, arith}
+use Rattle.std.specs.Prelude.{Some, None}
 use Rattle.rcv_model.specs.Text.{Body}
 use Rattle.rcv_model.specs.Net.{Net, IsIn, IsWalk}
-use Rattle.rcv_model.specs.Next.{IsOf, IsNext, AreNext, IsPlaceOf, IsEnabledBy, IsProper}
+use Rattle.rcv_model.specs.Next.{IsOf, AreNext, IsPlaceOf, IsEnabledBy, IsProper}
 use Rattle.rcv_model.specs.Places.{net_of}
 use Rattle.rcv_model.specs.Form.{HasForm}
 use Rattle.rcv_model.specs.Accept.{Fails, mixed, senders, labels, not_enabled, maybe_done, AreAlike}
@@ -11,11 +11,11 @@ use Rattle.rcv_model.proofs.Same.{text_rises, enabled_both}
 use Rattle.rcv_model.proofs.Refusals.{Case, AtPlace}
 use Rattle.rcv_model.proofs.Refusals as rules
 use Rattle.rcv_model.proofs.LeastRefusal.{told}
-use Rattle.rcv_next.specs.Ahead.{IsAhead, IsMetBy}
+use Rattle.rcv_next.specs.Ahead.{IsAhead}
 use Rattle.rcv_points.specs.Follow.{PointsView, net_in}
 use Rattle.rcv_points.proofs.Whole.{same_net}
 use Rattle.rcv_accept.specs.Faults.{AreOf}
-use Rattle.rcv_accept.specs.Lists.{AreInText, HasSend, HasReceive, HasTwoSenders, HasTwins, IsMixed, HasManySenders, IsLeftBehind, IsForgotten, IsLeastCode}
+use Rattle.rcv_accept.specs.Lists.{AreInText, HasSend, HasReceive, HasTwins, IsMixed, HasManySenders, IsLeftBehind, IsForgotten, IsLeastCode}
 
 -- a list that isn't empty has an item
 some_in : (zs : List ℕ) → (zs ≡ [] → ⊥) → (z : ℕ) × IsIn z zs

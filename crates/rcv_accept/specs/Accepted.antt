@@ -1,5 +1,5 @@
 -- What contracts see of an accepted protocol, and what its type keeps.
-use Rattle.std.specs.Prelude.{◌≡◌, ℕ, List, [], length}
+use Rattle.std.specs.Prelude.{ℕ, List, [], length}
 use Rattle.std.specs.declared.alloc.Global.{Global}
 use Rattle.std.specs.declared.vec.Vec.{Vec}
 use Rattle.rcv_tree.specs.declared.protocol.Protocol.{Protocol}

@@ -1,5 +1,5 @@
 -- The rules on what a role does next at one place, where its next points are a list.
-use Rattle.std.specs.Prelude.{◌≡◌, ℕ, ◌≤◌, ◌⊎◌, Bool, IsTrue, List, [], Option, Some, None}
+use Rattle.std.specs.Prelude.{◌≡◌, ℕ, ◌≤◌, Bool, IsTrue, List, [], Option, Some, None}
 use Rattle.rcv_model.specs.Text.{Body}
 use Rattle.rcv_model.specs.Net.{Net, IsIn}
 use Rattle.rcv_model.specs.Accept.{Fails}

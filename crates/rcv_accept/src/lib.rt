@@ -12,6 +12,8 @@ mod places;
 mod reach;
 mod search;
 mod subjects;
+#[cfg(test)]
+mod tests;
 
 pub use search::accept;
 

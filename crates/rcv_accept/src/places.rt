@@ -112,7 +112,10 @@ pub fn fault_in_rows(points: &Points, roles: u8, rows: &[Vec<Ahead>]) -> Option<
 {
     let mut first = None;
     for role in 0..roles {
-        first = earlier(first, fault_in_row(points, RoleId(role), &rows[role as usize]));
+        first = earlier(
+            first,
+            fault_in_row(points, RoleId(role), &rows[role as usize]),
+        );
     }
     first
 }

@@ -36,7 +36,10 @@ pub fn first_unreached(alloc: Global, points: &Points) -> Result<Option<Fault>, 
     let flags = reached(alloc, points)?;
     let mut first = None;
     for place in 0..points.count() {
-        first = earlier(first, unreached(points, Point(place + 1), flags[place as usize]));
+        first = earlier(
+            first,
+            unreached(points, Point(place + 1), flags[place as usize]),
+        );
     }
     Ok(first)
 }

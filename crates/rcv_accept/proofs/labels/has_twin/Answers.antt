@@ -1,7 +1,6 @@
-use Rattle.std.proofs.Common.{◌≡◌, ℕ, true, refl, sym, ◌∙◌, ap, arith}
-use Rattle.std.proofs.lemmas.Bool.Decides.{nat_tests}
+use Rattle.std.proofs.Common.{refl}
 use Rattle.rcv_points.specs.Follow.{net_in}
-use Rattle.rcv_accept.specs.Lists.{AreTwins, HasTwin}
+use Rattle.rcv_accept.specs.Lists.{AreTwins}
 use Rattle.rcv_accept.proofs.Lists.{item_in, none_next, none_in}
 use Rattle.rcv_accept.proofs.labels.has_twin.Goals as goal
 

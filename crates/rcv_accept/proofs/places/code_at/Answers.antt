@@ -1,5 +1,3 @@
-use Rattle.std.proofs.Common.{◌≡◌, Bool, false, true, refl}
-use Rattle.std.specs.Prelude.{IsTrue}
 use Rattle.rcv_points.specs.Follow.{net_in}
 use Rattle.rcv_accept.proofs.Lists.{not_so}
 use Rattle.rcv_accept.proofs.Rules.{next_in_text, code_mixed, code_senders, code_labels, code_enabled, code_done, code_none}

@@ -1,8 +1,7 @@
 use Rattle.std.proofs.Common.{sym, subst}
 use Rattle.rcv_model.specs.Next.{IsPlaceOf}
-use Rattle.rcv_accept.proofs.Lists.{not_so}
 use Rattle.rcv_points.proofs.Whole.{same_net}
-use Rattle.rcv_accept.proofs.Faults.{elsewhere, place_none, place_some}
+use Rattle.rcv_accept.proofs.Faults.{elsewhere, place_some}
 use Rattle.rcv_accept.proofs.places.fault_at.Goals as goal
 
 pub returns-then-not-is_place_of : goal.returns-then-not-is_place_of

@@ -1,4 +1,4 @@
-use Rattle.std.proofs.Common.{◌≡◌, ◌<◌, ◌∙◌, ap, length, arith}
+use Rattle.std.proofs.Common.{ap, arith}
 use Rattle.rcv_points.proofs.Whole.{same_net}
 use Rattle.rcv_accept.proofs.Rows.{read_at}
 use Rattle.rcv_accept.proofs.Faults.{row_next, row_all}

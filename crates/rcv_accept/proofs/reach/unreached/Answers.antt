@@ -1,7 +1,6 @@
 use Rattle.std.proofs.Common.{sym, ◌∙◌, ap, subst}
 use Rattle.std.specs.Prelude.{Some}
 use Rattle.rcv_model.specs.Accept.{IsReached}
-use Rattle.rcv_points.specs.Follow.{net_in}
 use Rattle.rcv_points.proofs.Whole.{same_net}
 use Rattle.rcv_accept.specs.Faults.{IsFirst, FailsAtPoint}
 use Rattle.rcv_accept.specs.Lists.{IsInText}

@@ -1,4 +1,4 @@
-use Rattle.std.proofs.Common.{◌≡◌, ◌<◌, ◌≤◌, length, get_or, refl, sym, ◌∙◌, ap, subst, arith}
+use Rattle.std.proofs.Common.{◌<◌, length, refl, ◌∙◌, ap, subst, arith}
 use Rattle.rcv_model.specs.Net.{IsIn}
 use Rattle.rcv_points.specs.Follow.{ChoiceView, net_in}
 use Rattle.rcv_accept.specs.Faults.{IsFirst, IsUnsent}
