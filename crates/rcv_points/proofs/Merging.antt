@@ -8,7 +8,6 @@ use Rattle.std.proofs.lemmas.Bool.{cases_lt}
 use Rattle.std.specs.Cmp.{nat_cmp_is}
 use Rattle.std.specs.Ordering.{is_lt, nat_cmp}
 use Rattle.std.proofs.lemmas.Map.Keys.{ge_from_not_lt}
-
 use Rattle.std.specs.List.Sorted.{IsStrictlyIncreasing}
 use Rattle.std.proofs.lemmas.Bool.Decides.{nat_tests}
 use Rattle.rcv_model.specs.Net.{IsIn}
@@ -50,9 +49,6 @@ high_in x y ys lt = go (nat_lt x y) (x == y) refl refl
 pub right_first : (y : ℕ) (xs ys : List ℕ) → ((x : ℕ) → IsIn x xs → y < x) → union xs (y ∷ ys) ≡ y ∷ union xs ys
 right_first y [] ys low = refl
 right_first y (x ∷ xs) ys low = ap (put_in x) (right_first y xs ys (λ z i. low z (inr i))) ∙ high_in x y (union xs ys) (low x (inl refl))
-
-
-
 
 below_tail : (x y : ℕ) (ys : List ℕ) → x < y → IsStrictlyIncreasing (y ∷ ys) → (z : ℕ) → IsIn z (y ∷ ys) → x < z
 below_tail x y ys lt up z (inl e) = omega (arith, e)

@@ -43,12 +43,12 @@ adds_message before old after next label sorts s r p rest behind ahead so re pl 
 moved_of : (old mid : Found) (env env' : Env) (next next' : List ℕ) (bs : Bodies) → env ≡ env' → next ≡ next' → AddsAll old (follows_of env next bs) (map message_of (singles_of bs)) (chosen_of env next bs) mid → AddsAll old (follows_of env' next' bs) (map message_of (singles_of bs)) (chosen_of env' next' bs) mid
 moved_of old mid env env' next next' bs e f x =
     subst (λ n. AddsAll old (follows_of env' n bs) (map message_of (singles_of bs)) (chosen_of env' n bs) mid) f
-      (subst (λ v. AddsAll old (follows_of v next bs) (map message_of (singles_of bs)) (chosen_of v next bs) mid) e x)
+    (subst (λ v. AddsAll old (follows_of v next bs) (map message_of (singles_of bs)) (chosen_of v next bs) mid) e x)
 
 moved : (old mid : Found) (env env' : Env) (next next' : List ℕ) (b : Body) → env ≡ env' → next ≡ next' → AddsAll old (follows env next b) (map message_of (singles b)) (chosen env next b) mid → AddsAll old (follows env' next' b) (map message_of (singles b)) (chosen env' next' b) mid
 moved old mid env env' next next' b e f x =
     subst (λ n. AddsAll old (follows env' n b) (map message_of (singles b)) (chosen env' n b) mid) f
-      (subst (λ v. AddsAll old (follows v next b) (map message_of (singles b)) (chosen v next b) mid) e x)
+    (subst (λ v. AddsAll old (follows v next b) (map message_of (singles b)) (chosen v next b) mid) e x)
 
 messages_join : (a : Found) (p : List (List ℕ)) (s : List ChoiceView) (c : Found) (xs ys : List (ℕ × Single_at)) → AddsAll a p (map message_of xs ++ map message_of ys) s c → AddsAll a p (map message_of (xs ++ ys)) s c
 messages_join a p s c xs ys x = subst (λ l. AddsAll a p l s c) (sym (map-append message_of xs ys)) x
@@ -70,7 +70,7 @@ adds_choice before old mid after next s bs rest behind ahead so more re pl me ch
   offered = offered;
   all = messages_join before _ _ after (singles_of bs) (singles rest)
       (subst (λ x. AddsAll before (follows_of before.recs (firsts before.recs next rest) bs ++ follows before.recs next rest) (map message_of (singles_of bs) ++ map message_of (singles rest)) (record { subject = s; offered = x } ∷ chosen_of before.recs (firsts before.recs next rest) bs ++ chosen before.recs next rest) after) offered
-        (both before mid after _ [] _ [] _ (record { subject = s; offered = ahead } ∷ []) (both before old mid _ _ _ _ _ _ had.all (moved_of old mid old.recs before.recs behind (firsts before.recs next rest) bs had.all.recs had.offered new.all)) one));
+      (both before mid after _ [] _ [] _ (record { subject = s; offered = ahead } ∷ []) (both before old mid _ _ _ _ _ _ had.all (moved_of old mid old.recs before.recs behind (firsts before.recs next rest) bs had.all.recs had.offered new.all)) one));
 }
   where
     had : Adds before next rest old behind

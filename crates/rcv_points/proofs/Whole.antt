@@ -1,6 +1,6 @@
 -- The points that were found for a text in the form which the reader gives are the points of the text, and say its protocol.
-use Rattle.std.proofs.Common.{◌≡◌, ℕ, zero, suc, ◌+◌, ◌-◌, ◌<◌, ◌≤◌, Bool, true, false, cond, Some, None, List, [], ◌∷◌, ◌++◌, length, map, get_or, reverse, refl, sym, ◌∙◌, ap, subst, ◌⊎◌, inl, inr, arith, length-append}
-use Rattle.std.specs.Prelude.{◌==◌, slice_index_or}
+use Rattle.std.proofs.Common.{◌≡◌, ℕ, zero, suc, ◌+◌, ◌-◌, ◌<◌, ◌≤◌, Bool, true, false, cond, Some, None, List, [], ◌∷◌, ◌++◌, length, map, get_or, reverse, refl, sym, ◌∙◌, ap, subst, ◌⊎◌, inl, inr, arith}
+use Rattle.std.specs.Prelude.{◌==◌}
 use Rattle.std.proofs.lemmas.Bool.{cases_lt}
 use Rattle.std.proofs.lemmas.Bool.Decides.{nat_tests}
 use Rattle.std.proofs.lemmas.List.{map-append, length-map, reverse-append, reverse-reverse}
@@ -9,12 +9,12 @@ use Rattle.rcv_model.specs.Text.{Body, End, Single, Choose, Loop, Again, Beside,
 use Rattle.rcv_model.specs.Net.{Net}
 use Rattle.rcv_model.specs.Next.{IsProper}
 use Rattle.rcv_model.specs.Form.{HasForm, IsNumberedFrom}
-use Rattle.rcv_model.specs.Places.{Frame, Behind, Inside, Spot, Single_at, spots, spots_of, singles, singles_of, single_at, find_spot, spot_of, offers_at, offers_of, next_of, env_of, firsts, IsFull, net_of}
+use Rattle.rcv_model.specs.Places.{Frame, Behind, Inside, Spot, Single_at, spots, spots_of, singles, singles_of, single_at, find_spot, offers_at, offers_of, next_of, env_of, firsts, IsFull, net_of}
 use Rattle.rcv_model.specs.Accept.{choices, choices_of}
 use Rattle.rcv_model.proofs.Same.{text_rises}
 use Rattle.rcv_model.proofs.Forms.{proper}
-use Rattle.rcv_points.specs.Follow.{PointView, ChoiceView, PointsView, AreWithin, ArePointsOf, offered_at, message_at, no_message, message_of, choice_of, net_in}
-use Rattle.rcv_points.specs.Walk.{Found, AddsAll, Adds, AddsFull, follows, follows_of, chosen, chosen_of}
+use Rattle.rcv_points.specs.Follow.{PointsView, AreWithin, ArePointsOf, offered_at, message_at, no_message, message_of, choice_of, net_in}
+use Rattle.rcv_points.specs.Walk.{Found, Adds, AddsFull, follows, follows_of, chosen, chosen_of}
 
 offers_behind : ℕ × Spot → List ℕ
 offers_behind e = offers_at e.1
@@ -248,7 +248,7 @@ walked body roles after start points form full adds pl me ch = record {
 pub from_nothing : (before : Found) (next : List ℕ) (body : Body) (after : Found) (start : List ℕ) → before.recs ≡ [] → before.places ≡ [] → before.messages ≡ [] → before.choices ≡ [] → next ≡ [] → AddsFull before next body after start → AddsFull (record { recs = []; places = []; messages = []; choices = [] }) [] body after start
 from_nothing before next body after start re pl me ch ne adds =
     subst (λ n. AddsFull (record { recs = []; places = []; messages = []; choices = [] }) n body after start) ne
-      (subst (λ b. AddsFull b next body after start) none adds)
+    (subst (λ b. AddsFull b next body after start) none adds)
   where
     none : before ≡ record { recs = []; places = []; messages = []; choices = [] }
     none = λ i. record { recs = re i; places = pl i; messages = me i; choices = ch i }

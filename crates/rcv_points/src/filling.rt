@@ -6,7 +6,7 @@ ghost use Rattle.rcv_model.specs.Places.{IsFull};
 ghost use Rattle.rcv_model.specs.Text.{Body, body_of, bodies_of, stmt_body};
 ghost use Rattle.rcv_points.specs.Follow.{ArePointsOf};
 ghost use Rattle.rcv_points.specs.Walk.{Found, AddsFull, AddsFullOf, IsFirstIn, IsFirstInOne};
-ghost use Rattle.rcv_points.specs.Filling.{found};
+ghost use Rattle.rcv_points.specs.Filling.{found, points_in};
 
 use crate::offered::Offered;
 use crate::points::{ChoicePoints, Message, Points};
@@ -17,12 +17,12 @@ use std::alloc::{AllocError, Global};
 
 // What was found behind the place where the walk stands: the last place, point and choice of the text come first.
 #[derive(Drop)]
-struct Filling<'a> {
+pub(crate) struct Filling<'a> {
     alloc: Global,
     recs: Recs<'a>,
-    places: Vec<Offered>,
-    messages: Vec<Message>,
-    choices: Vec<ChoicePoints>,
+    pub(crate) places: Vec<Offered>,
+    pub(crate) messages: Vec<Message>,
+    pub(crate) choices: Vec<ChoicePoints>,
 }
 
 /// The points of a protocol's text. Fails where memory runs out.
@@ -31,22 +31,30 @@ pub fn points_of(alloc: Global, protocol: &Protocol) -> Result<Points, AllocErro
     requires full { IsFull [] [] (body_of protocol.now.body) }
     ensures { IfOk result (λ points. ArePointsOf (body_of protocol.now.body) points) }
 {
-    let mut filling = Filling {
-        alloc,
-        recs: Recs::new(alloc),
-        places: Vec::new(alloc),
-        messages: Vec::new(alloc),
-        choices: Vec::new(alloc),
-    };
-    let start = filling.block(&protocol.body, &Offered::none(alloc))?;
-    filling.places.push(start)?;
-    filling.places.reverse();
-    filling.messages.reverse();
-    filling.choices.reverse();
+    let filling = Filling::whole(alloc, &protocol.body)?;
     Ok(Points::of(filling.places, filling.messages, filling.choices))
 }
 
 impl<'a> Filling<'a> {
+    // Walks along a whole text, and turns round what was found.
+    pub(crate) fn whole(alloc: Global, body: &'a Block) -> Result<Filling<'a>, AllocError>
+        ensures { IfOk result (λ filling. (roles : ℕ) → HasForm (body_of body.now) roles → IsFull [] [] (body_of body.now) → ArePointsOf (body_of body.now) (points_in filling)) }
+    {
+        let mut filling = Filling {
+            alloc,
+            recs: Recs::new(alloc),
+            places: Vec::new(alloc),
+            messages: Vec::new(alloc),
+            choices: Vec::new(alloc),
+        };
+        let start = filling.block(body, &Offered::none(alloc))?;
+        filling.places.push(start)?;
+        filling.places.reverse();
+        filling.messages.reverse();
+        filling.choices.reverse();
+        Ok(filling)
+    }
+
     // Fills a block's places, where this is offered behind the block, and answers what the block offers.
     #[cycle(fill)]
     fn block(&mut self, block: &'a Block, behind: &Offered) -> Result<Offered, AllocError>
@@ -109,6 +117,7 @@ impl<'a> Filling<'a> {
                 Ok(offered)
             }
             Stmt::Continue { name } => self.recs.offered_by(name, self.alloc),
+            // A full text has neither.
             Stmt::Par { .. } => Ok(Offered::none(self.alloc)),
             Stmt::Do { .. } => Ok(Offered::none(self.alloc)),
         }
@@ -150,6 +159,7 @@ fn first_of_stmt(alloc: Global, recs: &Recs<'_>, stmt: &Stmt) -> Result<Offered,
         Stmt::Choice { branches, .. } => first_of_blocks(alloc, recs, branches),
         Stmt::Rec { body, .. } => first_of_block(alloc, recs, body),
         Stmt::Continue { name } => recs.offered_by(name, alloc),
+        // A full text has neither.
         Stmt::Par { .. } => Ok(Offered::none(alloc)),
         Stmt::Do { .. } => Ok(Offered::none(alloc)),
     }

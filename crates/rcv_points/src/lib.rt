@@ -18,5 +18,4 @@ mod tests;
 /// The points of a text say the protocol that the text says.
 pub fn points_are_the_text()
     ensures { (body : Body) (roles : ℕ) (points : PointsView) → HasForm body roles → ArePointsOf body points → net_in points ≡ net_of body }
-{
-}
+{}

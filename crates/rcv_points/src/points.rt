@@ -30,7 +30,13 @@ impl Model for Message {
 
 impl Message {
     /// The message that a statement says, with a copy of its label. Fails where memory runs out.
-    pub fn of(alloc: Global, label: &Name, sorts: &Names, sender: RoleId, receiver: RoleId) -> Result<Message, AllocError>
+    pub fn of(
+        alloc: Global,
+        label: &Name,
+        sorts: &Names,
+        sender: RoleId,
+        receiver: RoleId,
+    ) -> Result<Message, AllocError>
         ensures { IfOk result (λ message. message ≡ record { label = label.now; sender = sender; receiver = receiver; payload = has_some sorts.now }) }
     {
         Ok(Message {
@@ -81,7 +87,11 @@ impl Model for Points {
 
 impl Points {
     /// What was found: for each place, point and choice, in text order.
-    pub(crate) fn of(places: Vec<Offered>, messages: Vec<Message>, choices: Vec<ChoicePoints>) -> Points
+    pub(crate) fn of(
+        places: Vec<Offered>,
+        messages: Vec<Message>,
+        choices: Vec<ChoicePoints>,
+    ) -> Points
         requires { AreWithin (record { places = places.items; messages = messages.items; choices = choices.items }) }
         ensures { result ≡ record { places = places.items; messages = messages.items; choices = choices.items } }
     {

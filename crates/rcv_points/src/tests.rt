@@ -1,22 +1,23 @@
-// The points of three small texts, and those of two long ones.
+// What each place of three texts offers.
 
-ghost use Rattle.std.specs.Prelude.{◌≡◌, ◌≤◌, [], ◌∷◌, IfOk, length};
-ghost use Rattle.rcv_model.specs.Form.{HasForm};
-ghost use Rattle.rcv_model.specs.Places.{IsFull};
-ghost use Rattle.rcv_model.specs.Text.{body_of};
+ghost use Rattle.std.specs.Prelude.{◌≤◌};
 
-use crate::filling::points_of;
-use crate::points::Points;
+use crate::filling::Filling;
 use rcv_tree::name::{Name, Names};
 use rcv_tree::point::Point;
-use rcv_tree::protocol::{Decls, Protocol};
 use rcv_tree::role::RoleId;
 use rcv_tree::statement::{Block, Blocks, Stmt};
 use std::alloc::{AllocError, Global};
 use std::test::Fail;
 
 // A message with no payload.
-fn message(alloc: Global, label: &[u8], sender: u8, receiver: u8, point: u16) -> Result<Stmt, AllocError> {
+fn message(
+    alloc: Global,
+    label: &[u8],
+    sender: u8,
+    receiver: u8,
+    point: u16,
+) -> Result<Stmt, AllocError> {
     Ok(Stmt::Message {
         label: Name::of(alloc, label)?,
         sorts: Names::new(alloc),
@@ -27,7 +28,13 @@ fn message(alloc: Global, label: &[u8], sender: u8, receiver: u8, point: u16) ->
 }
 
 // The same with one sort.
-fn with_sort(alloc: Global, label: &[u8], sender: u8, receiver: u8, point: u16) -> Result<Stmt, AllocError> {
+fn with_sort(
+    alloc: Global,
+    label: &[u8],
+    sender: u8,
+    receiver: u8,
+    point: u16,
+) -> Result<Stmt, AllocError> {
     let mut sorts = Names::new(alloc);
     sorts.push(Name::of(alloc, b"Int")?)?;
     Ok(Stmt::Message {
@@ -55,23 +62,8 @@ fn again(alloc: Global) -> Result<Stmt, AllocError> {
     })
 }
 
-// A protocol of this body for so many roles.
-fn protocol(alloc: Global, roles: usize, body: Block) -> Result<Protocol, AllocError> {
-    let mut names = Names::new(alloc);
-    for _ in 0..roles {
-        names.push(Name::new(alloc))?;
-    }
-    Ok(Protocol {
-        module: Names::new(alloc),
-        decls: Decls::new(alloc),
-        name: Name::new(alloc),
-        roles: names,
-        body,
-    })
-}
-
 // rec X { choice at A { more(Int) from A to B; continue X; } or { stop() from A to B, C; } }
-fn stream(alloc: Global) -> Result<Protocol, AllocError> {
+fn stream(alloc: Global) -> Result<Block, AllocError> {
     let mut more = Block::new(alloc);
     more.push(with_sort(alloc, b"more", 0, 1, 1)?)?;
     more.push(again(alloc)?)?;
@@ -85,11 +77,11 @@ fn stream(alloc: Global) -> Result<Protocol, AllocError> {
         name: Name::of(alloc, b"X")?,
         body: inside,
     })?;
-    protocol(alloc, 3, body)
+    Ok(body)
 }
 
 // rec X { a() from A to B; choice at A { b() from A to B; continue X; } or { c() from A to B; } d() from B to A; } e() from A to B;
-fn around(alloc: Global) -> Result<Protocol, AllocError> {
+fn around(alloc: Global) -> Result<Block, AllocError> {
     let mut back = Block::new(alloc);
     back.push(message(alloc, b"b", 0, 1, 2)?)?;
     back.push(again(alloc)?)?;
@@ -105,11 +97,11 @@ fn around(alloc: Global) -> Result<Protocol, AllocError> {
         body: inside,
     })?;
     body.push(message(alloc, b"e", 0, 1, 5)?)?;
-    protocol(alloc, 2, body)
+    Ok(body)
 }
 
 // Two Buyer: A is 0, B is 1, S is 2.
-fn two_buyer(alloc: Global) -> Result<Protocol, AllocError> {
+fn two_buyer(alloc: Global) -> Result<Block, AllocError> {
     let mut buys = Block::new(alloc);
     buys.push(message(alloc, b"ok", 1, 0, 5)?)?;
     buys.push(message(alloc, b"ok", 1, 2, 6)?)?;
@@ -124,48 +116,68 @@ fn two_buyer(alloc: Global) -> Result<Protocol, AllocError> {
     body.push(message(alloc, b"quote", 2, 1, 3)?)?;
     body.push(message(alloc, b"share", 0, 1, 4)?)?;
     body.push(choice(alloc, 1, buys, quits)?)?;
-    protocol(alloc, 3, body)
+    Ok(body)
+}
+
+// Whether a place offers these points.
+fn offers(found: &Filling<'_>, place: usize, points: &[Point]) -> bool {
+    match found.places.as_slice().get(place) {
+        Some(offered) => offered.as_slice() == points,
+        None => false,
+    }
+}
+
+// Whether a point's message has this label and these ends.
+fn says(found: &Filling<'_>, point: usize, label: &[u8], sender: u8, receiver: u8) -> bool
+    requires { 1 ≤ point }
+{
+    match found.messages.as_slice().get(point - 1) {
+        Some(message) => {
+            message.label.as_slice() == label
+                && message.sender.0 == sender
+                && message.receiver.0 == receiver
+        }
+        None => false,
+    }
 }
 
 #[test]
 fn a_stream_goes_on_or_stops(rt: HostRuntime) -> Result<(), Fail> {
-    let points = points_of(rt.alloc(), &stream(rt.alloc())?)?;
-    assert_eq!(rt; points.count(), 3);
-    assert_eq!(rt; points.start(), [Point(1), Point(2)].as_slice());
-    assert_eq!(rt; points.after(Point(1)), [Point(1), Point(2)].as_slice());
-    assert_eq!(rt; points.after(Point(2)), [Point(3)].as_slice());
-    assert!(rt; points.after(Point(3)).is_empty());
-    assert!(rt; points.has_payload(Point(1)));
-    assert!(rt; !points.has_payload(Point(2)));
-    let first = points.choices().first().ok_or("none")?;
-    assert_eq!(rt; points.choices().len(), 1);
-    assert!(rt; first.subject == RoleId(0));
-    assert_eq!(rt; first.offered.as_slice(), [Point(1), Point(2)].as_slice());
+    let body = stream(rt.alloc())?;
+    let found = Filling::whole(rt.alloc(), &body)?;
+    assert_eq!(rt; found.messages.len(), 3);
+    assert!(rt; offers(&found, 0, &[Point(1), Point(2)]));
+    assert!(rt; offers(&found, 1, &[Point(1), Point(2)]));
+    assert!(rt; offers(&found, 2, &[Point(3)]));
+    assert!(rt; offers(&found, 3, &[]));
+    let choice = found.choices.as_slice().first().ok_or("none")?;
+    assert_eq!(rt; choice.offered.as_slice(), [Point(1), Point(2)].as_slice());
     Ok(())
 }
 
 #[test]
 fn a_branch_leads_back_or_on(rt: HostRuntime) -> Result<(), Fail> {
-    let points = points_of(rt.alloc(), &around(rt.alloc())?)?;
-    assert_eq!(rt; points.start(), [Point(1)].as_slice());
-    assert_eq!(rt; points.after(Point(1)), [Point(2), Point(3)].as_slice());
-    assert_eq!(rt; points.after(Point(2)), [Point(1)].as_slice());
-    assert_eq!(rt; points.after(Point(3)), [Point(4)].as_slice());
-    assert_eq!(rt; points.after(Point(4)), [Point(5)].as_slice());
-    assert!(rt; points.after(Point(5)).is_empty());
+    let body = around(rt.alloc())?;
+    let found = Filling::whole(rt.alloc(), &body)?;
+    assert!(rt; offers(&found, 0, &[Point(1)]));
+    assert!(rt; offers(&found, 1, &[Point(2), Point(3)]));
+    assert!(rt; offers(&found, 2, &[Point(1)]));
+    assert!(rt; offers(&found, 3, &[Point(4)]));
+    assert!(rt; offers(&found, 4, &[Point(5)]));
+    assert!(rt; offers(&found, 5, &[]));
     Ok(())
 }
 
 #[test]
 fn points_of_two_buyer(rt: HostRuntime) -> Result<(), Fail> {
-    let points = points_of(rt.alloc(), &two_buyer(rt.alloc())?)?;
-    assert_eq!(rt; points.count(), 10);
-    assert_eq!(rt; points.label(Point(1)), b"title".as_slice());
-    assert_eq!(rt; points.label(Point(8)), b"date".as_slice());
-    assert!(rt; points.sender(Point(7)) == RoleId(1));
-    assert!(rt; points.receiver(Point(7)) == RoleId(2));
-    assert!(rt; points.sender(Point(8)) == RoleId(2));
-    assert_eq!(rt; points.after(Point(4)), [Point(5), Point(9)].as_slice());
-    assert!(rt; points.after(Point(10)).is_empty());
+    let body = two_buyer(rt.alloc())?;
+    let found = Filling::whole(rt.alloc(), &body)?;
+    assert_eq!(rt; found.messages.len(), 10);
+    assert!(rt; says(&found, 1, b"title", 0, 2));
+    assert!(rt; says(&found, 4, b"share", 0, 1));
+    assert!(rt; says(&found, 8, b"date", 2, 1));
+    assert!(rt; says(&found, 10, b"quit", 1, 2));
+    assert!(rt; offers(&found, 4, &[Point(5), Point(9)]));
+    assert!(rt; offers(&found, 10, &[]));
     Ok(())
 }

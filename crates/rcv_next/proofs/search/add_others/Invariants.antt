@@ -5,4 +5,4 @@ use Rattle.rcv_next.proofs.Adding.{Others}
 use Rattle.rcv_next.proofs.search.add_others.Given as goal
 
 abbrev pub invariant-loop-point : goal.invariant-loop-point
-invariant-loop-point l = Adds (Others (net_in l.points) l.role (take l.point-index l.point-items)) l.fn.places l.places
+invariant-loop-point l = Adds (Others (net_in l.points) l.fn.role (take l.point-index l.point-items)) l.fn.places l.places

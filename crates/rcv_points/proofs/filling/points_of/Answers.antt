@@ -1,26 +1,17 @@
--- What the walk along the whole text found are the points of the text.
-use Rattle.std.proofs.Common.{length, reverse, sym, subst, ◌∙◌, ap}
+-- The points of a text are within their bounds.
+use Rattle.std.proofs.Common.{length, sym, subst}
 use Rattle.rcv_model.specs.Text.{body_of}
-use Rattle.rcv_points.specs.Follow.{PointsView, ArePointsOf}
-use Rattle.rcv_points.specs.Walk.{Found}
-use Rattle.rcv_points.specs.Filling.{found}
-use Rattle.rcv_points.proofs.Whole.{within, walked, from_nothing}
+use Rattle.rcv_points.specs.Follow.{ArePointsOf}
+use Rattle.rcv_points.specs.Filling.{points_in}
+use Rattle.rcv_points.proofs.Whole.{within}
 use Rattle.rcv_points.proofs.filling.points_of.Goals as goal
 
 pub of-requires : goal.of-requires
 of-requires c =
-    let points : PointsView = record { places = c.reverse.new.self.items; messages = c.reverse-2.new.self.items; choices = c.reverse-3.new.self.items } in
-    let before : Found = record { recs = c.new.result; places = c.new-2.result.items; messages = c.new-3.result.items; choices = c.new-4.result.items } in
-    within (body_of c.args.protocol.now.body) (length c.args.protocol.now.roles) points c.requires.form
-      (walked (body_of c.args.protocol.now.body) (length c.args.protocol.now.roles) (found c.block-2.new.self) c.in_ok-start.start points c.requires.form c.requires.full
-        (from_nothing before c.none.result (body_of c.args.protocol.now.body) (found c.block-2.new.self) c.in_ok-start.start c.new.ensures c.new-2.ensures.items c.new-3.ensures.items c.new-4.ensures.items c.none.ensures c.in_ok-start.ensures)
-        (c.reverse.ensures.items ∙ ap reverse c.in_ok-push.ensures.items) c.reverse-2.ensures.items c.reverse-3.ensures.items)
+    within (body_of c.args.protocol.now.body) (length c.args.protocol.now.roles) (points_in c.in_ok-filling.filling) c.requires.form
+    (c.in_ok-filling.ensures (length c.args.protocol.now.roles) c.requires.form c.requires.full)
 
 pub returns : goal.returns
 returns c =
-    let points : PointsView = record { places = c.reverse.new.self.items; messages = c.reverse-2.new.self.items; choices = c.reverse-3.new.self.items } in
-    let before : Found = record { recs = c.new.result; places = c.new-2.result.items; messages = c.new-3.result.items; choices = c.new-4.result.items } in
     subst (ArePointsOf (body_of c.args.protocol.now.body)) (sym c.of.ensures)
-      (walked (body_of c.args.protocol.now.body) (length c.args.protocol.now.roles) (found c.block-2.new.self) c.in_ok-start.start points c.requires.form c.requires.full
-        (from_nothing before c.none.result (body_of c.args.protocol.now.body) (found c.block-2.new.self) c.in_ok-start.start c.new.ensures c.new-2.ensures.items c.new-3.ensures.items c.new-4.ensures.items c.none.ensures c.in_ok-start.ensures)
-        (c.reverse.ensures.items ∙ ap reverse c.in_ok-push.ensures.items) c.reverse-2.ensures.items c.reverse-3.ensures.items)
+    (c.in_ok-filling.ensures (length c.args.protocol.now.roles) c.requires.form c.requires.full)

@@ -34,5 +34,5 @@ loop-i-preserved c =
 pub returns : goal.returns
 returns c =
     merge_end c.loop-i.both.items _ _ c.args.left.now c.args.right.now _ c.loop-i.i c.loop-i.j c.requires.left
-      (elim c.loop-i-test.branch [ then-loop-i-test+else-j-right w ↦ inr (let f = w.if-j-right.false in omega arith) | else-loop-i-test w ↦ inl (let f = w.loop-i-test.false in omega arith) ])
-      c.loop-i.invariant.told c.in_ok-extend_from_slice.ensures.items c.in_ok-extend_from_slice-2.ensures.items
+    (elim c.loop-i-test.branch [ then-loop-i-test+else-j-right w ↦ inr (let f = w.if-j-right.false in omega arith) | else-loop-i-test w ↦ inl (let f = w.loop-i-test.false in omega arith) ])
+    c.loop-i.invariant.told c.in_ok-extend_from_slice.ensures.items c.in_ok-extend_from_slice-2.ensures.items
