@@ -50,7 +50,7 @@ pub enum Line {
     /// The variable that is set behind each event with a label.
     On {
         label: Name,
-        place: u8,
+        place: usize,
         number: Sum,
     },
 }

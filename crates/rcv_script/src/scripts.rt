@@ -207,7 +207,7 @@ impl Script {
             {
                 if is(other.as_slice(), label) {
                     let number = number.value(&now, value, 0);
-                    set(&mut now, *place as usize, number);
+                    set(&mut now, *place, number);
                 }
             }
         }

@@ -1,0 +1,67 @@
+-- What the functions of the descent say: how the machine goes on with what was read, or stops.
+use Rattle.std.specs.Prelude.{◌≡◌, ℕ, Bool, true, false, List, [], ◌∷◌, map, Option, Result, Ok, Err}
+use Rattle.rcv_model.specs.Script as script
+use Rattle.rcv_points.specs.Follow.{PointsView}
+use Rattle.rcv_script.specs.declared.fault.Fault.{Fault}
+use Rattle.rcv_script.specs.declared.fault.ReadError.{ReadError}
+use Rattle.rcv_script.specs.declared.fault.ReadError.TheVariants as errors
+use Rattle.rcv_script.specs.declared.line.Line.{Line}
+use Rattle.rcv_script.specs.declared.line.Condition.{Condition}
+use Rattle.rcv_script.specs.declared.expression.Atom.{Atom}
+use Rattle.rcv_script.specs.declared.sign.Sign.{Sign}
+use Rattle.rcv_script.specs.declared.sign.Sign.TheVariants as signs
+use Rattle.rcv_script.specs.Expressions.{atom_expr, sum_expr}
+use Rattle.rcv_script.specs.Lines.{line_of, test_of}
+use Rattle.rcv_script.specs.Symbols.{Symbol, Is, Word, Number}
+use Rattle.rcv_script.specs.Machine.{Item, Place, Writing, Refuses, On, Wrong, word_atom, answer}
+
+-- The machine stops at what is left, whatever is awaited behind.
+abbrev pub Halts : {Y : Type 0} → ReadError → ((Y → Item) → Item) → List Symbol → List Symbol → Type 0
+Halts errors.Memory front old new = Unit {0}
+Halts {Y} (errors.Refused fault) front old new = (k : Y → Item) → answer (front k) old ≡ Refuses fault new
+
+-- It comes to what is awaited behind, for what was read, or stops.
+abbrev pub Goes : {X Y : Type 0} → Result X ReadError → ((Y → Item) → Item) → (X → Y) → List Symbol → List Symbol → Type 0
+Goes {X} {Y} (Ok x) front said old new = (k : Y → Item) → answer (front k) old ≡ answer (k (said x)) new
+Goes {X} {Y} (Err e) front said old new = Halts e front old new
+
+-- the symbol isn't the next one
+abbrev pub IsNotNext : Symbol → List Symbol → Type 0
+IsNotNext t ts = (us : List Symbol) → ts ≡ t ∷ us → ⊥
+
+abbrev pub NoWord : List Symbol → Type 0
+NoWord ts = (w : List ℕ) → IsNotNext (Word w) ts
+
+abbrev pub NoNumber : List Symbol → Type 0
+NoNumber ts = (n : ℕ) → IsNotNext (Number n) ts
+
+abbrev pub place_at : List (List ℕ) → Option Fault → Option Fault → ℕ → Place
+place_at names value attempt depth = record { names = names; value = value; attempt = attempt; depth = depth }
+
+abbrev pub writing : PointsView → ℕ → List (List ℕ) → List Line → Writing
+writing points role names lines = record { points = points; role = role; names = names; lines = map line_of lines }
+
+-- the same for what says nothing
+abbrev pub Stops : ReadError → (Item → Item) → List Symbol → List Symbol → Type 0
+Stops errors.Memory front old new = Unit {0}
+Stops (errors.Refused fault) front old new = (k : Item) → answer (front k) old ≡ Refuses fault new
+
+abbrev pub Passes : {X : Type 0} → Result X ReadError → (Item → Item) → List Symbol → List Symbol → Type 0
+Passes (Ok x) front old new = (k : Item) → answer (front k) old ≡ answer k new
+Passes (Err e) front old new = Stops e front old new
+
+-- the mark in front of a term
+abbrev pub term_sign : Bool → Sign
+term_sign false = signs.Plus
+term_sign true = signs.Minus
+
+-- a word is that atom, or there is that fault
+abbrev pub IsWordAtom : Place → List ℕ → Atom → Type 0
+IsWordAtom p w a = (k : script.Expr → Item) → word_atom p w k ≡ On (k (atom_expr a))
+
+abbrev pub IsNoWordAtom : Place → List ℕ → Fault → Type 0
+IsNoWordAtom p w fault = (k : script.Expr → Item) → word_atom p w k ≡ Wrong fault
+
+-- a condition as the machine gives it on
+abbrev pub parts_of : Condition → script.Expr × script.Test × script.Expr
+parts_of c = (sum_expr c.left, test_of c.comparison, sum_expr c.right)

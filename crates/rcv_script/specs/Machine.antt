@@ -1,0 +1,389 @@
+-- Reading one symbol after another. What is awaited says itself what is awaited behind it, and what was read.
+use Rattle.std.specs.Prelude.{ℕ, ◌+◌, ◌==◌, ◌&&◌, ◌||◌, not, nat_le, Bool, true, false, cond, if◌then◌else◌, codes, List, [], ◌∷◌, ◌++◌, length, map, Option, Some, None, position, slice_set, ℤ, pos, neg_ℤ}
+use Rattle.std.specs.List.{list_any}
+use Rattle.std.specs.Str.{bytes_eq}
+use Rattle.rcv_model.specs.Script.{Condition, Expr, Literal, TheValue, TheAttempt, Variable, Negated, Plus, Minus, Times, Test, Less, AtMost, Same, Differ, More, AtLeast, Line, VarLine, SendLine, PickLine, OnLine}
+use Rattle.rcv_points.specs.Follow.{PointView, PointsView}
+use Rattle.rcv_script.specs.declared.sign.Sign.{Sign}
+use Rattle.rcv_script.specs.declared.sign.Sign.TheVariants as signs
+use Rattle.rcv_script.specs.declared.fault.Fault.{Fault}
+use Rattle.rcv_script.specs.declared.fault.Fault.TheVariants as faults
+use Rattle.rcv_script.specs.declared.words.LineKind.{LineKind}
+use Rattle.rcv_script.specs.declared.words.LineKind.TheVariants as kinds
+use Rattle.rcv_script.specs.Symbols.{Symbol, Is, Word, Number, Other}
+
+abbrev pub code_of : Fault → ℕ
+code_of faults.Token = 30
+code_of faults.Role = 31
+code_of faults.Label = 32
+code_of faults.Variable = 33
+code_of faults.AttemptInState = 34
+code_of faults.NoPayload = 35
+code_of faults.TooMany = 36
+
+-- ---- what is known
+
+-- In an expression: the variables declared before, what speaks against the words value and attempt, and how many
+-- parentheses and signs are open.
+pub record Place : Type 0 where
+  pub names : List (List ℕ)
+  pub value : Option Fault
+  pub attempt : Option Fault
+  pub depth : ℕ
+
+-- In a script: the protocol's points, the role, its variables and its lines so far.
+pub record Writing : Type 0 where
+  pub points : PointsView
+  pub role : ℕ
+  pub names : List (List ℕ)
+  pub lines : List Line
+
+-- Between scripts: the protocol's roles and points, the lines of each role, and the roles that have a script.
+pub record Known : Type 0 where
+  pub roles : List (List ℕ)
+  pub points : PointsView
+  pub scripts : List (List Line)
+  pub given : List ℕ
+
+-- ---- what is awaited
+
+pub data Item : Type 0 where
+  Scripts : (known : Known) → Item  -- ("role" Word "{" line* "}")*
+  Lines : (s : Writing) (k : List Line → Item) → Item  -- line* "}"
+  ALine : (s : Writing) (k : List (List ℕ) × Line → Item) → Item  -- line
+  This : (symbol : Symbol) (k : Item) → Item
+  AWord : (fault : List ℕ → Option Fault) (k : List ℕ → Item) → Item  -- Word, with what speaks against it
+  ASigned : (k : ℤ → Item) → Item  -- ["-"] Number
+  ANumber : (k : ℕ → Item) → Item  -- Number
+  AnEnd : (plain : Item) (when : Item) → Item  -- ";" or "when"
+  ATest : (k : Test → Item) → Item  -- "<" | "<=" | "==" | "!=" | ">" | ">="
+  AnAtom : (p : Place) (k : Expr → Item) → Item
+  Factors : (p : Place) (left : Expr) (k : Expr → Item) → Item  -- ("*" atom)*
+  Terms : (p : Place) (left : Expr) (k : Expr → Item) → Item  -- (("+" | "-") product)*
+
+-- there is a step, or the fault with the least code that holds
+pub data Outcome : Type 0 where
+  On : (item : Item) → Outcome
+  Wrong : (fault : Fault) → Outcome
+
+-- the fault, or what follows where there is none
+abbrev pub unless : Option Fault → Outcome → Outcome
+unless None next = next
+unless (Some fault) next = Wrong fault
+
+abbrev pub fault_if : Bool → Fault → Option Fault
+fault_if test fault = cond test (Some fault) None
+
+-- the first of two faults
+abbrev pub or_fault : Option Fault → Option Fault → Option Fault
+or_fault None other = other
+or_fault (Some fault) other = Some fault
+
+-- ---- names of roles, labels and variables
+
+-- the name's place, counted from 0
+abbrev pub place_of : List (List ℕ) → List ℕ → Option ℕ
+place_of names name = position (λ other. bytes_eq other name) names
+
+abbrev pub or_zero : Option ℕ → ℕ
+or_zero None = 0
+or_zero (Some n) = n
+
+abbrev pub place_in : List (List ℕ) → List ℕ → ℕ
+place_in names name = or_zero (place_of names name)
+
+abbrev pub is_some : Option ℕ → Bool
+is_some None = false
+is_some (Some n) = true
+
+abbrev pub is_listed : ℕ → List ℕ → Bool
+is_listed n ns = list_any (λ other. n == other) ns
+
+-- a role that isn't declared, or has a script before
+abbrev pub new_role : List (List ℕ) → List ℕ → Option ℕ → Option Fault
+new_role roles given None = Some faults.Role
+new_role roles given (Some r) = fault_if (is_listed r given) faults.Role
+
+abbrev pub role_fault : Known → List ℕ → Option Fault
+role_fault known name = new_role known.roles known.given (place_of known.roles name)
+
+-- the role sends the message with this label
+abbrev pub is_sent : ℕ → List ℕ → PointView → Bool
+is_sent role label m = (m.sender == role) && bytes_eq m.label label
+
+-- it sends or receives it
+abbrev pub is_part : ℕ → List ℕ → PointView → Bool
+is_part role label m = (m.sender == role || m.receiver == role) && bytes_eq m.label label
+
+abbrev pub sends : PointsView → ℕ → List ℕ → Bool
+sends points role label = list_any (is_sent role label) points.messages
+
+abbrev pub takes_part : PointsView → ℕ → List ℕ → Bool
+takes_part points role label = list_any (is_part role label) points.messages
+
+-- one of them has no sorts
+abbrev pub sends_bare : PointsView → ℕ → List ℕ → Bool
+sends_bare points role label = list_any (λ m. is_sent role label m && not m.payload) points.messages
+
+abbrev pub takes_bare : PointsView → ℕ → List ℕ → Bool
+takes_bare points role label = list_any (λ m. is_part role label m && not m.payload) points.messages
+
+-- a send line with this label
+abbrev pub is_send_of : List ℕ → Line → Bool
+is_send_of label (SendLine other expr) = bytes_eq other label
+is_send_of label (VarLine first) = false
+is_send_of label (PickLine other when) = false
+is_send_of label (OnLine other place expr) = false
+
+abbrev pub has_send : List ℕ → List Line → Bool
+has_send label lines = list_any (is_send_of label) lines
+
+-- what speaks against the label of a send line behind these lines, of a pick line and of an on line
+abbrev pub send_fault : PointsView → ℕ → List Line → List ℕ → Option Fault
+send_fault points role before label =
+    or_fault (fault_if (not (sends points role label)) faults.Label)
+    (or_fault (fault_if (has_send label before) faults.Label) (fault_if (sends_bare points role label) faults.NoPayload))
+
+abbrev pub pick_fault : PointsView → ℕ → List ℕ → Option Fault
+pick_fault points role label = fault_if (not (sends points role label)) faults.Label
+
+abbrev pub on_fault : PointsView → ℕ → List ℕ → Option Fault
+on_fault points role label = fault_if (not (takes_part points role label)) faults.Label
+
+-- a variable is declared once, and isn't called as what expressions read otherwise
+abbrev pub var_fault : List (List ℕ) → List ℕ → Option Fault
+var_fault names name =
+    or_fault (fault_if (bytes_eq name (codes "value") || bytes_eq name (codes "attempt")) faults.Variable)
+    (fault_if (is_some (place_of names name)) faults.Variable)
+
+abbrev pub set_fault : List (List ℕ) → List ℕ → Option Fault
+set_fault names name = fault_if (not (is_some (place_of names name))) faults.Variable
+
+-- ---- expressions
+
+-- where a send or pick line computes, and where an on line does
+abbrev pub deciding : List (List ℕ) → Place
+deciding names = record { names = names; value = Some faults.Variable; attempt = None; depth = 0 }
+
+abbrev pub remembering : Writing → List ℕ → Place
+remembering s label =
+    record { names = s.names; value = fault_if (takes_bare s.points s.role label) faults.NoPayload; attempt = Some faults.AttemptInState; depth = 0 }
+
+abbrev pub deeper : Place → Place
+deeper p = record { names = p.names; value = p.value; attempt = p.attempt; depth = p.depth + 1 }
+
+abbrev pub a_product : Place → (Expr → Item) → Item
+a_product p k = AnAtom p (λ e. Factors p e k)
+
+abbrev pub a_sum : Place → (Expr → Item) → Item
+a_sum p k = a_product p (λ e. Terms p e k)
+
+-- the variable at a place
+abbrev pub variable : Option ℕ → (Expr → Item) → Outcome
+variable None k = Wrong faults.Variable
+variable (Some n) k = On (k (Variable n))
+
+abbrev pub word_atom : Place → List ℕ → (Expr → Item) → Outcome
+word_atom p w k =
+    cond (bytes_eq w (codes "value")) (unless p.value (On (k TheValue)))
+    (cond (bytes_eq w (codes "attempt")) (unless p.attempt (On (k TheAttempt)))
+    (variable (place_of p.names w) k))
+
+abbrev pub atom : Place → Symbol → (Expr → Item) → Outcome
+atom p (Number n) k = On (k (Literal n))
+atom p (Word w) k = word_atom p w k
+atom p (Is signs.Minus) k = unless (fault_if (nat_le 32 p.depth) faults.TooMany) (On (AnAtom (deeper p) (λ e. k (Negated e))))
+atom p (Is signs.Left) k = unless (fault_if (nat_le 32 p.depth) faults.TooMany) (On (a_sum (deeper p) (λ e. This (Is signs.Right) (k e))))
+atom p _ k = Wrong faults.Token
+
+abbrev pub test : Symbol → (Test → Item) → Outcome
+test (Is signs.Less) k = On (k Less)
+test (Is signs.AtMost) k = On (k AtMost)
+test (Is signs.Same) k = On (k Same)
+test (Is signs.Differ) k = On (k Differ)
+test (Is signs.More) k = On (k More)
+test (Is signs.AtLeast) k = On (k AtLeast)
+test _ k = Wrong faults.Token
+
+-- ---- lines
+
+abbrev pub with_expr : Place → (Expr → Item) → Item
+with_expr p k = This (Is signs.Equals) (a_sum p (λ e. This (Is signs.Semicolon) (k e)))
+
+abbrev pub var_line : List (List ℕ) → (List (List ℕ) × Line → Item) → Item
+var_line names k =
+    AWord (var_fault names) (λ n. This (Is signs.Equals) (ASigned (λ z. This (Is signs.Semicolon) (k (names ++ n ∷ [], VarLine z)))))
+
+abbrev pub send_line : Writing → (List (List ℕ) × Line → Item) → Item
+send_line s k = AWord (send_fault s.points s.role s.lines) (λ l. with_expr (deciding s.names) (λ e. k (s.names, SendLine l e)))
+
+abbrev pub condition : Place → (Expr × Test × Expr → Item) → Item
+condition p k = a_sum p (λ a. ATest (λ t. a_sum p (λ b. This (Is signs.Semicolon) (k (a, t, b)))))
+
+-- what is awaited behind the label of a pick line
+abbrev pub rest_of_pick : Place → (Option Condition → Item) → Item
+rest_of_pick p k = AnEnd (k None) (condition p (λ c. k (Some (record { left = c.0; test = c.1; right = c.2 }))))
+
+abbrev pub pick_line : Writing → (List (List ℕ) × Line → Item) → Item
+pick_line s k = AWord (pick_fault s.points s.role) (λ l. rest_of_pick (deciding s.names) (λ when. k (s.names, PickLine l when)))
+
+abbrev pub on_line : Writing → (List (List ℕ) × Line → Item) → Item
+on_line s k =
+    AWord (on_fault s.points s.role) (λ l. This (Word (codes "set")) (AWord (set_fault s.names) (λ n.
+    with_expr (remembering s l) (λ e. k (s.names, OnLine l (place_in s.names n) e)))))
+
+-- what a line does, by its first word
+abbrev pub kind_of : List ℕ → Option LineKind
+kind_of w =
+    if bytes_eq w (codes "var") then Some kinds.Var
+    else (if bytes_eq w (codes "send") then Some kinds.Send
+    else (if bytes_eq w (codes "pick") then Some kinds.Pick
+    else (if bytes_eq w (codes "on") then Some kinds.On
+    else None)))
+
+-- the 257th line, and the 17th variable
+abbrev pub line_fault : List (List ℕ) → List Line → LineKind → Option Fault
+line_fault names before kinds.Var = fault_if (nat_le 256 (length before) || nat_le 16 (length names)) faults.TooMany
+line_fault names before _ = fault_if (nat_le 256 (length before)) faults.TooMany
+
+abbrev pub line_behind : Writing → LineKind → (List (List ℕ) × Line → Item) → Item
+line_behind s kinds.Var k = var_line s.names k
+line_behind s kinds.Send k = send_line s k
+line_behind s kinds.Pick k = pick_line s k
+line_behind s kinds.On k = on_line s k
+
+abbrev pub line_by : Writing → Option LineKind → (List (List ℕ) × Line → Item) → Outcome
+line_by s None k = Wrong faults.Token
+line_by s (Some kind) k = unless (line_fault s.names s.lines kind) (On (line_behind s kind k))
+
+abbrev pub line : Writing → Symbol → (List (List ℕ) × Line → Item) → Outcome
+line s (Word w) k = line_by s (kind_of w) k
+line s (Is sign) k = Wrong faults.Token
+line s (Number n) k = Wrong faults.Token
+line s Other k = Wrong faults.Token
+
+abbrev pub with_line : Writing → List (List ℕ) × Line → Writing
+with_line s x = record { points = s.points; role = s.role; names = x.0; lines = s.lines ++ x.1 ∷ [] }
+
+abbrev pub lines : Writing → Symbol → (List Line → Item) → Outcome
+lines s (Is signs.Close) k = On (k s.lines)
+lines s t k = line s t (λ x. Lines (with_line s x) k)
+
+-- ---- scripts
+
+-- the script of a role begins
+abbrev pub begun : PointsView → ℕ → Writing
+begun points role = record { points = points; role = role; names = []; lines = [] }
+
+abbrev pub with_script : Known → ℕ → List Line → Known
+with_script known role ls =
+    record { roles = known.roles; points = known.points; scripts = slice_set known.scripts role ls; given = known.given ++ role ∷ [] }
+
+abbrev pub script : Known → Item
+script known =
+    AWord (role_fault known) (λ n. This (Is signs.Open) (Lines (begun known.points (place_in known.roles n)) (λ ls.
+    Scripts (with_script known (place_in known.roles n) ls))))
+
+abbrev pub scripts : Known → Symbol → Outcome
+scripts known (Word w) = cond (bytes_eq w (codes "role")) (On (script known)) (Wrong faults.Token)
+scripts known (Is sign) = Wrong faults.Token
+scripts known (Number n) = Wrong faults.Token
+scripts known Other = Wrong faults.Token
+
+-- ---- one step, and all of them
+
+-- one and the same
+abbrev pub same : Sign → Sign → Bool
+same signs.Open signs.Open = true
+same signs.Close signs.Close = true
+same signs.Left signs.Left = true
+same signs.Right signs.Right = true
+same signs.Semicolon signs.Semicolon = true
+same signs.Equals signs.Equals = true
+same signs.Less signs.Less = true
+same signs.AtMost signs.AtMost = true
+same signs.Same signs.Same = true
+same signs.Differ signs.Differ = true
+same signs.More signs.More = true
+same signs.AtLeast signs.AtLeast = true
+same signs.Plus signs.Plus = true
+same signs.Minus signs.Minus = true
+same signs.Times signs.Times = true
+same _ _ = false
+
+abbrev pub meets : Symbol → Symbol → Bool
+meets (Is a) (Is b) = same a b
+meets (Word a) (Word b) = bytes_eq a b
+meets _ _ = false
+
+abbrev pub word : Symbol → (List ℕ → Option Fault) → (List ℕ → Item) → Outcome
+word (Word w) fault k = unless (fault w) (On (k w))
+word _ fault k = Wrong faults.Token
+
+abbrev pub number : Symbol → (ℕ → Item) → Outcome
+number (Number n) k = On (k n)
+number _ k = Wrong faults.Token
+
+abbrev pub signed : Symbol → (ℤ → Item) → Outcome
+signed (Is signs.Minus) k = On (ANumber (λ n. k (neg_ℤ (pos n))))
+signed t k = number t (λ n. k (pos n))
+
+abbrev pub end_or_when : Symbol → Item → Item → Outcome
+end_or_when (Is signs.Semicolon) plain when = On plain
+end_or_when (Word w) plain when = cond (bytes_eq w (codes "when")) (On when) (Wrong faults.Token)
+end_or_when _ plain when = Wrong faults.Token
+
+abbrev pub factors : Place → Expr → (Expr → Item) → Symbol → Outcome → Outcome
+factors p left k (Is signs.Times) over = On (AnAtom p (λ e. Factors p (Times left e) k))
+factors p left k _ over = over
+
+abbrev pub terms : Place → Expr → (Expr → Item) → Symbol → Outcome → Outcome
+terms p left k (Is signs.Plus) over = On (a_product p (λ e. Terms p (Plus left e) k))
+terms p left k (Is signs.Minus) over = On (a_product p (λ e. Terms p (Minus left e) k))
+terms p left k _ over = over
+
+-- A symbol that doesn't go on with a product or a sum belongs to what is awaited behind it.
+abbrev pub step : Symbol → Item → Outcome
+step t (Scripts known) = scripts known t
+step t (Lines s k) = lines s t k
+step t (ALine s k) = line s t k
+step t (This symbol k) = cond (meets t symbol) (On k) (Wrong faults.Token)
+step t (AWord fault k) = word t fault k
+step t (ASigned k) = signed t k
+step t (ANumber k) = number t k
+step t (AnEnd plain when) = end_or_when t plain when
+step t (ATest k) = test t k
+step t (AnAtom p k) = atom p t k
+step t (Factors p left k) = factors p left k t (step t (k left))
+step t (Terms p left k) = terms p left k t (step t (k left))
+
+-- The answer: the lines of each role, or the fault and what is left from its symbol on.
+pub data Answer : Type 0 where
+  Taken : (scripts : List (List Line)) → Answer
+  Refuses : (fault : Fault) (left : List Symbol) → Answer
+
+-- the end may come between scripts alone
+abbrev pub at_end : Item → Answer
+at_end (Scripts known) = Taken known.scripts
+at_end (Factors p left k) = at_end (k left)
+at_end (Terms p left k) = at_end (k left)
+at_end _ = Refuses faults.Token []
+
+abbrev pub after : Outcome → List Symbol → (Item → Answer) → Answer
+after (On item) left go = go item
+after (Wrong fault) left go = Refuses fault left
+
+abbrev pub answer : Item → List Symbol → Answer
+answer item [] = at_end item
+answer item (t ∷ ts) = after (step t item) (t ∷ ts) (λ next. answer next ts)
+
+-- no lines of any role
+abbrev pub no_lines : List (List ℕ) → List (List Line)
+no_lines roles = map (λ name. []) roles
+
+-- what is awaited at first
+abbrev pub awaited : List (List ℕ) → PointsView → Item
+awaited roles points = Scripts (record { roles = roles; points = points; scripts = no_lines roles; given = [] })
+
+abbrev pub reading : List (List ℕ) → PointsView → List Symbol → Answer
+reading roles points symbols = answer (awaited roles points) symbols

@@ -1,0 +1,67 @@
+// Why no scripts were read.
+
+ghost use Rattle.std.specs.Prelude.{◌≡◌};
+ghost use Rattle.rcv_script.specs.declared.fault.ReadError.TheVariants.{Memory};
+ghost use Rattle.rcv_script.specs.Machine.{code_of};
+
+use std::alloc::{AllocError, AllocFailed};
+
+/// What is wrong at a token or at the end.
+#[derive(Clone, Copy, Debug, PartialEq, Eq)]
+pub enum Fault {
+    /// The grammar doesn't have it there, or a number above 9223372036854775807.
+    Token,
+    /// A role that isn't declared or has a script before.
+    Role,
+    /// A label that the role never sends, or for `on` neither sends nor receives, or that has a `send` line before.
+    Label,
+    /// A variable that isn't declared before, a declaration of a name that is known, or `value` outside an `on` line.
+    Variable,
+    /// The word `attempt` in an `on` line.
+    AttemptInState,
+    /// A number for a message without sorts, or of one.
+    NoPayload,
+    /// The 17th variable, the 257th line or the 33rd nested expression.
+    TooMany,
+}
+
+impl Fault {
+    /// The fault's code.
+    pub fn code(self) -> u8
+        ensures { result ≡ code_of self }
+    {
+        match self {
+            Fault::Token => 30,
+            Fault::Role => 31,
+            Fault::Label => 32,
+            Fault::Variable => 33,
+            Fault::AttemptInState => 34,
+            Fault::NoPayload => 35,
+            Fault::TooMany => 36,
+        }
+    }
+}
+
+/// Why the reader stopped.
+#[derive(Clone, Copy, Debug, PartialEq, Eq)]
+pub enum ReadError {
+    /// The fault is at the token that is next, or at the end.
+    Refused(Fault),
+    Memory,
+}
+
+impl From<AllocError> for ReadError {
+    ghost from_gives = { λ _ e. e ≡ Memory };
+
+    fn from(_e: AllocError) -> ReadError {
+        ReadError::Memory
+    }
+}
+
+impl<T: Drop> From<AllocFailed<T>> for ReadError {
+    ghost from_gives = { λ _ e. e ≡ Memory };
+
+    fn from(_e: AllocFailed<T>) -> ReadError {
+        ReadError::Memory
+    }
+}

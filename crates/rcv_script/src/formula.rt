@@ -1,0 +1,299 @@
+// A descent over expressions, with one token of look-ahead.
+
+ghost use Rattle.std.specs.Prelude.{◌≡◌, ◌<◌, ◌≤◌, ◌∷◌, length, IfSome, IfNone, IfOk, IfErr, true, false, Option, ℕ};
+ghost use Rattle.rcv_model.specs.Script.{Negated};
+ghost use Rattle.rcv_script.specs.Symbols.{Is, Word};
+ghost use Rattle.rcv_script.specs.Expressions.{atom_expr, product_expr, sum_expr};
+ghost use Rattle.rcv_script.specs.Lines.{test_of};
+ghost use Rattle.rcv_script.specs.Machine.{This, ATest, AnAtom, a_product, a_sum, with_expr, condition, place_of};
+ghost use Rattle.rcv_script.specs.Descent.{Goes, Passes, IsNotNext, IsWordAtom, IsNoWordAtom, place_at, term_sign, parts_of};
+
+use crate::ahead::Ahead;
+use crate::expression::{Atom, Product, Sum, Term};
+use crate::fault::{Fault, ReadError};
+use crate::line::{Comparison, Condition, is};
+use crate::sign::Sign;
+use rcv_tree::name::{Name, Names};
+use std::alloc::Global;
+
+/// What speaks against the words `value` and `attempt` in an expression.
+#[derive(Clone, Copy, Debug, PartialEq, Eq)]
+pub struct Banned {
+    pub value: Option<Fault>,
+    pub attempt: Option<Fault>,
+}
+
+/// The place of the name, counted from 0.
+pub fn place_of(names: &[Name], name: &[u8]) -> Option<usize>
+    ensures { result ≡ place_of names.now name.now }
+{
+    names.iter().position(|other| other.as_slice() == name)
+}
+
+// What a word is in an expression, or what speaks against it.
+fn word_atom(names: &Names, banned: Banned, word: &[u8]) -> Result<Atom, Fault>
+    ensures ok { (depth : ℕ) → IfOk result (IsWordAtom (place_at names.now banned.value banned.attempt depth) word.now) }
+    ensures err { (depth : ℕ) → IfErr result (IsNoWordAtom (place_at names.now banned.value banned.attempt depth) word.now) }
+{
+    if is(word, b"value") {
+        return match banned.value {
+            None => Ok(Atom::Value),
+            Some(fault) => Err(fault),
+        };
+    }
+    if is(word, b"attempt") {
+        return match banned.attempt {
+            None => Ok(Atom::Attempt),
+            Some(fault) => Err(fault),
+        };
+    }
+    match place_of(names.as_slice(), word) {
+        Some(place) => Ok(Atom::Variable(place)),
+        None => Err(Fault::Variable),
+    }
+}
+
+impl<'a> Ahead<'a> {
+    /// Takes this mark.
+    pub fn expect(&mut self, sign: Sign) -> Result<(), ReadError>
+        ensures goes { Passes result (λ k. This (Is sign) k) self.old self.new }
+        ensures shorter { length self.new ≤ length self.old }
+    {
+        let Some(after) = self.sign(sign) else {
+            return Err(ReadError::Refused(Fault::Token));
+        };
+        *self = after;
+        Ok(())
+    }
+
+    /// Takes this word.
+    pub fn expect_word(&mut self, word: &[u8]) -> Result<(), ReadError>
+        ensures goes { Passes result (λ k. This (Word word.now) k) self.old self.new }
+        ensures shorter { length self.new ≤ length self.old }
+    {
+        let Some((found, after)) = self.word() else {
+            return Err(ReadError::Refused(Fault::Token));
+        };
+        if !is(found, word) {
+            return Err(ReadError::Refused(Fault::Token));
+        }
+        *self = after;
+        Ok(())
+    }
+
+    /// Takes this mark if it is next.
+    pub fn takes(&mut self, sign: Sign) -> bool
+        ensures yes { result ≡ true → self.old ≡ Is sign ∷ self.new }
+        ensures taken { result ≡ true → length self.new < length self.old }
+        ensures no { result ≡ false → (self.new ≡ self.old) × IsNotNext (Is sign) self.old }
+        ensures shorter { length self.new ≤ length self.old }
+    {
+        let Some(after) = self.sign(sign) else {
+            return false;
+        };
+        *self = after;
+        true
+    }
+
+    // Takes the mark in front of one more term if one is next: whether the term is subtracted.
+    fn takes_term(&mut self) -> Option<bool>
+        ensures some { IfSome result (λ minus. self.old ≡ Is (term_sign minus) ∷ self.new) }
+        ensures taken { IfSome result (λ minus. length self.new < length self.old) }
+        ensures none { IfNone result ((self.new ≡ self.old) × IsNotNext (Is Sign.Plus) self.old × IsNotNext (Is Sign.Minus) self.old) }
+        ensures shorter { length self.new ≤ length self.old }
+    {
+        if let Some(after) = self.sign(Sign::Plus) {
+            *self = after;
+            return Some(false);
+        }
+        if let Some(after) = self.sign(Sign::Minus) {
+            *self = after;
+            return Some(true);
+        }
+        None
+    }
+
+    // Takes an atom, where so many parentheses and signs are open.
+    #[cycle(descent)]
+    fn atom(
+        &mut self,
+        alloc: Global,
+        names: &Names,
+        banned: Banned,
+        depth: u32,
+    ) -> Result<Atom, ReadError>
+        requires { depth ≤ 32 }
+        ensures goes { Goes result (λ k. AnAtom (place_at names.now banned.value banned.attempt depth) k) atom_expr self.old self.new }
+        ensures shorter { length self.new ≤ length self.old }
+    {
+        if let Some((number, after)) = self.number() {
+            *self = after;
+            return Ok(Atom::Number(number as i64));
+        }
+        if let Some((word, after)) = self.word() {
+            return match word_atom(names, banned, word) {
+                Ok(atom) => {
+                    *self = after;
+                    Ok(atom)
+                }
+                Err(fault) => Err(ReadError::Refused(fault)),
+            };
+        }
+        if let Some(after) = self.sign(Sign::Minus) {
+            if depth >= 32 {
+                return Err(ReadError::Refused(Fault::TooMany));
+            }
+            *self = after;
+            return self.negated(alloc, names, banned, depth + 1);
+        }
+        if let Some(after) = self.sign(Sign::Left) {
+            if depth >= 32 {
+                return Err(ReadError::Refused(Fault::TooMany));
+            }
+            *self = after;
+            return self.group(alloc, names, banned, depth + 1);
+        }
+        Err(ReadError::Refused(Fault::Token))
+    }
+
+    // Takes the atom behind a sign.
+    #[cycle(descent)]
+    fn negated(
+        &mut self,
+        alloc: Global,
+        names: &Names,
+        banned: Banned,
+        depth: u32,
+    ) -> Result<Atom, ReadError>
+        requires { depth ≤ 32 }
+        ensures goes { Goes result (λ k. AnAtom (place_at names.now banned.value banned.attempt depth) (λ e. k (Negated e))) atom_expr self.old self.new }
+        ensures shorter { length self.new ≤ length self.old }
+    {
+        let atom = self.atom(alloc, names, banned, depth)?;
+        Ok(Atom::Negated(Box::new(alloc, atom)?))
+    }
+
+    // Takes the sum behind a parenthesis, and the parenthesis behind it.
+    #[cycle(descent)]
+    fn group(
+        &mut self,
+        alloc: Global,
+        names: &Names,
+        banned: Banned,
+        depth: u32,
+    ) -> Result<Atom, ReadError>
+        requires { depth ≤ 32 }
+        ensures goes { Goes result (λ k. a_sum (place_at names.now banned.value banned.attempt depth) (λ e. This (Is Sign.Right) (k e))) atom_expr self.old self.new }
+        ensures shorter { length self.new ≤ length self.old }
+    {
+        let sum = self.sum(alloc, names, banned, depth)?;
+        self.expect(Sign::Right)?;
+        Ok(Atom::Group(sum))
+    }
+
+    // Takes atoms, multiplied.
+    #[cycle(descent)]
+    fn product(
+        &mut self,
+        alloc: Global,
+        names: &Names,
+        banned: Banned,
+        depth: u32,
+    ) -> Result<Product, ReadError>
+        requires { depth ≤ 32 }
+        ensures goes { Goes result (λ k. a_product (place_at names.now banned.value banned.attempt depth) k) product_expr self.old self.new }
+        ensures shorter { length self.new ≤ length self.old }
+    {
+        let mut product = Product::new(alloc);
+        product.push(self.atom(alloc, names, banned, depth)?)?;
+        while self.takes(Sign::Times) {
+            product.push(self.atom(alloc, names, banned, depth)?)?;
+        }
+        Ok(product)
+    }
+
+    /// Takes products, added and subtracted, where so many parentheses and signs are open.
+    #[cycle(descent)]
+    pub fn sum(
+        &mut self,
+        alloc: Global,
+        names: &Names,
+        banned: Banned,
+        depth: u32,
+    ) -> Result<Sum, ReadError>
+        requires { depth ≤ 32 }
+        ensures goes { Goes result (λ k. a_sum (place_at names.now banned.value banned.attempt depth) k) sum_expr self.old self.new }
+        ensures shorter { length self.new ≤ length self.old }
+    {
+        let mut sum = Sum::new(alloc);
+        let first = self.product(alloc, names, banned, depth)?;
+        sum.push(Term {
+            minus: false,
+            product: first,
+        })?;
+        while let Some(minus) = self.takes_term() {
+            let product = self.product(alloc, names, banned, depth)?;
+            sum.push(Term { minus, product })?;
+        }
+        Ok(sum)
+    }
+
+    /// Takes what a line computes: the mark `=`, an expression, and the mark `;`.
+    pub fn number_set(
+        &mut self,
+        alloc: Global,
+        names: &Names,
+        banned: Banned,
+    ) -> Result<Sum, ReadError>
+        ensures goes { Goes result (λ k. with_expr (place_at names.now banned.value banned.attempt 0) k) sum_expr self.old self.new }
+        ensures shorter { length self.new ≤ length self.old }
+    {
+        self.expect(Sign::Equals)?;
+        let sum = self.sum(alloc, names, banned, 0)?;
+        self.expect(Sign::Semicolon)?;
+        Ok(sum)
+    }
+
+    /// Takes a condition, and the mark `;`.
+    pub fn condition(
+        &mut self,
+        alloc: Global,
+        names: &Names,
+        banned: Banned,
+    ) -> Result<Condition, ReadError>
+        ensures goes { Goes result (λ k. condition (place_at names.now banned.value banned.attempt 0) k) parts_of self.old self.new }
+        ensures shorter { length self.new ≤ length self.old }
+    {
+        let left = self.sum(alloc, names, banned, 0)?;
+        let comparison = self.comparison()?;
+        let right = self.sum(alloc, names, banned, 0)?;
+        self.expect(Sign::Semicolon)?;
+        Ok(Condition {
+            left,
+            comparison,
+            right,
+        })
+    }
+
+    // Takes a mark that compares.
+    fn comparison(&mut self) -> Result<Comparison, ReadError>
+        ensures goes { Goes result (λ k. ATest k) test_of self.old self.new }
+        ensures shorter { length self.new ≤ length self.old }
+    {
+        if self.takes(Sign::Less) {
+            Ok(Comparison::Less)
+        } else if self.takes(Sign::AtMost) {
+            Ok(Comparison::AtMost)
+        } else if self.takes(Sign::Same) {
+            Ok(Comparison::Same)
+        } else if self.takes(Sign::Differ) {
+            Ok(Comparison::Differ)
+        } else if self.takes(Sign::More) {
+            Ok(Comparison::More)
+        } else if self.takes(Sign::AtLeast) {
+            Ok(Comparison::AtLeast)
+        } else {
+            Err(ReadError::Refused(Fault::Token))
+        }
+    }
+}
