@@ -1,0 +1,40 @@
+-- What each step of reading an input says of it.
+use Rattle.std.proofs.Common.{◌≡◌, ℕ, List, ◌∷◌, length, refl, sym, ap, subst, ◌∙◌}
+use Rattle.rcv_tree.specs.declared.protocol.Protocol.{Protocol}
+use Rattle.rcv_tree.specs.declared.refusal.Refusal.TheVariants as refusals
+use Rattle.rcv_lexer.specs.declared.token.Token.{Token}
+use Rattle.rcv_lexer.specs.declared.token.TextError.{TextError}
+use Rattle.rcv_lexer.specs.declared.token.TextError.TheVariants as errors
+use Rattle.rcv_lexer.specs.Parts.{parts_of}
+use Rattle.rcv_lexer.specs.Tokens as lexer
+use Rattle.rcv_lexer.specs.Tokens.{AreTokens, line_at}
+use Rattle.rcv_lexer.specs.declared.token.Span.{Span}
+use Rattle.rcv_reader.specs.Machine.{code_of}
+use Rattle.rcv_reader.specs.Refusals as reader
+use Rattle.rcv_reader.specs.Refusals.{line_before}
+use Rattle.rcv_input.specs.declared.command.Command.{Command}
+use Rattle.rcv_input.specs.declared.command.Command.TheVariants.{Run}
+use Rattle.rcv_input.specs.Input.{AreProtocolTokens, last_line, branchings, IsProtocolOf, IsServed, IsBlankPart, IsFirstOther, letter, unread, unbuilt, scripts, plan, IsRefused}
+
+pub by_letter : (command : Command) (input : List ℕ) (e : TextError) → lexer.IsRefused input (parts_of input).protocol e → IsRefused command input e
+by_letter command input errors.Memory h = tt
+by_letter command input (errors.Refused r) h = (10, h.0, h.1, letter h.0 h.2)
+
+pub by_reader : (command : Command) (input : List ℕ) (tokens : List Token) (e : TextError) (part : Span) (last : ℕ) → part ≡ (parts_of input).protocol → last ≡ line_at input part.end → AreTokens input part tokens
+    → reader.IsRefused input tokens last e → IsRefused command input e
+by_reader command input tokens errors.Memory part last is end cut h = tt
+by_reader command input tokens (errors.Refused r) part last is end cut h = (code_of h.0, line, h.3, unread tokens (code_of h.0) line (subst (λ (p : Span). AreTokens input p tokens) is cut) (h.0, h.1, h.2, ap (λ (n : ℕ). refusals.Text (code_of h.0) (line_before tokens n (length h.1))) (end ∙ ap (λ (p : Span). line_at input p.end) is)))
+  where
+    line : ℕ
+    line = line_before tokens last (length h.1)
+
+pub by_branching : (command : Command) (input : List ℕ) (p : Protocol) (text : IsProtocolOf input p) (e : TextError) (first : Token) (others : List Token) → e ≡ errors.Refused (refusals.Text 19 first.line) → command ≡ Run
+    → branchings input text.tokens ≡ first ∷ others → IsRefused command input e
+by_branching command input p text e first others is run found = subst (IsRefused command input) (sym is) (19, first.line, refl, unbuilt p text first others run found)
+
+pub by_scripts : (command : Command) (input : List ℕ) (p : Protocol) (e : TextError) (line : ℕ) → IsServed command input p → e ≡ errors.Refused (refusals.Text 19 line) → IsFirstOther input (parts_of input).scripts line → IsRefused command input e
+by_scripts command input p e line served is found = subst (IsRefused command input) (sym is) (19, line, refl, scripts p line served found)
+
+pub by_plan : (command : Command) (input : List ℕ) (p : Protocol) (e : TextError) (line : ℕ) → IsServed command input p → IsBlankPart input (parts_of input).scripts → e ≡ errors.Refused (refusals.Text 19 line)
+    → IsFirstOther input (parts_of input).plan line → IsRefused command input e
+by_plan command input p e line served blank is found = subst (IsRefused command input) (sym is) (19, line, refl, plan p line served blank found)
