@@ -1,0 +1,51 @@
+// Names, and lists of them.
+
+ghost use Rattle.std.specs.Prelude.{◌≡◌, ◌++◌, OnOk, codes, map};
+ghost use Rattle.rcv_printer.specs.CanonicalText.{name_at, listed, comma_list};
+ghost use Rattle.rcv_printer.specs.Printing.{Puts};
+
+use crate::text::Text;
+use rcv_tree::name::Names;
+use rcv_tree::role::{RoleId, Roles};
+use std::alloc::AllocError;
+
+// The name of a role.
+pub fn name_of(roles: &Names, role: RoleId) -> &[u8]
+    ensures { result.now ≡ name_at roles.now role }
+{
+    match roles.as_slice().get(role.0 as usize) {
+        Some(name) => name.as_slice(),
+        None => &[],
+    }
+}
+
+// Puts names behind the text, with one word before the first and another one before each that follows.
+pub fn put_list(
+    text: &mut Text,
+    before: &[u8],
+    between: &[u8],
+    names: &Names,
+) -> Result<(), AllocError>
+    ensures { OnOk result (Puts text.old text.new (listed before.now between.now names.now)) }
+{
+    let mut word = before;
+    for name in names.as_slice() {
+        text.put(word)?;
+        text.put(name.as_slice())?;
+        word = between;
+    }
+    Ok(())
+}
+
+// Puts the names of roles behind the text, with commas between.
+pub fn put_roles(text: &mut Text, roles: &Names, places: &Roles) -> Result<(), AllocError>
+    ensures { OnOk result (Puts text.old text.new (comma_list (map (name_at roles.now) places.now))) }
+{
+    let mut word: &[u8] = b"";
+    for role in places.as_slice() {
+        text.put(word)?;
+        text.put(name_of(roles, *role))?;
+        word = b", ";
+    }
+    Ok(())
+}

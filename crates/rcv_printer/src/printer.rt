@@ -1,0 +1,27 @@
+// Prints a whole protocol.
+
+ghost use Rattle.std.specs.Prelude.{◌≡◌, IfOk};
+ghost use Rattle.rcv_printer.specs.CanonicalText.{canonical};
+
+use crate::head::{put_decls, put_head, put_module};
+use crate::statements::put_block;
+use crate::text::Text;
+use rcv_tree::protocol::Protocol;
+use std::alloc::{AllocError, Global};
+
+/// The canonical text of a protocol: the line of the module, a line for each declaration, an empty line, the line with
+/// the protocol's name and its roles, and the body with one statement on a line, two spaces further in for each block
+/// around it. Each line ends with a line feed. A role that isn't declared has the empty name. It fails where memory runs
+/// out.
+pub fn print_protocol(alloc: Global, protocol: &Protocol) -> Result<Vec<u8>, AllocError>
+    ensures { IfOk result (λ text. text.items ≡ canonical protocol.now) }
+{
+    let mut text = Text::new(alloc);
+    put_module(&mut text, &protocol.module)?;
+    put_decls(&mut text, &protocol.decls)?;
+    text.put(b"\n")?;
+    put_head(&mut text, &protocol.name, &protocol.roles)?;
+    put_block(alloc, &mut text, &protocol.roles, b"  ", &protocol.body)?;
+    text.put(b"}\n")?;
+    Ok(text.finish())
+}
