@@ -1,0 +1,165 @@
+-- A text that was read has full blocks only.
+use Rattle.std.proofs.Common.{◌≡◌, ℕ, ◌+◌, Bool, true, false, List, [], ◌∷◌, ◌++◌, length, refl, sym, ap, subst, ◌∙◌, arith, length-append, inl, inr}
+use Rattle.std.specs.Prelude.{◌-◌, ◌≤◌, ◌⊎◌, ◌||◌, not, drop, IsTrue}
+use Rattle.std.specs.Str.{bytes_eq}
+use Rattle.std.proofs.lemmas.List.{drop-append-le}
+use Rattle.std.proofs.lemmas.List.Folds.{list_any-append}
+use Rattle.std.proofs.lemmas.Slice.Eq.{bytes_eq-Decides}
+use Rattle.rcv_model.specs.Text as trees
+use Rattle.rcv_model.specs.Places.{IsNothing, IsNamed, IsFull, OthersFull}
+use Rattle.rcv_reader.specs.Symbols.{Symbol}
+use Rattle.rcv_reader.specs.Grammar.{Written, NoStmt, AMessage, AChoice, ARec, AContinue, APar, ADo, Blocks, NoBlock, ABlock, IsBegun, IsProper, AreProper, spelling}
+use Rattle.rcv_reader.specs.Machine.{Place, holds, behind, inside, inside_rec, outermost, Taken, reading}
+use Rattle.rcv_reader.specs.Trees.{role_at, roles_at, points, points_of, singles, tree_of, trees_of}
+use Rattle.rcv_grammar.specs.Laws.{ReadTextsAreFull}
+use Rattle.rcv_grammar.proofs.Passing.{Passes, PassAll}
+use Rattle.rcv_grammar.proofs.Canonizing.{body_passes}
+
+-- the names of the innermost recursions to which a walk comes without a message
+abbrev reached : Place → List (List ℕ)
+reached p = drop (length p.recs - p.comes) p.recs
+
+-- These names have the enclosing recursions of the place, and those of them that a walk reaches without a message.
+record Knows (p : Place) (recs bare : List (List ℕ)) : Type 0 where
+  pub all : (name : List ℕ) → holds name p.recs ≡ true → IsNamed name recs
+  pub open_ones : (name : List ℕ) → IsNamed name bare → holds name (reached p) ≡ true
+
+bytes_swap : (a b : List ℕ) → bytes_eq a b ≡ true → bytes_eq b a ≡ true
+bytes_swap a b e = (bytes_eq-Decides b a).1 (sym ((bytes_eq-Decides a b).0 e))
+
+holds_more : (name n : List ℕ) (recs : List (List ℕ)) → holds name (recs ++ n ∷ []) ≡ (holds name recs || holds name (n ∷ []))
+holds_more name n recs = list_any-append (λ (other : List ℕ). bytes_eq name other) recs (n ∷ [])
+
+holds_one : (name n : List ℕ) → holds name (n ∷ []) ≡ true → bytes_eq name n ≡ true
+holds_one name n e = go (bytes_eq name n) refl e
+  where
+    go : (b : Bool) → bytes_eq name n ≡ b → (b || false) ≡ true → bytes_eq name n ≡ true
+    go true is h = is
+    go false is h = absurd cc
+
+holds_either : (name n : List ℕ) (recs : List (List ℕ)) → holds name (recs ++ n ∷ []) ≡ true → (holds name recs ≡ true) ⊎ (bytes_eq name n ≡ true)
+holds_either name n recs e = go (holds name recs) refl (sym (holds_more name n recs) ∙ e)
+  where
+    go : (b : Bool) → holds name recs ≡ b → (b || holds name (n ∷ [])) ≡ true → (holds name recs ≡ true) ⊎ (bytes_eq name n ≡ true)
+    go true is h = inl is
+    go false is h = inr (holds_one name n h)
+
+holds_old : (name n : List ℕ) (recs : List (List ℕ)) → holds name recs ≡ true → holds name (recs ++ n ∷ []) ≡ true
+holds_old name n recs e = holds_more name n recs ∙ ap (λ (b : Bool). b || holds name (n ∷ [])) e
+
+or_true : (b : Bool) → (b || true) ≡ true
+or_true true = refl
+or_true false = refl
+
+holds_new : (name n : List ℕ) (recs : List (List ℕ)) → bytes_eq name n ≡ true → holds name (recs ++ n ∷ []) ≡ true
+holds_new name n recs e = holds_more name n recs ∙ ap (λ (b : Bool). holds name recs || (b || false)) e ∙ or_true (holds name recs)
+
+-- inside one recursion more a walk comes to it as well
+reached_more : (p : Place) (n : List ℕ) → reached (inside (inside_rec p n)) ≡ reached p ++ n ∷ []
+reached_more p n =
+    let len = length-append p.recs (n ∷ []) in
+    let same : length (p.recs ++ n ∷ []) - (p.comes + 1) ≡ length p.recs - p.comes = omega (arith, len) in
+    let within : length p.recs - p.comes ≤ length p.recs = omega arith in
+    ap (λ (i : ℕ). drop i (p.recs ++ n ∷ [])) same ∙ drop-append-le (length p.recs - p.comes) p.recs (n ∷ []) within
+
+knows_rec : (p : Place) (n : List ℕ) (recs bare : List (List ℕ)) → Knows p recs bare → Knows (inside (inside_rec p n)) (n ∷ recs) (n ∷ bare)
+knows_rec p n recs bare h = record { all = more; open_ones = reaches }
+  where
+    all_of : (name : List ℕ) → (holds name p.recs ≡ true) ⊎ (bytes_eq name n ≡ true) → IsNamed name (n ∷ recs)
+    all_of name (inl e) = inr (h.all name e)
+    all_of name (inr e) = inl (bytes_swap name n e)
+
+    more : (name : List ℕ) → holds name (p.recs ++ n ∷ []) ≡ true → IsNamed name (n ∷ recs)
+    more name e = all_of name (holds_either name n p.recs e)
+
+    reaches_of : (name : List ℕ) → IsTrue (bytes_eq n name) ⊎ IsNamed name bare → holds name (reached p ++ n ∷ []) ≡ true
+    reaches_of name (inl e) = holds_new name n (reached p) (bytes_swap n name e)
+    reaches_of name (inr e) = holds_old name n (reached p) (h.open_ones name e)
+
+    reaches : (name : List ℕ) → IsNamed name (n ∷ bare) → holds name (reached (inside (inside_rec p n))) ≡ true
+    reaches name e = subst (λ (x : List (List ℕ)). holds name x ≡ true) (sym (reached_more p n)) (reaches_of name e)
+
+-- in a branch, and behind a statement
+knows_branch : (p : Place) (recs bare : List (List ℕ)) → Knows p recs bare → Knows (inside p) recs bare
+knows_branch p recs bare h = record { all = h.all; open_ones = h.open_ones }
+
+knows_behind : (p : Place) (b : Bool) (recs bare : List (List ℕ)) → Knows p recs bare → Knows (behind p b) recs []
+knows_behind p b recs bare h = record { all = h.all; open_ones = λ name e. absurd e }
+
+-- ---- all that is written
+
+something : (roles : List (List ℕ)) (n : ℕ) (w : Written) → IsBegun w → IsNothing (tree_of roles n w) → ⊥
+something roles n NoStmt begun h = begun
+something roles n (AMessage label ss s r rs rest) begun h = h
+something roles n (AChoice s f os rest) begun h = h
+something roles n (ARec name body rest) begun h = h
+something roles n (AContinue name rest) begun h = h
+something roles n (APar f g os rest) begun h = h
+something roles n (ADo name r rs rest) begun h = h
+
+nothing_behind : (roles : List (List ℕ)) (n m : ℕ) (p : Place) (w : Written) → p.ended ≡ true → Passes roles m p w → IsNothing (tree_of roles n w)
+nothing_behind roles n m p NoStmt e h = tt
+nothing_behind roles n m p (AMessage label ss s r rs rest) e h = let still = h.0 in absurd cc
+nothing_behind roles n m p (AChoice s f os rest) e h = let still = h.0 in absurd cc
+nothing_behind roles n m p (ARec name body rest) e h = let still = h.0 in absurd cc
+nothing_behind roles n m p (AContinue name rest) e h = let still = h.0 in absurd cc
+nothing_behind roles n m p (APar f g os rest) e h = absurd h
+nothing_behind roles n m p (ADo name r rs rest) e h = absurd h
+
+not_false : (b : Bool) → not b ≡ false → b ≡ true
+not_false true e = refl
+not_false false e = absurd cc
+
+singles_full : (recs : List (List ℕ)) (label : List ℕ) (ss : List (List ℕ)) (s : ℕ) (rs : List ℕ) (n : ℕ) (rest : trees.Body) → IsFull recs [] rest → IsFull recs [] (singles label ss s rs n rest)
+singles_full recs label ss s [] n rest h = h
+singles_full recs label ss s (r ∷ rs) n rest h = singles_full recs label ss s rs (n + 1) rest h
+
+mutual
+  full : (roles : List (List ℕ)) (n m : ℕ) (p : Place) (recs bare : List (List ℕ)) (w : Written) → IsProper w → Passes roles m p w → Knows p recs bare → IsFull recs bare (tree_of roles n w)
+  full roles n m p recs bare NoStmt proper h knows = tt
+  full roles n m p recs bare (AMessage label ss s r rs rest) proper h knows =
+      singles_full recs label ss (role_at roles s) (roles_at roles rs) (n + 1) (tree_of roles (n + (1 + length rs)) rest)
+      (full roles (n + (1 + length rs)) (m + (1 + length rs)) (behind p false) recs [] rest proper h.3 (knows_behind p false recs bare knows))
+  full roles n m p recs bare (AChoice s f os rest) proper h knows = (
+    (
+      something roles n f proper.0,
+      full roles n m (inside p) recs bare f proper.1 h.3 (knows_branch p recs bare knows),
+      all_full roles (n + points f) (m + points f) p recs bare os proper.2 h.4 knows,
+    ),
+    full roles (n + (points f + points_of os)) (m + (points f + points_of os)) (behind p false) recs [] rest proper.3 h.5 (knows_behind p false recs bare knows),
+  )
+  full roles n m p recs bare (ARec name body rest) proper h knows = (
+    something roles n body proper.0,
+    full roles n m (inside (inside_rec p name)) (name ∷ recs) (name ∷ bare) body proper.1 h.2 (knows_rec p name recs bare knows),
+    full roles (n + points body) (m + points body) (behind p false) recs [] rest proper.2 h.3 (knows_behind p false recs bare knows),
+  )
+  full roles n m p recs bare (AContinue name rest) proper h knows = (
+    knows.all name (not_false (holds name p.recs) h.2),
+    λ is. let there = knows.open_ones name is in let guarded = h.1 in cc,
+    nothing_behind roles n m (behind p true) rest refl h.3,
+  )
+  full roles n m p recs bare (APar f g os rest) proper h knows = absurd h
+  full roles n m p recs bare (ADo name r rs rest) proper h knows = absurd h
+
+  all_full : (roles : List (List ℕ)) (n m : ℕ) (p : Place) (recs bare : List (List ℕ)) (bs : Blocks) → AreProper bs → PassAll roles m p bs → Knows p recs bare → OthersFull recs bare (trees_of roles n bs)
+  all_full roles n m p recs bare NoBlock proper h knows = tt
+  all_full roles n m p recs bare (ABlock f os) proper h knows = (
+    something roles n f proper.0,
+    full roles n m (inside p) recs bare f proper.1 h.1 (knows_branch p recs bare knows),
+    all_full roles (n + points f) (m + points f) p recs bare os proper.2 h.2 knows,
+  )
+
+knows_nothing : Knows outermost [] []
+knows_nothing = record { all = λ name e. absurd (no_name name e); open_ones = λ name e. absurd e }
+  where
+    no_name : (name : List ℕ) → holds name [] ≡ true → ⊥
+    no_name name e = cc
+
+pub read_texts_are_full : ReadTextsAreFull
+read_texts_are_full symbols p (state, taken, r) =
+    let s = r.source in
+    let is_taken : reading (spelling s) ≡ Taken state = subst (λ (x : List Symbol). reading x ≡ Taken state) r.spelled.2 taken in
+    let passes = body_passes s state r.spelled.1 is_taken in
+    let roles = r.role_names in
+    let tree = r.tree in
+    rw (tree, roles) (full (s.role ∷ s.other_roles) 0 0 outermost [] [] s.body r.spelled.1 passes knows_nothing)

@@ -1,0 +1,5 @@
+pub mod Passing
+pub mod Headings
+pub mod Cutting
+pub mod Canonizing
+pub mod Filling

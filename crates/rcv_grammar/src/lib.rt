@@ -1,0 +1,14 @@
+// Laws of the grammar and of the machine that reads it, which no crate below cites.
+#![tactic(auto)]
+
+ghost use Rattle.rcv_grammar.specs.Laws.{CanonicalSourcesAreRead, ReadTextsAreFull};
+
+/// The canonical text of a protocol that was read is read as this protocol.
+pub fn canonical_sources_are_read()
+    ensures { CanonicalSourcesAreRead }
+{}
+
+/// In a text that was read each `continue` is bound, guarded by a message and the last of its block; no block is empty.
+pub fn read_texts_are_full()
+    ensures { ReadTextsAreFull }
+{}
