@@ -18,7 +18,7 @@ kept false o t ts st e = absurd cc
 over : (b : Bool) (o : Outcome) (t : Symbol) (ts : List Symbol) → b ≡ true → run (cond b o (Wrong Token)) t ts ≡ run o t ts
 over b o t ts e = ap (λ (c : Bool). run (cond c o (Wrong Token)) t ts) e
 
-modules_go : (s : State) (ns : List (List ℕ)) (k : List Item) (next : List Symbol) → answer s (MoreModules ∷ k) (dotted ns (Is Semicolon ∷ next)) ≡ answer s k next
+pub modules_go : (s : State) (ns : List (List ℕ)) (k : List Item) (next : List Symbol) → answer s (MoreModules ∷ k) (dotted ns (Is Semicolon ∷ next)) ≡ answer s k next
 modules_go s [] k next = refl
 modules_go s (n ∷ ns) k next = modules_go s ns k next
 
@@ -32,7 +32,7 @@ after_word aliases k = This (Is Less) ∷ AnyName ∷ This (Is Greater) ∷ AnyQ
 abbrev word_behind : Decl → List Symbol → List Symbol
 word_behind d next = Is Less ∷ Name d.schema ∷ Is Greater ∷ Quoted d.extern_name ∷ Is From ∷ Quoted d.file ∷ Name (codes "as") ∷ Name d.alias ∷ Is Semicolon ∷ next
 
-decls_follow : (s : State) (aliases : List (List ℕ)) (ds : List Decl) (k : List Item) (next : List Symbol) (st : State) → answer s (Decls aliases ∷ k) (decls ds (Is Global ∷ next)) ≡ Taken st
+pub decls_follow : (s : State) (aliases : List (List ℕ)) (ds : List Decl) (k : List Item) (next : List Symbol) (st : State) → answer s (Decls aliases ∷ k) (decls ds (Is Global ∷ next)) ≡ Taken st
     → Follows s (Decls aliases ∷ k) (λ us. decls ds (Is Global ∷ us)) s k next st
 decls_follow s aliases [] k next st e = (e, λ us. refl)
 decls_follow s aliases (d ∷ ds) k next st e =

@@ -1,1 +1,4 @@
 pub mod Reading
+pub mod Forms
+pub mod Plain
+pub mod Once
