@@ -3,3 +3,4 @@ pub mod Headings
 pub mod Cutting
 pub mod Canonizing
 pub mod Filling
+pub mod Once
