@@ -11,7 +11,8 @@ use Rattle.rcv_lexer.proofs.Once.{one_reading}
 use Rattle.rcv_reader.specs.Symbols.{symbols_of}
 use Rattle.rcv_reader.specs.Machine.{Taken, reading}
 use Rattle.rcv_reader.specs.Refusals as reader
-use Rattle.rcv_grammar.specs.Laws.{SayTheSame, TextsHaveOneTree}
+use Rattle.rcv_grammar.specs.Laws.{SayTheSame}
+use Rattle.rcv_grammar.proofs.Once.{texts_have_one_tree}
 use Rattle.rcv_input.specs.declared.command.Command.{Command}
 use Rattle.rcv_input.specs.declared.command.Command.TheVariants.{Run}
 use Rattle.rcv_input.specs.Input.{AreProtocolTokens, last_line, branchings, IsBuilt, IsProtocolOf, IsServed, IsBlankPart, IsFirstOther, IsTaken, IsFirstRefusal, letter, unread, unbuilt, scripts, plan}
@@ -118,11 +119,11 @@ not_both command input p c l taken (unbuilt q text first others run b) = is_buil
 not_both command input p c l taken (scripts q n served b) = is_blank_there input (parts_of input).scripts n taken.no_scripts b
 not_both command input p c l taken (plan q n served blank b) = is_blank_there input (parts_of input).plan n taken.no_plan b
 
-one_protocol : TextsHaveOneTree → (command : Command) (input : List ℕ) (p q : Protocol) → IsTaken command input p → IsTaken command input q → SayTheSame p q
-one_protocol one_tree command input p q a b =
+one_protocol : (command : Command) (input : List ℕ) (p q : Protocol) → IsTaken command input p → IsTaken command input q → SayTheSame p q
+one_protocol command input p q a b =
     let x = a.served.protocol in
     let y = b.served.protocol in
-    one_tree (symbols_of input x.tokens) p q x.read (subst (λ (ts : List Token). reader.IsRead (symbols_of input ts) q) (same_tokens input y.tokens x.tokens y.cut x.cut) y.read)
+    texts_have_one_tree (symbols_of input x.tokens) p q x.read (subst (λ (ts : List Token). reader.IsRead (symbols_of input ts) q) (same_tokens input y.tokens x.tokens y.cut x.cut) y.read)
 
-pub one_answer : TextsHaveOneTree → InputsHaveOneAnswer
-one_answer one_tree = record { protocols = one_protocol one_tree; either = not_both; refusals = one_refusal }
+pub one_answer : InputsHaveOneAnswer
+one_answer = record { protocols = one_protocol; either = not_both; refusals = one_refusal }

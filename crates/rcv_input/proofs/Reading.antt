@@ -1,5 +1,5 @@
 -- What each step of reading an input says of it.
-use Rattle.std.proofs.Common.{◌≡◌, ℕ, List, ◌∷◌, length, refl, sym, ap, subst, ◌∙◌}
+use Rattle.std.proofs.Common.{◌≡◌, ℕ, ◌≤◌, arith, List, ◌∷◌, length, refl, sym, ap, subst, ◌∙◌}
 use Rattle.rcv_tree.specs.declared.protocol.Protocol.{Protocol}
 use Rattle.rcv_tree.specs.declared.refusal.Refusal.TheVariants as refusals
 use Rattle.rcv_lexer.specs.declared.token.Token.{Token}
@@ -9,12 +9,14 @@ use Rattle.rcv_lexer.specs.Parts.{parts_of}
 use Rattle.rcv_lexer.specs.Tokens as lexer
 use Rattle.rcv_lexer.specs.Tokens.{AreTokens, line_at}
 use Rattle.rcv_lexer.specs.declared.token.Span.{Span}
+use Rattle.rcv_reader.specs.declared.fault.Fault.{Fault}
+use Rattle.rcv_reader.specs.declared.fault.Fault.TheVariants as faults
 use Rattle.rcv_reader.specs.Machine.{code_of}
 use Rattle.rcv_reader.specs.Refusals as reader
 use Rattle.rcv_reader.specs.Refusals.{line_before}
 use Rattle.rcv_input.specs.declared.command.Command.{Command}
 use Rattle.rcv_input.specs.declared.command.Command.TheVariants.{Run}
-use Rattle.rcv_input.specs.Input.{AreProtocolTokens, last_line, branchings, IsProtocolOf, IsServed, IsBlankPart, IsFirstOther, letter, unread, unbuilt, scripts, plan, IsRefused}
+use Rattle.rcv_input.specs.Input.{AreProtocolTokens, last_line, branchings, IsProtocolOf, IsServed, IsBlankPart, IsFirstOther, IsFirstRefusal, letter, unread, unbuilt, scripts, plan, IsRefused}
 
 pub by_letter : (command : Command) (input : List ℕ) (e : TextError) → lexer.IsRefused input (parts_of input).protocol e → IsRefused command input e
 by_letter command input errors.Memory h = tt
@@ -38,3 +40,28 @@ by_scripts command input p e line served is found = subst (IsRefused command inp
 pub by_plan : (command : Command) (input : List ℕ) (p : Protocol) (e : TextError) (line : ℕ) → IsServed command input p → IsBlankPart input (parts_of input).scripts → e ≡ errors.Refused (refusals.Text 19 line)
     → IsFirstOther input (parts_of input).plan line → IsRefused command input e
 by_plan command input p e line served blank is found = subst (IsRefused command input) (sym is) (19, line, refl, plan p line served blank found)
+
+-- a refusal's code is from 10 to 19
+code_known : (f : Fault) → (10 ≤ code_of f) × (code_of f ≤ 19)
+code_known faults.Token = (omega arith, omega arith)
+code_known faults.Deep = (omega arith, omega arith)
+code_known faults.NoName = (omega arith, omega arith)
+code_known faults.Twice = (omega arith, omega arith)
+code_known faults.SelfMessage = (omega arith, omega arith)
+code_known faults.AfterContinue = (omega arith, omega arith)
+code_known faults.Unguarded = (omega arith, omega arith)
+code_known faults.TooMany = (omega arith, omega arith)
+code_known faults.NotYet = (omega arith, omega arith)
+
+unread_known : (input : List ℕ) (tokens : List Token) (code line : ℕ) → reader.IsRefused input tokens (last_line input) (errors.Refused (refusals.Text code line)) → (10 ≤ code) × (code ≤ 19)
+unread_known input tokens code line h =
+    let is = h.3 in
+    let same : code_of h.0 ≡ code = cc in
+    subst (λ (n : ℕ). (10 ≤ n) × (n ≤ 19)) same (code_known h.0)
+
+pub refusal_known : (command : Command) (input : List ℕ) (code line : ℕ) → IsFirstRefusal command input code line → (10 ≤ code) × (code ≤ 19)
+refusal_known command input code line (letter n h) = (omega arith, omega arith)
+refusal_known command input code line (unread ts c n cut h) = unread_known input ts c n h
+refusal_known command input code line (unbuilt p text first others run h) = (omega arith, omega arith)
+refusal_known command input code line (scripts p n served h) = (omega arith, omega arith)
+refusal_known command input code line (plan p n served blank h) = (omega arith, omega arith)
