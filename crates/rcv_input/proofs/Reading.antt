@@ -16,6 +16,7 @@ use Rattle.rcv_reader.specs.Refusals as reader
 use Rattle.rcv_reader.specs.Refusals.{line_before}
 use Rattle.rcv_input.specs.declared.command.Command.{Command}
 use Rattle.rcv_input.specs.declared.command.Command.TheVariants.{Run}
+use Rattle.rcv_input.specs.Line.{IsTextError}
 use Rattle.rcv_input.specs.Input.{AreProtocolTokens, last_line, branchings, IsProtocolOf, IsServed, IsBlankPart, IsFirstOther, IsFirstRefusal, letter, unread, unbuilt, scripts, plan, IsRefused}
 
 pub by_letter : (command : Command) (input : List ℕ) (e : TextError) → lexer.IsRefused input (parts_of input).protocol e → IsRefused command input e
@@ -41,7 +42,8 @@ pub by_plan : (command : Command) (input : List ℕ) (p : Protocol) (e : TextErr
     → IsFirstOther input (parts_of input).plan line → IsRefused command input e
 by_plan command input p e line served blank is found = subst (IsRefused command input) (sym is) (19, line, refl, plan p line served blank found)
 
--- a refusal's code is from 10 to 19
+-- ---- what an error says of its code and line
+
 code_known : (f : Fault) → (10 ≤ code_of f) × (code_of f ≤ 19)
 code_known faults.Token = (omega arith, omega arith)
 code_known faults.Deep = (omega arith, omega arith)
@@ -59,9 +61,23 @@ unread_known input tokens code line h =
     let same : code_of h.0 ≡ code = cc in
     subst (λ (n : ℕ). (10 ≤ n) × (n ≤ 19)) same (code_known h.0)
 
-pub refusal_known : (command : Command) (input : List ℕ) (code line : ℕ) → IsFirstRefusal command input code line → (10 ≤ code) × (code ≤ 19)
+refusal_known : (command : Command) (input : List ℕ) (code line : ℕ) → IsFirstRefusal command input code line → (10 ≤ code) × (code ≤ 19)
 refusal_known command input code line (letter n h) = (omega arith, omega arith)
 refusal_known command input code line (unread ts c n cut h) = unread_known input ts c n h
 refusal_known command input code line (unbuilt p text first others run h) = (omega arith, omega arith)
 refusal_known command input code line (scripts p n served h) = (omega arith, omega arith)
 refusal_known command input code line (plan p n served blank h) = (omega arith, omega arith)
+
+pub error_known : (command : Command) (input : List ℕ) (e : TextError) → IsRefused command input e → IsTextError e
+error_known command input errors.Memory h = tt
+error_known command input (errors.Refused r) h = let k = refusal_known command input h.0 h.1 h.3 in (h.0, h.1, h.2, k.0, k.1)
+
+pub refused_first : (command : Command) (input : List ℕ) (e : TextError) (code line : ℕ) → IsRefused command input e → e ≡ errors.Refused (refusals.Text code line) → IsFirstRefusal command input code line
+refused_first command input e code line h is_refused = go (subst (IsRefused command input) is_refused h)
+  where
+    go : IsRefused command input (errors.Refused (refusals.Text code line)) → IsFirstRefusal command input code line
+    go k =
+        let is = k.2 in
+        let codes : k.0 ≡ code = cc in
+        let lines : k.1 ≡ line = cc in
+        subst (λ (n : ℕ). IsFirstRefusal command input n line) codes (subst (IsFirstRefusal command input k.0) lines k.3)

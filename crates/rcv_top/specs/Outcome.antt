@@ -8,7 +8,7 @@ use Rattle.rcv_input.specs.declared.command.Command.{Command}
 use Rattle.rcv_input.specs.declared.command.Command.TheVariants.{Run, Check}
 use Rattle.rcv_input.specs.Input.{IsTaken, IsFirstRefusal}
 use Rattle.rcv_input.specs.Line.{refusal_line}
-use Rattle.rcv_printer.specs.Text.{canonical}
+use Rattle.rcv_printer.specs.CanonicalText.{canonical}
 use Rattle.rcv_core.specs.Setup.{SetupView, rules_of}
 use Rattle.rcv_journal.specs.Lines.{IsTextOf}
 use Rattle.rcv_top.specs.declared.status.Status.{Status}
