@@ -4,3 +4,4 @@ pub mod Cutting
 pub mod Canonizing
 pub mod Filling
 pub mod Once
+pub mod Examples

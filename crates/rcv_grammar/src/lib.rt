@@ -8,7 +8,8 @@ pub fn canonical_sources_are_read()
     ensures { CanonicalSourcesAreRead }
 {}
 
-/// In a text that was read each `continue` is bound, guarded by a message and the last of its block; no block is empty.
+/// In a text that was read each `continue` is bound, guarded by a message and the last of its block. No inner block is
+/// empty, and there is no `par` and no `do`.
 pub fn read_texts_are_full()
     ensures { ReadTextsAreFull }
 {}

@@ -1,0 +1,213 @@
+-- Worked cases of the machine: what it takes, and where it refuses with which code.
+use Rattle.std.proofs.Common.{◌≡◌, ℕ, zero, suc, true, codes, List, [], ◌∷◌, ◌++◌, Some, None, refl}
+use Rattle.std.specs.Prelude.{Option}
+use Rattle.rcv_lexer.specs.Parts.{parts_of}
+use Rattle.rcv_lexer.specs.Tokens.{line_at}
+use Rattle.rcv_reader.specs.declared.sign.Sign.TheVariants.{Module, Global, Protocol, Role, From, To, Choice, At, Rec, Continue, Par, Do, Open, Close, Left, Right, Comma, Semicolon, Less, Greater}
+use Rattle.rcv_reader.specs.declared.fault.Fault.TheVariants.{AfterContinue}
+use Rattle.rcv_reader.specs.Symbols.{Symbol, Is, Name, Quoted}
+use Rattle.rcv_reader.specs.Grammar.{NoStmt, AMessage}
+use Rattle.rcv_reader.specs.Machine.{Place, RoleName, Receiver, Rest, Wrong, step, Answer, Taken, Refuses, answer, code_of, reading}
+use Rattle.rcv_reader.specs.Descent.{known}
+use Rattle.rcv_reader.specs.Refusals.{line_before}
+use Rattle.rcv_reader.specs.Trees.{tree_of}
+use Rattle.rcv_grammar.specs.Canonical.{written_of}
+
+-- the code, and what is left from the wrong symbol on
+abbrev shown : Answer → Option (ℕ × List Symbol)
+shown (Taken state) = None
+shown (Refuses fault left) = Some (code_of fault, left)
+
+abbrev refusal : List Symbol → Option (ℕ × List Symbol)
+refusal symbols = shown (reading symbols)
+
+-- names
+abbrev a : Symbol
+a = Name (codes "A")
+
+abbrev b : Symbol
+b = Name (codes "B")
+
+abbrev c : Symbol
+c = Name (codes "C")
+
+abbrev x : Symbol
+x = Name (codes "X")
+
+abbrev y : Symbol
+y = Name (codes "Y")
+
+abbrev both : List (List ℕ)
+both = codes "A" ∷ codes "B" ∷ []
+
+-- module X; global protocol Y(role A, role B) {
+abbrev text : List Symbol → List Symbol
+text next = Is Module ∷ x ∷ Is Semicolon ∷ Is Global ∷ Is Protocol ∷ y ∷ Is Left ∷ Is Role ∷ a ∷ Is Comma ∷ Is Role ∷ b ∷ Is Right ∷ Is Open ∷ next
+
+-- X() from A to
+abbrev sends : List Symbol → List Symbol
+sends next = x ∷ Is Left ∷ Is Right ∷ Is From ∷ a ∷ Is To ∷ next
+
+-- X() from A to B;
+abbrev message : List Symbol → List Symbol
+message next = sends (b ∷ Is Semicolon ∷ next)
+
+-- rec X { and continue X;
+abbrev rec_x : List Symbol → List Symbol
+rec_x next = Is Rec ∷ x ∷ Is Open ∷ next
+
+abbrev again_x : List Symbol → List Symbol
+again_x next = Is Continue ∷ x ∷ Is Semicolon ∷ next
+
+one_message : reading (text (message (Is Close ∷ []))) ≡ Taken (known both 1)
+one_message = refl
+
+-- ---- each code
+
+wrong_token : refusal (text (x ∷ y ∷ Is Close ∷ [])) ≡ Some (11, y ∷ Is Close ∷ [])
+wrong_token = refl
+
+early_end : refusal (text (message [])) ≡ Some (11, [])
+early_end = refl
+
+-- a branch without a statement
+empty_branch : refusal (text (Is Choice ∷ Is At ∷ a ∷ Is Open ∷ Is Close ∷ [])) ≡ Some (11, Is Close ∷ [])
+empty_branch = refl
+
+-- n recursions, one in another
+abbrev nested : ℕ → List Symbol → List Symbol
+nested zero next = next
+nested (suc n) next = rec_x (nested n next)
+
+deepest : refusal (text (nested 31 [])) ≡ Some (11, [])
+deepest = refl
+
+too_deep : refusal (text (nested 31 (rec_x []))) ≡ Some (12, Is Open ∷ [])
+too_deep = refl
+
+no_role : refusal (text (sends (c ∷ Is Semicolon ∷ []))) ≡ Some (13, c ∷ Is Semicolon ∷ [])
+no_role = refl
+
+no_subject : refusal (text (Is Choice ∷ Is At ∷ c ∷ [])) ≡ Some (13, c ∷ [])
+no_subject = refl
+
+twice_received : refusal (text (sends (b ∷ Is Comma ∷ b ∷ []))) ≡ Some (14, b ∷ [])
+twice_received = refl
+
+-- type <X> "" from "" as A;
+abbrev alias_a : List Symbol → List Symbol
+alias_a next = Name (codes "type") ∷ Is Less ∷ x ∷ Is Greater ∷ Quoted [] ∷ Is From ∷ Quoted [] ∷ Name (codes "as") ∷ a ∷ Is Semicolon ∷ next
+
+twice_declared : refusal (Is Module ∷ x ∷ Is Semicolon ∷ alias_a (alias_a [])) ≡ Some (14, a ∷ Is Semicolon ∷ [])
+twice_declared = refl
+
+to_itself : refusal (text (sends (a ∷ []))) ≡ Some (15, a ∷ [])
+to_itself = refl
+
+behind_continue : refusal (text (rec_x (message (again_x (message []))))) ≡ Some (16, message [])
+behind_continue = refl
+
+unguarded : refusal (text (rec_x (again_x []))) ≡ Some (17, again_x [])
+unguarded = refl
+
+-- through a branch, and past a recursion inside
+unguarded_branch : refusal (text (rec_x (Is Choice ∷ Is At ∷ a ∷ Is Open ∷ Is Rec ∷ y ∷ Is Open ∷ again_x []))) ≡ Some (17, again_x [])
+unguarded_branch = refl
+
+-- the roles A, B and C to H
+abbrev more_roles : List (List ℕ)
+more_roles = codes "C" ∷ codes "D" ∷ codes "E" ∷ codes "F" ∷ codes "G" ∷ codes "H" ∷ []
+
+ninth_role : shown (answer (known (both ++ more_roles) 0) (RoleName ∷ []) (Name (codes "I") ∷ [])) ≡ Some (18, Name (codes "I") ∷ [])
+ninth_role = refl
+
+-- behind 255 points there is one more
+last_point : answer (known both 255) (Receiver 0 [] ∷ []) (b ∷ Is Semicolon ∷ []) ≡ Taken (known both 256)
+last_point = refl
+
+too_many_points : shown (answer (known both 256) (Receiver 0 [] ∷ []) (b ∷ Is Semicolon ∷ [])) ≡ Some (18, b ∷ Is Semicolon ∷ [])
+too_many_points = refl
+
+par_waits : refusal (text (Is Par ∷ [])) ≡ Some (19, Is Par ∷ [])
+par_waits = refl
+
+do_waits : refusal (text (Is Do ∷ [])) ≡ Some (19, Is Do ∷ [])
+do_waits = refl
+
+second_protocol : refusal (text (Is Close ∷ Is Global ∷ [])) ≡ Some (19, Is Global ∷ [])
+second_protocol = refl
+
+-- no other symbol behind a protocol
+behind_all : refusal (text (Is Close ∷ Is Close ∷ [])) ≡ Some (11, Is Close ∷ [])
+behind_all = refl
+
+-- ---- code 17 at the word, before its name is read
+
+unguarded_at_the_end : refusal (text (rec_x (Is Continue ∷ x ∷ []))) ≡ Some (17, Is Continue ∷ x ∷ [])
+unguarded_at_the_end = refl
+
+no_name_yet : refusal (text (rec_x (Is Continue ∷ []))) ≡ Some (11, [])
+no_name_yet = refl
+
+another_name : refusal (text (rec_x (Is Continue ∷ y ∷ Is Semicolon ∷ []))) ≡ Some (13, y ∷ Is Semicolon ∷ [])
+another_name = refl
+
+-- ---- the least code at one symbol
+
+-- behind a continue, at a place to which a walk comes
+abbrev ended_place : Place
+ended_place = record { depth = 2; recs = codes "X" ∷ []; comes = 1; ended = true }
+
+ended_before_unguarded : step (known both 0) (Is Continue) (x ∷ []) (Rest ended_place ∷ []) ≡ Wrong AfterContinue
+ended_before_unguarded = refl
+
+par_behind_continue : refusal (text (rec_x (message (again_x (Is Par ∷ []))))) ≡ Some (16, Is Par ∷ [])
+par_behind_continue = refl
+
+do_behind_continue : refusal (text (rec_x (message (again_x (Is Do ∷ []))))) ≡ Some (16, Is Do ∷ [])
+do_behind_continue = refl
+
+-- where no point is left: a name of no role, one that stands before, the sender
+no_role_first : shown (answer (known both 256) (Receiver 0 [] ∷ []) (c ∷ [])) ≡ Some (13, c ∷ [])
+no_role_first = refl
+
+twice_before_many : shown (answer (known both 256) (Receiver 0 (1 ∷ []) ∷ []) (b ∷ [])) ≡ Some (14, b ∷ [])
+twice_before_many = refl
+
+itself_before_many : shown (answer (known both 256) (Receiver 0 [] ∷ []) (a ∷ [])) ≡ Some (15, a ∷ [])
+itself_before_many = refl
+
+twice_before_nine : shown (answer (known (both ++ more_roles) 0) (RoleName ∷ []) (a ∷ [])) ≡ Some (14, a ∷ [])
+twice_before_nine = refl
+
+-- ---- a body that is never left
+
+-- rec X { rec Y { X() from A to B; continue X; } and what follows
+abbrev never_left : List Symbol → List Symbol
+never_left next = rec_x (Is Rec ∷ y ∷ Is Open ∷ message (again_x (Is Close ∷ next)))
+
+guarded_behind : reading (text (never_left (again_x (Is Close ∷ Is Close ∷ [])))) ≡ Taken (known both 1)
+guarded_behind = refl
+
+-- what stands behind it isn't behind a continue of its own block
+statement_behind : reading (text (never_left (message (Is Close ∷ Is Close ∷ [])))) ≡ Taken (known both 2)
+statement_behind = refl
+
+-- ---- the line of a part's end
+
+line_of_the_end : line_before [] 6 0 ≡ 6
+line_of_the_end = refl
+
+abbrev cut_off : List ℕ
+cut_off = codes "module" ++ 10 ∷ codes "X" ++ 10 ∷ codes "%% plan" ++ 10 ∷ []
+
+-- the line of the separator
+line_of_the_separator : line_at cut_off (parts_of cut_off).protocol.end ≡ 3
+line_of_the_separator = refl
+
+-- ---- the canonical source
+
+-- a message to B and C is written as two
+two_receivers : written_of (both ++ more_roles) (tree_of (both ++ more_roles) 0 (AMessage (codes "X") [] (codes "A") (codes "B") (codes "C" ∷ []) NoStmt))
+    ≡ AMessage (codes "X") [] (codes "A") (codes "B") [] (AMessage (codes "X") [] (codes "A") (codes "C") [] NoStmt)
+two_receivers = refl
