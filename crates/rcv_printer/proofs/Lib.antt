@@ -1,0 +1,9 @@
+pub mod Pieces
+pub mod Saying
+pub mod Lines
+pub mod Spelled
+pub mod Whole
+pub mod Tokens
+pub mod Printables
+pub mod ReadBack
+pub mod Examples

@@ -1,13 +1,10 @@
 -- The canonical text of a protocol, each piece in front of what follows it.
-use Rattle.std.specs.Prelude.{ℕ, List, [], ◌∷◌, ◌++◌, codes, map, slice_index_or}
+use Rattle.std.specs.Prelude.{ℕ, List, [], ◌∷◌, ◌++◌, codes}
 use Rattle.rcv_tree.specs.Lists.{declarations}
 use Rattle.rcv_tree.specs.declared.protocol.Decl.{Decl}
 use Rattle.rcv_tree.specs.declared.protocol.Protocol.{Protocol}
+use Rattle.rcv_grammar.specs.Canonical.{name_at, names_at}
 use Rattle.rcv_model.specs.Text.{Body, End, Single, Choose, Loop, Again, Beside, Call, Bodies, NoMore, Or, body_of}
-
--- the name of a role
-abbrev pub name_at : List (List ℕ) → ℕ → List ℕ
-name_at roles r = slice_index_or roles r []
 
 -- Words, one behind another.
 abbrev pub words : List (List ℕ) → List ℕ → List ℕ
@@ -64,7 +61,7 @@ abbrev mutual
   body_text roles margin (Beside blocks rest) next =
       words (margin ∷ codes "par" ∷ []) (blocks_text roles margin (codes " ") (codes " and ") blocks (codes "\n" ++ body_text roles margin rest next))
   body_text roles margin (Call name places rest) next =
-      words (margin ∷ codes "do " ∷ name ∷ codes "(" ∷ []) (comma_list (map (name_at roles) places) (codes ");\n" ++ body_text roles margin rest next))
+      words (margin ∷ codes "do " ∷ name ∷ codes "(" ∷ []) (comma_list (names_at roles places) (codes ");\n" ++ body_text roles margin rest next))
 
   pub blocks_text : List (List ℕ) → List ℕ → List ℕ → List ℕ → Bodies → List ℕ → List ℕ
   blocks_text roles margin before between NoMore next = next

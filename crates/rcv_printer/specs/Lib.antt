@@ -1,2 +1,4 @@
 pub mod CanonicalText
+pub mod Laws
+pub mod Printable
 pub mod Printing

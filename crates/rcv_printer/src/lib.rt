@@ -1,6 +1,8 @@
 // Prints a protocol as its canonical text.
 #![tactic(auto)]
 
+ghost use Rattle.rcv_printer.specs.Laws.{CanonicalTextsAreSpelled, ReadProtocolsArePrintable, CanonicalTextsReadBack, CanonicalTextsStay};
+
 mod head;
 mod names;
 mod printer;
@@ -10,3 +12,24 @@ mod tests;
 mod text;
 
 pub use printer::print_protocol;
+
+/// Where the names of a protocol are names of the grammar, its canonical text is one part, and its tokens spell the
+/// protocol with one receiver for each message.
+pub fn canonical_texts_are_spelled()
+    ensures { CanonicalTextsAreSpelled }
+{}
+
+/// The names of a protocol that was read are names of the grammar.
+pub fn read_protocols_are_printable()
+    ensures { ReadProtocolsArePrintable }
+{}
+
+/// The canonical text of a protocol that was read is one part, and its tokens are read as this protocol.
+pub fn canonical_texts_read_back()
+    ensures { CanonicalTextsReadBack }
+{}
+
+/// What is read from the canonical text of a protocol that was read has the same canonical text.
+pub fn canonical_texts_stay()
+    ensures { CanonicalTextsStay }
+{}

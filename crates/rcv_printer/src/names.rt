@@ -1,7 +1,8 @@
 // Names, and lists of them.
 
-ghost use Rattle.std.specs.Prelude.{◌≡◌, ◌++◌, OnOk, codes, map};
-ghost use Rattle.rcv_printer.specs.CanonicalText.{name_at, listed, comma_list};
+ghost use Rattle.std.specs.Prelude.{◌≡◌, ◌++◌, OnOk};
+ghost use Rattle.rcv_grammar.specs.Canonical.{name_at, names_at};
+ghost use Rattle.rcv_printer.specs.CanonicalText.{listed, comma_list};
 ghost use Rattle.rcv_printer.specs.Printing.{Puts};
 
 use crate::text::Text;
@@ -39,7 +40,7 @@ pub fn put_list(
 
 // Puts the names of roles behind the text, with commas between.
 pub fn put_roles(text: &mut Text, roles: &Names, places: &Roles) -> Result<(), AllocError>
-    ensures { OnOk result (Puts text.old text.new (comma_list (map (name_at roles.now) places.now))) }
+    ensures { OnOk result (Puts text.old text.new (comma_list (names_at roles.now places.now))) }
 {
     let mut word: &[u8] = b"";
     for role in places.as_slice() {

@@ -1,6 +1,11 @@
 // Canonical texts of small protocols.
 
+ghost use Rattle.std.specs.Prelude.{◌<◌, length};
+
 use crate::print_protocol;
+use rcv_lexer::token::{Span, TextError};
+use rcv_lexer::tokens;
+use rcv_reader::read_protocol;
 use rcv_tree::name::{Name, Names};
 use rcv_tree::point::Point;
 use rcv_tree::protocol::{Decl, Decls, Protocol};
@@ -168,6 +173,55 @@ fn an_empty_body(rt: HostRuntime) -> Result<(), Fail> {
     assert_eq!(rt;
         text.as_slice(),
         b"module m;\n\nglobal protocol P(role A) {\n}\n".as_slice()
+    );
+    Ok(())
+}
+
+// The canonical text of a text.
+fn printed_again(alloc: Global, text: &[u8]) -> Result<Vec<u8>, TextError>
+    requires { length text.now < 4000 }
+{
+    let whole = Span {
+        start: 0,
+        end: text.len(),
+    };
+    let list = tokens(alloc, text, whole)?;
+    let protocol = read_protocol(alloc, text, list.as_slice(), 1)?;
+    Ok(print_protocol(alloc, &protocol)?)
+}
+
+#[test]
+fn each_receiver_has_a_line(rt: HostRuntime) -> Result<(), Fail> {
+    let text = printed_again(
+        rt.alloc(),
+        b"module shop.two; // with a comment
+type <java> \"java.lang.String\" from \"rt.jar\" as String;
+data <c>\"%% plan\" from \"\" as Int; global protocol TwoBuyer(role A, role B, role S) {
+  title(String) from A to S; quote(Int, String) from S to A, B;
+  choice at B { ok() from B to A, S; } or { quit() from B to A, S; }
+}",
+    )?;
+    let canonical = b"module shop.two;
+type <java> \"java.lang.String\" from \"rt.jar\" as String;
+data <c> \"%% plan\" from \"\" as Int;
+
+global protocol TwoBuyer(role A, role B, role S) {
+  title(String) from A to S;
+  quote(Int, String) from S to A;
+  quote(Int, String) from S to B;
+  choice at B {
+    ok() from B to A;
+    ok() from B to S;
+  } or {
+    quit() from B to A;
+    quit() from B to S;
+  }
+}
+";
+    assert_eq!(rt; text.as_slice(), canonical.as_slice());
+    assert_eq!(rt;
+        printed_again(rt.alloc(), canonical)?.as_slice(),
+        canonical.as_slice()
     );
     Ok(())
 }

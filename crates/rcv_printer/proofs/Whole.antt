@@ -1,0 +1,73 @@
+-- A text that says symbols is one part with tokens that say them.
+use Rattle.std.proofs.Common.{◌≡◌, ℕ, ◌+◌, ◌-◌, ◌≤◌, Bool, true, false, List, [], ◌∷◌, ◌++◌, length, map, take, drop, Option, Some, None, refl, sym, ap, subst, ◌∙◌, arith, ne_eqb}
+use Rattle.std.specs.Prelude.{◌==◌, ◌&&◌, slice_range}
+use Rattle.std.proofs.lemmas.Bool.Decides.{nat_tests}
+use Rattle.std.proofs.lemmas.List.{drop-drop, drop-take, take-take, length-take}
+use Rattle.std.proofs.Math.Seq.{take-length}
+use Rattle.rcv_model.proofs.Keeping.{or_false}
+use Rattle.rcv_lexer.specs.declared.token.Kind.{Kind}
+use Rattle.rcv_lexer.specs.declared.token.Token.{Token}
+use Rattle.rcv_lexer.specs.declared.piece.Piece.{Piece}
+use Rattle.rcv_lexer.specs.declared.parts.Separator.{Separator}
+use Rattle.rcv_lexer.specs.Pieces.{piece_of}
+use Rattle.rcv_lexer.specs.Parts.{here, first_from, parts_from, or_else}
+use Rattle.rcv_lexer.specs.Tokens.{Cuts, line_at, token_at, tokens_of, AreTokens}
+use Rattle.rcv_lexer.proofs.Fitting.{Lies, piece_lies}
+use Rattle.rcv_reader.specs.Symbols.{Symbol, symbol_by, symbols_of}
+use Rattle.rcv_printer.specs.Laws.{whole, IsOnePart, IsTextOf}
+use Rattle.rcv_printer.proofs.Saying.{symbol_if, symbols_in, breaks, Says}
+
+-- ---- no separator
+
+none_here : (fresh : Bool) (place b : ℕ) (bs : List ℕ) → (b == 37 && fresh) ≡ false → here true fresh place (b ∷ bs) ≡ None
+none_here false place b bs e = refl
+none_here true place b bs e = let other : (37 == b) ≡ false = grind (arith, nat_tests) in rw other (refl {a = None})
+
+none_from : (text : List ℕ) (fresh : Bool) (place : ℕ) → breaks fresh text ≡ false → first_from true fresh place text ≡ None
+none_from [] fresh place calm = refl
+none_from (b ∷ bs) fresh place calm =
+    let both = or_false (b == 37 && fresh) (breaks (b == 10) bs) calm in
+    ap (λ (o : Option Separator). or_else o (first_from true (b == 10) (place + 1) bs)) (none_here fresh place b bs both.0) ∙ none_from bs (b == 10) (place + 1) both.1
+
+pub one_part : (text : List ℕ) (symbols : List Symbol) → Says text symbols → IsOnePart text
+one_part text symbols said = ap (parts_from text) (none_from text true 0 (said.calm true))
+
+-- ---- the symbols of tokens are those of the pieces
+
+one_symbol : (bundle : List ℕ) (place line len : ℕ) (token : Option Kind) (rest : List Token)
+    → symbols_of bundle (token_at place line len token ++ rest) ≡ symbol_if token (slice_range bundle place (place + len)) (symbols_of bundle rest)
+one_symbol bundle place line len None rest = refl
+one_symbol bundle place line len (Some kind) rest = refl
+
+-- the piece lies in what is left of the part
+piece_within : (text : List ℕ) (p : Piece) → piece_of text ≡ Some p → p.len ≤ length text
+piece_within text p e = (subst (Lies text) e (piece_lies text)).1
+
+pub symbols_are : (ps : List Piece) (bundle : List ℕ) (place k : ℕ) → Cuts ps (take k (drop place bundle)) []
+    → symbols_of bundle (tokens_of bundle place ps) ≡ symbols_in ps (take k (drop place bundle))
+symbols_are [] bundle place k cuts = refl
+symbols_are (p ∷ ps) bundle place k cuts =
+    let within = piece_within (take k (drop place bundle)) p cuts.0 in
+    let fits : p.len ≤ k = omega (arith, length-take k (drop place bundle)) in
+    let n : place + p.len - place ≡ p.len = omega arith in
+    let left : k ≡ p.len + (k - p.len) = omega arith in
+    let bytes : slice_range bundle place (place + p.len) ≡ take p.len (take k (drop place bundle)) =
+    ap (λ (i : ℕ). take i (drop place bundle)) n ∙ sym (take-take p.len k (drop place bundle) fits) in
+    let behind : drop p.len (take k (drop place bundle)) ≡ take (k - p.len) (drop (place + p.len) bundle) =
+    ap (λ (i : ℕ). drop p.len (take i (drop place bundle))) left ∙ drop-take p.len (k - p.len) (drop place bundle) ∙ ap (take (k - p.len)) (drop-drop p.len place bundle) in
+    one_symbol bundle place (line_at bundle place) p.len p.token (tokens_of bundle (place + p.len) ps)
+    ∙ ap (λ (x : List ℕ). symbol_if p.token x (symbols_of bundle (tokens_of bundle (place + p.len) ps))) bytes
+    ∙ ap (symbol_if p.token (take p.len (take k (drop place bundle))))
+    (symbols_are ps bundle (place + p.len) (k - p.len) (subst (λ (x : List ℕ). Cuts ps x []) behind cuts.1) ∙ ap (symbols_in ps) (sym behind))
+
+pub is_text_of : (text : List ℕ) (symbols : List Symbol) → Says text symbols → IsTextOf text symbols
+is_text_of text symbols said =
+    let k : length text - 0 ≡ length text = omega arith in
+    let all : take (length text - 0) text ≡ text = ap (λ (n : ℕ). take n text) k ∙ take-length text in
+    let cuts : Cuts said.pieces (take (length text - 0) text) [] = subst (λ (x : List ℕ). Cuts said.pieces x []) (sym all) said.cuts in
+    record {
+      one_part = one_part text symbols said;
+      tokens = tokens_of text 0 said.pieces;
+      are_tokens = (said.pieces, cuts, refl);
+      say = symbols_are said.pieces text 0 (length text - 0) cuts ∙ ap (symbols_in said.pieces) all ∙ said.say;
+    }

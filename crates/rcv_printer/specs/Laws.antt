@@ -1,0 +1,55 @@
+-- What holds of canonical texts.
+use Rattle.std.specs.Prelude.{◌≡◌, ℕ, List, length}
+use Rattle.rcv_tree.specs.declared.protocol.Protocol.{Protocol}
+use Rattle.rcv_lexer.specs.declared.token.Span.{Span}
+use Rattle.rcv_lexer.specs.declared.token.Token.{Token}
+use Rattle.rcv_lexer.specs.Parts.{span, parts_of}
+use Rattle.rcv_lexer.specs.Tokens.{AreTokens}
+use Rattle.rcv_reader.specs.Symbols.{Symbol, symbols_of}
+use Rattle.rcv_reader.specs.Grammar.{spelling}
+use Rattle.rcv_reader.specs.Refusals.{IsRead}
+use Rattle.rcv_grammar.specs.Canonical.{source_of}
+use Rattle.rcv_printer.specs.CanonicalText.{canonical}
+use Rattle.rcv_printer.specs.Printable.{IsPrintable}
+
+-- the whole text
+abbrev pub whole : List ℕ → Span
+whole text = span 0 (length text)
+
+-- No line of the text separates parts: it is all the protocol's part, with empty scripts and an empty plan.
+abbrev pub IsOnePart : List ℕ → Type 0
+IsOnePart text = parts_of text ≡ record { protocol = whole text; scripts = span (length text) (length text); plan = span (length text) (length text) }
+
+-- The text is one part, and its tokens say these symbols.
+pub record IsTextOf (text : List ℕ) (symbols : List Symbol) : Type 0 where
+  pub one_part : IsOnePart text
+  pub tokens : List Token
+  pub are_tokens : AreTokens text (whole text) tokens
+  pub say : symbols_of text tokens ≡ symbols
+
+-- The canonical text of a printable protocol spells its source.
+abbrev pub CanonicalTextsAreSpelled : Type 0
+CanonicalTextsAreSpelled = (p : Protocol) → IsPrintable p → IsTextOf (canonical p) (spelling (source_of p))
+
+-- A protocol that was read is printable.
+abbrev pub ReadProtocolsArePrintable : Type 0
+ReadProtocolsArePrintable =
+    (bundle : List ℕ) (part : Span) (tokens : List Token) (p : Protocol) → AreTokens bundle part tokens → IsRead (symbols_of bundle tokens) p → IsPrintable p
+
+-- The text is one part, and its tokens are read as this protocol.
+pub record IsReadAs (text : List ℕ) (p : Protocol) : Type 0 where
+  pub one_part : IsOnePart text
+  pub tokens : List Token
+  pub are_tokens : AreTokens text (whole text) tokens
+  pub read : IsRead (symbols_of text tokens) p
+
+-- The canonical text of a protocol that was read is read as this protocol.
+abbrev pub CanonicalTextsReadBack : Type 0
+CanonicalTextsReadBack =
+    (bundle : List ℕ) (part : Span) (tokens : List Token) (p : Protocol) → AreTokens bundle part tokens → IsRead (symbols_of bundle tokens) p → IsReadAs (canonical p) p
+
+-- What is read from the canonical text of a protocol that was read has this same canonical text.
+abbrev pub CanonicalTextsStay : Type 0
+CanonicalTextsStay =
+    (bundle : List ℕ) (part : Span) (tokens : List Token) (p q : Protocol) → AreTokens bundle part tokens → IsRead (symbols_of bundle tokens) p
+    → IsReadAs (canonical p) q → canonical q ≡ canonical p
