@@ -2,3 +2,4 @@ pub mod Sessions
 pub mod Answering
 pub mod Outcomes
 pub mod Completing
+pub mod Again

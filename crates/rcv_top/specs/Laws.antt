@@ -24,3 +24,9 @@ SessionsAreLegal =
 abbrev pub SessionsComplete : Type 0
 SessionsComplete =
     (input : List ℕ) (protocol : Protocol) → length input ≤ most_bytes → IsTaken Run input protocol → (bytes : List ℕ) × IsOutcome (codes "run" ∷ []) input Completed bytes
+
+-- What `check` wrote and that isn't too long is written as it is, where `check` reads it again.
+abbrev pub ChecksStay : Type 0
+ChecksStay =
+    (input bytes : List ℕ) → IsOutcome (codes "check" ∷ []) input Completed bytes → length bytes ≤ most_bytes
+    → IsOutcome (codes "check" ∷ []) bytes Completed bytes

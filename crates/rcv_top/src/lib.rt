@@ -1,7 +1,7 @@
 // The whole program as one call: from words and an input to a status and bytes.
 #![tactic(auto)]
 
-ghost use Rattle.rcv_top.specs.Laws.{OneOutcome, SessionsAreLegal, SessionsComplete};
+ghost use Rattle.rcv_top.specs.Laws.{ChecksStay, OneOutcome, SessionsAreLegal, SessionsComplete};
 
 mod answer;
 mod call;
@@ -28,4 +28,9 @@ pub fn sessions_are_legal()
 /// The session of each input that `run` takes, and that isn't too long, completes.
 pub fn sessions_complete()
     ensures { SessionsComplete }
+{}
+
+/// What `check` wrote, given to `check` again, is written as it is.
+pub fn checks_stay()
+    ensures { ChecksStay }
 {}
