@@ -1,15 +1,15 @@
 -- A text that was read has at most 8 roles and 256 points.
-use Rattle.std.proofs.Common.{◌≡◌, ℕ, ◌+◌, ◌<◌, ◌≤◌, true, false, List, [], ◌∷◌, ◌++◌, length, refl, sym, ap, subst, ◌∙◌, arith, append_assoc, length-append}
+use Rattle.std.proofs.Common.{◌≡◌, ℕ, ◌+◌, ◌<◌, ◌≤◌, true, false, List, [], ◌∷◌, ◌++◌, length, sym, subst, ◌∙◌, arith, append_assoc, length-append}
 use Rattle.std.specs.Prelude.{nat_le}
 use Rattle.std.proofs.lemmas.Bool.Decides.{nat_tests}
 use Rattle.rcv_tree.specs.declared.protocol.Protocol.{Protocol}
 use Rattle.rcv_model.specs.Text.{body_of}
 use Rattle.rcv_model.specs.Form.{HasForm}
-use Rattle.rcv_reader.specs.declared.sign.Sign.TheVariants.{Protocol as ProtocolWord, Global, Role, Left, Right, Open, Close, Semicolon}
+use Rattle.rcv_reader.specs.declared.sign.Sign.TheVariants.{Protocol as ProtocolWord, Global, Role, Left, Right, Open, Close}
 use Rattle.rcv_reader.specs.declared.fault.Fault.TheVariants.{Twice, TooMany}
 use Rattle.rcv_reader.specs.Symbols.{Symbol, Is, Name}
 use Rattle.rcv_reader.specs.Grammar.{Written, NoStmt, AMessage, AChoice, ARec, AContinue, APar, ADo, Blocks, NoBlock, ABlock, Source, decls, roles_behind, stmts, spelling}
-use Rattle.rcv_reader.specs.Machine.{Place, Item, This, AnyName, MoreModules, Decls, RoleName, MoreRoles, Rest, State, Outcome, On, begin, holds, unless, outermost, behind, inside, inside_rec, Taken, answer, reading}
+use Rattle.rcv_reader.specs.Machine.{Place, Item, This, AnyName, Decls, RoleName, MoreRoles, Rest, State, On, begin, holds, unless, outermost, behind, inside, inside_rec, Taken, answer, reading}
 use Rattle.rcv_reader.specs.Descent.{known}
 use Rattle.rcv_reader.specs.Trees.{role_at, points, points_of}
 use Rattle.rcv_reader.specs.Refusals.{IsRead}

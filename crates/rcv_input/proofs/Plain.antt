@@ -1,6 +1,6 @@
 -- Where neither `choice` nor `rec` stands, messages stand alone.
 use Rattle.std.proofs.Common.{◌≡◌, ℕ, ◌+◌, Bool, true, false, cond, List, [], ◌∷◌, length, refl, sym, subst, ◌∙◌}
-use Rattle.std.specs.Prelude.{◌||◌, codes}
+use Rattle.std.specs.Prelude.{◌||◌}
 use Rattle.std.specs.List.{list_any}
 use Rattle.rcv_tree.specs.declared.protocol.Decl.{Decl}
 use Rattle.rcv_tree.specs.declared.protocol.Protocol as tree
@@ -14,8 +14,7 @@ use Rattle.rcv_reader.specs.Grammar.{Written, NoStmt, AMessage, AChoice, ARec, A
 use Rattle.rcv_reader.specs.Refusals.{IsRead}
 use Rattle.rcv_reader.specs.Trees.{role_at, roles_at, singles, tree_of}
 use Rattle.rcv_grammar.proofs.Filling.{read_texts_are_full}
-use Rattle.rcv_input.specs.declared.command.Command.TheVariants.{Run}
-use Rattle.rcv_input.specs.Input.{branches, branchings, IsTaken}
+use Rattle.rcv_input.specs.Input.{branches, branchings}
 use Rattle.rcv_input.specs.Laws.{RunTakesPlainProtocols}
 use Rattle.rcv_input.proofs.Forms.{form_of_read}
 

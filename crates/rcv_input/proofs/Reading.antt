@@ -17,7 +17,7 @@ use Rattle.rcv_reader.specs.Refusals.{line_before}
 use Rattle.rcv_input.specs.declared.command.Command.{Command}
 use Rattle.rcv_input.specs.declared.command.Command.TheVariants.{Run}
 use Rattle.rcv_input.specs.Line.{IsTextError}
-use Rattle.rcv_input.specs.Input.{AreProtocolTokens, last_line, branchings, IsProtocolOf, IsServed, IsBlankPart, IsFirstOther, IsFirstRefusal, letter, unread, unbuilt, scripts, plan, IsRefused}
+use Rattle.rcv_input.specs.Input.{last_line, branchings, IsProtocolOf, IsServed, IsBlankPart, IsFirstOther, IsFirstRefusal, letter, unread, unbuilt, scripts, plan, IsRefused}
 
 pub by_letter : (command : Command) (input : List ℕ) (e : TextError) → lexer.IsRefused input (parts_of input).protocol e → IsRefused command input e
 by_letter command input errors.Memory h = tt

@@ -67,18 +67,18 @@ pub data IsFirstRefusal (command : Command) (input : List ℕ) : ℕ → ℕ →
   letter : (line : ℕ) → IsLetter input (parts_of input).protocol line → IsFirstRefusal command input 10 line
   -- it has tokens, and the reader refuses them
   unread :
-    (tokens : List Token) (code line : ℕ) → AreProtocolTokens input tokens
-    → reader.IsRefused input tokens (last_line input) (errors.Refused (refusals.Text code line)) → IsFirstRefusal command input code line
+      (tokens : List Token) (code line : ℕ) → AreProtocolTokens input tokens
+      → reader.IsRefused input tokens (last_line input) (errors.Refused (refusals.Text code line)) → IsFirstRefusal command input code line
   -- it is read as a protocol that can't be run yet, and here the first word for that stands
   unbuilt :
-    (p : Protocol) (text : IsProtocolOf input p) (first : Token) (others : List Token) → command ≡ Run
-    → branchings input text.tokens ≡ first ∷ others → IsFirstRefusal command input 19 first.line
+      (p : Protocol) (text : IsProtocolOf input p) (first : Token) (others : List Token) → command ≡ Run
+      → branchings input text.tokens ≡ first ∷ others → IsFirstRefusal command input 19 first.line
   -- the command can be carried out for the protocol, but there are scripts
   scripts : (p : Protocol) (line : ℕ) → IsServed command input p → IsFirstOther input (parts_of input).scripts line → IsFirstRefusal command input 19 line
   -- there are no scripts, but there is a plan
   plan :
-    (p : Protocol) (line : ℕ) → IsServed command input p → IsBlankPart input (parts_of input).scripts → IsFirstOther input (parts_of input).plan line
-    → IsFirstRefusal command input 19 line
+      (p : Protocol) (line : ℕ) → IsServed command input p → IsBlankPart input (parts_of input).scripts → IsFirstOther input (parts_of input).plan line
+      → IsFirstRefusal command input 19 line
 
 -- What an error says: the input's first refusal, or no memory was left.
 abbrev pub IsRefused : Command → List ℕ → TextError → Type 0

@@ -14,8 +14,8 @@ pub record InputsHaveOneAnswer : Type 0 where
   pub protocols : (command : Command) (input : List ℕ) (p q : Protocol) → IsTaken command input p → IsTaken command input q → SayTheSame p q
   pub either : (command : Command) (input : List ℕ) (p : Protocol) (code line : ℕ) → IsTaken command input p → IsFirstRefusal command input code line → ⊥
   pub refusals :
-    (command : Command) (input : List ℕ) (code line other_code other_line : ℕ) → IsFirstRefusal command input code line
-    → IsFirstRefusal command input other_code other_line → (code ≡ other_code) × (line ≡ other_line)
+      (command : Command) (input : List ℕ) (code line other_code other_line : ℕ) → IsFirstRefusal command input code line
+      → IsFirstRefusal command input other_code other_line → (code ≡ other_code) × (line ≡ other_line)
 
 -- What `run` takes holds messages alone; its points are numbered from 1, and its roles and points are few enough.
 abbrev pub RunTakesPlainProtocols : Type 0

@@ -42,7 +42,12 @@ fn built(command: Command, input: &[u8], list: &[Token]) -> Result<(), TextError
 }
 
 // The protocol of the input's protocol part.
-fn read_part(alloc: Global, command: Command, input: &[u8], part: Span) -> Result<Protocol, TextError>
+fn read_part(
+    alloc: Global,
+    command: Command,
+    input: &[u8],
+    part: Span,
+) -> Result<Protocol, TextError>
     requires short { length input.now + 1 < 2 ^ 32 }
     requires inside { LiesIn input.now part }
     requires part { part ≡ (parts_of input.now).protocol }

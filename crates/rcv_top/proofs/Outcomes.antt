@@ -29,7 +29,7 @@ use Rattle.rcv_journal.specs.declared.line.RoleLine.{RoleLine}
 use Rattle.rcv_journal.specs.JournalText.{entry_line, role_line, limit_text, word_text, is_done, is_limit, journal_text}
 use Rattle.rcv_journal.specs.Lines.{AreLinesOf, IsTextOf}
 use Rattle.rcv_journal.proofs.OneText.{one_text}
-use Rattle.rcv_top.specs.Outcome.{most_bytes, word_of, IsCommand, IsNoCommand, session_of, IsSession, IsAsked, usage, too_long, refused, checked, completed, limited}
+use Rattle.rcv_top.specs.Outcome.{most_bytes, IsCommand, IsNoCommand, session_of, IsSession, IsAsked, usage, too_long, refused, checked, completed, limited}
 use Rattle.rcv_top.specs.Laws.{OneOutcome, SessionsAreLegal}
 use Rattle.rcv_top.proofs.Answering.{session_headline, two_commands}
 

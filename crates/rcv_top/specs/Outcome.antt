@@ -76,12 +76,12 @@ pub data IsOutcome (words : List (List ℕ)) (input : List ℕ) : Status → Lis
   usage : IsNoCommand words → IsOutcome words input Usage usage_line
   too_long : IsSomeCommand words → most_bytes < length input → IsOutcome words input TooLong []
   refused :
-    (command : Command) (code line : ℕ) → IsAsked words command input → IsFirstRefusal command input code line
-    → IsOutcome words input Refused (refusal_line code line)
+      (command : Command) (code line : ℕ) → IsAsked words command input → IsFirstRefusal command input code line
+      → IsOutcome words input Refused (refusal_line code line)
   checked : (protocol : Protocol) → IsAsked words Check input → IsTaken Check input protocol → IsOutcome words input Completed (canonical protocol)
   completed :
-    {bytes : List ℕ} (protocol : Protocol) (journal : List Entry) → IsAsked words Run input → IsSession input protocol journal bytes
-    → EndsCompleted protocol journal → IsOutcome words input Completed bytes
+      {bytes : List ℕ} (protocol : Protocol) (journal : List Entry) → IsAsked words Run input → IsSession input protocol journal bytes
+      → EndsCompleted protocol journal → IsOutcome words input Completed bytes
   limited :
-    {bytes : List ℕ} (protocol : Protocol) (journal : List Entry) → IsAsked words Run input → IsSession input protocol journal bytes
-    → EndsLimited protocol journal → IsOutcome words input Limited bytes
+      {bytes : List ℕ} (protocol : Protocol) (journal : List Entry) → IsAsked words Run input → IsSession input protocol journal bytes
+      → EndsLimited protocol journal → IsOutcome words input Limited bytes

@@ -1,4 +1,4 @@
-use Rattle.std.proofs.Common.{◌≡◌, List, length}
+use Rattle.std.proofs.Common.{◌≡◌, length}
 use Rattle.std.specs.List.{All}
 use Rattle.rcv_lexer.specs.Parts.{LiesIn}
 use Rattle.rcv_input.specs.Input.{branchings}

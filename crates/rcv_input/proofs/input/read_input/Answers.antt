@@ -1,5 +1,5 @@
 -- Scripts or a plan are refused where they stand.
-use Rattle.std.proofs.Common.{sym, ap, subst, ◌∙◌}
+use Rattle.std.proofs.Common.{subst}
 use Rattle.std.proofs.lemmas.Result.{err_from_is_err_and}
 use Rattle.rcv_lexer.specs.declared.parts.Parts.{Parts}
 use Rattle.rcv_input.specs.Input.{IsBlankPart, IsFirstOther}

@@ -2,12 +2,10 @@
 use Rattle.std.proofs.Common.{List, sym, ap, subst, ◌∙◌}
 use Rattle.std.proofs.lemmas.Result.{err_from_is_err_and}
 use Rattle.rcv_lexer.specs.declared.token.Token.{Token}
-use Rattle.rcv_lexer.specs.declared.token.TextError.{TextError}
-use Rattle.rcv_lexer.specs.Parts.{parts_of}
 use Rattle.rcv_lexer.specs.Tokens as lexer
 use Rattle.rcv_reader.specs.Symbols.{symbols_of}
 use Rattle.rcv_reader.specs.Refusals as reader
-use Rattle.rcv_input.specs.Input.{AreProtocolTokens, IsBuilt, IsServed, branchings}
+use Rattle.rcv_input.specs.Input.{IsBuilt, branchings}
 use Rattle.rcv_input.proofs.Reading.{by_letter, by_reader, by_branching}
 use Rattle.rcv_input.proofs.input.read_part.Goals as goal
 

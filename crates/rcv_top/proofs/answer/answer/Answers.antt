@@ -1,7 +1,6 @@
 -- The canonical text of what `check` takes, or the line of the first refusal.
-use Rattle.std.proofs.Common.{List, ℕ, ◌∷◌, [], IfOk, sym, subst}
+use Rattle.std.proofs.Common.{◌∷◌, [], IfOk, sym, subst}
 use Rattle.rcv_input.specs.declared.command.Command.{Command}
-use Rattle.rcv_input.specs.declared.command.Command.TheVariants.{Check}
 use Rattle.rcv_input.specs.Input.{IsTaken}
 use Rattle.rcv_input.proofs.Reading.{error_known}
 use Rattle.rcv_top.specs.Outcome.{IsOutcome, word_of}
