@@ -1,5 +1,5 @@
 -- Canonical texts, computed.
-use Rattle.std.proofs.Common.{◌≡◌, ℕ, List, [], ◌∷◌, ◌++◌, refl}
+use Rattle.std.proofs.Common.{◌≡◌, [], ◌∷◌, ◌++◌, refl}
 use Rattle.std.specs.Prelude.{codes}
 use Rattle.rcv_model.specs.Text.{Body, End, Single, Choose, Loop, Again, Beside, Call, NoMore, Or}
 use Rattle.rcv_printer.specs.CanonicalText.{inner, module_line, decl_line, decl_lines, head_line, body_text}
@@ -30,8 +30,8 @@ beside = refl
 
 -- a declaration
 declaration : decl_line
-      (record { word = codes "type"; schema = codes "java"; extern_name = codes "java.lang.String"; file = codes "rt.jar"; alias = codes "String" })
-      []
+    (record { word = codes "type"; schema = codes "java"; extern_name = codes "java.lang.String"; file = codes "rt.jar"; alias = codes "String" })
+    []
     ≡ codes "type <java> \"java.lang.String\" from \"rt.jar\" as String;\n"
 declaration = refl
 

@@ -1,9 +1,7 @@
 -- The piece at the front of a text that begins with a word, with what stands between quotes, or with a mark.
-use Rattle.std.proofs.Common.{◌≡◌, ℕ, ◌+◌, ◌-◌, Bool, true, false, cond, List, [], ◌∷◌, ◌++◌, length, take, drop, Option, Some, None, refl, sym, ap, subst, ◌∙◌, arith, le-leb, ne_eqb, append_assoc, length-append}
-use Rattle.std.specs.Prelude.{take_while, nat_le, slice_get, slice_range, ◌==◌, ◌&&◌}
+use Rattle.std.proofs.Common.{◌≡◌, ℕ, ◌+◌, ◌-◌, Bool, true, false, cond, List, [], ◌∷◌, ◌++◌, length, take, Option, Some, None, refl, ap, ◌∙◌, arith, le-leb, ne_eqb, append_assoc, length-append}
+use Rattle.std.specs.Prelude.{take_while, nat_le, slice_get, ◌==◌, ◌&&◌}
 use Rattle.std.proofs.lemmas.List.Sums.{take_while-cons}
-use Rattle.std.proofs.lemmas.List.{drop_at}
-use Rattle.std.proofs.lemmas.Bool.{cases_Bool}
 use Rattle.std.proofs.Math.Seq.{take-append_seam}
 use Rattle.rcv_lexer.specs.declared.token.Kind.{Kind}
 use Rattle.rcv_lexer.specs.declared.token.Kind.TheVariants.{Word, Text, Mark}

@@ -1,10 +1,9 @@
 -- A protocol that was read is printable: each of its names stands in the symbols that were read.
-use Rattle.std.proofs.Common.{◌≡◌, ℕ, zero, suc, ◌+◌, ◌<◌, Bool, true, false, cond, List, [], ◌∷◌, ◌++◌, length, Option, Some, None, refl, sym, ap, subst, ◌∙◌, arith}
+use Rattle.std.proofs.Common.{◌≡◌, ℕ, zero, suc, ◌+◌, ◌<◌, Bool, true, false, cond, List, [], ◌∷◌, length, Some, None, refl, sym, subst, arith}
 use Rattle.std.specs.Prelude.{nat_lt}
 use Rattle.std.specs.Str.{bytes_eq}
 use Rattle.std.specs.List.{position_or_len}
 use Rattle.std.proofs.lemmas.Bool.Decides.{nat_tests}
-use Rattle.rcv_tree.specs.Lists.{declarations}
 use Rattle.rcv_tree.specs.declared.protocol.Decl.{Decl}
 use Rattle.rcv_tree.specs.declared.protocol.Protocol.{Protocol}
 use Rattle.rcv_model.specs.Text as trees
@@ -14,13 +13,12 @@ use Rattle.rcv_lexer.specs.Tokens.{AreTokens}
 use Rattle.rcv_reader.specs.declared.sign.Sign.{Sign}
 use Rattle.rcv_reader.specs.declared.sign.Sign.TheVariants as sign
 use Rattle.rcv_reader.specs.Symbols.{Symbol, symbols_of}
-use Rattle.rcv_reader.specs.Grammar.{Written, NoStmt, AMessage, AChoice, ARec, AContinue, APar, ADo, Blocks, NoBlock, ABlock, dotted, names_behind, sort_list, roles_behind, decls, stmts, blocks_behind, AreDecls, Source, spelling}
-use Rattle.rcv_reader.specs.Machine.{place_of}
+use Rattle.rcv_reader.specs.Grammar.{Written, NoStmt, AMessage, AChoice, ARec, AContinue, APar, ADo, Blocks, NoBlock, ABlock, dotted, names_behind, sort_list, roles_behind, decls, stmts, blocks_behind, AreDecls, spelling}
 use Rattle.rcv_reader.specs.Trees.{or_first, role_at, roles_at, points, points_of, singles, tree_of, trees_of, Reads}
 use Rattle.rcv_reader.specs.Refusals.{IsRead}
 use Rattle.rcv_grammar.specs.Canonical.{name_at, names_at}
 use Rattle.rcv_printer.specs.Printable.{IsName, AreNames, SomeNames, ArePrintableDecls, IsPrintableBody, ArePrintableBlocks, IsPrintable}
-use Rattle.rcv_printer.proofs.Tokens.{IsFine, AreFine, tokens_fine}
+use Rattle.rcv_printer.proofs.Tokens.{AreFine, tokens_fine}
 
 -- ---- names of roles
 

@@ -15,7 +15,7 @@ use Rattle.rcv_grammar.specs.Laws.{SayTheSame}
 use Rattle.rcv_grammar.proofs.Canonizing.{canonical_sources_are_read}
 use Rattle.rcv_grammar.proofs.Once.{texts_have_one_tree}
 use Rattle.rcv_printer.specs.CanonicalText.{inner, module_line, decl_lines, head_line, body_text, canonical}
-use Rattle.rcv_printer.specs.Laws.{whole, IsTextOf, IsReadAs, CanonicalTextsReadBack, CanonicalTextsStay}
+use Rattle.rcv_printer.specs.Laws.{whole, IsTextOf, CanonicalTextsReadBack, CanonicalTextsStay}
 use Rattle.rcv_printer.proofs.Spelled.{says_canonical}
 use Rattle.rcv_printer.proofs.Whole.{is_text_of}
 use Rattle.rcv_printer.proofs.Printables.{read_is_printable}

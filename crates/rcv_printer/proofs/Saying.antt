@@ -1,8 +1,7 @@
 -- What texts say, from the back to the front: words, marks and blanks in front of a text that says symbols.
-use Rattle.std.proofs.Common.{◌≡◌, ℕ, ◌+◌, Bool, true, false, List, [], ◌∷◌, ◌++◌, length, take, drop, Option, Some, None, refl, sym, ap, subst, ◌∙◌, append_assoc}
+use Rattle.std.proofs.Common.{◌≡◌, ℕ, Bool, true, false, List, [], ◌∷◌, ◌++◌, length, take, drop, Option, Some, None, refl, sym, ap, subst, ◌∙◌, append_assoc}
 use Rattle.std.specs.Prelude.{◌==◌, ◌&&◌, ◌||◌}
 use Rattle.std.proofs.lemmas.List.{drop_at}
-use Rattle.std.proofs.lemmas.Bool.{cases_Bool}
 use Rattle.std.proofs.Math.Seq.{take-append_seam}
 use Rattle.rcv_lexer.specs.declared.token.Kind.{Kind}
 use Rattle.rcv_lexer.specs.declared.token.Kind.TheVariants.{Word, Text, Mark}
@@ -10,7 +9,7 @@ use Rattle.rcv_lexer.specs.declared.piece.Piece.{Piece}
 use Rattle.rcv_lexer.specs.Pieces.{is_letter, is_word_byte, is_inside, piece_of}
 use Rattle.rcv_lexer.specs.Tokens.{Cuts}
 use Rattle.rcv_reader.specs.declared.sign.Sign.{Sign}
-use Rattle.rcv_reader.specs.declared.sign.Sign.TheVariants.{Module, Global, Protocol, Role, From, To, Choice, At, Or, Rec, Continue, Par, And, Do, Open, Close, Left, Right, Comma, Semicolon, Dot, Less, Greater}
+use Rattle.rcv_reader.specs.declared.sign.Sign.TheVariants.{Open, Close, Left, Right, Comma, Semicolon, Dot, Less, Greater}
 use Rattle.rcv_reader.specs.Symbols.{Symbol, Is, Name, Quoted, symbol_by, sign_or, reserved}
 use Rattle.rcv_printer.specs.Printable.{Passes, IsWord, IsName, IsQuotable}
 use Rattle.rcv_printer.proofs.Pieces.{piece, StopsAt, word_piece, in_quotes, text_piece, unquoted_is, left_piece, dot_piece, close_piece, less_piece, isn't}

@@ -1,18 +1,17 @@
 -- A canonical text says the spelling of its source.
-use Rattle.std.proofs.Common.{◌≡◌, ℕ, Bool, true, false, List, [], ◌∷◌, ◌++◌, refl}
+use Rattle.std.proofs.Common.{ℕ, List, [], ◌∷◌, ◌++◌, refl}
 use Rattle.std.specs.Prelude.{codes}
 use Rattle.rcv_tree.specs.Lists.{declarations}
 use Rattle.rcv_tree.specs.declared.protocol.Protocol.{Protocol}
 use Rattle.rcv_model.specs.Text.{Body, End, Single, Choose, Loop, Again, Beside, Call, Bodies, NoMore, Or, body_of}
-use Rattle.rcv_lexer.specs.Pieces.{is_word_byte}
 use Rattle.rcv_reader.specs.declared.sign.Sign.{Sign}
 use Rattle.rcv_reader.specs.declared.sign.Sign.TheVariants as sign
-use Rattle.rcv_reader.specs.Symbols.{Symbol, Is, Name, Quoted}
-use Rattle.rcv_reader.specs.Grammar.{stmts, blocks_behind, dotted, decls, roles_behind, spelling}
+use Rattle.rcv_reader.specs.Symbols.{Symbol, Is, Name}
+use Rattle.rcv_reader.specs.Grammar.{stmts, blocks_behind, dotted, roles_behind, spelling}
 use Rattle.rcv_grammar.specs.Canonical.{name_at, names_at, first_name, more_names, written_of, blocks_of, source_of}
 use Rattle.rcv_printer.specs.CanonicalText.{inner, module_line, body_text, blocks_text, head_line, canonical}
-use Rattle.rcv_printer.specs.Printable.{IsName, AreNames, SomeNames, IsPrintableBody, ArePrintableBlocks, SomeBlocks, TwoBlocks, IsPrintable}
-use Rattle.rcv_printer.proofs.Saying.{Says, space, feed, left, dot, close, call_end, right, comma, greater, semicolon, opened, name, keyword, says_piece, says_nothing}
+use Rattle.rcv_printer.specs.Printable.{IsName, SomeNames, IsPrintableBody, ArePrintableBlocks, IsPrintable}
+use Rattle.rcv_printer.proofs.Saying.{Says, space, feed, left, close, call_end, right, semicolon, opened, name, keyword, says_nothing}
 use Rattle.rcv_printer.proofs.Lines.{IsMargin, behind_margin, inner_margin, says_list, dots_stop, roles_stop, says_modules, says_roles, says_decls, says_message}
 
 -- the word in front of a brace says this sign

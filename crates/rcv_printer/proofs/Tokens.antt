@@ -1,8 +1,7 @@
 -- What tokens say: a name is a word that isn't reserved, and what is quoted can stand between quotes.
-use Rattle.std.proofs.Common.{◌≡◌, ℕ, ◌+◌, ◌-◌, ◌<◌, ◌≤◌, Bool, true, false, cond, List, [], ◌∷◌, ◌++◌, length, take, drop, Option, Some, None, refl, sym, ap, subst, ◌∙◌, arith}
-use Rattle.std.specs.Prelude.{take_while, nat_le, slice_get, ◌==◌, ◌&&◌, not}
+use Rattle.std.proofs.Common.{◌≡◌, ℕ, ◌+◌, ◌-◌, ◌<◌, ◌≤◌, Bool, true, false, cond, List, [], ◌∷◌, length, take, drop, Option, Some, None, refl, sym, ap, subst, ◌∙◌, arith}
+use Rattle.std.specs.Prelude.{take_while, nat_le, slice_get, ◌==◌, ◌&&◌}
 use Rattle.std.specs.Char.{is_ascii_digit}
-use Rattle.std.proofs.lemmas.Bool.{cases_Bool}
 use Rattle.std.proofs.lemmas.Bool.Decides.{nat_tests}
 use Rattle.std.proofs.lemmas.Option.{slice_get_within}
 use Rattle.std.proofs.lemmas.List.{drop-take, take-take, length-take}
@@ -13,7 +12,7 @@ use Rattle.rcv_lexer.specs.declared.token.Span.{Span}
 use Rattle.rcv_lexer.specs.declared.token.Token.{Token}
 use Rattle.rcv_lexer.specs.declared.piece.Piece.{Piece}
 use Rattle.rcv_lexer.specs.Pieces.{is_letter, is_word_byte, is_blank, is_inside, is_mark, word_of, quoted, comment_end, ended, comment_of, pairs, piece_of, token_of}
-use Rattle.rcv_lexer.specs.Tokens.{Cuts, tokens_of, AreTokens}
+use Rattle.rcv_lexer.specs.Tokens.{Cuts, AreTokens}
 use Rattle.rcv_reader.specs.declared.sign.Sign.{Sign}
 use Rattle.rcv_reader.specs.Symbols.{Symbol, Is, Name, Quoted, Other, reserved, mark, unquoted, sign_or, symbol_by, symbols_of}
 use Rattle.rcv_printer.specs.Printable.{Passes, IsWord, IsName, IsQuotable}

@@ -1,5 +1,5 @@
 -- A text that says symbols is one part with tokens that say them.
-use Rattle.std.proofs.Common.{◌≡◌, ℕ, ◌+◌, ◌-◌, ◌≤◌, Bool, true, false, List, [], ◌∷◌, ◌++◌, length, map, take, drop, Option, Some, None, refl, sym, ap, subst, ◌∙◌, arith, ne_eqb}
+use Rattle.std.proofs.Common.{◌≡◌, ℕ, ◌+◌, ◌-◌, ◌≤◌, Bool, true, false, List, [], ◌∷◌, ◌++◌, length, take, drop, Option, Some, None, refl, sym, ap, subst, ◌∙◌, arith}
 use Rattle.std.specs.Prelude.{◌==◌, ◌&&◌, slice_range}
 use Rattle.std.proofs.lemmas.Bool.Decides.{nat_tests}
 use Rattle.std.proofs.lemmas.List.{drop-drop, drop-take, take-take, length-take}
@@ -11,10 +11,10 @@ use Rattle.rcv_lexer.specs.declared.piece.Piece.{Piece}
 use Rattle.rcv_lexer.specs.declared.parts.Separator.{Separator}
 use Rattle.rcv_lexer.specs.Pieces.{piece_of}
 use Rattle.rcv_lexer.specs.Parts.{here, first_from, parts_from, or_else}
-use Rattle.rcv_lexer.specs.Tokens.{Cuts, line_at, token_at, tokens_of, AreTokens}
+use Rattle.rcv_lexer.specs.Tokens.{Cuts, line_at, token_at, tokens_of}
 use Rattle.rcv_lexer.proofs.Fitting.{Lies, piece_lies}
-use Rattle.rcv_reader.specs.Symbols.{Symbol, symbol_by, symbols_of}
-use Rattle.rcv_printer.specs.Laws.{whole, IsOnePart, IsTextOf}
+use Rattle.rcv_reader.specs.Symbols.{Symbol, symbols_of}
+use Rattle.rcv_printer.specs.Laws.{IsOnePart, IsTextOf}
 use Rattle.rcv_printer.proofs.Saying.{symbol_if, symbols_in, breaks, Says}
 
 -- ---- no separator

@@ -27,7 +27,8 @@ module_line names next = codes "module " ++ listed [] (codes ".") names (codes "
 -- `type <schema> "extern" from "file" as alias;` on a line
 abbrev pub decl_line : Decl → List ℕ → List ℕ
 decl_line d next =
-    words (d.word ∷ codes " <" ∷ d.schema ∷ codes "> \"" ∷ d.extern_name ∷ codes "\" from \"" ∷ d.file ∷ codes "\" as " ∷ d.alias ∷ codes ";\n" ∷ []) next
+    words (d.word ∷ codes " <" ∷ d.schema ∷ codes "> \"" ∷ d.extern_name ∷ codes "\" from \"" ∷ d.file ∷ [])
+    (words (codes "\" as " ∷ d.alias ∷ codes ";\n" ∷ []) next)
 
 -- a line for each declaration
 abbrev pub decl_lines : List Decl → List ℕ → List ℕ
@@ -37,7 +38,8 @@ decl_lines (d ∷ ds) next = decl_line d (decl_lines ds next)
 -- `label(S, T) from A to B;` on a line, behind the margin
 abbrev pub message_line : List ℕ → List ℕ → List (List ℕ) → List ℕ → List ℕ → List ℕ → List ℕ
 message_line margin label sorts sender receiver next =
-    words (margin ∷ label ∷ codes "(" ∷ []) (comma_list sorts (words (codes ") from " ∷ sender ∷ codes " to " ∷ receiver ∷ codes ";\n" ∷ []) next))
+    words (margin ∷ label ∷ codes "(" ∷ [])
+    (comma_list sorts (words (codes ") from " ∷ sender ∷ codes " to " ∷ receiver ∷ codes ";\n" ∷ []) next))
 
 -- the margin inside a block
 abbrev pub inner : List ℕ → List ℕ
@@ -59,9 +61,11 @@ abbrev mutual
   body_text roles margin (Again name rest) next =
       words (margin ∷ codes "continue " ∷ name ∷ codes ";\n" ∷ []) (body_text roles margin rest next)
   body_text roles margin (Beside blocks rest) next =
-      words (margin ∷ codes "par" ∷ []) (blocks_text roles margin (codes " ") (codes " and ") blocks (codes "\n" ++ body_text roles margin rest next))
+      words (margin ∷ codes "par" ∷ [])
+      (blocks_text roles margin (codes " ") (codes " and ") blocks (codes "\n" ++ body_text roles margin rest next))
   body_text roles margin (Call name places rest) next =
-      words (margin ∷ codes "do " ∷ name ∷ codes "(" ∷ []) (comma_list (names_at roles places) (codes ");\n" ++ body_text roles margin rest next))
+      words (margin ∷ codes "do " ∷ name ∷ codes "(" ∷ [])
+      (comma_list (names_at roles places) (codes ");\n" ++ body_text roles margin rest next))
 
   pub blocks_text : List (List ℕ) → List ℕ → List ℕ → List ℕ → Bodies → List ℕ → List ℕ
   blocks_text roles margin before between NoMore next = next
@@ -72,9 +76,12 @@ abbrev mutual
 -- `global protocol Name(role A, role B) {` on a line
 abbrev pub head_line : List ℕ → List (List ℕ) → List ℕ → List ℕ
 head_line name roles next =
-    words (codes "global protocol " ∷ name ∷ codes "(" ∷ []) (listed (codes "role ") (codes ", role ") roles (codes ") {\n" ++ next))
+    words (codes "global protocol " ∷ name ∷ codes "(" ∷ [])
+    (listed (codes "role ") (codes ", role ") roles (codes ") {\n" ++ next))
 
 -- The whole text: the module's line, the declarations, an empty line, and the protocol with its body in braces.
 abbrev pub canonical : Protocol → List ℕ
 canonical p =
-    module_line p.«module» (decl_lines (declarations p.decls) (codes "\n" ++ head_line p.name p.roles (body_text p.roles (inner []) (body_of p.body) (codes "}\n"))))
+    module_line p.«module»
+    (decl_lines (declarations p.decls)
+    (codes "\n" ++ head_line p.name p.roles (body_text p.roles (inner []) (body_of p.body) (codes "}\n"))))

@@ -18,7 +18,12 @@ whole text = span 0 (length text)
 
 -- No line of the text separates parts: it is all the protocol's part, with empty scripts and an empty plan.
 abbrev pub IsOnePart : List ℕ → Type 0
-IsOnePart text = parts_of text ≡ record { protocol = whole text; scripts = span (length text) (length text); plan = span (length text) (length text) }
+IsOnePart text =
+    parts_of text ≡ record {
+      protocol = whole text;
+      scripts = span (length text) (length text);
+      plan = span (length text) (length text);
+    }
 
 -- The text is one part, and its tokens say these symbols.
 pub record IsTextOf (text : List ℕ) (symbols : List Symbol) : Type 0 where
@@ -34,7 +39,8 @@ CanonicalTextsAreSpelled = (p : Protocol) → IsPrintable p → IsTextOf (canoni
 -- A protocol that was read is printable.
 abbrev pub ReadProtocolsArePrintable : Type 0
 ReadProtocolsArePrintable =
-    (bundle : List ℕ) (part : Span) (tokens : List Token) (p : Protocol) → AreTokens bundle part tokens → IsRead (symbols_of bundle tokens) p → IsPrintable p
+    (bundle : List ℕ) (part : Span) (tokens : List Token) (p : Protocol) → AreTokens bundle part tokens
+    → IsRead (symbols_of bundle tokens) p → IsPrintable p
 
 -- The text is one part, and its tokens are read as this protocol.
 pub record IsReadAs (text : List ℕ) (p : Protocol) : Type 0 where
@@ -46,10 +52,11 @@ pub record IsReadAs (text : List ℕ) (p : Protocol) : Type 0 where
 -- The canonical text of a protocol that was read is read as this protocol.
 abbrev pub CanonicalTextsReadBack : Type 0
 CanonicalTextsReadBack =
-    (bundle : List ℕ) (part : Span) (tokens : List Token) (p : Protocol) → AreTokens bundle part tokens → IsRead (symbols_of bundle tokens) p → IsReadAs (canonical p) p
+    (bundle : List ℕ) (part : Span) (tokens : List Token) (p : Protocol) → AreTokens bundle part tokens
+    → IsRead (symbols_of bundle tokens) p → IsReadAs (canonical p) p
 
 -- What is read from the canonical text of a protocol that was read has this same canonical text.
 abbrev pub CanonicalTextsStay : Type 0
 CanonicalTextsStay =
-    (bundle : List ℕ) (part : Span) (tokens : List Token) (p q : Protocol) → AreTokens bundle part tokens → IsRead (symbols_of bundle tokens) p
-    → IsReadAs (canonical p) q → canonical q ≡ canonical p
+    (bundle : List ℕ) (part : Span) (tokens : List Token) (p q : Protocol) → AreTokens bundle part tokens
+    → IsRead (symbols_of bundle tokens) p → IsReadAs (canonical p) q → canonical q ≡ canonical p
