@@ -1,8 +1,7 @@
 -- Worked refusals, and lines that say them.
-use Rattle.std.proofs.Common.{◌≡◌, ℕ, List, [], ◌∷◌, codes, Some, None, refl}
+use Rattle.std.proofs.Common.{◌≡◌, [], ◌∷◌, codes, Some, None, refl}
 use Rattle.std.specs.Fmt.{digits}
 use Rattle.rcv_lexer.specs.declared.token.Kind.TheVariants.{Word}
-use Rattle.rcv_lexer.specs.declared.piece.Piece.{Piece}
 use Rattle.rcv_lexer.specs.declared.token.Token.{Token}
 use Rattle.rcv_lexer.specs.Parts.{parts_of, span}
 use Rattle.rcv_reader.specs.declared.fault.Fault.TheVariants as faults
