@@ -105,14 +105,22 @@ fn judged(alloc: Global, body: Block) -> Result<Accepted, TextError>
     )
 }
 
+// Why the body is refused.
+fn refusal_of(alloc: Global, body: Block) -> Result<(), TextError>
+    requires form { HasForm (body_of body) 3 }
+    requires full { IsFull [] [] (body_of body) }
+{
+    let _accepted = judged(alloc, body)?;
+    Ok(())
+}
+
 fn is_refused(alloc: Global, body: Block, code: u8, role: RoleId, point: u16) -> bool
     requires form { HasForm (body_of body) 3 }
     requires full { IsFull [] [] (body_of body) }
 {
-    match judged(alloc, body) {
+    match refusal_of(alloc, body) {
         Err(TextError::Refused(refusal)) => refusal == Refusal::Rule { code, role, point },
-        Err(TextError::Memory) => false,
-        Ok(_) => false,
+        _ => false,
     }
 }
 
