@@ -1,6 +1,6 @@
 // A text for each rule that fails, and one that is accepted. A, B and C are its roles.
 
-ghost use Rattle.std.specs.Prelude.{◌≡◌, [], ◌∷◌, IfOk, MatchResult, length};
+ghost use Rattle.std.specs.Prelude.{◌≡◌, [], ◌∷◌, IfOk, length};
 ghost use Rattle.rcv_model.specs.Form.{HasForm};
 ghost use Rattle.rcv_model.specs.Places.{IsFull};
 ghost use Rattle.rcv_model.specs.Text.{Body, End, Single, Choose, Loop, Again, Or, NoMore, body_of, stmt_body};
@@ -88,6 +88,7 @@ fn looping(alloc: Global, inside: Stmt) -> Result<Stmt, AllocError>
 fn judged(alloc: Global, body: Block) -> Result<Accepted, TextError>
     requires form { HasForm (body_of body) 3 }
     requires full { IsFull [] [] (body_of body) }
+    ensures { IfOk result (λ a. length a.protocol.roles ≡ 3) }
 {
     let mut roles = Names::new(alloc);
     roles.push(Name::of(alloc, b"A")?)?;
@@ -242,5 +243,6 @@ fn a_role_that_is_told_of_the_choice_follows_it(rt: HostRuntime) -> Result<(), F
     let accepted = judged(alloc, body)?;
     assert!(rt; accepted.roles() == 3);
     assert!(rt; accepted.points().count() == 4);
+    assert!(rt; accepted.next(C, 0) == [Point(2), Point(4)].as_slice());
     Ok(())
 }
