@@ -1,4 +1,9 @@
-// A text for each rule that fails, and one that is accepted.
+// A text for each rule that fails, and one that is accepted. A, B and C are its roles.
+
+ghost use Rattle.std.specs.Prelude.{◌≡◌, [], ◌∷◌, IfOk, length};
+ghost use Rattle.rcv_model.specs.Form.{HasForm};
+ghost use Rattle.rcv_model.specs.Places.{IsFull};
+ghost use Rattle.rcv_model.specs.Text.{Body, End, Single, Choose, Loop, Again, Or, NoMore, body_of, stmt_body};
 
 use crate::accept;
 use crate::accepted::Accepted;
@@ -12,57 +17,83 @@ use rcv_tree::statement::{Block, Blocks, Stmt};
 use std::alloc::{AllocError, Global};
 use std::test::Fail;
 
-// A message with no payload: its label, its ends and its point.
-#[derive(Clone, Copy)]
-struct Line(&'static [u8], u8, u8, u16);
+const A: RoleId = RoleId(0);
 
-fn block(alloc: Global, lines: &[Line]) -> Result<Block, AllocError> {
-    let mut items = Block::new(alloc);
-    for line in lines {
-        items.push(Stmt::Message {
-            label: Name::of(alloc, line.0)?,
-            sorts: Names::new(alloc),
-            sender: RoleId(line.1),
-            receiver: RoleId(line.2),
-            point: Point(line.3),
-        })?;
-    }
-    Ok(items)
-}
+const B: RoleId = RoleId(1);
 
-// A choice at A between two blocks, and then the block behind it.
-fn choice(
+const C: RoleId = RoleId(2);
+
+fn message(
     alloc: Global,
-    one: &[Line],
-    other: &[Line],
-    behind: &[Line],
-) -> Result<Block, AllocError> {
-    let mut branches = Blocks::new(alloc);
-    branches.push(block(alloc, one)?)?;
-    branches.push(block(alloc, other)?)?;
-    let mut items = Block::new(alloc);
-    items.push(Stmt::Choice {
-        subject: RoleId(0),
-        branches,
-    })?;
-    for line in behind {
-        items.push(Stmt::Message {
-            label: Name::of(alloc, line.0)?,
-            sorts: Names::new(alloc),
-            sender: RoleId(line.1),
-            receiver: RoleId(line.2),
-            point: Point(line.3),
-        })?;
-    }
-    Ok(items)
+    label: &[u8],
+    sender: RoleId,
+    receiver: RoleId,
+    point: u16,
+) -> Result<Stmt, AllocError>
+    ensures { IfOk result (λ stmt. (rest : Body) → stmt_body stmt rest ≡ Single label.now [] sender receiver point rest) }
+{
+    Ok(Stmt::Message {
+        label: Name::of(alloc, label)?,
+        sorts: Names::new(alloc),
+        sender,
+        receiver,
+        point: Point(point),
+    })
 }
 
-// What becomes of a body for three roles: A is 0, B is 1 and C is 2.
-fn judged(alloc: Global, body: Block) -> Result<Accepted, TextError> {
+fn one(alloc: Global, only: Stmt) -> Result<Block, AllocError>
+    ensures { IfOk result (λ block. body_of block ≡ stmt_body only End) }
+{
+    let mut block = Block::new(alloc);
+    block.push(only)?;
+    Ok(block)
+}
+
+fn two(alloc: Global, first: Stmt, second: Stmt) -> Result<Block, AllocError>
+    ensures { IfOk result (λ block. body_of block ≡ stmt_body first (stmt_body second End)) }
+{
+    let mut block = Block::new(alloc);
+    block.push(first)?;
+    block.push(second)?;
+    Ok(block)
+}
+
+// A choice at A.
+fn choice(alloc: Global, left: Block, right: Block) -> Result<Stmt, AllocError>
+    ensures { IfOk result (λ stmt. (rest : Body) → stmt_body stmt rest ≡ Choose 0 (Or (body_of left) (Or (body_of right) NoMore)) rest) }
+{
+    let mut branches = Blocks::new(alloc);
+    branches.push(left)?;
+    branches.push(right)?;
+    Ok(Stmt::Choice {
+        subject: A,
+        branches,
+    })
+}
+
+// rec X { message; continue X; }
+fn looping(alloc: Global, inside: Stmt) -> Result<Stmt, AllocError>
+    ensures { IfOk result (λ stmt. (rest : Body) → stmt_body stmt rest ≡ Loop (88 ∷ []) (stmt_body inside (Again (88 ∷ []) End)) rest) }
+{
+    let again = Stmt::Continue {
+        name: Name::of(alloc, b"X")?,
+    };
+    Ok(Stmt::Rec {
+        name: Name::of(alloc, b"X")?,
+        body: two(alloc, inside, again)?,
+    })
+}
+
+// What becomes of the body.
+fn judged(alloc: Global, body: Block) -> Result<Accepted, TextError>
+    requires form { HasForm (body_of body) 3 }
+    requires full { IsFull [] [] (body_of body) }
+    ensures { IfOk result (λ a. length a.protocol.roles ≡ 3) }
+{
     let mut roles = Names::new(alloc);
-    for _ in 0..3 {
-        roles.push(Name::new(alloc))?;
-    }
+    roles.push(Name::of(alloc, b"A")?)?;
+    roles.push(Name::of(alloc, b"B")?)?;
+    roles.push(Name::of(alloc, b"C")?)?;
     accept(
         alloc,
         Protocol {
@@ -75,118 +106,143 @@ fn judged(alloc: Global, body: Block) -> Result<Accepted, TextError> {
     )
 }
 
-fn is_refused(alloc: Global, body: Block, code: u8, role: u8, point: u16) -> bool {
-    match judged(alloc, body) {
-        Err(TextError::Refused(refusal)) => {
-            refusal
-                == Refusal::Rule {
-                    code,
-                    role: RoleId(role),
-                    point,
-                }
-        }
-        Err(TextError::Memory) => false,
-        Ok(_) => false,
+// Why the body is refused.
+fn refusal_of(alloc: Global, body: Block) -> Result<(), TextError>
+    requires form { HasForm (body_of body) 3 }
+    requires full { IsFull [] [] (body_of body) }
+{
+    let _accepted = judged(alloc, body)?;
+    Ok(())
+}
+
+fn is_refused(alloc: Global, body: Block, code: u8, role: RoleId, point: u16) -> bool
+    requires form { HasForm (body_of body) 3 }
+    requires full { IsFull [] [] (body_of body) }
+{
+    match refusal_of(alloc, body) {
+        Err(TextError::Refused(refusal)) => refusal == Refusal::Rule { code, role, point },
+        _ => false,
     }
 }
 
 #[test]
 fn a_subject_sends_the_first_points_of_its_choice(rt: HostRuntime) -> Result<(), Fail> {
-    let body = choice(
-        rt.alloc(),
-        &[Line(b"m", 1, 0, 1)],
-        &[Line(b"n", 0, 1, 2)],
-        &[],
-    )?;
-    assert!(rt; is_refused(rt.alloc(), body, 20, 0, 1));
+    let alloc = rt.alloc();
+    let left = one(alloc, message(alloc, b"m", B, A, 1)?)?;
+    let right = one(alloc, message(alloc, b"n", A, B, 2)?)?;
+    let body = one(alloc, choice(alloc, left, right)?)?;
+    assert!(rt; is_refused(alloc, body, 20, A, 1));
     Ok(())
 }
 
 #[test]
 fn next_points_are_all_sends_or_all_receives(rt: HostRuntime) -> Result<(), Fail> {
-    let one = [Line(b"x", 0, 1, 1), Line(b"y", 1, 2, 2)];
-    let other = [Line(b"z", 0, 1, 3), Line(b"w", 2, 1, 4)];
-    let body = choice(rt.alloc(), &one, &other, &[])?;
-    assert!(rt; is_refused(rt.alloc(), body, 21, 2, 0));
+    let alloc = rt.alloc();
+    let left = two(
+        alloc,
+        message(alloc, b"x", A, B, 1)?,
+        message(alloc, b"y", B, C, 2)?,
+    )?;
+    let right = two(
+        alloc,
+        message(alloc, b"z", A, B, 3)?,
+        message(alloc, b"w", C, B, 4)?,
+    )?;
+    let body = one(alloc, choice(alloc, left, right)?)?;
+    assert!(rt; is_refused(alloc, body, 21, C, 0));
     Ok(())
 }
 
 #[test]
 fn receives_have_one_sender(rt: HostRuntime) -> Result<(), Fail> {
-    let one = [Line(b"x", 0, 1, 1), Line(b"y", 0, 2, 2)];
-    let other = [Line(b"z", 0, 1, 3), Line(b"w", 1, 2, 4)];
-    let body = choice(rt.alloc(), &one, &other, &[])?;
-    assert!(rt; is_refused(rt.alloc(), body, 22, 2, 0));
+    let alloc = rt.alloc();
+    let left = two(
+        alloc,
+        message(alloc, b"x", A, B, 1)?,
+        message(alloc, b"y", A, C, 2)?,
+    )?;
+    let right = two(
+        alloc,
+        message(alloc, b"z", A, B, 3)?,
+        message(alloc, b"w", B, C, 4)?,
+    )?;
+    let body = one(alloc, choice(alloc, left, right)?)?;
+    assert!(rt; is_refused(alloc, body, 22, C, 0));
     Ok(())
 }
 
 #[test]
 fn next_points_are_told_apart_by_their_labels(rt: HostRuntime) -> Result<(), Fail> {
-    let one = [Line(b"x", 0, 1, 1), Line(b"done", 1, 2, 2)];
-    let other = [Line(b"y", 0, 1, 3), Line(b"done", 1, 2, 4)];
-    let body = choice(rt.alloc(), &one, &other, &[])?;
-    assert!(rt; is_refused(rt.alloc(), body, 23, 2, 0));
+    let alloc = rt.alloc();
+    let left = two(
+        alloc,
+        message(alloc, b"x", A, B, 1)?,
+        message(alloc, b"done", B, C, 2)?,
+    )?;
+    let right = two(
+        alloc,
+        message(alloc, b"y", A, B, 3)?,
+        message(alloc, b"done", B, C, 4)?,
+    )?;
+    let body = one(alloc, choice(alloc, left, right)?)?;
+    assert!(rt; is_refused(alloc, body, 23, C, 0));
     Ok(())
 }
 
 #[test]
-fn a_role_that_sends_next_can_choose(rt: HostRuntime) -> Result<(), Fail> {
-    let one = [
-        Line(b"x", 0, 1, 1),
-        Line(b"y", 1, 2, 2),
-        Line(b"v", 2, 1, 3),
-    ];
-    let other = [
-        Line(b"z", 0, 1, 4),
-        Line(b"w", 1, 2, 5),
-        Line(b"u", 2, 1, 6),
-    ];
-    let body = choice(rt.alloc(), &one, &other, &[])?;
-    let accepted = judged(rt.alloc(), body)?;
-    assert_eq!(rt;
-        accepted.next(RoleId(2), 0),
-        [Point(2), Point(5)].as_slice()
-    );
-    assert_eq!(rt; accepted.next(RoleId(2), 2), [Point(3)].as_slice());
-    assert!(rt; accepted.next(RoleId(2), 3).is_empty());
-    let early = choice(
-        rt.alloc(),
-        &[Line(b"x", 0, 1, 1)],
-        &[Line(b"y", 0, 1, 2)],
-        &[Line(b"z", 2, 1, 3)],
+fn a_role_that_sends_next_is_led_there(rt: HostRuntime) -> Result<(), Fail> {
+    let alloc = rt.alloc();
+    let left = one(alloc, message(alloc, b"x", A, B, 1)?)?;
+    let right = one(alloc, message(alloc, b"y", A, B, 2)?)?;
+    let body = two(
+        alloc,
+        choice(alloc, left, right)?,
+        message(alloc, b"z", C, B, 3)?,
     )?;
-    assert!(rt; is_refused(rt.alloc(), early, 24, 2, 0));
+    assert!(rt; is_refused(alloc, body, 24, C, 0));
     Ok(())
 }
 
 #[test]
 fn a_role_with_a_next_point_comes_to_one(rt: HostRuntime) -> Result<(), Fail> {
-    let one = [Line(b"x", 0, 1, 1), Line(b"t", 1, 2, 2)];
-    let body = choice(rt.alloc(), &one, &[Line(b"y", 0, 1, 3)], &[])?;
-    assert!(rt; is_refused(rt.alloc(), body, 25, 2, 0));
+    let alloc = rt.alloc();
+    let left = two(
+        alloc,
+        message(alloc, b"x", A, B, 1)?,
+        message(alloc, b"t", B, C, 2)?,
+    )?;
+    let right = one(alloc, message(alloc, b"y", A, B, 3)?)?;
+    let body = one(alloc, choice(alloc, left, right)?)?;
+    assert!(rt; is_refused(alloc, body, 25, C, 0));
     Ok(())
 }
 
-// rec X { m() from A to B; continue X; } n() from A to B;
 #[test]
 fn points_behind_an_endless_loop_are_not_reached(rt: HostRuntime) -> Result<(), Fail> {
     let alloc = rt.alloc();
-    let mut inside = block(alloc, &[Line(b"m", 0, 1, 1)])?;
-    inside.push(Stmt::Continue {
-        name: Name::of(alloc, b"X")?,
-    })?;
-    let mut body = Block::new(alloc);
-    body.push(Stmt::Rec {
-        name: Name::of(alloc, b"X")?,
-        body: inside,
-    })?;
-    body.push(Stmt::Message {
-        label: Name::of(alloc, b"n")?,
-        sorts: Names::new(alloc),
-        sender: RoleId(0),
-        receiver: RoleId(1),
-        point: Point(2),
-    })?;
-    assert!(rt; is_refused(alloc, body, 26, 0, 2));
+    let endless = looping(alloc, message(alloc, b"m", A, B, 1)?)?;
+    let body = two(alloc, endless, message(alloc, b"n", A, B, 2)?)?;
+    assert!(rt; is_refused(alloc, body, 26, A, 2));
+    Ok(())
+}
+
+#[test]
+fn a_role_that_is_told_of_the_choice_follows_it(rt: HostRuntime) -> Result<(), Fail> {
+    let alloc = rt.alloc();
+    let left = two(
+        alloc,
+        message(alloc, b"x", A, B, 1)?,
+        message(alloc, b"y", B, C, 2)?,
+    )?;
+    let right = two(
+        alloc,
+        message(alloc, b"z", A, B, 3)?,
+        message(alloc, b"w", B, C, 4)?,
+    )?;
+    let body = one(alloc, choice(alloc, left, right)?)?;
+    let accepted = judged(alloc, body)?;
+    assert!(rt; accepted.roles() == 3);
+    assert!(rt; accepted.points().count() == 4);
+    assert!(rt; accepted.next(C, 0) == [Point(2), Point(4)].as_slice());
     Ok(())
 }

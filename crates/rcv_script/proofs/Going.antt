@@ -1,15 +1,20 @@
 -- How the machine goes on along products and sums.
-use Rattle.std.proofs.Common.{◌≡◌, ◌≢◌, ℕ, ◌≤◌, ◌<◌, Bool, true, false, List, [], ◌∷◌, ◌++◌, length, map, refl, sym, ap, ◌∙◌, arith}
+use Rattle.std.proofs.Common.{◌≡◌, ◌≢◌, ℕ, ◌≤◌, ◌<◌, Bool, true, false, List, [], ◌∷◌, ◌++◌, length, map, refl, sym, ap, subst, ◌∙◌, arith}
 use Rattle.rcv_model.specs.Script.{Expr, Times, Plus, Minus}
 use Rattle.rcv_script.specs.declared.expression.Atom.{Atom}
 use Rattle.rcv_script.specs.declared.expression.Term.{Term}
 use Rattle.rcv_script.specs.declared.sign.Sign.TheVariants as signs
 use Rattle.rcv_script.specs.declared.fault.ReadError.{ReadError}
 use Rattle.rcv_script.specs.declared.fault.ReadError.TheVariants as errors
-use Rattle.rcv_script.specs.Symbols.{Symbol, Is}
-use Rattle.rcv_script.specs.Expressions.{Signed, times_more, product_of, plus_or_minus, plus_more, sum_of, atom_expr, term_expr}
-use Rattle.rcv_script.specs.Machine.{Item, AnAtom, Factors, Terms, a_product, a_sum, factors, terms, Place, Outcome, step, after, answer}
-use Rattle.rcv_script.specs.Descent.{IsNotNext, Halts, term_sign}
+use Rattle.rcv_script.specs.declared.fault.Fault.{Fault}
+use Rattle.rcv_script.specs.declared.fault.Fault.TheVariants as faults
+use Rattle.rcv_script.specs.Symbols.{Symbol, Is, Word, Number, Other}
+use Rattle.rcv_script.specs.Expressions.{Signed, times_more, product_of, plus_or_minus, plus_more, sum_of, atom_expr, term_expr, product_expr, sum_expr, factors as factors_of, terms as terms_of}
+use Rattle.rcv_script.specs.declared.expression.Product.{Product}
+use Rattle.rcv_script.specs.declared.expression.Sum.{Sum}
+use Rattle.rcv_script.proofs.Values.{product_is, sum_is}
+use Rattle.rcv_script.specs.Machine.{Item, AnAtom, Factors, Terms, a_product, a_sum, factors, terms, Place, Outcome, On, Wrong, atom, step, after, Refuses, answer}
+use Rattle.rcv_script.specs.Descent.{IsNotNext, NoWord, NoNumber, Halts, Stops, IsWordAtom, IsNoWordAtom, term_sign}
 use Rattle.rcv_script.proofs.Stops.{not_first}
 
 -- what stops what is awaited behind stops what is awaited in front
@@ -20,6 +25,29 @@ halts_behind Y Z (errors.Refused fault) front mid to start between new goes h = 
 
 pub same_step : (item item' : Item) (t : Symbol) (ts : List Symbol) → step t item ≡ step t item' → answer item (t ∷ ts) ≡ answer item' (t ∷ ts)
 same_step item item' t ts e = ap (λ (o : Outcome). after o (t ∷ ts) (λ next. answer next ts)) e
+
+-- ---- atoms
+
+by_outcome : (item : Item) (o : Outcome) (t : Symbol) (ts : List Symbol) → step t item ≡ o → answer item (t ∷ ts) ≡ after o (t ∷ ts) (λ next. answer next ts)
+by_outcome item o t ts e = ap (λ (x : Outcome). after x (t ∷ ts) (λ next. answer next ts)) e
+
+pub word_goes : (p : Place) (w : List ℕ) (a : Atom) (ts us : List Symbol) → ts ≡ Word w ∷ us → IsWordAtom p w a → (k : Expr → Item) → answer (AnAtom p k) ts ≡ answer (k (atom_expr a)) us
+word_goes p w a ts us is atom k = ap (answer (AnAtom p k)) is ∙ by_outcome (AnAtom p k) (On (k (atom_expr a))) (Word w) us (atom k)
+
+pub word_stops : (p : Place) (w : List ℕ) (f : Fault) (ts us : List Symbol) → ts ≡ Word w ∷ us → IsNoWordAtom p w f → (k : Expr → Item) → answer (AnAtom p k) ts ≡ Refuses f ts
+word_stops p w f ts us is atom k = ap (answer (AnAtom p k)) is ∙ by_outcome (AnAtom p k) (Wrong f) (Word w) us (atom k) ∙ ap (Refuses f) (sym is)
+
+no_atom_here : (p : Place) (t : Symbol) (k : Expr → Item) → ((n : ℕ) → t ≡ Number n → ⊥) → ((w : List ℕ) → t ≡ Word w → ⊥) → (t ≡ Is signs.Minus → ⊥) → (t ≡ Is signs.Left → ⊥) → atom p t k ≡ Wrong faults.Token
+no_atom_here p (Number n) k a b c d = absurd (a n refl)
+no_atom_here p (Word w) k a b c d = absurd (b w refl)
+no_atom_here p (Is signs.Minus) k a b c d = absurd (c refl)
+no_atom_here p (Is signs.Left) k a b c d = absurd (d refl)
+no_atom_here p _ k a b c d = refl
+
+pub no_atom : (p : Place) (ts : List Symbol) → NoNumber ts → NoWord ts → IsNotNext (Is signs.Minus) ts → IsNotNext (Is signs.Left) ts → (k : Expr → Item) → answer (AnAtom p k) ts ≡ Refuses faults.Token ts
+no_atom p [] a b c d k = refl
+no_atom p (t ∷ ts) a b c d k = by_outcome (AnAtom p k) (Wrong faults.Token) t ts
+    (no_atom_here p t k (λ n. not_first (Number n) t ts (a n)) (λ w. not_first (Word w) t ts (b w)) (not_first (Is signs.Minus) t ts c) (not_first (Is signs.Left) t ts d))
 
 -- ---- products
 
@@ -63,10 +91,10 @@ pub product_to_next : (p : Place) (atoms : List Atom) (start now mid : List Symb
     → (k : Expr → Item) → answer (a_product p k) start ≡ answer (AnAtom p (λ f. Factors p (Times (product_of (map atom_expr atoms)) f) k)) mid
 product_to_next p atoms start now mid so_far is k = so_far.goes k ∙ to_factor p (product_of (map atom_expr atoms)) now mid is k
 
-pub product_next : (p : Place) (atoms : List Atom) (a : Atom) (start now mid new : List Symbol) → ProductSoFar p atoms start now → now ≡ Is signs.Times ∷ mid
-    → ((k : Expr → Item) → answer (AnAtom p k) mid ≡ answer (k (atom_expr a)) new) → length new ≤ length mid → length mid ≤ length now → ProductSoFar p (atoms ++ a ∷ []) start new
-product_next p atoms a start now mid new so_far is goes shorter less =
-    record {
+pub product_next : (p : Place) (atoms atoms' : List Atom) (a : Atom) (start now mid new : List Symbol) → ProductSoFar p atoms start now → now ≡ Is signs.Times ∷ mid → atoms' ≡ atoms ++ a ∷ []
+    → ((k : Expr → Item) → answer (AnAtom p k) mid ≡ answer (k (atom_expr a)) new) → length new ≤ length mid → length mid ≤ length now → ProductSoFar p atoms' start new
+product_next p atoms atoms' a start now mid new so_far is pushed goes shorter less =
+    subst (λ (x : List Atom). ProductSoFar p x start new) (sym pushed) record {
       goes = λ k. product_to_next p atoms start now mid so_far is k ∙ goes (λ f. Factors p (Times (product_of (map atom_expr atoms)) f) k)
           ∙ ap (λ e. answer (Factors p e k) new) (sym (product_append atoms a so_far.some));
       some = not_empty atoms a;
@@ -78,10 +106,11 @@ pub product_fails : (e : ReadError) (p : Place) (atoms : List Atom) (start now m
 product_fails e p atoms start now mid new so_far is h =
     halts_behind Expr Expr e (λ k. a_product p k) (λ k. AnAtom p k) (λ k f. Factors p (Times (product_of (map atom_expr atoms)) f) k) start mid new (product_to_next p atoms start now mid so_far is) h
 
-pub product_end : (p : Place) (atoms : List Atom) (start now new : List Symbol) → ProductSoFar p atoms start now → (new ≡ now) × IsNotNext (Is signs.Times) now
-    → (k : Expr → Item) → answer (a_product p k) start ≡ answer (k (product_of (map atom_expr atoms))) new
-product_end p atoms start now new so_far none_next k =
-    so_far.goes k ∙ factors_end p (product_of (map atom_expr atoms)) now none_next.1 k ∙ ap (answer (k (product_of (map atom_expr atoms)))) (sym none_next.0)
+pub product_end : (p : Place) (x : Product) (start now new : List Symbol) → ProductSoFar p (factors_of x) start now → (new ≡ now) × IsNotNext (Is signs.Times) now
+    → (k : Expr → Item) → answer (a_product p k) start ≡ answer (k (product_expr x)) new
+product_end p x start now new so_far none_next k =
+    let e = product_of (map atom_expr (factors_of x)) in
+    so_far.goes k ∙ factors_end p e now none_next.1 k ∙ ap (answer (k e)) (sym none_next.0) ∙ ap (λ y. answer (k y) new) (sym (product_is x))
 
 -- ---- sums
 
@@ -124,10 +153,10 @@ pub sum_to_next : (p : Place) (ts : List Term) (minus : Bool) (start now mid : L
     → (k : Expr → Item) → answer (a_sum p k) start ≡ answer (a_product p (λ f. Terms p (plus_or_minus minus (sum_of (map term_expr ts)) f) k)) mid
 sum_to_next p ts minus start now mid so_far is k = so_far.goes k ∙ to_term p (sum_of (map term_expr ts)) minus now mid is k
 
-pub sum_next : (p : Place) (ts : List Term) (t : Term) (minus : Bool) (e : Expr) (start now mid new : List Symbol) → SumSoFar p ts start now → now ≡ Is (term_sign minus) ∷ mid
-    → term_expr t ≡ record { minus = minus; expr = e } → ((k : Expr → Item) → answer (a_product p k) mid ≡ answer (k e) new) → length new ≤ length mid → length mid < length now → SumSoFar p (ts ++ t ∷ []) start new
-sum_next p ts t minus e start now mid new so_far is said goes shorter less =
-    record {
+pub sum_next : (p : Place) (ts ts' : List Term) (t : Term) (minus : Bool) (e : Expr) (start now mid new : List Symbol) → SumSoFar p ts start now → now ≡ Is (term_sign minus) ∷ mid → ts' ≡ ts ++ t ∷ []
+    → term_expr t ≡ record { minus = minus; expr = e } → ((k : Expr → Item) → answer (a_product p k) mid ≡ answer (k e) new) → length new ≤ length mid → length mid < length now → SumSoFar p ts' start new
+sum_next p ts ts' t minus e start now mid new so_far is pushed said goes shorter less =
+    subst (λ (x : List Term). SumSoFar p x start new) (sym pushed) record {
       goes = λ k. sum_to_next p ts minus start now mid so_far is k ∙ goes (λ f. Terms p (plus_or_minus minus (sum_of (map term_expr ts)) f) k)
           ∙ ap (λ (x : Signed). answer (Terms p (plus_or_minus x.minus (sum_of (map term_expr ts)) x.expr) k) new) (sym said)
           ∙ ap (λ x. answer (Terms p x k) new) (sym (sum_append ts t so_far.some));
@@ -140,7 +169,14 @@ pub sum_fails : (e : ReadError) (p : Place) (ts : List Term) (minus : Bool) (sta
 sum_fails e p ts minus start now mid new so_far is h =
     halts_behind Expr Expr e (λ k. a_sum p k) (λ k. a_product p k) (λ k f. Terms p (plus_or_minus minus (sum_of (map term_expr ts)) f) k) start mid new (sum_to_next p ts minus start now mid so_far is) h
 
-pub sum_end : (p : Place) (ts : List Term) (start now new : List Symbol) → SumSoFar p ts start now → (new ≡ now) × IsNotNext (Is signs.Plus) now × IsNotNext (Is signs.Minus) now
-    → (k : Expr → Item) → answer (a_sum p k) start ≡ answer (k (sum_of (map term_expr ts))) new
-sum_end p ts start now new so_far none_next k =
-    so_far.goes k ∙ terms_end p (sum_of (map term_expr ts)) now none_next.1 none_next.2 k ∙ ap (answer (k (sum_of (map term_expr ts)))) (sym none_next.0)
+pub sum_end : (p : Place) (x : Sum) (start now new : List Symbol) → SumSoFar p (terms_of x) start now → (new ≡ now) × IsNotNext (Is signs.Plus) now × IsNotNext (Is signs.Minus) now
+    → (k : Expr → Item) → answer (a_sum p k) start ≡ answer (k (sum_expr x)) new
+sum_end p x start now new so_far none_next k =
+    let e = sum_of (map term_expr (terms_of x)) in
+    so_far.goes k ∙ terms_end p e now none_next.1 none_next.2 k ∙ ap (answer (k e)) (sym none_next.0) ∙ ap (λ y. answer (k y) new) (sym (sum_is x))
+
+-- the same behind what says nothing
+pub stops_behind : (Y : Type 0) (e : ReadError) (front : (Y → Item) → Item) (mid : Item → Item) (to : (Y → Item) → Item) (start between new : List Symbol)
+    → ((k : Y → Item) → answer (front k) start ≡ answer (mid (to k)) between) → Stops e mid between new → Halts e front start new
+stops_behind Y errors.Memory front mid to start between new goes h = tt
+stops_behind Y (errors.Refused fault) front mid to start between new goes h = λ k. goes k ∙ h (to k)

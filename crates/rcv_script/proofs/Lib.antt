@@ -4,3 +4,4 @@ pub mod Digits
 pub mod Stops
 pub mod Going
 pub mod Written
+pub mod Whole

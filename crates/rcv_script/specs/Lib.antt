@@ -5,3 +5,4 @@ pub mod Attempts
 pub mod Symbols
 pub mod Machine
 pub mod Descent
+pub mod Refusals

@@ -100,12 +100,12 @@ abbrev pub is_listed : ℕ → List ℕ → Bool
 is_listed n ns = list_any (λ other. n == other) ns
 
 -- a role that isn't declared, or has a script before
-abbrev pub new_role : List (List ℕ) → List ℕ → Option ℕ → Option Fault
-new_role roles given None = Some faults.Role
-new_role roles given (Some r) = fault_if (is_listed r given) faults.Role
+abbrev pub new_role : List ℕ → Option ℕ → Option Fault
+new_role given None = Some faults.Role
+new_role given (Some r) = fault_if (is_listed r given) faults.Role
 
-abbrev pub role_fault : Known → List ℕ → Option Fault
-role_fault known name = new_role known.roles known.given (place_of known.roles name)
+abbrev pub role_fault : List (List ℕ) → List ℕ → List ℕ → Option Fault
+role_fault roles given name = new_role given (place_of roles name)
 
 -- the role sends the message with this label
 abbrev pub is_sent : ℕ → List ℕ → PointView → Bool
@@ -279,13 +279,16 @@ abbrev pub with_script : Known → ℕ → List Line → Known
 with_script known role ls =
     record { roles = known.roles; points = known.points; scripts = slice_set known.scripts role ls; given = known.given ++ role ∷ [] }
 
-abbrev pub script : Known → Item
-script known =
-    AWord (role_fault known) (λ n. This (Is signs.Open) (Lines (begun known.points (place_in known.roles n)) (λ ls.
-    Scripts (with_script known (place_in known.roles n) ls))))
+-- what stands behind the word role, for the role and its lines
+abbrev pub script : List (List ℕ) → List ℕ → PointsView → (ℕ × List Line → Item) → Item
+script roles given points k =
+    AWord (role_fault roles given) (λ n. This (Is signs.Open) (Lines (begun points (place_in roles n)) (λ ls. k (place_in roles n, ls))))
+
+abbrev pub script_of : Known → Item
+script_of known = script known.roles known.given known.points (λ x. Scripts (with_script known x.0 x.1))
 
 abbrev pub scripts : Known → Symbol → Outcome
-scripts known (Word w) = cond (bytes_eq w (codes "role")) (On (script known)) (Wrong faults.Token)
+scripts known (Word w) = cond (bytes_eq w (codes "role")) (On (script_of known)) (Wrong faults.Token)
 scripts known (Is sign) = Wrong faults.Token
 scripts known (Number n) = Wrong faults.Token
 scripts known Other = Wrong faults.Token

@@ -9,10 +9,9 @@ use crate::fault::Fault;
 use crate::line::{Line, is};
 use rcv_points::points::Points;
 use rcv_tree::point::Point;
-use rcv_tree::role::RoleId;
 
 /// What speaks against the label of a `send` line behind these lines.
-pub fn send_fault(points: &Points, role: RoleId, lines: &[Line], label: &[u8]) -> Option<Fault>
+pub fn send_fault(points: &Points, role: usize, lines: &[Line], label: &[u8]) -> Option<Fault>
     ensures { result ≡ send_fault points.now role (map line_of lines.now) label.now }
 {
     if !sends(points, role, label) {
@@ -28,7 +27,7 @@ pub fn send_fault(points: &Points, role: RoleId, lines: &[Line], label: &[u8]) -
 }
 
 /// What speaks against the label of a `pick` line.
-pub fn pick_fault(points: &Points, role: RoleId, label: &[u8]) -> Option<Fault>
+pub fn pick_fault(points: &Points, role: usize, label: &[u8]) -> Option<Fault>
     ensures { result ≡ pick_fault points.now role label.now }
 {
     if sends(points, role, label) {
@@ -39,7 +38,7 @@ pub fn pick_fault(points: &Points, role: RoleId, label: &[u8]) -> Option<Fault>
 }
 
 /// What speaks against the label of an `on` line.
-pub fn on_fault(points: &Points, role: RoleId, label: &[u8]) -> Option<Fault>
+pub fn on_fault(points: &Points, role: usize, label: &[u8]) -> Option<Fault>
     ensures { result ≡ on_fault points.now role label.now }
 {
     if takes_part(points, role, label) {
@@ -50,7 +49,7 @@ pub fn on_fault(points: &Points, role: RoleId, label: &[u8]) -> Option<Fault>
 }
 
 /// Whether a message without sorts has this label and is sent or received by the role.
-pub fn takes_bare(points: &Points, role: RoleId, label: &[u8]) -> bool
+pub fn takes_bare(points: &Points, role: usize, label: &[u8]) -> bool
     ensures { result ≡ takes_bare points.now role label.now }
 {
     for number in 0..points.count() {
@@ -62,7 +61,7 @@ pub fn takes_bare(points: &Points, role: RoleId, label: &[u8]) -> bool
     false
 }
 
-fn takes_part(points: &Points, role: RoleId, label: &[u8]) -> bool
+fn takes_part(points: &Points, role: usize, label: &[u8]) -> bool
     ensures { result ≡ takes_part points.now role label.now }
 {
     for number in 0..points.count() {
@@ -73,7 +72,7 @@ fn takes_part(points: &Points, role: RoleId, label: &[u8]) -> bool
     false
 }
 
-fn sends(points: &Points, role: RoleId, label: &[u8]) -> bool
+fn sends(points: &Points, role: usize, label: &[u8]) -> bool
     ensures { result ≡ sends points.now role label.now }
 {
     for number in 0..points.count() {
@@ -84,7 +83,7 @@ fn sends(points: &Points, role: RoleId, label: &[u8]) -> bool
     false
 }
 
-fn sends_bare(points: &Points, role: RoleId, label: &[u8]) -> bool
+fn sends_bare(points: &Points, role: usize, label: &[u8]) -> bool
     ensures { result ≡ sends_bare points.now role label.now }
 {
     for number in 0..points.count() {
@@ -96,18 +95,18 @@ fn sends_bare(points: &Points, role: RoleId, label: &[u8]) -> bool
     false
 }
 
-fn is_sent(points: &Points, point: Point, role: RoleId, label: &[u8]) -> bool
+fn is_sent(points: &Points, point: Point, role: usize, label: &[u8]) -> bool
     requires { IsPointOf points.now point }
     ensures { result ≡ is_sent role label.now (message_at points.now point) }
 {
-    points.sender(point) == role && is(points.label(point), label)
+    points.sender(point).0 as usize == role && is(points.label(point), label)
 }
 
-fn is_part(points: &Points, point: Point, role: RoleId, label: &[u8]) -> bool
+fn is_part(points: &Points, point: Point, role: usize, label: &[u8]) -> bool
     requires { IsPointOf points.now point }
     ensures { result ≡ is_part role label.now (message_at points.now point) }
 {
-    let is_end = points.sender(point) == role || points.receiver(point) == role;
+    let is_end = points.sender(point).0 as usize == role || points.receiver(point).0 as usize == role;
     is_end && is(points.label(point), label)
 }
 

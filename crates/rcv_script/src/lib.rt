@@ -8,10 +8,14 @@ mod formula;
 mod labels;
 pub mod line;
 mod parser;
+mod read;
 pub mod scripts;
 mod sign;
+#[cfg(test)]
+mod tests;
 mod words;
 
 pub use fault::Fault;
+pub use read::read_scripts;
 pub use sign::Sign;
 pub use words::LineKind;

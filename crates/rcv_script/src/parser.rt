@@ -16,7 +16,6 @@ use crate::sign::Sign;
 use crate::words::{LineKind, kind_of};
 use rcv_points::points::Points;
 use rcv_tree::name::{Name, Names};
-use rcv_tree::role::RoleId;
 use std::alloc::Global;
 
 // What speaks against the name of a new variable.
@@ -120,7 +119,7 @@ impl<'a> Ahead<'a> {
         &mut self,
         alloc: Global,
         points: &Points,
-        role: RoleId,
+        role: usize,
         lines: &[Line],
     ) -> Result<Name, ReadError>
         ensures goes { Goes result (λ k. AWord (send_fault points.now role (map line_of lines.now)) k) (λ n. n) self.old self.new }
@@ -142,7 +141,7 @@ impl<'a> Ahead<'a> {
         &mut self,
         alloc: Global,
         points: &Points,
-        role: RoleId,
+        role: usize,
     ) -> Result<Name, ReadError>
         ensures goes { Goes result (λ k. AWord (pick_fault points.now role) k) (λ n. n) self.old self.new }
         ensures shorter { length self.new ≤ length self.old }
@@ -163,7 +162,7 @@ impl<'a> Ahead<'a> {
         &mut self,
         alloc: Global,
         points: &Points,
-        role: RoleId,
+        role: usize,
     ) -> Result<Name, ReadError>
         ensures goes { Goes result (λ k. AWord (on_fault points.now role) k) (λ n. n) self.old self.new }
         ensures shorter { length self.new ≤ length self.old }
@@ -184,7 +183,7 @@ impl<'a> Ahead<'a> {
         &mut self,
         alloc: Global,
         points: &Points,
-        role: RoleId,
+        role: usize,
         names: &Names,
         lines: &[Line],
     ) -> Result<Line, ReadError>
@@ -201,7 +200,7 @@ impl<'a> Ahead<'a> {
         &mut self,
         alloc: Global,
         points: &Points,
-        role: RoleId,
+        role: usize,
         names: &Names,
         lines: &[Line],
     ) -> Result<Line, ReadError>
@@ -230,7 +229,7 @@ impl<'a> Ahead<'a> {
         &mut self,
         alloc: Global,
         points: &Points,
-        role: RoleId,
+        role: usize,
         names: &Names,
         lines: &[Line],
     ) -> Result<Line, ReadError>
@@ -255,7 +254,7 @@ impl<'a> Ahead<'a> {
         alloc: Global,
         kind: LineKind,
         points: &Points,
-        role: RoleId,
+        role: usize,
         names: &mut Names,
         lines: &[Line],
     ) -> Result<Line, ReadError>
@@ -275,12 +274,13 @@ impl<'a> Ahead<'a> {
         &mut self,
         alloc: Global,
         points: &Points,
-        role: RoleId,
+        role: usize,
         names: &mut Names,
         lines: &[Line],
     ) -> Result<Line, ReadError>
         ensures goes { Goes result (λ k. ALine (writing points.now role names.old lines.now) k) (λ line. (names.new, line_of line)) self.old self.new }
-        ensures shorter { IfOk result (λ line. length self.new < length self.old) }
+        ensures taken { IfOk result (λ line. length self.new < length self.old) }
+        ensures shorter { length self.new ≤ length self.old }
     {
         let Some((word, after)) = self.word() else {
             return Err(ReadError::Refused(Fault::Token));
@@ -295,12 +295,12 @@ impl<'a> Ahead<'a> {
         self.line_behind(alloc, kind, points, role, names, lines)
     }
 
-    // Takes the lines of a role, and the brace behind them.
-    fn lines(
+    /// Takes the lines of a role, and the brace behind them.
+    pub fn lines(
         &mut self,
         alloc: Global,
         points: &Points,
-        role: RoleId,
+        role: usize,
     ) -> Result<Vec<Line>, ReadError>
         ensures goes { Goes result (λ k. Lines (writing points.now role [] []) k) (λ lines. map line_of lines.items) self.old self.new }
         ensures shorter { length self.new ≤ length self.old }
@@ -322,7 +322,7 @@ const DECIDING: Banned = Banned {
 };
 
 // What an `on` line of this label may not read.
-fn remembering(points: &Points, role: RoleId, label: &[u8]) -> Banned
+fn remembering(points: &Points, role: usize, label: &[u8]) -> Banned
     ensures value { result.value ≡ fault_if (takes_bare points.now role label.now) Fault.NoPayload }
     ensures attempt { result.attempt ≡ Some Fault.AttemptInState }
 {

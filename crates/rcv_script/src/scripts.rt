@@ -1,11 +1,11 @@
 // The scripts of a protocol's roles, and what they decide.
 
-ghost use Rattle.std.specs.Prelude.{◌≡◌, ◌≢◌, ◌↔◌, ℕ, [], false, IfSome, IfNone};
+ghost use Rattle.std.specs.Prelude.{◌≡◌, ◌≢◌, ◌↔◌, ℕ, [], map, false, IfSome, IfNone};
 ghost use Rattle.std.specs.List.{All};
 ghost use Rattle.rcv_model.specs.Script.{first_vars, carry_out, pick, number_for, first_with};
 ghost use Rattle.rcv_model.specs.Transparent.{AreBlind};
 ghost use Rattle.rcv_points.specs.Follow.{net_in};
-ghost use Rattle.rcv_script.specs.Lines.{lines_at, IsPointOf};
+ghost use Rattle.rcv_script.specs.Lines.{line_of, lines_at, IsPointOf};
 ghost use Rattle.rcv_script.specs.Attempts.{lines_read, scripts_read};
 
 use crate::line::{Line, is, is_met, set};
@@ -55,6 +55,13 @@ impl Model for Scripts {
 }
 
 impl Scripts {
+    /// The scripts of roles, in order of declaration.
+    pub fn of(roles: Vec<Script>) -> Scripts
+        ensures { result ≡ roles.items }
+    {
+        Scripts { roles }
+    }
+
     /// The variables of a role before any event: the first values in order of declaration, and 0 at the other places.
     pub fn start(&self, role: RoleId) -> Vars
         ensures { result ≡ first_vars (lines_at self.now role) }
@@ -166,6 +173,13 @@ impl Scripts {
 }
 
 impl Script {
+    /// The script of these lines.
+    pub fn of(lines: Vec<Line>) -> Script
+        ensures { result ≡ map line_of lines.items }
+    {
+        Script { lines }
+    }
+
     // Whether the attempt stands in a line that picks or sends.
     fn reads_attempt(&self) -> bool
         ensures { result ≡ lines_read self.now }

@@ -1,5 +1,5 @@
 -- What the top call says, from what it read and wrote.
-use Rattle.std.proofs.Common.{◌≡◌, ℕ, Some, None, Option, codes, List, [], ◌∷◌, ◌++◌, length, refl, sym, ◌∙◌, ap, subst, ◌⊎◌, inl, inr, ⊎_elim, append-nil, arith}
+use Rattle.std.proofs.Common.{◌≡◌, ℕ, Some, None, Option, List, [], ◌∷◌, ◌++◌, length, refl, sym, ◌∙◌, ap, subst, ◌⊎◌, inl, inr, ⊎_elim, append-nil, arith}
 use Rattle.std.specs.Prelude.{◌≤◌, Result, Ok, Err, Vec}
 use Rattle.std.proofs.lemmas.Bool.{cases_lt}
 use Rattle.std.specs.declared.alloc.Global.{Global}
@@ -26,10 +26,13 @@ use Rattle.rcv_model.proofs.Forms.{proper}
 use Rattle.rcv_model.proofs.Legal.{accepted_runs}
 use Rattle.rcv_model.proofs.PlainNets.{plain_accepted, plain_reach}
 use Rattle.rcv_model.proofs.StableLines.{reading_join}
+use Rattle.rcv_input.specs.declared.command.Command.{Command}
+use Rattle.rcv_input.specs.declared.command.Command.TheVariants.{Run, Check}
+use Rattle.rcv_input.proofs.Plain.{run_is_plain}
 use Rattle.rcv_core.specs.Setup.{rules_of}
 use Rattle.rcv_top.specs.declared.status.Status.{Status}
 use Rattle.rcv_top.specs.declared.status.Status.TheVariants as statuses
-use Rattle.rcv_top.specs.Outcome.{IsCommand, usage_line, most_bytes, session_of, IsSession, IsOutcome, usage, too_long, refused, completed, limited}
+use Rattle.rcv_top.specs.Outcome.{word_of, IsCommand, IsSomeCommand, IsNoCommand, usage_line, most_bytes, session_of, IsSession, IsOutcome, usage, too_long, refused, checked, completed, limited}
 use Rattle.rcv_top.specs.Headline.{IsExactRecovery, IsHeadline}
 use Rattle.rcv_top.specs.Calls.{Around, ReadNothing, WroteNothing, IsInput, TakesTooMuch, WantsMemory, FailsToRead, Says, Wrote, WritesLegalJournal}
 
@@ -41,7 +44,8 @@ nothing_more (Some xs) = ap (λ l. Some l) (append-nil xs)
 said : (words : List (List ℕ)) (call : Around) (input bytes : List ℕ) (status : Status) → IsInput words call input → length input ≤ most_bytes → IsOutcome words input status bytes → call.written_after ≡ append_known call.written_before bytes → Says words call status
 said words call input bytes status is short (usage none) wrote = record { input = input; bytes = _; is_input = is; outcome = usage none; writes = wrote }
 said words call input bytes status is short (too_long command many) wrote = absurd (omega (arith, short, many))
-said words call input bytes status is short (refused read none) wrote = record { input = input; bytes = _; is_input = is; outcome = refused read none; writes = wrote }
+said words call input bytes status is short (refused command code line asked first) wrote = record { input = input; bytes = _; is_input = is; outcome = refused command code line asked first; writes = wrote }
+said words call input bytes status is short (checked p asked taken) wrote = record { input = input; bytes = _; is_input = is; outcome = checked p asked taken; writes = wrote }
 said words call input bytes status is short (completed p journal read session done) wrote = record { input = input; bytes = _; is_input = is; outcome = completed p journal read session done; writes = wrote }
 said words call input bytes status is short (limited p journal read session end) wrote = record { input = input; bytes = _; is_input = is; outcome = limited p journal read session end; writes = wrote }
 
@@ -70,18 +74,28 @@ headline_of protocol journal plain form alone = record {
         let sets = undo_exactly (rules_of (session_of protocol)).net (only p (durable (rules_of (session_of protocol)) before p) before.kept) before.kept (run front rest e).1.queued in
         record { has = sets.0; exact = sets.1; left = ap (λ s. s.kept) (reading_join (rules_of (session_of protocol)) (start (length protocol.roles)) front (Recover p concerned kept undone ∷ [])) }
 
+pub session_headline : (input : List ℕ) (p : Protocol) (journal : List Entry) (bytes : List ℕ) → IsSession input p journal bytes → IsHeadline (rules_of (session_of p)) journal
+session_headline input p journal bytes session =
+    let plain = run_is_plain input p session.taken in
+    headline_of p journal plain.0 plain.1 session.alone
+
+-- the words aren't two commands
+pub two_commands : (words : List (List ℕ)) → IsCommand words Run → IsCommand words Check → ⊥
+two_commands words run check = let same : word_of Run ∷ [] ≡ word_of Check ∷ [] = sym run ∙ check in let e : word_of Run ≡ word_of Check = cc in absurd (omega (arith, ap length e))
+
 -- the same for what the call wrote
-pub wrote_headline : (words : List (List ℕ)) (call : Around) (input bytes : List ℕ) (status result : Status) → IsInput words call input → IsCommand words → IsOutcome words input status bytes → Wrote call.written_before call.written_after call.write_faults_before call.write_faults_after bytes status result → (result ≡ statuses.Completed) ⊎ (result ≡ statuses.Limited) → WritesLegalJournal call
+pub wrote_headline : (words : List (List ℕ)) (call : Around) (input bytes : List ℕ) (status result : Status) → IsInput words call input → IsCommand words Run → IsOutcome words input status bytes → Wrote call.written_before call.written_after call.write_faults_before call.write_faults_after bytes status result → (result ≡ statuses.Completed) ⊎ (result ≡ statuses.Limited) → WritesLegalJournal call
 wrote_headline words call input bytes status result is command outcome (inr w) ended = absurd (⊎_elim (λ e. let f = w.0 in cc) (λ e. let f = w.0 in cc) ended)
 wrote_headline words call input bytes status result is command outcome (inl w) ended = go status bytes refl outcome (⊎_elim (λ e. inl (sym w.0 ∙ e)) (λ e. inr (sym w.0 ∙ e)) ended)
   where
     journal_of : (p : Protocol) (journal : List Entry) → IsSession input p journal bytes → WritesLegalJournal call
-    journal_of p journal session = record { input = input; takes = is.takes; whole = is.whole command; protocol = p; journal = journal; bytes = bytes; session = session; writes = w.1; headline = headline_of p journal session.reads.spelled.plain_body.plain session.reads.spelled.plain_body.form session.alone }
+    journal_of p journal session = record { input = input; takes = is.takes; whole = is.whole (Run, command); protocol = p; journal = journal; bytes = bytes; session = session; writes = w.1; headline = session_headline input p journal bytes session }
 
     go : (s : Status) (b : List ℕ) → b ≡ bytes → IsOutcome words input s b → (s ≡ statuses.Completed) ⊎ (s ≡ statuses.Limited) → WritesLegalJournal call
     go s b same (usage none) e = absurd (⊎_elim (λ f. cc) (λ f. cc) e)
     go s b same (too_long c many) e = absurd (⊎_elim (λ f. cc) (λ f. cc) e)
-    go s b same (refused read none) e = absurd (⊎_elim (λ f. cc) (λ f. cc) e)
+    go s b same (refused other code line asked first) e = absurd (⊎_elim (λ f. cc) (λ f. cc) e)
+    go s b same (checked p asked taken) e = absurd (two_commands words command asked.words_are)
     go s b same (completed p journal read session done) e = journal_of p journal (subst (IsSession input p journal) same session)
     go s b same (limited p journal read session end) e = journal_of p journal (subst (IsSession input p journal) same session)
 
@@ -91,28 +105,28 @@ nothing_taken None given = record { front = refl; each_counted = omega arith; no
 nothing_taken (Some xs) given = record { front = refl; each_counted = omega arith; no_other = omega arith }
 
 -- no command: nothing is read
-pub usage_said : (words : List (List ℕ)) (call : Around) (result : Status) → (IsCommand words → ⊥) → ReadNothing call → Wrote call.written_before call.written_after call.write_faults_before call.write_faults_after usage_line statuses.Usage result → Says words call result
+pub usage_said : (words : List (List ℕ)) (call : Around) (result : Status) → IsNoCommand words → ReadNothing call → Wrote call.written_before call.written_after call.write_faults_before call.write_faults_after usage_line statuses.Usage result → Says words call result
 usage_said words call result none unread wrote = answered words call [] usage_line statuses.Usage result
     (record {
       takes = subst (λ r. Took call.rest_before r call.given_before call.given_after []) (sym unread.rest) (subst (λ n. Took call.rest_before call.rest_before call.given_before n []) (sym unread.given) (nothing_taken call.rest_before call.given_before));
-      whole = λ command. absurd (none command);
+      whole = λ command. absurd (none command.0 command.1);
       unread = λ no_command. unread;
     })
     (omega arith) (usage none) wrote
 
 -- a command: all was read
-pub input_of : (words : List (List ℕ)) (call : Around) (input : List ℕ) (most : ℕ) (v : Vec ℕ Global) → IsCommand words → ReadsWhole call.rest_before call.rest_after call.given_before call.given_after most (Ok v) → IsAtEnd call.rest_after → input ≡ v.items → IsInput words call input
+pub input_of : (words : List (List ℕ)) (call : Around) (input : List ℕ) (most : ℕ) (v : Vec ℕ Global) → IsSomeCommand words → ReadsWhole call.rest_before call.rest_after call.given_before call.given_after most (Ok v) → IsAtEnd call.rest_after → input ≡ v.items → IsInput words call input
 input_of words call input most v command reads end same = record {
   takes = subst (λ l. Took call.rest_before call.rest_after call.given_before call.given_after l) (sym (same ∙ reads.bytes)) reads.took;
   whole = λ c. end;
-  unread = λ no_command. absurd (no_command command);
+  unread = λ no_command. absurd (no_command command.0 command.1);
 }
 
-pub run_outcome : (words : List (List ℕ)) (input : List ℕ) (status : Status) (bytes : List ℕ) → IsCommand words → IsOutcome (codes "run" ∷ []) input status bytes → IsOutcome words input status bytes
-run_outcome words input status bytes command outcome = subst (λ w. IsOutcome w input status bytes) (sym command) outcome
+pub asked_outcome : (words : List (List ℕ)) (command : Command) (input : List ℕ) (status : Status) (bytes : List ℕ) → IsCommand words command → IsOutcome (word_of command ∷ []) input status bytes → IsOutcome words input status bytes
+asked_outcome words which input status bytes command outcome = subst (λ w. IsOutcome w input status bytes) (sym command) outcome
 
 -- too much was taken
-pub too_much : (words : List (List ℕ)) (call : Around) (e : ReadError) → IsCommand words → ReadsWhole call.rest_before call.rest_after call.given_before call.given_after most_bytes (Err e) → e ≡ errors.TooLong → WroteNothing call → TakesTooMuch words call
+pub too_much : (words : List (List ℕ)) (call : Around) (e : ReadError) → IsSomeCommand words → ReadsWhole call.rest_before call.rest_after call.given_before call.given_after most_bytes (Err e) → e ≡ errors.TooLong → WroteNothing call → TakesTooMuch words call
 too_much words call e command reads why nothing = record { input = reads.taken; takes = reads.took; outcome = too_long command (reads.too_long.0 (ap (λ (x : ReadError). Err x) why)); writes = nothing }
 
 -- another answer than that too much was taken: it wasn't
@@ -120,9 +134,9 @@ within : (call : Around) (r : Result (Vec ℕ Global) ReadError) (reads : ReadsW
 within call r reads other = ⊎_elim (λ many. absurd (other (reads.too_long.1 many))) (λ few. few) (cases_lt most_bytes (length reads.taken))
 
 -- memory was wanted, while the input was read or behind it
-pub wants_memory : (words : List (List ℕ)) (call : Around) (r : Result (Vec ℕ Global) ReadError) → IsCommand words → ReadsWhole call.rest_before call.rest_after call.given_before call.given_after most_bytes r → (r ≡ Err errors.TooLong → ⊥) → WroteNothing call → WantsMemory words call
+pub wants_memory : (words : List (List ℕ)) (call : Around) (r : Result (Vec ℕ Global) ReadError) → IsSomeCommand words → ReadsWhole call.rest_before call.rest_after call.given_before call.given_after most_bytes r → (r ≡ Err errors.TooLong → ⊥) → WroteNothing call → WantsMemory words call
 wants_memory words call r command reads other nothing = record { command = command; input = reads.taken; takes = reads.took; short = within call r reads other; writes = nothing }
 
 -- the source failed
-pub fails_to_read : (words : List (List ℕ)) (call : Around) (r : Result (Vec ℕ Global) ReadError) → IsCommand words → Rose call.read_faults_before call.read_faults_after → ReadsWhole call.rest_before call.rest_after call.given_before call.given_after most_bytes r → (r ≡ Err errors.TooLong → ⊥) → WroteNothing call → FailsToRead words call
+pub fails_to_read : (words : List (List ℕ)) (call : Around) (r : Result (Vec ℕ Global) ReadError) → IsSomeCommand words → Rose call.read_faults_before call.read_faults_after → ReadsWhole call.rest_before call.rest_after call.given_before call.given_after most_bytes r → (r ≡ Err errors.TooLong → ⊥) → WroteNothing call → FailsToRead words call
 fails_to_read words call r command rose reads other nothing = record { rose = rose; command = command; input = reads.taken; takes = reads.took; short = within call r reads other; writes = nothing }

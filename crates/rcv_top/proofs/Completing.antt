@@ -1,4 +1,4 @@
--- A plain text has an outcome: its session completes, and where all roles are done each role's line is known.
+-- What `run` takes has an outcome: its session completes, and where all roles are done each role's line is known.
 use Rattle.std.proofs.Common.{◌≡◌, ℕ, zero, suc, ◌+◌, ◌<◌, Some, List, [], ◌∷◌, length, refl, ◌∙◌, ap, subst, arith}
 use Rattle.std.specs.Prelude.{slice_get, slice_index}
 use Rattle.rcv_model.specs.Text.{body_of}
@@ -6,13 +6,14 @@ use Rattle.rcv_model.specs.Run.{acts}
 use Rattle.rcv_model.specs.Journal.{Rules, State, reading}
 use Rattle.rcv_model.specs.Final.{AreDone}
 use Rattle.rcv_model.proofs.Bare.{one_completes}
+use Rattle.rcv_input.proofs.Plain.{run_is_plain}
 use Rattle.rcv_core.specs.Setup.{rules_of}
 use Rattle.rcv_journal.specs.declared.line.RoleLine.{RoleLine}
 use Rattle.rcv_journal.specs.declared.line.RoleWord.TheVariants.{Done}
 use Rattle.rcv_journal.specs.JournalText.{journal_text}
 use Rattle.rcv_journal.specs.Lines.{IsLineOf, AreLinesOf}
 use Rattle.rcv_top.specs.Outcome.{session_of, completed}
-use Rattle.rcv_top.specs.Laws.{PlainTextsComplete}
+use Rattle.rcv_top.specs.Laws.{SessionsComplete}
 
 -- the line of a role that is done
 abbrev done_line : State → ℕ → RoleLine
@@ -46,10 +47,10 @@ all_done rules s done = record {
       subst (IsLineOf rules s r) (ap (done_line s) (omega arith) ∙ here.0) (record { role = refl; kept = refl; raw = refl; word = done r here.1 });
 }
 
-pub plain_texts_complete : PlainTextsComplete
-plain_texts_complete input p short reads =
-    let plain = reads.spelled.plain_body in
-    let j = one_completes (body_of p.body) (length p.roles) (λ r. []) plain.plain plain.form in
+pub sessions_complete : SessionsComplete
+sessions_complete input p short taken =
+    let plain = run_is_plain input p taken in
+    let j = one_completes (body_of p.body) (length p.roles) (λ r. []) plain.0 plain.1 in
     let s = reading (rules_of (session_of p)) j.0 in
     let lines = done_lines s 0 (length p.roles) in
-    (journal_text (session_of p) j.0 lines, completed p j.0 (record { command = refl; short = short }) (record { reads = reads; alone = j.1; text = record { lines = lines; are_lines = all_done (rules_of (session_of p)) s j.2.1; is_text = refl } }) j.2)
+    (journal_text (session_of p) j.0 lines, completed p j.0 (record { words_are = refl; short = short }) (record { taken = taken; alone = j.1; text = record { lines = lines; are_lines = all_done (rules_of (session_of p)) s j.2.1; is_text = refl } }) j.2)

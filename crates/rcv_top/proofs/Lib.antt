@@ -1,5 +1,5 @@
 pub mod Sessions
 pub mod Answering
-pub mod Words
 pub mod Outcomes
 pub mod Completing
+pub mod Again

@@ -4,14 +4,22 @@ use Rattle.rcv_tree.specs.declared.protocol.Protocol.{Protocol}
 use Rattle.rcv_tree.specs.declared.entry.Entry.{Entry}
 use Rattle.rcv_model.specs.Final.{IsFinal, IsCompleted, IsLimited, IsOneThread}
 use Rattle.rcv_model.proofs.OneThread.{one_journal}
-use Rattle.rcv_plain.specs.PlainText.{IsPlainText}
+use Rattle.rcv_tree.specs.declared.refusal.Refusal.TheVariants.{Text}
+use Rattle.rcv_lexer.specs.declared.token.TextError.{TextError}
+use Rattle.rcv_lexer.specs.declared.token.TextError.TheVariants as errors
+use Rattle.rcv_input.specs.declared.command.Command.{Command}
+use Rattle.rcv_input.specs.declared.command.Command.TheVariants.{Run, Check}
+use Rattle.rcv_input.specs.Input.{IsTaken, IsRefused}
+use Rattle.rcv_input.proofs.Reading.{refused_first}
+use Rattle.rcv_input.specs.Line.{refusal_line}
+use Rattle.rcv_printer.specs.CanonicalText.{canonical}
 use Rattle.rcv_core.specs.Setup.{SetupView, rules_of}
 use Rattle.rcv_core.specs.Book.{BookView, state_of, EndsAlone}
 use Rattle.rcv_journal.specs.Lines.{IsTextOf}
 use Rattle.rcv_top.specs.declared.status.Status.TheVariants as statuses
 use Rattle.rcv_top.specs.declared.status.Status.{Status}
-use Rattle.rcv_top.specs.declared.run.Output.{Output}
-use Rattle.rcv_top.specs.Outcome.{session_of, not_yet_line, IsOutcome, completed, limited, refused}
+use Rattle.rcv_top.specs.declared.answer.Output.{Output}
+use Rattle.rcv_top.specs.Outcome.{session_of, word_of, IsOutcome, completed, limited, checked, refused}
 use Rattle.std.specs.Prelude.{Result, Ok, Err, IfOk}
 
 -- the book of a session that one thread ran to its end
@@ -33,15 +41,28 @@ ended p setup first last which empty ends = record { journal = here.more; is = h
 pub final_of : (p : Protocol) (book : BookView) → Ended p book → IsFinal (rules_of book.setup) (state_of book)
 final_of p book e = subst (λ (b : BookView). IsFinal (rules_of b.setup) (state_of b)) (sym e.is) ((one_journal (rules_of (session_of p)) e.journal e.journal).final e.alone)
 
--- the answers
-pub answer_completed : (input : List ℕ) (p : Protocol) (book : BookView) (bytes : List ℕ) → length input ≤ 1048576 → IsPlainText input p → Ended p book → IsTextOf book.setup book.entries bytes → IsCompleted (rules_of book.setup) (state_of book) → IsOutcome (codes "run" ∷ []) input statuses.Completed bytes
-answer_completed input p book bytes short reads e text done = completed p e.journal (record { command = refl; short = short }) (record { reads = reads; alone = e.alone; text = subst (λ (b : BookView). IsTextOf b.setup b.entries bytes) e.is text }) (subst (λ (b : BookView). IsCompleted (rules_of b.setup) (state_of b)) e.is done)
+-- ---- the answers
 
-pub answer_limited : (input : List ℕ) (p : Protocol) (book : BookView) (bytes : List ℕ) → length input ≤ 1048576 → IsPlainText input p → Ended p book → IsTextOf book.setup book.entries bytes → IsLimited (rules_of book.setup) (state_of book) → IsOutcome (codes "run" ∷ []) input statuses.Limited bytes
-answer_limited input p book bytes short reads e text done = limited p e.journal (record { command = refl; short = short }) (record { reads = reads; alone = e.alone; text = subst (λ (b : BookView). IsTextOf b.setup b.entries bytes) e.is text }) (subst (λ (b : BookView). IsLimited (rules_of b.setup) (state_of b)) e.is done)
+outcome_of : (words : List (List ℕ)) (input : List ℕ) (output : Output) (status : Status) (bytes : List ℕ) → IsOutcome words input status bytes → output.status ≡ status → output.bytes.items ≡ bytes → IsOutcome words input output.status output.bytes.items
+outcome_of words input output status bytes outcome is_status are_bytes =
+    subst (λ (s : Status). IsOutcome words input s output.bytes.items) (sym is_status) (subst (λ (b : List ℕ). IsOutcome words input status b) (sym are_bytes) outcome)
 
-pub answer_refused : {E : Type 0} (input : List ℕ) (result : Result Output E) → length input ≤ 1048576 → ((p : Protocol) → IsPlainText input p → ⊥) → IfOk result (λ output. (output.status ≡ statuses.Refused) × (output.bytes.items ≡ not_yet_line)) → IfOk result (λ output. IsOutcome (codes "run" ∷ []) input output.status output.bytes.items)
-answer_refused input (Err e) short none said = tt
-answer_refused input (Ok output) short none said =
-    subst (λ (s : Status). IsOutcome (codes "run" ∷ []) input s output.bytes.items) (sym said.0)
-    (subst (λ (b : List ℕ). IsOutcome (codes "run" ∷ []) input statuses.Refused b) (sym said.1) (refused (record { command = refl; short = short }) none))
+pub answer_completed : (input : List ℕ) (p : Protocol) (book : BookView) (bytes : List ℕ) → length input ≤ 1048576 → IsTaken Run input p → Ended p book → IsTextOf book.setup book.entries bytes → IsCompleted (rules_of book.setup) (state_of book) → IsOutcome (codes "run" ∷ []) input statuses.Completed bytes
+answer_completed input p book bytes short taken e text done = completed p e.journal (record { words_are = refl; short = short }) (record { taken = taken; alone = e.alone; text = subst (λ (b : BookView). IsTextOf b.setup b.entries bytes) e.is text }) (subst (λ (b : BookView). IsCompleted (rules_of b.setup) (state_of b)) e.is done)
+
+pub answer_limited : (input : List ℕ) (p : Protocol) (book : BookView) (bytes : List ℕ) → length input ≤ 1048576 → IsTaken Run input p → Ended p book → IsTextOf book.setup book.entries bytes → IsLimited (rules_of book.setup) (state_of book) → IsOutcome (codes "run" ∷ []) input statuses.Limited bytes
+answer_limited input p book bytes short taken e text done = limited p e.journal (record { words_are = refl; short = short }) (record { taken = taken; alone = e.alone; text = subst (λ (b : BookView). IsTextOf b.setup b.entries bytes) e.is text }) (subst (λ (b : BookView). IsLimited (rules_of b.setup) (state_of b)) e.is done)
+
+pub answer_refused : {E : Type 0} (input : List ℕ) (command : Command) (error : TextError) (result : Result Output E) → length input ≤ 1048576 → IsRefused command input error
+    → IfOk result (λ output. (code : ℕ) × (line : ℕ) × (error ≡ errors.Refused (Text code line)) × (output.status ≡ statuses.Refused) × (output.bytes.items ≡ refusal_line code line))
+    → IfOk result (λ output. IsOutcome (word_of command ∷ []) input output.status output.bytes.items)
+answer_refused input command error (Err e) short is said = tt
+answer_refused input command error (Ok output) short is said =
+    let first = refused_first command input error said.0 said.1 is said.2 in
+    outcome_of (word_of command ∷ []) input output statuses.Refused (refusal_line said.0 said.1) (refused command said.0 said.1 (record { words_are = refl; short = short }) first) said.3 said.4
+
+pub answer_checked : {E : Type 0} (input : List ℕ) (p : Protocol) (result : Result Output E) → length input ≤ 1048576 → IsTaken Check input p → IfOk result (λ output. (output.status ≡ statuses.Completed) × (output.bytes.items ≡ canonical p))
+    → IfOk result (λ output. IsOutcome (word_of Check ∷ []) input output.status output.bytes.items)
+answer_checked input p (Err e) short taken said = tt
+answer_checked input p (Ok output) short taken said =
+    outcome_of (word_of Check ∷ []) input output statuses.Completed (canonical p) (checked p (record { words_are = refl; short = short }) taken) said.0 said.1

@@ -13,7 +13,7 @@ use Rattle.rcv_io.specs.Sink.{WroteBeginning}
 use Rattle.rcv_core.specs.Setup.{rules_of}
 use Rattle.rcv_top.specs.declared.status.Status.{Status}
 use Rattle.rcv_top.specs.declared.status.Status.TheVariants.{Completed, Usage, Refused, Limited, ReadFault, WriteFault, Memory, TooLong}
-use Rattle.rcv_top.specs.Outcome.{IsCommand, most_bytes, session_of, IsSession, IsOutcome}
+use Rattle.rcv_top.specs.Outcome.{IsSomeCommand, IsNoCommand, most_bytes, session_of, IsSession, IsOutcome}
 use Rattle.rcv_top.specs.Headline.{IsHeadline}
 
 -- Words as their bytes.
@@ -67,8 +67,8 @@ Takes call input = Took call.rest_before call.rest_after call.given_before call.
 -- The input is what the source gave: all that it had where the words are a command, else nothing.
 pub record IsInput (words : List (List ℕ)) (call : Around) (input : List ℕ) : Type 0 where
   pub takes : Takes call input
-  pub whole : IsCommand words → IsAtEnd call.rest_after
-  pub unread : (IsCommand words → ⊥) → ReadNothing call
+  pub whole : IsSomeCommand words → IsAtEnd call.rest_after
+  pub unread : IsNoCommand words → ReadNothing call
 
 -- The call wrote the bytes of this status, which the words and the input have.
 pub record Answers (words : List (List ℕ)) (call : Around) (status : Status) : Type 0 where
@@ -97,7 +97,7 @@ pub record FailsToWrite (words : List (List ℕ)) (call : Around) : Type 0 where
 
 -- Memory was wanted: the words are a command, no more was taken than an input may have, and nothing was written.
 pub record WantsMemory (words : List (List ℕ)) (call : Around) : Type 0 where
-  pub command : IsCommand words
+  pub command : IsSomeCommand words
   pub input : List ℕ
   pub takes : Takes call input
   pub short : length input ≤ most_bytes
@@ -106,7 +106,7 @@ pub record WantsMemory (words : List (List ℕ)) (call : Around) : Type 0 where
 -- The source failed: its count of faults rose. Else it is as where memory was wanted.
 pub record FailsToRead (words : List (List ℕ)) (call : Around) : Type 0 where
   pub rose : Rose call.read_faults_before call.read_faults_after
-  pub command : IsCommand words
+  pub command : IsSomeCommand words
   pub input : List ℕ
   pub takes : Takes call input
   pub short : length input ≤ most_bytes
@@ -123,7 +123,7 @@ Says words call WriteFault = FailsToWrite words call
 Says words call Memory = WantsMemory words call
 Says words call TooLong = TakesTooMuch words call
 
--- The input is the text of a protocol, and what was written is the text of a journal of it as the headline says.
+-- The input is taken as a protocol, and what was written is the text of a journal of it as the headline says.
 pub record WritesLegalJournal (call : Around) : Type 0 where
   pub input : List ℕ
   pub takes : Takes call input

@@ -1,12 +1,14 @@
 // The top call.
 
-ghost use Rattle.std.specs.Prelude.{◌≡◌, ◌≤◌, ◌⊎◌, ◌↔◌, IsTrue};
+ghost use Rattle.std.specs.Prelude.{◌≡◌, ◌≤◌, ◌⊎◌};
+ghost use Rattle.rcv_input.specs.declared.command.Command.TheVariants.{Run};
 ghost use Rattle.rcv_top.specs.Outcome.{IsCommand};
 ghost use Rattle.rcv_top.specs.Calls.{bytes_of, around, Says, Wrote, WritesLegalJournal};
 
+use crate::answer::answer;
 use crate::gate::Gate;
-use crate::run::run;
 use crate::status::Status;
+use crate::words::command_of;
 use rcv_io::{ReadError, Sink, Source, read_all, write_all_of};
 use std::alloc::Global;
 
@@ -19,12 +21,14 @@ const USAGE: &[u8] =
 
 /// Does what the program does: reads the words, then the whole source, and writes the answer.
 ///
-/// `words` are those behind the program's name; they are a command exactly where they are the one word `run`. The
-/// output is made whole in memory before the first byte of it is written. The answer says how the call ended:
-/// - `Completed`: the input is the text of a plain protocol, and the journal of its session was written.
-/// - `Limited`: the same, and some role isn't done at the journal's end.
+/// `words` are those behind the program's name; they are a command exactly where they are the one word `run` or the one
+/// word `check`. The output is made whole in memory before the first byte of it is written. The answer says how the call
+/// ended:
+/// - `Completed`: under `run` the session of the input completed, and its journal was written; under `check` the input's
+///   protocol was written as its canonical text.
+/// - `Limited`: a session was run, some role isn't done at the journal's end, and the journal was written.
 /// - `Usage`: the words are no command; nothing was read, and the usage line was written.
-/// - `Refused`: the input is the text of no plain protocol, and the refusal was written.
+/// - `Refused`: the input is refused for the command, and the line of its first refusal was written.
 /// - `ReadFault`: the source's count of faults rose, and nothing was written.
 /// - `WriteFault`: the sink's count of faults rose, and a beginning of what should be written was, not all of it.
 /// - `Memory`: memory was wanted, and nothing was written.
@@ -39,32 +43,22 @@ pub fn recover<S: Source, K: Sink, G: Gate>(
     _gate: &G,
 ) -> Status
     ensures says { Says (bytes_of words.now) (around S.rest S.given S.faults source.old source.new K.written K.faults sink.old sink.new) result }
-    ensures headline { (result ≡ Status.Completed) ⊎ (result ≡ Status.Limited) → WritesLegalJournal (around S.rest S.given S.faults source.old source.new K.written K.faults sink.old sink.new) }
+    ensures headline { IsCommand (bytes_of words.now) Run → (result ≡ Status.Completed) ⊎ (result ≡ Status.Limited) → WritesLegalJournal (around S.rest S.given S.faults source.old source.new K.written K.faults sink.old sink.new) }
     ensures source_later { S.faults source.old ≤ S.faults source.new }
     ensures sink_later { K.faults sink.old ≤ K.faults sink.new }
 {
-    if !is_command(words) {
+    let Some(command) = command_of(words) else {
         return write(sink, USAGE, Status::Usage);
-    }
+    };
     let input = match read_all(alloc, source, MOST) {
         Ok(input) => input,
         Err(ReadError::ReadFault) => return Status::ReadFault,
         Err(ReadError::TooLong) => return Status::TooLong,
         Err(ReadError::Memory) => return Status::Memory,
     };
-    match run(alloc, input.as_slice()) {
+    match answer(alloc, command, input.as_slice()) {
         Ok(output) => write(sink, output.bytes.as_slice(), output.status),
         Err(_) => Status::Memory,
-    }
-}
-
-// Whether the words are the one word `run`.
-fn is_command(words: &[String]) -> bool
-    ensures { IsTrue result ↔ IsCommand (bytes_of words.now) }
-{
-    match words {
-        [word] => word.as_str() == "run",
-        _ => false,
     }
 }
 

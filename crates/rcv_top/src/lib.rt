@@ -1,14 +1,15 @@
 // The whole program as one call: from words and an input to a status and bytes.
 #![tactic(auto)]
 
-ghost use Rattle.rcv_top.specs.Laws.{OneOutcome, PlainTextsComplete, SessionsAreLegal};
+ghost use Rattle.rcv_top.specs.Laws.{ChecksStay, OneOutcome, SessionsAreLegal, SessionsComplete};
 
+mod answer;
 mod call;
 mod gate;
-mod run;
 mod status;
 #[cfg(test)]
 mod tests;
+mod words;
 
 pub use call::recover;
 pub use gate::{Gate, NoGate};
@@ -24,7 +25,12 @@ pub fn sessions_are_legal()
     ensures { SessionsAreLegal }
 {}
 
-/// The session of each plain text that isn't too long completes.
-pub fn plain_texts_complete()
-    ensures { PlainTextsComplete }
+/// The session of each input that `run` takes, and that isn't too long, completes.
+pub fn sessions_complete()
+    ensures { SessionsComplete }
+{}
+
+/// What `check` wrote, given to `check` again, is written as it is.
+pub fn checks_stay()
+    ensures { ChecksStay }
 {}

@@ -6,7 +6,7 @@ ghost use Rattle.rcv_top.specs.Outcome.{number_of};
 /// How a call ended.
 #[derive(Clone, Copy, Debug, PartialEq, Eq)]
 pub enum Status {
-    /// The session ran until all roles were done, and its journal was written.
+    /// The session ran until all roles were done, and its journal was written; or the canonical text was written.
     Completed,
     /// The words are no command, and the usage line was written.
     Usage,

@@ -5,19 +5,19 @@ use Rattle.rcv_script.proofs.Going.{ProductSoFar, SumSoFar}
 use Rattle.rcv_script.proofs.ahead.Ahead.+descent.Given as goal
 
 abbrev pub decreases-atom : goal.decreases-atom
-decreases-atom l = 3 * length l.self.now
+decreases-atom l = 4 * length l.self.now
 
 abbrev pub decreases-negated : goal.decreases-negated
-decreases-negated l = 3 * length l.self.now + 1
+decreases-negated l = 4 * length l.self.now + 1
 
 abbrev pub decreases-group : goal.decreases-group
-decreases-group l = 3 * length l.self.now + 3
+decreases-group l = 4 * length l.self.now + 3
 
 abbrev pub decreases-product : goal.decreases-product
-decreases-product l = 3 * length l.self.now + 1
+decreases-product l = 4 * length l.self.now + 1
 
 abbrev pub decreases-sum : goal.decreases-sum
-decreases-sum l = 3 * length l.self.now + 2
+decreases-sum l = 4 * length l.self.now + 2
 
 abbrev pub invariant-product-loop-alloc : goal.invariant-product-loop-alloc
 invariant-product-loop-alloc l = ProductSoFar (place_at l.names l.banned.value l.banned.attempt l.depth) (factors l.product) l.fn.self l.self

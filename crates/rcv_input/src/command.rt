@@ -1,0 +1,10 @@
+// What the program may be asked to do with an input.
+
+/// A command.
+#[derive(Clone, Copy, Debug, PartialEq, Eq)]
+pub enum Command {
+    /// Runs the session of the input, and writes its journal.
+    Run,
+    /// Writes the canonical text of the input's protocol.
+    Check,
+}

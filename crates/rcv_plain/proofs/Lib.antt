@@ -1,5 +1,0 @@
-pub mod Since
-pub mod Roles
-pub mod Messages
-pub mod Whole
-pub mod Examples

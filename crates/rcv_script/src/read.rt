@@ -1,0 +1,175 @@
+// Reads the scripts of a protocol's roles.
+
+ghost use Rattle.std.specs.Prelude.{◌≡◌, ◌<◌, ◌≤◌, ◌∷◌, [], length, map, MatchResult, IfOk, IfErr, true, false};
+ghost use Rattle.std.specs.List.{All};
+ghost use Rattle.rcv_lexer.specs.Parts.{LiesIn};
+ghost use Rattle.rcv_script.specs.Symbols.{Word, symbols_of};
+ghost use Rattle.rcv_script.specs.Lines.{line_of};
+ghost use Rattle.rcv_script.specs.Machine.{AWord, is_listed, role_fault, script, place_in, no_lines};
+ghost use Rattle.rcv_script.specs.Descent.{Goes, IsNotNext};
+ghost use Rattle.rcv_script.specs.Refusals.{AreRead, Ends, IsRefused, line_before};
+
+use crate::ahead::Ahead;
+use crate::fault::{Fault, ReadError};
+use crate::formula::place_of;
+use crate::line::is;
+use crate::scripts::{Script, Scripts};
+use crate::sign::Sign;
+use rcv_lexer::token::{TextError, Token};
+use rcv_points::points::Points;
+use rcv_tree::name::Names;
+use rcv_tree::refusal::Refusal;
+use std::alloc::Global;
+
+// A role and its script.
+#[derive(Drop)]
+struct Given {
+    role: usize,
+    script: Script,
+}
+
+impl<'a> Ahead<'a> {
+    // Takes this word if it is next.
+    fn takes_word(&mut self, word: &[u8]) -> bool
+        ensures yes { result ≡ true → self.old ≡ Word word.now ∷ self.new }
+        ensures taken { result ≡ true → length self.new < length self.old }
+        ensures no { result ≡ false → (self.new ≡ self.old) × IsNotNext (Word word.now) self.old }
+        ensures shorter { length self.new ≤ length self.old }
+    {
+        let Some((found, after)) = self.word() else {
+            return false;
+        };
+        if !is(found, word) {
+            return false;
+        }
+        *self = after;
+        true
+    }
+
+    // Takes the name of a role that has no script yet: its place.
+    fn role(&mut self, roles: &Names, given: &[usize]) -> Result<usize, ReadError>
+        ensures goes { Goes result (λ k. AWord (role_fault roles.now given.now) (λ n. k (place_in roles.now n))) (λ role. role) self.old self.new }
+        ensures declared { IfOk result (λ role. role < length roles.now) }
+        ensures shorter { length self.new ≤ length self.old }
+    {
+        let Some((word, after)) = self.word() else {
+            return Err(ReadError::Refused(Fault::Token));
+        };
+        let Some(role) = place_of(roles.as_slice(), word) else {
+            return Err(ReadError::Refused(Fault::Role));
+        };
+        if is_listed(role, given) {
+            return Err(ReadError::Refused(Fault::Role));
+        }
+        *self = after;
+        Ok(role)
+    }
+
+    // Takes what stands behind the word `role`.
+    fn script(
+        &mut self,
+        alloc: Global,
+        roles: &Names,
+        points: &Points,
+        given: &[usize],
+    ) -> Result<Given, ReadError>
+        ensures goes { Goes result (λ k. script roles.now given.now points.now k) (λ x. (x.role, x.script)) self.old self.new }
+        ensures declared { IfOk result (λ x. x.role < length roles.now) }
+        ensures shorter { length self.new ≤ length self.old }
+    {
+        let role = self.role(roles, given)?;
+        self.expect(Sign::Open)?;
+        let lines = self.lines(alloc, points, role)?;
+        Ok(Given {
+            role,
+            script: Script::of(lines),
+        })
+    }
+
+    // Takes all scripts.
+    fn scripts(
+        &mut self,
+        alloc: Global,
+        roles: &Names,
+        points: &Points,
+    ) -> Result<Scripts, ReadError>
+        ensures ok { IfOk result (λ scripts. AreRead roles.now points.now self.old scripts) }
+        ensures err { IfErr result (λ e. Ends roles.now points.now e self.old self.new) }
+    {
+        let mut scripts = no_lines(alloc, roles)?;
+        let mut given = Vec::new(alloc);
+        while self.takes_word(b"role") {
+            let next = self.script(alloc, roles, points, given.as_slice())?;
+            given.push(next.role)?;
+            scripts[next.role] = next.script;
+        }
+        if self.is_empty() {
+            Ok(Scripts::of(scripts))
+        } else {
+            Err(ReadError::Refused(Fault::Token))
+        }
+    }
+}
+
+// Whether the role is one of these.
+fn is_listed(role: usize, given: &[usize]) -> bool
+    ensures { result ≡ is_listed role given.now }
+{
+    given.iter().any(|other| role == *other)
+}
+
+// A script without lines for each role.
+fn no_lines(alloc: Global, roles: &Names) -> Result<Vec<Script>, ReadError>
+    ensures ok { IfOk result (λ scripts. scripts.items ≡ no_lines roles.now) }
+    ensures err { IfErr result (λ e. e ≡ ReadError.Memory) }
+{
+    let mut scripts = Vec::new(alloc);
+    for _name in roles.as_slice() {
+        scripts.push(Script::of(Vec::new(alloc)))?;
+    }
+    Ok(scripts)
+}
+
+// The line of the token from which on so many are left, or of the end.
+fn line_before(list: &[Token], last: u32, left: usize) -> u32
+    ensures { result ≡ line_before list.now last left }
+{
+    let place = list.len().saturating_sub(left);
+    match &list[place..] {
+        [first, ..] => first.line,
+        [] => last,
+    }
+}
+
+/// The scripts that the tokens of a part of the bundle say, for the protocol with these roles and points. `last` is the
+/// line of the part's end. A part without tokens gives each role a script without lines.
+///
+/// Refused at the first token at which a code holds, or at the part's end, with the least code at it and its line:
+/// 30 where the grammar doesn't have the token or the end there, and at a number above 9223372036854775807; 31 at a role
+/// that isn't declared or has a script before; 32 at a label of `send` or `pick` that the role never sends, one of `on`
+/// that it neither sends nor receives, and that of a second `send` line; 33 at a variable that isn't declared before,
+/// at a name that is declared again or is `value` or `attempt`, and at `value` in a `send` or `pick` line; 34 at
+/// `attempt` in an `on` line; 35 at a label of `send` that stands for a message without sorts, and at `value` in an `on`
+/// line of such a label; 36 at the word `var` of the 17th variable, the first word of the 257th line of a role, and the
+/// 33rd nested parenthesis or sign of an expression. `Memory` where no memory is left.
+pub fn read_scripts(
+    alloc: Global,
+    bundle: &[u8],
+    list: &[Token],
+    last: u32,
+    roles: &Names,
+    points: &Points,
+) -> Result<Scripts, TextError>
+    requires inside { All (λ t. LiesIn bundle.now t.span) list.now }
+    ensures { MatchResult result (AreRead roles.now points.now (symbols_of bundle.now list.now)) (IsRefused bundle.now list.now last roles.now points.now) }
+{
+    let mut ahead = Ahead::new(bundle, list);
+    match ahead.scripts(alloc, roles, points) {
+        Ok(scripts) => Ok(scripts),
+        Err(ReadError::Memory) => Err(TextError::Memory),
+        Err(ReadError::Refused(fault)) => Err(TextError::Refused(Refusal::Text {
+            code: fault.code(),
+            line: line_before(list, last, ahead.len()),
+        })),
+    }
+}

@@ -1,0 +1,31 @@
+// The command that words say.
+
+ghost use Rattle.std.specs.Prelude.{◌≡◌, IfSome, IfNone};
+ghost use Rattle.rcv_input.specs.declared.command.Command.{Command};
+ghost use Rattle.rcv_top.specs.Outcome.{word_of, IsCommand, IsNoCommand};
+ghost use Rattle.rcv_top.specs.Calls.{bytes_of};
+
+use rcv_input::command::Command;
+
+// The command that has this word.
+fn named(word: &str) -> Option<Command>
+    ensures some { IfSome result (λ command. word.now ≡ word_of command) }
+    ensures none { IfNone result ((command : Command) → word.now ≡ word_of command → ⊥) }
+{
+    match word {
+        "run" => Some(Command::Run),
+        "check" => Some(Command::Check),
+        _ => None,
+    }
+}
+
+/// The command that the words are, if they are one: they are its word alone.
+pub fn command_of(words: &[String]) -> Option<Command>
+    ensures some { IfSome result (IsCommand (bytes_of words.now)) }
+    ensures none { IfNone result (IsNoCommand (bytes_of words.now)) }
+{
+    let [word] = words else {
+        return None;
+    };
+    named(word.as_str())
+}
