@@ -1,5 +1,4 @@
-pub mod Statements
-pub mod Nexts
+pub mod Setups
 pub mod Following
 pub mod Acting
 pub mod Books

@@ -27,11 +27,12 @@ impl Model for Setup {
     ghost use Rattle.rcv_core.specs.Setup.{SetupView};
     ghost use Rattle.rcv_accept.specs.Accepted.{IsAcceptedProtocol};
     ghost use Rattle.rcv_tree.specs.contracts.statement.Stmt as e;
+    ghost use Rattle.rcv_script.specs.Codes.{expr_code};
     ghost use Rattle.std.specs.Coded.{codes};
 
     ghost Value = { SetupView };
 
-    ghost coded = { Prim.hlevel (codes, e.the_row.coded) };
+    ghost coded = { Prim.hlevel (codes, e.the_row.coded, expr_code) };
 
     ghost view = { λ a. record { protocol = a.accepted.protocol; scripts = a.scripts } };
 
