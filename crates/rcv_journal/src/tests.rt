@@ -3,15 +3,19 @@
 ghost use Rattle.std.specs.Prelude.{◌≡◌, ◌<◌, [], ◌∷◌, IfOk, OnOk, length};
 ghost use Rattle.rcv_tree.specs.declared.statement.Stmt.TheVariants.{Message};
 ghost use Rattle.rcv_model.specs.Text.{body_of};
-ghost use Rattle.rcv_model.specs.Places.{net_of};
-ghost use Rattle.rcv_core.specs.Setup.{IsPlainProtocol, roles_of};
+ghost use Rattle.rcv_model.specs.Places.{net_of, IsFull};
+ghost use Rattle.rcv_model.specs.Form.{HasForm};
+ghost use Rattle.rcv_core.specs.Setup.{roles_of, net_for};
 
 use crate::journal::write_journal;
 use crate::line::{RoleLine, RoleWord};
 use crate::text::text_of;
+use rcv_accept::accept;
 use rcv_core::book::Book;
 use rcv_core::outcome::Outcome;
 use rcv_core::setup::Setup;
+use rcv_lexer::token::TextError;
+use rcv_script::read_scripts;
 use rcv_tree::entry::Entry;
 use rcv_tree::event::{Dir, Event};
 use rcv_tree::name::{Name, Names};
@@ -42,7 +46,8 @@ fn message(
 
 // A sends ping to B, and B sends pong to A.
 fn ping_pong(alloc: Global) -> Result<Protocol, AllocError>
-    ensures plain { IfOk result IsPlainProtocol }
+    ensures form { IfOk result (λ protocol. HasForm (body_of protocol.body) (length protocol.roles)) }
+    ensures full { IfOk result (λ protocol. IsFull [] [] (body_of protocol.body)) }
     ensures roles { IfOk result (λ protocol. length protocol.roles ≡ 2) }
     ensures points { IfOk result (λ protocol. (net_of (body_of protocol.body)).count ≡ 2) }
 {
@@ -59,6 +64,17 @@ fn ping_pong(alloc: Global) -> Result<Protocol, AllocError>
         roles,
         body,
     })
+}
+
+// Its session without scripts.
+fn setup_of(alloc: Global) -> Result<Setup, TextError>
+    ensures roles { IfOk result (λ setup. roles_of setup ≡ 2) }
+    ensures points { IfOk result (λ setup. (net_for setup).count ≡ 2) }
+{
+    let accepted = accept(alloc, ping_pong(alloc)?)?;
+    let roles = &accepted.protocol().roles;
+    let scripts = read_scripts(alloc, &[], &[], 1, roles, accepted.points())?;
+    Ok(Setup::of(accepted, scripts))
 }
 
 // The next step of the role, if it has one.
@@ -95,7 +111,7 @@ fn session(alloc: Global, setup: &Setup) -> Result<Vec<u8>, AllocError>
 
 #[test]
 fn writes_a_session(rt: HostRuntime) -> Result<(), Fail> {
-    let setup = Setup::plain(rt.alloc(), ping_pong(rt.alloc())?)?;
+    let setup = setup_of(rt.alloc())?;
     let text = session(rt.alloc(), &setup)?;
     assert_eq!(rt;
         text.as_slice(),
@@ -106,7 +122,7 @@ fn writes_a_session(rt: HostRuntime) -> Result<(), Fail> {
 
 #[test]
 fn writes_a_recovery(rt: HostRuntime) -> Result<(), Fail> {
-    let setup = Setup::plain(rt.alloc(), ping_pong(rt.alloc())?)?;
+    let setup = setup_of(rt.alloc())?;
     let pong = Event {
         role: RoleId(0),
         dir: Dir::Got,

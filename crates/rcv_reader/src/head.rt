@@ -7,6 +7,7 @@ ghost use Rattle.rcv_reader.specs.Grammar.{decls, is_decl_word};
 ghost use Rattle.rcv_reader.specs.Machine.{This, AnyName, AnyQuoted, MoreModules, Alias, RoleName, MoreRoles};
 ghost use Rattle.rcv_reader.specs.Descent.{declaring, a_name, a_name_of, a_quoted, AddsName, module_list, names_of_roles, known, Goes, IsNotNext, IsDecl, AreSuch};
 
+use crate::aliases::Aliases;
 use crate::fault::{Fault, ReadError};
 use crate::parser::{Parser, holds};
 use crate::sign::Sign;
@@ -114,7 +115,7 @@ impl<'a> Parser<'a> {
     }
 
     // Takes the alias of a declaration.
-    fn alias(&mut self, alloc: Global, aliases: &mut Names) -> Result<Name, ReadError>
+    fn alias(&mut self, alloc: Global, aliases: &mut Aliases<'a>) -> Result<Name, ReadError>
         ensures goes { Goes result (known self.old.roles self.old.count) (known self.new.roles self.new.count) (λ k. Alias aliases.old ∷ k) (λ x k. This (Is Sign.Semicolon) ∷ declaring aliases.new ∷ k) self.old.rest self.new.rest }
         ensures read { IfOk result (λ n. self.old.rest ≡ a_name n self.new.rest) }
         ensures kept { (self.new.roles ≡ self.old.roles) × (self.new.recs.items ≡ self.old.recs.items) × (self.new.count ≡ self.old.count) }
@@ -123,17 +124,17 @@ impl<'a> Parser<'a> {
         let Some((bytes, after)) = self.rest.name() else {
             return Err(ReadError::Refused(Fault::Token));
         };
-        if holds(bytes, aliases.as_slice()) {
+        if aliases.holds(bytes) {
             return Err(ReadError::Refused(Fault::Twice));
         }
-        aliases.push(Name::of(alloc, bytes)?)?;
+        aliases.push(bytes)?;
         let alias = Name::of(alloc, bytes)?;
         self.rest = after;
         Ok(alias)
     }
 
     // Takes the word that begins a declaration.
-    fn decl_word(&mut self, alloc: Global, aliases: &Names) -> Result<Name, ReadError>
+    fn decl_word(&mut self, alloc: Global, aliases: &Aliases<'a>) -> Result<Name, ReadError>
         requires { IsNotNext (Is Sign.Global) self.old.rest }
         ensures goes { Goes result (known self.old.roles self.old.count) (known self.new.roles self.new.count) (λ k. declaring aliases.now ∷ k) (λ x k. This (Is Sign.Less) ∷ AnyName ∷ This (Is Sign.Greater) ∷ AnyQuoted ∷ This (Is Sign.From) ∷ AnyQuoted ∷ This (a_name_of (codes "as")) ∷ Alias aliases.now ∷ k) self.old.rest self.new.rest }
         ensures read { IfOk result (λ n. (is_decl_word n ≡ true) × (self.old.rest ≡ a_name n self.new.rest)) }
@@ -153,7 +154,7 @@ impl<'a> Parser<'a> {
     }
 
     // Takes a declaration.
-    fn decl(&mut self, alloc: Global, aliases: &mut Names) -> Result<Decl, ReadError>
+    fn decl(&mut self, alloc: Global, aliases: &mut Aliases<'a>) -> Result<Decl, ReadError>
         requires { IsNotNext (Is Sign.Global) self.old.rest }
         ensures goes { Goes result (known self.old.roles self.old.count) (known self.new.roles self.new.count) (λ k. declaring aliases.old ∷ k) (λ x k. declaring aliases.new ∷ k) self.old.rest self.new.rest }
         ensures read { IfOk result (λ d. IsDecl d self.old.rest self.new.rest) }
@@ -188,7 +189,7 @@ impl<'a> Parser<'a> {
         ensures shorter { length self.new.rest ≤ length self.old.rest }
     {
         let mut list = Decls::new(alloc);
-        let mut aliases = Names::new(alloc);
+        let mut aliases = Aliases::new(alloc);
         while !self.takes(Sign::Global) {
             let decl = self.decl(alloc, &mut aliases)?;
             list.push(decl)?;

@@ -4,6 +4,7 @@
 ghost use Rattle.rcv_reader.specs.Laws.{CodesAreFair};
 
 mod ahead;
+mod aliases;
 mod fault;
 mod head;
 mod parser;

@@ -1,10 +1,10 @@
 -- Where the attempt is read, factor by factor, term by term and line by line; where it isn't, the lines are blind.
 use Rattle.std.proofs.Common.{◌≡◌, ℕ, zero, suc, Bool, true, false, List, [], ◌∷◌, map, refl, ap, sym, ◌∙◌}
-use Rattle.std.specs.Prelude.{◌||◌, slice_index_or, Option, Some, None}
-use Rattle.rcv_model.specs.Script.{Expr, Literal, TheValue, TheAttempt, Variable, Negated, Plus, Minus, Times, Condition, Line, VarLine, SendLine, PickLine, OnLine}
+use Rattle.std.specs.Prelude.{◌||◌, Some, None}
+use Rattle.rcv_model.specs.Script.{Expr, Literal, TheValue, TheAttempt, Variable, Negated, Plus, Minus, Times, Line, VarLine, SendLine, PickLine, OnLine}
 use Rattle.rcv_model.specs.Transparent.{IsBlind, AreBlind}
 use Rattle.rcv_script.specs.Expressions.{Signed, times_more, plus_more, plus_or_minus, product_of, sum_of, atom_expr, term_expr, product_expr, sum_expr, factors, terms}
-use Rattle.rcv_script.specs.Attempts.{reads, some_read, some_term_reads, condition_reads, line_reads, lines_read, scripts_read}
+use Rattle.rcv_script.specs.Attempts.{reads, some_read, some_term_reads, lines_read, scripts_read}
 use Rattle.rcv_script.specs.Lines.{lines_at}
 use Rattle.rcv_script.specs.declared.expression.Product.{Product}
 use Rattle.rcv_script.specs.declared.expression.Sum.{Sum}

@@ -1,6 +1,6 @@
 -- How the machine goes on along products and sums.
 use Rattle.std.proofs.Common.{◌≡◌, ◌≢◌, ℕ, ◌≤◌, ◌<◌, Bool, true, false, List, [], ◌∷◌, ◌++◌, length, map, refl, sym, ap, subst, ◌∙◌, arith}
-use Rattle.rcv_model.specs.Script.{Expr, Times, Plus, Minus}
+use Rattle.rcv_model.specs.Script.{Expr, Times}
 use Rattle.rcv_script.specs.declared.expression.Atom.{Atom}
 use Rattle.rcv_script.specs.declared.expression.Term.{Term}
 use Rattle.rcv_script.specs.declared.sign.Sign.TheVariants as signs
@@ -8,7 +8,7 @@ use Rattle.rcv_script.specs.declared.fault.ReadError.{ReadError}
 use Rattle.rcv_script.specs.declared.fault.ReadError.TheVariants as errors
 use Rattle.rcv_script.specs.declared.fault.Fault.{Fault}
 use Rattle.rcv_script.specs.declared.fault.Fault.TheVariants as faults
-use Rattle.rcv_script.specs.Symbols.{Symbol, Is, Word, Number, Other}
+use Rattle.rcv_script.specs.Symbols.{Symbol, Is, Word, Number}
 use Rattle.rcv_script.specs.Expressions.{Signed, times_more, product_of, plus_or_minus, plus_more, sum_of, atom_expr, term_expr, product_expr, sum_expr, factors as factors_of, terms as terms_of}
 use Rattle.rcv_script.specs.declared.expression.Product.{Product}
 use Rattle.rcv_script.specs.declared.expression.Sum.{Sum}
@@ -28,7 +28,7 @@ same_step item item' t ts e = ap (λ (o : Outcome). after o (t ∷ ts) (λ next.
 
 -- ---- atoms
 
-by_outcome : (item : Item) (o : Outcome) (t : Symbol) (ts : List Symbol) → step t item ≡ o → answer item (t ∷ ts) ≡ after o (t ∷ ts) (λ next. answer next ts)
+pub by_outcome : (item : Item) (o : Outcome) (t : Symbol) (ts : List Symbol) → step t item ≡ o → answer item (t ∷ ts) ≡ after o (t ∷ ts) (λ next. answer next ts)
 by_outcome item o t ts e = ap (λ (x : Outcome). after x (t ∷ ts) (λ next. answer next ts)) e
 
 pub word_goes : (p : Place) (w : List ℕ) (a : Atom) (ts us : List Symbol) → ts ≡ Word w ∷ us → IsWordAtom p w a → (k : Expr → Item) → answer (AnAtom p k) ts ≡ answer (k (atom_expr a)) us
@@ -55,7 +55,7 @@ no_factor : (p : Place) (left : Expr) (k : Expr → Item) (t : Symbol) (over : O
 no_factor p left k (Is signs.Times) over h = absurd (h refl)
 no_factor p left k _ over h = refl
 
-factors_end : (p : Place) (left : Expr) (ts : List Symbol) → IsNotNext (Is signs.Times) ts → (k : Expr → Item) → answer (Factors p left k) ts ≡ answer (k left) ts
+pub factors_end : (p : Place) (left : Expr) (ts : List Symbol) → IsNotNext (Is signs.Times) ts → (k : Expr → Item) → answer (Factors p left k) ts ≡ answer (k left) ts
 factors_end p left [] h k = refl
 factors_end p left (t ∷ ts) h k = same_step (Factors p left k) (k left) t ts (no_factor p left k t (step t (k left)) (not_first (Is signs.Times) t ts h))
 

@@ -5,3 +5,8 @@ pub mod Stops
 pub mod Going
 pub mod Written
 pub mod Whole
+pub mod Examples
+pub mod Reading
+pub mod Taking
+pub mod Writing
+pub mod Final

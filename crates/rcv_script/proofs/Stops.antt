@@ -8,7 +8,7 @@ use Rattle.rcv_script.specs.declared.sign.Sign.TheVariants as signs
 use Rattle.rcv_script.specs.declared.fault.Fault.{Fault}
 use Rattle.rcv_script.specs.declared.fault.Fault.TheVariants.{Token}
 use Rattle.rcv_script.specs.Symbols.{Symbol, Is, Word, Number, Other}
-use Rattle.rcv_script.specs.Machine.{Item, This, AWord, ASigned, ANumber, ATest, AnEnd, Outcome, On, Wrong, same, meets, word, number, signed, test, step, after, Refuses, answer}
+use Rattle.rcv_script.specs.Machine.{Item, This, AWord, ASigned, ANumber, ATest, Outcome, On, Wrong, same, meets, word, number, signed, test, step, after, Refuses, answer}
 use Rattle.rcv_script.specs.Descent.{IsNotNext, NoWord, NoNumber}
 
 pub stops_by : (item : Item) (f : Fault) (t : Symbol) (ts : List Symbol) → step t item ≡ Wrong f → answer item (t ∷ ts) ≡ Refuses f (t ∷ ts)
@@ -35,7 +35,7 @@ same_only signs.Minus signs.Minus e = refl
 same_only signs.Times signs.Times e = refl
 same_only _ _ e = absurd cc
 
-meets_only : (t m : Symbol) → meets t m ≡ true → t ≡ m
+pub meets_only : (t m : Symbol) → meets t m ≡ true → t ≡ m
 meets_only (Is a) (Is b) e = ap Is (same_only a b e)
 meets_only (Word a) (Word b) e = ap Word ((bytes_eq-Decides a b).0 e)
 meets_only _ _ e = absurd cc

@@ -1,5 +1,5 @@
 -- How the machine goes on along scripts.
-use Rattle.std.proofs.Common.{◌≡◌, ℕ, suc, Bool, true, false, cond, codes, List, [], ◌∷◌, ◌++◌, length, map, refl, sym, ap, subst, ◌∙◌}
+use Rattle.std.proofs.Common.{◌≡◌, ℕ, suc, Bool, true, false, cond, codes, List, [], ◌∷◌, ◌++◌, length, refl, sym, ap, ◌∙◌}
 use Rattle.std.proofs.lemmas.Slice.Eq.{bytes_eq-Decides}
 use Rattle.std.specs.Prelude.{slice_set}
 use Rattle.std.specs.Str.{bytes_eq}
@@ -9,7 +9,7 @@ use Rattle.rcv_script.specs.declared.fault.Fault.TheVariants as faults
 use Rattle.rcv_script.specs.declared.fault.ReadError.{ReadError}
 use Rattle.rcv_script.specs.declared.fault.ReadError.TheVariants as errors
 use Rattle.rcv_script.specs.Symbols.{Symbol, Is, Word, Number, Other}
-use Rattle.rcv_script.specs.Machine.{Item, Scripts, Known, Outcome, On, Wrong, script, script_of, with_script, scripts, no_lines, awaited, reading, Taken, Refuses, answer}
+use Rattle.rcv_script.specs.Machine.{Item, Scripts, Known, On, Wrong, script, script_of, with_script, scripts, no_lines, awaited, reading, Taken, Refuses, answer}
 use Rattle.rcv_script.specs.Descent.{IsNotNext, Halts}
 use Rattle.rcv_script.specs.Refusals.{Ends}
 use Rattle.rcv_script.proofs.Stops.{stops_by, not_first}

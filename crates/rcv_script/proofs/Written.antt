@@ -10,7 +10,7 @@ use Rattle.rcv_script.specs.declared.fault.Fault.TheVariants as faults
 use Rattle.rcv_script.specs.declared.fault.ReadError.{ReadError}
 use Rattle.rcv_script.specs.Lines.{line_of}
 use Rattle.rcv_script.specs.Symbols.{Symbol, Is, Word, Number, Other}
-use Rattle.rcv_script.specs.Machine.{Item, Lines, ALine, This, AWord, AnEnd, Writing, Place, Outcome, Wrong, with_line, lines, line, end_or_when, condition, rest_of_pick, on_line, with_expr, remembering, set_fault, on_fault, fault_if, takes_bare, place_in, step, after, Refuses, answer}
+use Rattle.rcv_script.specs.Machine.{Item, Lines, ALine, This, AWord, AnEnd, Writing, Place, Wrong, with_line, lines, line, end_or_when, condition, rest_of_pick, on_line, with_expr, remembering, set_fault, on_fault, fault_if, takes_bare, place_in, step, Refuses, answer}
 use Rattle.rcv_script.specs.Descent.{IsNotNext, NoWord, Halts, writing, place_at}
 use Rattle.rcv_script.proofs.Stops.{not_first, stops_by}
 use Rattle.rcv_script.proofs.Going.{halts_behind, same_step}
@@ -45,9 +45,9 @@ pub lines_next : (points : PointsView) (role : ℕ) (names names' : List (List �
     → ((k : List (List ℕ) × script.Line → Item) → answer (ALine (writing points role names seen) k) mid ≡ answer (k (names', line_of l)) new) → length new < length mid → ls' ≡ ls ++ l ∷ [] → LinesSoFar points role names' ls' start new
 lines_next points role names names' ls seen ls' l start now mid new same so_far none_next goes shorter pushed =
     subst (λ (x : List Line). LinesSoFar points role names' x start new) (sym pushed) record {
-      goes = λ k. lines_to_next points role names ls start now mid so_far none_next k 
-              ∙ ap (λ (x : List Line). answer (ALine (writing points role names x) (λ y. Lines (with_line (writing points role names ls) y) k)) mid) (sym same)
-              ∙ goes (λ x. Lines (with_line (writing points role names ls) x) k)
+      goes = λ k. lines_to_next points role names ls start now mid so_far none_next k
+          ∙ ap (λ (x : List Line). answer (ALine (writing points role names x) (λ y. Lines (with_line (writing points role names ls) y) k)) mid) (sym same)
+          ∙ goes (λ x. Lines (with_line (writing points role names ls) x) k)
           ∙ ap (λ x. answer (Lines (record { points = points; role = role; names = names'; lines = x }) k) new) (sym (map_append ls l));
       shorter =
           let s = so_far.shorter in

@@ -1,5 +1,5 @@
 -- What the functions of the descent say: how the machine goes on with what was read, or stops.
-use Rattle.std.specs.Prelude.{◌≡◌, ℕ, Bool, true, false, List, [], ◌∷◌, map, Option, Result, Ok, Err}
+use Rattle.std.specs.Prelude.{◌≡◌, ℕ, Bool, true, false, List, ◌∷◌, map, Option, Result, Ok, Err}
 use Rattle.rcv_model.specs.Script as script
 use Rattle.rcv_points.specs.Follow.{PointsView}
 use Rattle.rcv_script.specs.declared.fault.Fault.{Fault}
@@ -12,7 +12,7 @@ use Rattle.rcv_script.specs.declared.sign.Sign.{Sign}
 use Rattle.rcv_script.specs.declared.sign.Sign.TheVariants as signs
 use Rattle.rcv_script.specs.Expressions.{atom_expr, sum_expr}
 use Rattle.rcv_script.specs.Lines.{line_of, test_of}
-use Rattle.rcv_script.specs.Symbols.{Symbol, Is, Word, Number}
+use Rattle.rcv_script.specs.Symbols.{Symbol, Word, Number}
 use Rattle.rcv_script.specs.Machine.{Item, Place, Writing, Refuses, On, Wrong, word_atom, answer}
 
 -- The machine stops at what is left, whatever is awaited behind.

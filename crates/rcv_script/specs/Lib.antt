@@ -6,3 +6,5 @@ pub mod Symbols
 pub mod Machine
 pub mod Descent
 pub mod Refusals
+pub mod Grammar
+pub mod Laws

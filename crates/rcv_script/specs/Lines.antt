@@ -1,5 +1,5 @@
 -- What the lines of the program say.
-use Rattle.std.specs.Prelude.{◌≡◌, ◌≤◌, length, ℕ, Bool, true, false, ◌||◌, List, [], ◌∷◌, map, Option, Some, None, slice_index_or}
+use Rattle.std.specs.Prelude.{◌≤◌, length, ℕ, List, [], Option, Some, None, slice_index_or}
 use Rattle.rcv_model.specs.Script as script
 use Rattle.rcv_model.specs.Script.{Expr, Test}
 use Rattle.rcv_script.specs.declared.line.Comparison.{Comparison}

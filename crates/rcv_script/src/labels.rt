@@ -106,7 +106,8 @@ fn is_part(points: &Points, point: Point, role: usize, label: &[u8]) -> bool
     requires { IsPointOf points.now point }
     ensures { result ≡ is_part role label.now (message_at points.now point) }
 {
-    let is_end = points.sender(point).0 as usize == role || points.receiver(point).0 as usize == role;
+    let is_end = points.sender(point).0 as usize == role
+        || points.receiver(point).0 as usize == role;
     is_end && is(points.label(point), label)
 }
 

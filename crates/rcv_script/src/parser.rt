@@ -137,12 +137,7 @@ impl<'a> Ahead<'a> {
     }
 
     // Takes the label of a `pick` line.
-    fn pick_label(
-        &mut self,
-        alloc: Global,
-        points: &Points,
-        role: usize,
-    ) -> Result<Name, ReadError>
+    fn pick_label(&mut self, alloc: Global, points: &Points, role: usize) -> Result<Name, ReadError>
         ensures goes { Goes result (λ k. AWord (pick_fault points.now role) k) (λ n. n) self.old self.new }
         ensures shorter { length self.new ≤ length self.old }
     {
@@ -158,12 +153,7 @@ impl<'a> Ahead<'a> {
     }
 
     // Takes the label of an `on` line.
-    fn on_label(
-        &mut self,
-        alloc: Global,
-        points: &Points,
-        role: usize,
-    ) -> Result<Name, ReadError>
+    fn on_label(&mut self, alloc: Global, points: &Points, role: usize) -> Result<Name, ReadError>
         ensures goes { Goes result (λ k. AWord (on_fault points.now role) k) (λ n. n) self.old self.new }
         ensures shorter { length self.new ≤ length self.old }
     {

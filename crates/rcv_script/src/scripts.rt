@@ -130,14 +130,7 @@ impl Scripts {
     }
 
     /// The variables of a role behind an event that sent this number with a point: as where it was received.
-    pub fn sent(
-        &self,
-        role: RoleId,
-        vars: &Vars,
-        point: Point,
-        value: i64,
-        points: &Points,
-    ) -> Vars
+    pub fn sent(&self, role: RoleId, vars: &Vars, point: Point, value: i64, points: &Points) -> Vars
         requires { IsPointOf points.now point }
         ensures { result ≡ carry_out ((net_in points.now).label point) value (lines_at self.now role) vars.now }
     {

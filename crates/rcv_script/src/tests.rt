@@ -1,5 +1,8 @@
 // Scripts of a small protocol: what they refuse and what they decide.
 
+ghost use Rattle.std.specs.Prelude.{◌≡◌, ℕ, List, IfOk, length};
+ghost use Rattle.rcv_tree.specs.declared.statement.Stmt.TheVariants.{Message};
+
 use crate::read_scripts;
 use crate::scripts::Scripts;
 use rcv_lexer::token::{Span, TextError};
@@ -23,7 +26,9 @@ fn message(
     sender: u8,
     receiver: u8,
     point: u16,
-) -> Result<Stmt, AllocError> {
+) -> Result<Stmt, AllocError>
+    ensures { IfOk result (λ stmt. (label : List ℕ) × (sorts : List (List ℕ)) × (stmt ≡ Message label sorts sender receiver point)) }
+{
     let mut sorts = Names::new(alloc);
     if sort {
         sorts.push(Name::of(alloc, b"Int")?)?;
@@ -37,20 +42,23 @@ fn message(
     })
 }
 
-fn roles(alloc: Global) -> Result<Names, AllocError> {
+fn roles(alloc: Global) -> Result<Names, AllocError>
+    ensures { IfOk result (λ names. length names ≡ 2) }
+{
     let mut roles = Names::new(alloc);
     roles.push(Name::of(alloc, b"A")?)?;
     roles.push(Name::of(alloc, b"B")?)?;
     Ok(roles)
 }
 
-// big(Int) from A to B; low(Int) from B to A; ping() from A to B; big(Int) from A to B;
-fn points(alloc: Global) -> Result<Points, AllocError> {
+// big(Int) from A to B; low(Int) from B to A; ping() from A to B;
+fn points(alloc: Global) -> Result<Points, AllocError>
+    ensures { IfOk result (λ points. length points.messages ≡ 3) }
+{
     let mut body = Block::new(alloc);
     body.push(message(alloc, b"big", true, 0, 1, 1)?)?;
     body.push(message(alloc, b"low", true, 1, 0, 2)?)?;
     body.push(message(alloc, b"ping", false, 0, 1, 3)?)?;
-    body.push(message(alloc, b"big", true, 0, 1, 4)?)?;
     points_of(
         alloc,
         &Protocol {
@@ -64,12 +72,22 @@ fn points(alloc: Global) -> Result<Points, AllocError> {
 }
 
 fn read(alloc: Global, text: &[u8]) -> Result<Scripts, TextError> {
+    if text.len() > 4000 {
+        return Err(TextError::Memory);
+    }
     let whole = Span {
         start: 0,
         end: text.len(),
     };
     let list = tokens(alloc, text, whole)?;
-    read_scripts(alloc, text, list.as_slice(), 99, &roles(alloc)?, &points(alloc)?)
+    read_scripts(
+        alloc,
+        text,
+        list.as_slice(),
+        99,
+        &roles(alloc)?,
+        &points(alloc)?,
+    )
 }
 
 // The code and the line with which the text is refused, and 0 where it isn't.
@@ -89,15 +107,30 @@ fn refusals_have_code_and_line(rt: HostRuntime) -> Result<(), Fail> {
     assert!(rt; refusal(alloc, b"role A {\n") == (30, 99));
     assert!(rt; refusal(alloc, b"role\n{ }") == (30, 2));
     assert!(rt; refusal(alloc, b"role A { } B") == (30, 1));
-    assert!(rt; refusal(alloc, b"role A { var x = 9223372036854775807; var y = -00009223372036854775807; }") == (0, 0));
+    assert!(rt;
+        refusal(
+            alloc,
+            b"role A { var x = 9223372036854775807; var y = -00009223372036854775807; }"
+        ) == (0, 0)
+    );
     assert!(rt; refusal(alloc, b"role A { var x = \n9223372036854775808; }") == (30, 2));
-    assert!(rt; refusal(alloc, b"role A { send big = 1 +\n99999999999999999999999999; }") == (30, 2));
+    assert!(rt;
+        refusal(
+            alloc,
+            b"role A { send big = 1 +\n99999999999999999999999999; }"
+        ) == (30, 2)
+    );
     assert!(rt; refusal(alloc, b"role\nC { }") == (31, 2));
     assert!(rt; refusal(alloc, b"role A { }\nrole A { }") == (31, 2));
     assert!(rt; refusal(alloc, b"role A { pick\nlow; }") == (32, 2));
     assert!(rt; refusal(alloc, b"role A { send\nlow = 1; }") == (32, 2));
     assert!(rt; refusal(alloc, b"role A { on\nhuge set x = 1; }") == (32, 2));
-    assert!(rt; refusal(alloc, b"role A { var x = 0; on low set x = value; on big set x = value; pick ping; }") == (0, 0));
+    assert!(rt;
+        refusal(
+            alloc,
+            b"role A { var x = 0; on low set x = value; on big set x = value; pick ping; }"
+        ) == (0, 0)
+    );
     assert!(rt; refusal(alloc, b"role A { send big = 1;\nsend\nbig = 2; }") == (32, 3));
     assert!(rt; refusal(alloc, b"role A { pick ping when\nx > 0; }") == (33, 2));
     assert!(rt; refusal(alloc, b"role A { var x = 0;\nvar x = 0; }") == (33, 2));
@@ -105,7 +138,12 @@ fn refusals_have_code_and_line(rt: HostRuntime) -> Result<(), Fail> {
     assert!(rt; refusal(alloc, b"role A { var attempt = 0; }") == (33, 1));
     assert!(rt; refusal(alloc, b"role A { on big set value = 0; }") == (33, 1));
     assert!(rt; refusal(alloc, b"role A { send big = value; }") == (33, 1));
-    assert!(rt; refusal(alloc, b"role A { pick big when attempt == 1; send big = attempt; }") == (0, 0));
+    assert!(rt;
+        refusal(
+            alloc,
+            b"role A { pick big when attempt == 1; send big = attempt; }"
+        ) == (0, 0)
+    );
     assert!(rt; refusal(alloc, b"role A { var x = 0; on low set x =\nattempt; }") == (34, 2));
     assert!(rt; refusal(alloc, b"role A { send\nping = 1; }") == (35, 2));
     assert!(rt; refusal(alloc, b"role A { var x = 0; on ping set x = 1 + \nvalue; }") == (35, 2));
@@ -151,7 +189,8 @@ fn depths_and_counts_are_bounded(rt: HostRuntime) -> Result<(), Fail> {
     }
     longer.extend_from_slice(b"\npick big; }")?;
     assert!(rt; refusal(alloc, longer.as_slice()) == (36, 2));
-    let many = b"role A { var v0 = 0; var v1 = 0; var v2 = 0; var v3 = 0; var v4 = 0; var v5 = 0; var v6 = 0; var v7 = 0; var v8 = 0; var v9 = 0; var v10 = 0; var v11 = 0; var v12 = 0; var v13 = 0; var v14 = 0; var v15 = 0;\nvar v16 = 0; }";
+    let many =
+        b"role A { var v0 = 0; var v1 = 0; var v2 = 0; var v3 = 0; var v4 = 0; var v5 = 0; var v6 = 0; var v7 = 0; var v8 = 0; var v9 = 0; var v10 = 0; var v11 = 0; var v12 = 0; var v13 = 0; var v14 = 0; var v15 = 0;\nvar v16 = 0; }";
     assert!(rt; refusal(alloc, many) == (36, 2));
     Ok(())
 }
@@ -159,7 +198,8 @@ fn depths_and_counts_are_bounded(rt: HostRuntime) -> Result<(), Fail> {
 #[test]
 fn numbers_saturate(rt: HostRuntime) -> Result<(), Fail> {
     let alloc = rt.alloc();
-    let text = b"role A { send big = 9223372036854775807 + 1; } role B { send low = 0 - 9223372036854775807 - 2; }";
+    let text =
+        b"role A { send big = 9223372036854775807 + 1; } role B { send low = 0 - 9223372036854775807 - 2; }";
     let scripts = read(alloc, text)?;
     let points = points(alloc)?;
     let vars = scripts.start(RoleId(0));
@@ -188,12 +228,12 @@ fn lines_decide_in_text_order(rt: HostRuntime) -> Result<(), Fail> {
     let later = scripts.received(role, &first, Point(2), 5, &points);
     assert!(rt; later.0[0] == 12 && later.0[1] == 13);
     assert!(rt; scripts.sent(role, &first, Point(1), 5, &points) == first);
-    assert!(rt; scripts.value(role, &later, 0, Point(4), &points) == -43);
+    assert!(rt; scripts.value(role, &later, 0, Point(1), &points) == -43);
     assert!(rt; scripts.value(role, &later, 0, Point(3), &points) == 0);
-    let offered = [Point(1), Point(3), Point(4)];
+    let offered = [Point(1), Point(3)];
     assert!(rt; scripts.choose(role, &first, 2, &offered, &points) == Point(3));
-    assert!(rt; scripts.choose(role, &later, 0, &[Point(3), Point(4)], &points) == Point(3));
-    assert!(rt; scripts.choose(role, &first, 0, &[Point(3), Point(4)], &points) == Point(4));
+    assert!(rt; scripts.choose(role, &later, 0, &[Point(3), Point(1)], &points) == Point(3));
+    assert!(rt; scripts.choose(role, &first, 0, &[Point(3), Point(1)], &points) == Point(1));
     assert!(rt; scripts.start(RoleId(1)) == Vars([0; 16]));
     Ok(())
 }

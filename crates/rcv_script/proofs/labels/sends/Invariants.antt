@@ -1,6 +1,5 @@
 use Rattle.std.proofs.Common.{◌≡◌, drop}
 use Rattle.std.specs.List.{list_any}
-use Rattle.std.specs.Prelude.{◌&&◌, not}
 use Rattle.rcv_script.specs.Machine.{is_sent}
 use Rattle.rcv_script.proofs.labels.sends.Given as goal
 

@@ -1,4 +1,3 @@
-use Rattle.std.proofs.Common.{refl, sym, ap, ◌∙◌}
 use Rattle.rcv_script.specs.Descent.{place_at}
 use Rattle.rcv_script.specs.Expressions.{factors, terms, product_expr}
 use Rattle.rcv_script.proofs.Going.{word_goes, word_stops, no_atom, product_next, product_end, sum_next, sum_end}

@@ -1,4 +1,4 @@
-use Rattle.rcv_script.specs.Symbols.{Is, Word}
+use Rattle.rcv_script.specs.Symbols.{Word}
 use Rattle.rcv_script.proofs.Stops.{no_sign}
 use Rattle.rcv_script.proofs.ahead.Ahead.expect_word.Goals as goal
 

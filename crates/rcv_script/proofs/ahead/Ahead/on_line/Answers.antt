@@ -1,7 +1,7 @@
-use Rattle.std.proofs.Common.{◌≡◌, ℕ, List, ap, ◌∙◌}
+use Rattle.std.proofs.Common.{ℕ, List, ap, ◌∙◌}
 use Rattle.std.proofs.lemmas.Result.{err_from_is_err_and}
 use Rattle.rcv_model.specs.Script.{Expr, Line, OnLine}
-use Rattle.rcv_script.specs.Machine.{Item, AWord, on_line, with_expr, remembering, set_fault, fault_if, takes_bare, place_in}
+use Rattle.rcv_script.specs.Machine.{AWord, on_line, with_expr, remembering, set_fault, fault_if, takes_bare, place_in}
 use Rattle.rcv_script.specs.declared.fault.Fault.TheVariants.{NoPayload}
 use Rattle.rcv_script.specs.Descent.{writing, place_at}
 use Rattle.rcv_script.proofs.Going.{halts_behind}

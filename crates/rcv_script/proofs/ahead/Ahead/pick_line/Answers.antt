@@ -2,7 +2,7 @@ use Rattle.std.proofs.Common.{ℕ, List, ◌∙◌}
 use Rattle.std.specs.Prelude.{Option}
 use Rattle.std.proofs.lemmas.Result.{err_from_is_err_and}
 use Rattle.rcv_model.specs.Script.{Condition, Line, PickLine}
-use Rattle.rcv_script.specs.Machine.{Item, pick_line, deciding, rest_of_pick}
+use Rattle.rcv_script.specs.Machine.{pick_line, deciding, rest_of_pick}
 use Rattle.rcv_script.specs.Descent.{writing}
 use Rattle.rcv_script.proofs.Going.{halts_behind}
 use Rattle.rcv_script.proofs.ahead.Ahead.pick_line.Goals as goal

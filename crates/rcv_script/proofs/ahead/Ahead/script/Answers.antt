@@ -3,7 +3,7 @@ use Rattle.std.proofs.lemmas.Result.{err_from_is_err_and}
 use Rattle.rcv_model.specs.Script.{Line}
 use Rattle.rcv_script.specs.declared.sign.Sign.TheVariants.{Open}
 use Rattle.rcv_script.specs.Symbols.{Is}
-use Rattle.rcv_script.specs.Machine.{Item, This, AWord, Lines, begun, script, role_fault, place_in, answer}
+use Rattle.rcv_script.specs.Machine.{This, AWord, Lines, begun, script, role_fault, place_in, answer}
 use Rattle.rcv_script.proofs.Going.{halts_behind, stops_behind}
 use Rattle.rcv_script.proofs.ahead.Ahead.script.Goals as goal
 

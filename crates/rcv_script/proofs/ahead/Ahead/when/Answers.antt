@@ -1,9 +1,9 @@
-use Rattle.std.proofs.Common.{ℕ, List, ◌∙◌, codes}
-use Rattle.std.specs.Prelude.{Option, Some, None}
+use Rattle.std.proofs.Common.{◌∙◌, codes}
+use Rattle.std.specs.Prelude.{Option, Some}
 use Rattle.std.proofs.lemmas.Result.{err_from_is_err_and}
 use Rattle.rcv_model.specs.Script.{Condition, Expr, Test}
 use Rattle.rcv_script.specs.Symbols.{Word}
-use Rattle.rcv_script.specs.Machine.{Item, This, deciding, rest_of_pick, condition}
+use Rattle.rcv_script.specs.Machine.{This, deciding, rest_of_pick, condition}
 use Rattle.rcv_script.proofs.Going.{halts_behind, stops_behind}
 use Rattle.rcv_script.proofs.Written.{when_to_word, behind_when}
 use Rattle.rcv_script.proofs.ahead.Ahead.when.Goals as goal
