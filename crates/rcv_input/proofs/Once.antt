@@ -1,65 +1,61 @@
 -- An input has one answer.
-use Rattle.std.proofs.Common.{◌≡◌, ℕ, ◌+◌, List, [], ◌∷◌, refl, sym, ap, subst, ◌∙◌}
+use Rattle.std.proofs.Common.{◌≡◌, ℕ, ◌+◌, ◌<◌, ◌≤◌, List, [], ◌∷◌, length, map, refl, sym, ap, subst, ◌∙◌, arith}
+use Rattle.std.specs.Prelude.{slice_index_or}
+use Rattle.std.proofs.lemmas.List.{ext_get_or}
 use Rattle.rcv_tree.specs.declared.protocol.Protocol.{Protocol}
 use Rattle.rcv_tree.specs.declared.refusal.Refusal.TheVariants as refusals
+use Rattle.rcv_model.specs.Text.{Body, body_of}
+use Rattle.rcv_model.specs.Script as model
+use Rattle.rcv_model.specs.Places.{net_of, singles}
+use Rattle.rcv_model.specs.Accept.{choices, IsRefusal}
+use Rattle.rcv_model.proofs.Accepting.{one_refusal}
+use Rattle.rcv_model.proofs.Decided.{faultless}
 use Rattle.rcv_lexer.specs.declared.token.Span.{Span}
 use Rattle.rcv_lexer.specs.declared.token.Token.{Token}
 use Rattle.rcv_lexer.specs.declared.token.TextError.TheVariants as errors
 use Rattle.rcv_lexer.specs.Parts.{parts_of}
-use Rattle.rcv_lexer.specs.Tokens.{line_at, IsLetter}
+use Rattle.rcv_lexer.specs.Tokens.{AreTokens, IsLetter, line_at}
 use Rattle.rcv_lexer.proofs.Once.{one_reading}
-use Rattle.rcv_reader.specs.Symbols.{symbols_of}
-use Rattle.rcv_reader.specs.Machine.{Taken, reading}
+use Rattle.rcv_reader.specs.Symbols as protocols
+use Rattle.rcv_reader.specs.Machine as reading
 use Rattle.rcv_reader.specs.Refusals as reader
 use Rattle.rcv_grammar.specs.Laws.{SayTheSame}
 use Rattle.rcv_grammar.proofs.Once.{texts_have_one_tree}
-use Rattle.rcv_input.specs.declared.command.Command.{Command}
-use Rattle.rcv_input.specs.declared.command.Command.TheVariants.{Run}
-use Rattle.rcv_input.specs.Input.{AreProtocolTokens, last_line, branchings, IsBuilt, IsProtocolOf, IsServed, IsBlankPart, IsFirstOther, IsTaken, IsFirstRefusal, letter, unread, unbuilt, scripts, plan}
+use Rattle.rcv_points.specs.Follow.{PointsView, ArePointsOf, offered_at, message_of, choice_of}
+use Rattle.rcv_accept.specs.Accepted.{IsAcceptedProtocol}
+use Rattle.rcv_script.specs.Symbols as scripts
+use Rattle.rcv_script.specs.Machine as scripting
+use Rattle.rcv_script.specs.Refusals as script
+use Rattle.rcv_input.specs.declared.refused.Refused.{Refused}
+use Rattle.rcv_input.specs.declared.refused.Refused.TheVariants.{Line, Rule}
+use Rattle.rcv_input.specs.Input.{AreProtocolTokens, AreScriptTokens, IsProtocolOf, IsAcceptedOf, AreScriptsOf, IsBlankPart, IsFirstOther, IsTaken}
+use Rattle.rcv_input.specs.Refusals.{IsRefusedText, AreRefusedScripts, name_of, IsFirstRefusal, letter, unread, ruled_out, script_letter, unscripted, planned}
 use Rattle.rcv_input.specs.Laws.{InputsHaveOneAnswer}
 
 -- ---- tokens
 
-same_tokens : (input : List ℕ) (ts us : List Token) → AreProtocolTokens input ts → AreProtocolTokens input us → ts ≡ us
-same_tokens input ts us a b = one_reading.tokens input (parts_of input).protocol ts us a b
+no_letter : (input : List ℕ) (part : Span) (ts : List Token) (line : ℕ) → AreTokens input part ts → IsLetter input part line → ⊥
+no_letter input part ts line a b = one_reading.either input part ts line a b
 
-no_letter : (input : List ℕ) (ts : List Token) (line : ℕ) → AreProtocolTokens input ts → IsLetter input (parts_of input).protocol line → ⊥
-no_letter input ts line a b = one_reading.either input (parts_of input).protocol ts line a b
+same_letter : (input : List ℕ) (part : Span) (m n : ℕ) → IsLetter input part m → IsLetter input part n → Line 10 m ≡ Line 10 n
+same_letter input part m n a b = ap (λ (l : ℕ). Line 10 l) (one_reading.letter input part m n a b)
 
--- ---- what excludes what
+same_line : (c l d m : ℕ) → c ≡ d → l ≡ m → Line c l ≡ Line d m
+same_line c l d m codes lines = ap (λ (x : ℕ). Line x l) codes ∙ ap (λ (x : ℕ). Line d x) lines
 
-abbrev IsUnread : List ℕ → List Token → ℕ → ℕ → Type 0
-IsUnread input ts code line = reader.IsRefused input ts (last_line input) (errors.Refused (refusals.Text code line))
+-- ---- the protocol part
 
-is_read : (input : List ℕ) (p : Protocol) (text : IsProtocolOf input p) (ts : List Token) (code line : ℕ) → AreProtocolTokens input ts → IsUnread input ts code line → ⊥
+is_read : (input : List ℕ) (p : Protocol) (text : IsProtocolOf input p) (ts : List Token) (code line : ℕ) → AreProtocolTokens input ts → IsRefusedText input ts code line → ⊥
 is_read input p text ts code line cut h =
-    let taken : reading (symbols_of input ts) ≡ Taken text.read.0 = subst (λ (x : List Token). reading (symbols_of input x) ≡ Taken text.read.0) (same_tokens input text.tokens ts text.cut cut) text.read.1 in
+    let taken : reading.reading (protocols.symbols_of input ts) ≡ reading.Taken text.read.0 = subst (λ (x : List Token). reading.reading (protocols.symbols_of input x) ≡ reading.Taken text.read.0) (one_reading.tokens input (parts_of input).protocol text.tokens ts text.cut cut) text.read.1 in
     let refused = h.2 in
     cc
 
-is_built : (command : Command) (input : List ℕ) (p q : Protocol) (served : IsServed command input p) (text : IsProtocolOf input q) (first : Token) (others : List Token) → command ≡ Run → branchings input text.tokens ≡ first ∷ others → ⊥
-is_built command input p q served text first others run found =
-    let none : branchings input served.protocol.tokens ≡ [] = subst (λ (c : Command). IsBuilt c input served.protocol.tokens) run served.built in
-    let same = same_tokens input served.protocol.tokens text.tokens served.protocol.cut text.cut in
-    let here : branchings input text.tokens ≡ [] = subst (λ (x : List Token). branchings input x ≡ []) same none in
-    cc
-
-is_blank_there : (input : List ℕ) (part : Span) (line : ℕ) → IsBlankPart input part → IsFirstOther input part line → ⊥
-is_blank_there input part line none found = let other = found.1 in cc
-
--- ---- one line
-
-abbrev Same : ℕ → ℕ → ℕ → ℕ → Type 0
-Same code line other_code other_line = (code ≡ other_code) × (line ≡ other_line)
-
-same_letter : (input : List ℕ) (m n : ℕ) → IsLetter input (parts_of input).protocol m → IsLetter input (parts_of input).protocol n → m ≡ n
-same_letter input m n a b = one_reading.letter input (parts_of input).protocol m n a b
-
-same_unread : (input : List ℕ) (ts us : List Token) (code line other_code other_line : ℕ) → AreProtocolTokens input ts → AreProtocolTokens input us → IsUnread input ts code line → IsUnread input us other_code other_line
-    → Same code line other_code other_line
-same_unread input ts us code line other_code other_line a b x y = go (subst (λ (z : List Token). IsUnread input z other_code other_line) (same_tokens input us ts b a) y)
+same_unread : (input : List ℕ) (ts us : List Token) (code line other_code other_line : ℕ) → AreProtocolTokens input ts → AreProtocolTokens input us → IsRefusedText input ts code line → IsRefusedText input us other_code other_line
+    → Line code line ≡ Line other_code other_line
+same_unread input ts us code line other_code other_line a b x y = go (subst (λ (z : List Token). IsRefusedText input z other_code other_line) (one_reading.tokens input (parts_of input).protocol us ts b a) y)
   where
-    go : IsUnread input ts other_code other_line → Same code line other_code other_line
+    go : IsRefusedText input ts other_code other_line → Line code line ≡ Line other_code other_line
     go z =
         let x2 = x.2 in
         let z2 = z.2 in
@@ -67,63 +63,158 @@ same_unread input ts us code line other_code other_line a b x y = go (subst (λ 
         let left : x.1 ≡ z.1 = cc in
         let x3 = x.3 in
         let z3 = z.3 in
-        (cc, cc)
+        let codes : code ≡ other_code = cc in
+        let lines : line ≡ other_line = cc in
+        same_line code line other_code other_line codes lines
 
-same_first : (input : List ℕ) (p q : Protocol) (text : IsProtocolOf input p) (other : IsProtocolOf input q) (first second : Token) (ts us : List Token) → branchings input text.tokens ≡ first ∷ ts → branchings input other.tokens ≡ second ∷ us
-    → first.line ≡ second.line
-same_first input p q text other first second ts us a b =
-    let moved : branchings input text.tokens ≡ second ∷ us = subst (λ (x : List Token). branchings input x ≡ second ∷ us) (same_tokens input other.tokens text.tokens other.cut text.cut) b in
-    let same : first ≡ second = cc in
-    ap (λ (t : Token). t.line) same
+same_text : (input : List ℕ) (p q : Protocol) → IsProtocolOf input p → IsProtocolOf input q → SayTheSame p q
+same_text input p q x y =
+    texts_have_one_tree (protocols.symbols_of input x.tokens) p q x.read (subst (λ (ts : List Token). reader.IsRead (protocols.symbols_of input ts) q) (one_reading.tokens input (parts_of input).protocol y.tokens x.tokens y.cut x.cut) y.read)
 
-same_other : (input : List ℕ) (part : Span) (m n : ℕ) → IsFirstOther input part m → IsFirstOther input part n → m ≡ n
+-- ---- acceptance
+
+-- what holds of the body and the roles of one protocol holds of those of the other
+moves : (P : List (List ℕ) → Body → Type 0) (p q : Protocol) → SayTheSame p q → P p.roles (body_of p.body) → P q.roles (body_of q.body)
+moves P p q say h = subst (P q.roles) say.bodies (subst (λ (rs : List (List ℕ)). P rs (body_of p.body)) say.role_names h)
+
+abbrev RuledOut : ℕ → ℕ → ℕ → List (List ℕ) → Body → Type 0
+RuledOut c r n roles body = IsRefusal body (length roles) c r n
+
+is_accepted : (input : List ℕ) (p q : Protocol) (c r n : ℕ) → IsAcceptedOf input p → IsProtocolOf input q → IsRefusal (body_of q.body) (length q.roles) c r n → ⊥
+is_accepted input p q c r n a text refusal =
+    let moved : IsRefusal (body_of p.body) (length p.roles) c r n = moves (RuledOut c r n) q p (same_text input q p text a.text) refusal in
+    (faultless (body_of p.body) (length p.roles) a.accepted.form).1 (a.accepted.accepted, a.accepted.subjects) c r n moved.fails
+
+same_rule : (input : List ℕ) (p q : Protocol) (c r n d s m : ℕ) → IsProtocolOf input p → IsProtocolOf input q → IsRefusal (body_of p.body) (length p.roles) c r n → IsRefusal (body_of q.body) (length q.roles) d s m
+    → Rule c (name_of p r) n ≡ Rule d (name_of q s) m
+same_rule input p q c r n d s m x y a b =
+    let say = same_text input p q x y in
+    let one = one_refusal (body_of q.body) (length q.roles) c r n d s m (moves (RuledOut c r n) p q say a) b in
+    ap (λ (k : ℕ). Rule k (name_of p r) n) one.0 ∙ ap (λ (rs : List (List ℕ)). Rule d (slice_index_or rs r []) n) say.role_names ∙ ap (λ (k : ℕ). Rule d (name_of q k) n) one.1 ∙ ap (λ (k : ℕ). Rule d (name_of q s) k) one.2
+
+-- ---- points
+
+same_points : (body : Body) (a b : PointsView) → ArePointsOf body a → ArePointsOf body b → a ≡ b
+same_points body a b x y = together places (x.messages ∙ sym y.messages) (x.choices ∙ sym y.choices)
+  where
+    each : (k : ℕ) → k < length a.places → offered_at a k ≡ offered_at b k
+    each k less = let all = x.all in let inside : k ≤ (net_of body).count = omega (arith, less, all) in x.offered k inside ∙ sym (y.offered k inside)
+
+    places : a.places ≡ b.places
+    places = ext_get_or [] a.places b.places (x.all ∙ sym y.all) each
+
+    together : a.places ≡ b.places → a.messages ≡ b.messages → a.choices ≡ b.choices → a ≡ b
+    together p m c =
+        ap (λ l. record { places = l; messages = a.messages; choices = a.choices }) p ∙ ap (λ l. record { places = b.places; messages = l; choices = a.choices }) m
+        ∙ ap (λ l. record { places = b.places; messages = b.messages; choices = l }) c
+
+-- ---- scripts
+
+-- what a machine that reads them says of the scripts of one reading holds of the other's
+abbrev machine : List ℕ → List (List ℕ) → PointsView → List Token → scripting.Answer
+machine input roles points ts = scripting.reading roles points (scripts.symbols_of input ts)
+
+same_machine : (input : List ℕ) (p q : Protocol) (a b : PointsView) (ts us : List Token) → SayTheSame p q → ArePointsOf (body_of p.body) a → ArePointsOf (body_of q.body) b → AreScriptTokens input ts → AreScriptTokens input us
+    → machine input p.roles a ts ≡ machine input q.roles b us
+same_machine input p q a b ts us say x y cut other =
+    ap (λ (rs : List (List ℕ)). machine input rs a ts) say.role_names
+    ∙ ap (λ (points : PointsView). machine input q.roles points ts) (same_points (body_of q.body) a b (subst (λ (body : Body). ArePointsOf body a) say.bodies x) y)
+    ∙ ap (machine input q.roles b) (one_reading.tokens input (parts_of input).scripts ts us cut other)
+
+are_scripts : (input : List ℕ) (p q : Protocol) (lines : List (List model.Line)) (points : PointsView) (us : List Token) (code line : ℕ) → SayTheSame p q → AreScriptsOf input p lines → ArePointsOf (body_of q.body) points → AreScriptTokens input us
+    → AreRefusedScripts input q points us code line → ⊥
+are_scripts input p q lines points us code line say s are cut h =
+    let same = same_machine input p q s.points points s.tokens us say s.are_points are s.cut cut in
+    let taken = s.read in
+    let refused = h.2 in
+    cc
+
+same_lines : (input : List ℕ) (p q : Protocol) (l m : List (List model.Line)) → SayTheSame p q → AreScriptsOf input p l → AreScriptsOf input q m → l ≡ m
+same_lines input p q l m say s t =
+    let same = same_machine input p q s.points t.points s.tokens t.tokens say s.are_points t.are_points s.cut t.cut in
+    let taken = s.read in
+    let other = t.read in
+    cc
+
+same_unscripted : (input : List ℕ) (p q : Protocol) (a b : PointsView) (ts us : List Token) (code line other_code other_line : ℕ) → SayTheSame p q → ArePointsOf (body_of p.body) a → ArePointsOf (body_of q.body) b → AreScriptTokens input ts
+    → AreScriptTokens input us → AreRefusedScripts input p a ts code line → AreRefusedScripts input q b us other_code other_line → Line code line ≡ Line other_code other_line
+same_unscripted input p q a b ts us code line other_code other_line say are others cut other x y =
+    let same = same_machine input p q a b ts us say are others cut other in
+    let tokens = one_reading.tokens input (parts_of input).scripts ts us cut other in
+    let x2 = x.2 in
+    let y2 = y.2 in
+    let faults : x.0 ≡ y.0 = cc in
+    let left : x.1 ≡ y.1 = cc in
+    let x3 = x.3 in
+    let y3 = y.3 in
+    let codes : code ≡ other_code = cc in
+    let lines : line ≡ other_line = cc in
+    same_line code line other_code other_line codes lines
+
+-- ---- the plan
+
+is_blank_there : (input : List ℕ) (part : Span) (line : ℕ) → IsBlankPart input part → IsFirstOther input part line → ⊥
+is_blank_there input part line none found = let other = found.1 in cc
+
+same_other : (input : List ℕ) (part : Span) (m n : ℕ) → IsFirstOther input part m → IsFirstOther input part n → Line 19 m ≡ Line 19 n
 same_other input part m n a b =
     let a1 = a.1 in
     let b1 = b.1 in
     let place : a.0 ≡ b.0 = cc in
-    a.2 ∙ ap (λ (i : ℕ). line_at input (part.start + i)) place ∙ sym b.2
+    ap (λ (l : ℕ). Line 19 l) (a.2 ∙ ap (λ (i : ℕ). line_at input (part.start + i)) place ∙ sym b.2)
 
 -- ---- the law
 
-one_refusal : (command : Command) (input : List ℕ) (c l d m : ℕ) → IsFirstRefusal command input c l → IsFirstRefusal command input d m → Same c l d m
-one_refusal command input c l d m (letter k a) (letter n b) = (refl, same_letter input k n a b)
-one_refusal command input c l d m (letter k a) (unread ts cd n cut b) = absurd (no_letter input ts k cut a)
-one_refusal command input c l d m (letter k a) (unbuilt q text first others run b) = absurd (no_letter input text.tokens k text.cut a)
-one_refusal command input c l d m (letter k a) (scripts q n served b) = absurd (no_letter input served.protocol.tokens k served.protocol.cut a)
-one_refusal command input c l d m (letter k a) (plan q n served blank b) = absurd (no_letter input served.protocol.tokens k served.protocol.cut a)
-one_refusal command input c l d m (unread ts cc1 k cut a) (letter n b) = absurd (no_letter input ts n cut b)
-one_refusal command input c l d m (unread ts ca k cut a) (unread us cb n cut' b) = same_unread input ts us ca k cb n cut cut' a b
-one_refusal command input c l d m (unread ts ca k cut a) (unbuilt q text first others run b) = absurd (is_read input q text ts ca k cut a)
-one_refusal command input c l d m (unread ts ca k cut a) (scripts q n served b) = absurd (is_read input q served.protocol ts ca k cut a)
-one_refusal command input c l d m (unread ts ca k cut a) (plan q n served blank b) = absurd (is_read input q served.protocol ts ca k cut a)
-one_refusal command input c l d m (unbuilt p text first others run a) (letter n b) = absurd (no_letter input text.tokens n text.cut b)
-one_refusal command input c l d m (unbuilt p text first others run a) (unread us cb n cut b) = absurd (is_read input p text us cb n cut b)
-one_refusal command input c l d m (unbuilt p text first others run a) (unbuilt q other second more run' b) = (refl, same_first input p q text other first second others more a b)
-one_refusal command input c l d m (unbuilt p text first others run a) (scripts q n served b) = absurd (is_built command input q p served text first others run a)
-one_refusal command input c l d m (unbuilt p text first others run a) (plan q n served blank b) = absurd (is_built command input q p served text first others run a)
-one_refusal command input c l d m (scripts p k served a) (letter n b) = absurd (no_letter input served.protocol.tokens n served.protocol.cut b)
-one_refusal command input c l d m (scripts p k served a) (unread us cb n cut b) = absurd (is_read input p served.protocol us cb n cut b)
-one_refusal command input c l d m (scripts p k served a) (unbuilt q text first others run b) = absurd (is_built command input p q served text first others run b)
-one_refusal command input c l d m (scripts p k served a) (scripts q n other b) = (refl, same_other input (parts_of input).scripts k n a b)
-one_refusal command input c l d m (scripts p k served a) (plan q n other blank b) = absurd (is_blank_there input (parts_of input).scripts k blank a)
-one_refusal command input c l d m (plan p k served blank a) (letter n b) = absurd (no_letter input served.protocol.tokens n served.protocol.cut b)
-one_refusal command input c l d m (plan p k served blank a) (unread us cb n cut b) = absurd (is_read input p served.protocol us cb n cut b)
-one_refusal command input c l d m (plan p k served blank a) (unbuilt q text first others run b) = absurd (is_built command input p q served text first others run b)
-one_refusal command input c l d m (plan p k served blank a) (scripts q n other b) = absurd (is_blank_there input (parts_of input).scripts n blank b)
-one_refusal command input c l d m (plan p k served blank a) (plan q n other blank' b) = (refl, same_other input (parts_of input).plan k n a b)
+one_first : (input : List ℕ) (r s : Refused) → IsFirstRefusal input r → IsFirstRefusal input s → r ≡ s
+one_first input r s (letter l1 x1) (letter l2 x2) = same_letter input (parts_of input).protocol l1 l2 x1 x2
+one_first input r s (letter l1 x1) (unread ts2 c2 l2 cut2 x2) = absurd (no_letter input (parts_of input).protocol ts2 l1 cut2 x1)
+one_first input r s (letter l1 x1) (ruled_out p2 c2 r2 n2 text2 x2) = absurd (no_letter input (parts_of input).protocol (text2).tokens l1 (text2).cut x1)
+one_first input r s (letter l1 x1) (script_letter p2 l2 acc2 x2) = absurd (no_letter input (parts_of input).protocol (acc2.text).tokens l1 (acc2.text).cut x1)
+one_first input r s (letter l1 x1) (unscripted p2 points2 ts2 c2 l2 acc2 are2 cut2 x2) = absurd (no_letter input (parts_of input).protocol (acc2.text).tokens l1 (acc2.text).cut x1)
+one_first input r s (letter l1 x1) (planned p2 lines2 l2 acc2 are2 x2) = absurd (no_letter input (parts_of input).protocol (acc2.text).tokens l1 (acc2.text).cut x1)
+one_first input r s (unread ts1 c1 l1 cut1 x1) (letter l2 x2) = absurd (no_letter input (parts_of input).protocol ts1 l2 cut1 x2)
+one_first input r s (unread ts1 c1 l1 cut1 x1) (unread ts2 c2 l2 cut2 x2) = same_unread input ts1 ts2 c1 l1 c2 l2 cut1 cut2 x1 x2
+one_first input r s (unread ts1 c1 l1 cut1 x1) (ruled_out p2 c2 r2 n2 text2 x2) = absurd (is_read input p2 text2 ts1 c1 l1 cut1 x1)
+one_first input r s (unread ts1 c1 l1 cut1 x1) (script_letter p2 l2 acc2 x2) = absurd (is_read input p2 acc2.text ts1 c1 l1 cut1 x1)
+one_first input r s (unread ts1 c1 l1 cut1 x1) (unscripted p2 points2 ts2 c2 l2 acc2 are2 cut2 x2) = absurd (is_read input p2 acc2.text ts1 c1 l1 cut1 x1)
+one_first input r s (unread ts1 c1 l1 cut1 x1) (planned p2 lines2 l2 acc2 are2 x2) = absurd (is_read input p2 acc2.text ts1 c1 l1 cut1 x1)
+one_first input r s (ruled_out p1 c1 r1 n1 text1 x1) (letter l2 x2) = absurd (no_letter input (parts_of input).protocol (text1).tokens l2 (text1).cut x2)
+one_first input r s (ruled_out p1 c1 r1 n1 text1 x1) (unread ts2 c2 l2 cut2 x2) = absurd (is_read input p1 text1 ts2 c2 l2 cut2 x2)
+one_first input r s (ruled_out p1 c1 r1 n1 text1 x1) (ruled_out p2 c2 r2 n2 text2 x2) = same_rule input p1 p2 c1 r1 n1 c2 r2 n2 text1 text2 x1 x2
+one_first input r s (ruled_out p1 c1 r1 n1 text1 x1) (script_letter p2 l2 acc2 x2) = absurd (is_accepted input p2 p1 c1 r1 n1 acc2 text1 x1)
+one_first input r s (ruled_out p1 c1 r1 n1 text1 x1) (unscripted p2 points2 ts2 c2 l2 acc2 are2 cut2 x2) = absurd (is_accepted input p2 p1 c1 r1 n1 acc2 text1 x1)
+one_first input r s (ruled_out p1 c1 r1 n1 text1 x1) (planned p2 lines2 l2 acc2 are2 x2) = absurd (is_accepted input p2 p1 c1 r1 n1 acc2 text1 x1)
+one_first input r s (script_letter p1 l1 acc1 x1) (letter l2 x2) = absurd (no_letter input (parts_of input).protocol (acc1.text).tokens l2 (acc1.text).cut x2)
+one_first input r s (script_letter p1 l1 acc1 x1) (unread ts2 c2 l2 cut2 x2) = absurd (is_read input p1 acc1.text ts2 c2 l2 cut2 x2)
+one_first input r s (script_letter p1 l1 acc1 x1) (ruled_out p2 c2 r2 n2 text2 x2) = absurd (is_accepted input p1 p2 c2 r2 n2 acc1 text2 x2)
+one_first input r s (script_letter p1 l1 acc1 x1) (script_letter p2 l2 acc2 x2) = same_letter input (parts_of input).scripts l1 l2 x1 x2
+one_first input r s (script_letter p1 l1 acc1 x1) (unscripted p2 points2 ts2 c2 l2 acc2 are2 cut2 x2) = absurd (no_letter input (parts_of input).scripts ts2 l1 cut2 x1)
+one_first input r s (script_letter p1 l1 acc1 x1) (planned p2 lines2 l2 acc2 are2 x2) = absurd (no_letter input (parts_of input).scripts are2.tokens l1 are2.cut x1)
+one_first input r s (unscripted p1 points1 ts1 c1 l1 acc1 are1 cut1 x1) (letter l2 x2) = absurd (no_letter input (parts_of input).protocol (acc1.text).tokens l2 (acc1.text).cut x2)
+one_first input r s (unscripted p1 points1 ts1 c1 l1 acc1 are1 cut1 x1) (unread ts2 c2 l2 cut2 x2) = absurd (is_read input p1 acc1.text ts2 c2 l2 cut2 x2)
+one_first input r s (unscripted p1 points1 ts1 c1 l1 acc1 are1 cut1 x1) (ruled_out p2 c2 r2 n2 text2 x2) = absurd (is_accepted input p1 p2 c2 r2 n2 acc1 text2 x2)
+one_first input r s (unscripted p1 points1 ts1 c1 l1 acc1 are1 cut1 x1) (script_letter p2 l2 acc2 x2) = absurd (no_letter input (parts_of input).scripts ts1 l2 cut1 x2)
+one_first input r s (unscripted p1 points1 ts1 c1 l1 acc1 are1 cut1 x1) (unscripted p2 points2 ts2 c2 l2 acc2 are2 cut2 x2) = same_unscripted input p1 p2 points1 points2 ts1 ts2 c1 l1 c2 l2 (same_text input p1 p2 acc1.text acc2.text) are1 are2 cut1 cut2 x1 x2
+one_first input r s (unscripted p1 points1 ts1 c1 l1 acc1 are1 cut1 x1) (planned p2 lines2 l2 acc2 are2 x2) = absurd (are_scripts input p2 p1 lines2 points1 ts1 c1 l1 (same_text input p2 p1 acc2.text acc1.text) are2 are1 cut1 x1)
+one_first input r s (planned p1 lines1 l1 acc1 are1 x1) (letter l2 x2) = absurd (no_letter input (parts_of input).protocol (acc1.text).tokens l2 (acc1.text).cut x2)
+one_first input r s (planned p1 lines1 l1 acc1 are1 x1) (unread ts2 c2 l2 cut2 x2) = absurd (is_read input p1 acc1.text ts2 c2 l2 cut2 x2)
+one_first input r s (planned p1 lines1 l1 acc1 are1 x1) (ruled_out p2 c2 r2 n2 text2 x2) = absurd (is_accepted input p1 p2 c2 r2 n2 acc1 text2 x2)
+one_first input r s (planned p1 lines1 l1 acc1 are1 x1) (script_letter p2 l2 acc2 x2) = absurd (no_letter input (parts_of input).scripts are1.tokens l2 are1.cut x2)
+one_first input r s (planned p1 lines1 l1 acc1 are1 x1) (unscripted p2 points2 ts2 c2 l2 acc2 are2 cut2 x2) = absurd (are_scripts input p1 p2 lines1 points2 ts2 c2 l2 (same_text input p1 p2 acc1.text acc2.text) are1 are2 cut2 x2)
+one_first input r s (planned p1 lines1 l1 acc1 are1 x1) (planned p2 lines2 l2 acc2 are2 x2) = same_other input (parts_of input).plan l1 l2 x1 x2
 
-not_both : (command : Command) (input : List ℕ) (p : Protocol) (c l : ℕ) → IsTaken command input p → IsFirstRefusal command input c l → ⊥
-not_both command input p c l taken (letter n b) = no_letter input taken.served.protocol.tokens n taken.served.protocol.cut b
-not_both command input p c l taken (unread us cb n cut b) = is_read input p taken.served.protocol us cb n cut b
-not_both command input p c l taken (unbuilt q text first others run b) = is_built command input p q taken.served text first others run b
-not_both command input p c l taken (scripts q n served b) = is_blank_there input (parts_of input).scripts n taken.no_scripts b
-not_both command input p c l taken (plan q n served blank b) = is_blank_there input (parts_of input).plan n taken.no_plan b
+not_both : (input : List ℕ) (p : Protocol) (lines : List (List model.Line)) (r : Refused) → IsTaken input p lines → IsFirstRefusal input r → ⊥
+not_both input p lines r taken (letter l1 x1) = no_letter input (parts_of input).protocol (taken.protocol.text).tokens l1 (taken.protocol.text).cut x1
+not_both input p lines r taken (unread ts1 c1 l1 cut1 x1) = is_read input p taken.protocol.text ts1 c1 l1 cut1 x1
+not_both input p lines r taken (ruled_out p1 c1 r1 n1 text1 x1) = is_accepted input p p1 c1 r1 n1 taken.protocol text1 x1
+not_both input p lines r taken (script_letter p1 l1 acc1 x1) = no_letter input (parts_of input).scripts taken.are_scripts.tokens l1 taken.are_scripts.cut x1
+not_both input p lines r taken (unscripted p1 points1 ts1 c1 l1 acc1 are1 cut1 x1) = are_scripts input p p1 lines points1 ts1 c1 l1 (same_text input p p1 taken.protocol.text acc1.text) taken.are_scripts are1 cut1 x1
+not_both input p lines r taken (planned p1 lines1 l1 acc1 are1 x1) = is_blank_there input (parts_of input).plan l1 taken.no_plan x1
 
-one_protocol : (command : Command) (input : List ℕ) (p q : Protocol) → IsTaken command input p → IsTaken command input q → SayTheSame p q
-one_protocol command input p q a b =
-    let x = a.served.protocol in
-    let y = b.served.protocol in
-    texts_have_one_tree (symbols_of input x.tokens) p q x.read (subst (λ (ts : List Token). reader.IsRead (symbols_of input ts) q) (same_tokens input y.tokens x.tokens y.cut x.cut) y.read)
+one_content : (input : List ℕ) (p q : Protocol) (l m : List (List model.Line)) → IsTaken input p l → IsTaken input q m → SayTheSame p q × (l ≡ m)
+one_content input p q l m a b =
+    let say = same_text input p q a.protocol.text b.protocol.text in
+    (say, same_lines input p q l m say a.are_scripts b.are_scripts)
 
 pub one_answer : InputsHaveOneAnswer
-one_answer = record { protocols = one_protocol; either = not_both; refusals = one_refusal }
+one_answer = record { protocols = one_content; either = not_both; refusals = one_first }

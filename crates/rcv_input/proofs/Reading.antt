@@ -1,83 +1,73 @@
 -- What each step of reading an input says of it.
-use Rattle.std.proofs.Common.{◌≡◌, ℕ, ◌≤◌, arith, List, ◌∷◌, length, refl, sym, ap, subst, ◌∙◌}
+use Rattle.std.proofs.Common.{◌≡◌, ℕ, List, length, refl, sym, ap, subst, ◌∙◌}
+use Rattle.std.specs.Prelude.{Result, Ok, Err, MatchResult}
 use Rattle.rcv_tree.specs.declared.protocol.Protocol.{Protocol}
 use Rattle.rcv_tree.specs.declared.refusal.Refusal.TheVariants as refusals
+use Rattle.rcv_model.specs.Text.{body_of}
+use Rattle.rcv_lexer.specs.declared.token.Span.{Span}
 use Rattle.rcv_lexer.specs.declared.token.Token.{Token}
 use Rattle.rcv_lexer.specs.declared.token.TextError.{TextError}
 use Rattle.rcv_lexer.specs.declared.token.TextError.TheVariants as errors
 use Rattle.rcv_lexer.specs.Parts.{parts_of}
 use Rattle.rcv_lexer.specs.Tokens as lexer
 use Rattle.rcv_lexer.specs.Tokens.{AreTokens, line_at}
-use Rattle.rcv_lexer.specs.declared.token.Span.{Span}
-use Rattle.rcv_reader.specs.declared.fault.Fault.{Fault}
-use Rattle.rcv_reader.specs.declared.fault.Fault.TheVariants as faults
-use Rattle.rcv_reader.specs.Machine.{code_of}
+use Rattle.rcv_model.specs.Script.{Line}
+use Rattle.rcv_reader.specs.Symbols as protocols
+use Rattle.rcv_reader.specs.Machine as reading
 use Rattle.rcv_reader.specs.Refusals as reader
-use Rattle.rcv_reader.specs.Refusals.{line_before}
-use Rattle.rcv_input.specs.declared.command.Command.{Command}
-use Rattle.rcv_input.specs.declared.command.Command.TheVariants.{Run}
-use Rattle.rcv_input.specs.Line.{IsTextError}
-use Rattle.rcv_input.specs.Input.{last_line, branchings, IsProtocolOf, IsServed, IsBlankPart, IsFirstOther, IsFirstRefusal, letter, unread, unbuilt, scripts, plan, IsRefused}
+use Rattle.rcv_points.specs.Follow.{PointsView, ArePointsOf}
+use Rattle.rcv_script.specs.Symbols as scripts
+use Rattle.rcv_script.specs.Machine as scripting
+use Rattle.rcv_script.specs.Refusals as script
+use Rattle.rcv_input.specs.Input.{IsProtocolOf, IsAcceptedOf, AreScriptsOf, IsFirstOther}
+use Rattle.rcv_input.specs.declared.refused.Refused.TheVariants as refused
+use Rattle.rcv_input.specs.declared.refused.Refused.TheVariants.{Rule, NoRole}
+use Rattle.rcv_input.specs.declared.refused.InputError.{InputError}
+use Rattle.rcv_input.specs.declared.refused.InputError.TheVariants as causes
+use Rattle.rcv_input.specs.Refusals.{IsFirstRefusal, letter, unread, ruled_out, script_letter, unscripted, planned, IsRefused, IsUnread, IsUnscripted, IsRuledOut}
 
-pub by_letter : (command : Command) (input : List ℕ) (e : TextError) → lexer.IsRefused input (parts_of input).protocol e → IsRefused command input e
-by_letter command input errors.Memory h = tt
-by_letter command input (errors.Refused r) h = (10, h.0, h.1, letter h.0 h.2)
+pub by_letter : (input : List ℕ) (e : TextError) → lexer.IsRefused input (parts_of input).protocol e → IsUnread input e
+by_letter input errors.Memory h = tt
+by_letter input (errors.Refused r) h = (10, h.0, h.1, letter h.0 h.2)
 
-pub by_reader : (command : Command) (input : List ℕ) (tokens : List Token) (e : TextError) (part : Span) (last : ℕ) → part ≡ (parts_of input).protocol → last ≡ line_at input part.end → AreTokens input part tokens
-    → reader.IsRefused input tokens last e → IsRefused command input e
-by_reader command input tokens errors.Memory part last is end cut h = tt
-by_reader command input tokens (errors.Refused r) part last is end cut h = (code_of h.0, line, h.3, unread tokens (code_of h.0) line (subst (λ (p : Span). AreTokens input p tokens) is cut) (h.0, h.1, h.2, ap (λ (n : ℕ). refusals.Text (code_of h.0) (line_before tokens n (length h.1))) (end ∙ ap (λ (p : Span). line_at input p.end) is)))
+pub by_reader : (input : List ℕ) (tokens : List Token) (e : TextError) (part : Span) (last : ℕ) → part ≡ (parts_of input).protocol → last ≡ line_at input part.end → AreTokens input part tokens
+    → reader.IsRefused input tokens last e → IsUnread input e
+by_reader input tokens errors.Memory part last is end cut h = tt
+by_reader input tokens (errors.Refused r) part last is end cut h = (reading.code_of h.0, line, h.3, unread tokens (reading.code_of h.0) line (subst (λ (p : Span). AreTokens input p tokens) is cut) (h.0, h.1, h.2, ap (λ (n : ℕ). refusals.Text (reading.code_of h.0) (reader.line_before tokens n (length h.1))) (end ∙ ap (λ (p : Span). line_at input p.end) is)))
   where
     line : ℕ
-    line = line_before tokens last (length h.1)
+    line = reader.line_before tokens last (length h.1)
 
-pub by_branching : (command : Command) (input : List ℕ) (p : Protocol) (text : IsProtocolOf input p) (e : TextError) (first : Token) (others : List Token) → e ≡ errors.Refused (refusals.Text 19 first.line) → command ≡ Run
-    → branchings input text.tokens ≡ first ∷ others → IsRefused command input e
-by_branching command input p text e first others is run found = subst (IsRefused command input) (sym is) (19, first.line, refl, unbuilt p text first others run found)
+pub by_script_letter : (input : List ℕ) (p : Protocol) (e : TextError) → lexer.IsRefused input (parts_of input).scripts e → IsUnscripted input p e
+by_script_letter input p errors.Memory h = tt
+by_script_letter input p (errors.Refused r) h = (10, h.0, h.1, λ accepted. script_letter p h.0 accepted h.2)
 
-pub by_scripts : (command : Command) (input : List ℕ) (p : Protocol) (e : TextError) (line : ℕ) → IsServed command input p → e ≡ errors.Refused (refusals.Text 19 line) → IsFirstOther input (parts_of input).scripts line → IsRefused command input e
-by_scripts command input p e line served is found = subst (IsRefused command input) (sym is) (19, line, refl, scripts p line served found)
-
-pub by_plan : (command : Command) (input : List ℕ) (p : Protocol) (e : TextError) (line : ℕ) → IsServed command input p → IsBlankPart input (parts_of input).scripts → e ≡ errors.Refused (refusals.Text 19 line)
-    → IsFirstOther input (parts_of input).plan line → IsRefused command input e
-by_plan command input p e line served blank is found = subst (IsRefused command input) (sym is) (19, line, refl, plan p line served blank found)
-
--- ---- what an error says of its code and line
-
-code_known : (f : Fault) → (10 ≤ code_of f) × (code_of f ≤ 19)
-code_known faults.Token = (omega arith, omega arith)
-code_known faults.Deep = (omega arith, omega arith)
-code_known faults.NoName = (omega arith, omega arith)
-code_known faults.Twice = (omega arith, omega arith)
-code_known faults.SelfMessage = (omega arith, omega arith)
-code_known faults.AfterContinue = (omega arith, omega arith)
-code_known faults.Unguarded = (omega arith, omega arith)
-code_known faults.TooMany = (omega arith, omega arith)
-code_known faults.NotYet = (omega arith, omega arith)
-
-unread_known : (input : List ℕ) (tokens : List Token) (code line : ℕ) → reader.IsRefused input tokens (last_line input) (errors.Refused (refusals.Text code line)) → (10 ≤ code) × (code ≤ 19)
-unread_known input tokens code line h =
-    let is = h.3 in
-    let same : code_of h.0 ≡ code = cc in
-    subst (λ (n : ℕ). (10 ≤ n) × (n ≤ 19)) same (code_known h.0)
-
-refusal_known : (command : Command) (input : List ℕ) (code line : ℕ) → IsFirstRefusal command input code line → (10 ≤ code) × (code ≤ 19)
-refusal_known command input code line (letter n h) = (omega arith, omega arith)
-refusal_known command input code line (unread ts c n cut h) = unread_known input ts c n h
-refusal_known command input code line (unbuilt p text first others run h) = (omega arith, omega arith)
-refusal_known command input code line (scripts p n served h) = (omega arith, omega arith)
-refusal_known command input code line (plan p n served blank h) = (omega arith, omega arith)
-
-pub error_known : (command : Command) (input : List ℕ) (e : TextError) → IsRefused command input e → IsTextError e
-error_known command input errors.Memory h = tt
-error_known command input (errors.Refused r) h = let k = refusal_known command input h.0 h.1 h.3 in (h.0, h.1, h.2, k.0, k.1)
-
-pub refused_first : (command : Command) (input : List ℕ) (e : TextError) (code line : ℕ) → IsRefused command input e → e ≡ errors.Refused (refusals.Text code line) → IsFirstRefusal command input code line
-refused_first command input e code line h is_refused = go (subst (IsRefused command input) is_refused h)
+pub by_scripts : (input : List ℕ) (p : Protocol) (points : PointsView) (tokens : List Token) (e : TextError) (part : Span) (last : ℕ) → part ≡ (parts_of input).scripts → last ≡ line_at input part.end → AreTokens input part tokens
+    → ArePointsOf (body_of p.body) points → script.IsRefused input tokens last p.roles points e → IsUnscripted input p e
+by_scripts input p points tokens errors.Memory part last is end cut are h = tt
+by_scripts input p points tokens (errors.Refused r) part last is end cut are h = (scripting.code_of h.0, line, h.3, λ accepted. unscripted p points tokens (scripting.code_of h.0) line accepted are (subst (λ (s : Span). AreTokens input s tokens) is cut) (h.0, h.1, h.2, ap (λ (n : ℕ). refusals.Text (scripting.code_of h.0) (script.line_before tokens n (length h.1))) (end ∙ ap (λ (s : Span). line_at input s.end) is)))
   where
-    go : IsRefused command input (errors.Refused (refusals.Text code line)) → IsFirstRefusal command input code line
-    go k =
-        let is = k.2 in
-        let codes : k.0 ≡ code = cc in
-        let lines : k.1 ≡ line = cc in
-        subst (λ (n : ℕ). IsFirstRefusal command input n line) codes (subst (IsFirstRefusal command input k.0) lines k.3)
+    line : ℕ
+    line = script.line_before tokens last (length h.1)
+
+-- what the readers answer
+pub text_read : (input : List ℕ) (tokens : List Token) (part : Span) (last : ℕ) (result : Result Protocol TextError) → part ≡ (parts_of input).protocol → last ≡ line_at input part.end → AreTokens input part tokens
+    → MatchResult result (reader.IsRead (protocols.symbols_of input tokens)) (reader.IsRefused input tokens last) → MatchResult result (IsProtocolOf input) (IsUnread input)
+text_read input tokens part last (Ok p) is end cut h = record { tokens = tokens; cut = subst (λ (s : Span). AreTokens input s tokens) is cut; read = h }
+text_read input tokens part last (Err e) is end cut h = by_reader input tokens e part last is end cut h
+
+pub scripts_read : (input : List ℕ) (p : Protocol) (points : PointsView) (tokens : List Token) (part : Span) (last : ℕ) (result : Result (List (List Line)) TextError) → part ≡ (parts_of input).scripts → last ≡ line_at input part.end → AreTokens input part tokens
+    → ArePointsOf (body_of p.body) points → MatchResult result (script.AreRead p.roles points (scripts.symbols_of input tokens)) (script.IsRefused input tokens last p.roles points) → MatchResult result (AreScriptsOf input p) (IsUnscripted input p)
+scripts_read input p points tokens part last (Ok lines) is end cut are h = record { tokens = tokens; cut = subst (λ (s : Span). AreTokens input s tokens) is cut; points = points; are_points = are; read = h }
+scripts_read input p points tokens part last (Err e) is end cut are h = by_scripts input p points tokens e part last is end cut are h
+
+-- ---- the steps behind the text
+
+pub by_rule : (input : List ℕ) (p : Protocol) (e : InputError) → IsProtocolOf input p → IsRuledOut p e → IsRefused input e
+by_rule input p causes.Memory text h = tt
+by_rule input p (causes.Refused (Rule code name number)) text h = subst (λ (n : List ℕ). IsFirstRefusal input (Rule code n number)) (sym h.1) (ruled_out p code h.0 number text h.2)
+by_rule input p (causes.Refused (refused.Line code line)) text h = absurd h
+by_rule input p (causes.Refused NoRole) text h = absurd h
+
+pub by_plan : (input : List ℕ) (p : Protocol) (lines : List (List Line)) (e : InputError) (line : ℕ) → IsAcceptedOf input p → AreScriptsOf input p lines → e ≡ causes.Refused (refused.Line 19 line) → IsFirstOther input (parts_of input).plan line → IsRefused input e
+by_plan input p lines e line accepted are is found = subst (IsRefused input) (sym is) (planned p lines line accepted are found)

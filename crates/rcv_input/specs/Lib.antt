@@ -1,3 +1,4 @@
 pub mod Input
+pub mod Refusals
 pub mod Line
 pub mod Laws

@@ -1,23 +1,32 @@
 -- The line that says a refusal.
-use Rattle.std.specs.Prelude.{◌≡◌, ℕ, ◌-◌, ◌≤◌, codes, decimal, List, [], ◌∷◌, ◌++◌, slice_index_or}
-use Rattle.rcv_tree.specs.declared.refusal.Refusal.TheVariants.{Text}
-use Rattle.rcv_lexer.specs.declared.token.TextError.{TextError}
-use Rattle.rcv_lexer.specs.declared.token.TextError.TheVariants.{Refused, Memory}
+use Rattle.std.specs.Prelude.{ℕ, ◌==◌, codes, decimal, List, [], ◌∷◌, ◌++◌, if◌then◌else◌}
+use Rattle.rcv_input.specs.declared.refused.Refused.{Refused}
+use Rattle.rcv_input.specs.declared.refused.Refused.TheVariants.{Line, Rule, NoRole}
 
--- The names of the codes, from 10 on.
-abbrev pub code_names : List (List ℕ)
+-- The codes with their names: of a text, of a protocol, of a command, of scripts.
+abbrev pub code_names : List (ℕ × List ℕ)
 code_names =
-    codes "Letter" ∷ codes "Token" ∷ codes "Deep" ∷ codes "Name" ∷ codes "Twice" ∷ codes "SelfMessage" ∷ codes "AfterContinue" ∷ codes "Unguarded"
-    ∷ codes "TooMany" ∷ codes "NotYet" ∷ []
+    (10, codes "Letter") ∷ (11, codes "Token") ∷ (12, codes "Deep") ∷ (13, codes "Name") ∷ (14, codes "Twice") ∷ (15, codes "SelfMessage")
+    ∷ (16, codes "AfterContinue") ∷ (17, codes "Unguarded") ∷ (18, codes "TooMany") ∷ (19, codes "NotYet")
+    ∷ (20, codes "Subject") ∷ (21, codes "Mixed") ∷ (22, codes "Senders") ∷ (23, codes "Labels") ∷ (24, codes "NotEnabled") ∷ (25, codes "MaybeDone")
+    ∷ (26, codes "Unreachable") ∷ (27, codes "NoRole")
+    ∷ (30, codes "Token") ∷ (31, codes "Role") ∷ (32, codes "Label") ∷ (33, codes "Variable") ∷ (34, codes "AttemptInState") ∷ (35, codes "NoPayload")
+    ∷ (36, codes "TooMany") ∷ []
+
+-- The name that stands beside a code in the list; none where the code isn't in it.
+abbrev pub name_in : List (ℕ × List ℕ) → ℕ → List ℕ
+name_in [] code = []
+name_in (e ∷ es) code = if code == e.0 then e.1 else name_in es code
 
 abbrev pub code_name : ℕ → List ℕ
-code_name code = slice_index_or code_names (code - 10) []
+code_name code = name_in code_names code
 
--- refused CODE NAME line LINE
-abbrev pub refusal_line : ℕ → ℕ → List ℕ
-refusal_line code line = codes "refused " ++ decimal code ++ codes " " ++ code_name code ++ codes " line " ++ decimal line ++ codes "\n"
+-- refused CODE NAME, and a space
+abbrev pub head : ℕ → List ℕ
+head code = codes "refused " ++ decimal code ++ codes " " ++ code_name code ++ codes " "
 
--- What is refused, if anything is, has a code with a name, and a line.
-abbrev pub IsTextError : TextError → Type 0
-IsTextError Memory = Unit {0}
-IsTextError (Refused r) = (code : ℕ) × (line : ℕ) × (r ≡ Text code line) × (10 ≤ code) × (code ≤ 19)
+-- refused CODE NAME line LINE, refused CODE NAME ROLE NUMBER, or refused 27 NoRole
+abbrev pub refusal_line : Refused → List ℕ
+refusal_line (Line code line) = head code ++ codes "line " ++ decimal line ++ codes "\n"
+refusal_line (Rule code role number) = head code ++ role ++ codes " " ++ decimal number ++ codes "\n"
+refusal_line NoRole = codes "refused 27 NoRole\n"

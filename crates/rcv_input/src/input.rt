@@ -1,92 +1,60 @@
-// Reads an input for a command.
+// Reads an input.
 
-ghost use Rattle.std.specs.Prelude.{◌≡◌, ℕ, ◌∷◌, ◌+◌, ◌^◌, ◌<◌, List, length, MatchResult, IfOk, IfErr, OnOk};
-ghost use Rattle.std.specs.List.{All};
-ghost use Rattle.rcv_tree.specs.declared.refusal.Refusal.TheVariants.{Text};
-ghost use Rattle.rcv_model.specs.Form.{HasForm};
-ghost use Rattle.rcv_model.specs.Text.{body_of};
-ghost use Rattle.rcv_lexer.specs.declared.token.Token.{Token};
-ghost use Rattle.rcv_lexer.specs.Parts.{LiesIn, parts_of};
-ghost use Rattle.rcv_input.specs.declared.command.Command.TheVariants.{Run};
-ghost use Rattle.rcv_input.specs.Input.{branchings, IsBuilt, IsServed, IsBlankPart, IsFirstOther, IsTaken, IsRefused};
+ghost use Rattle.std.specs.Prelude.{◌≡◌, ℕ, ◌+◌, ◌^◌, ◌<◌, length, MatchResult, IfErr, OnOk};
+ghost use Rattle.rcv_lexer.specs.Parts.{LiesIn};
+ghost use Rattle.rcv_input.specs.Input.{IsBlankPart, IsFirstOther, IsTaken};
+ghost use Rattle.rcv_input.specs.Refusals.{IsRefused};
 
-use crate::ahead::{first_branching, first_other, line_at};
-use crate::command::Command;
-use rcv_lexer::token::{Span, TextError, Token};
-use rcv_lexer::{split, tokens};
-use rcv_reader::read_protocol;
-use rcv_tree::protocol::Protocol;
-use rcv_tree::refusal::Refusal;
+use crate::blank::first_other;
+use crate::protocol::accepted_of;
+use crate::refused::{InputError, Refused, at_line};
+use crate::{protocol, script};
+use rcv_accept::accepted::Accepted;
+use rcv_lexer::split;
+use rcv_lexer::token::Span;
+use rcv_script::scripts::Scripts;
 use std::alloc::Global;
 
-// The refusal of what isn't built yet.
-fn not_yet(line: u32) -> TextError
-    ensures { result ≡ TextError.Refused (Text 19 line) }
-{
-    TextError::Refused(Refusal::Text { code: 19, line })
-}
-
-// Refused where the command can't be carried out for these tokens yet.
-fn built(command: Command, input: &[u8], list: &[Token]) -> Result<(), TextError>
-    requires { All (λ t. LiesIn input.now t.span) list.now }
-    ensures ok { OnOk result (IsBuilt command input.now list.now) }
-    ensures err { IfErr result (λ e. (first : Token) × (others : List Token) × (e ≡ TextError.Refused (Text 19 first.line)) × (command ≡ Run) × (branchings input.now list.now ≡ first ∷ others)) }
-{
-    if command == Command::Check {
-        return Ok(());
-    }
-    match first_branching(input, list) {
-        Some(line) => Err(not_yet(line)),
-        None => Ok(()),
-    }
-}
-
-// The protocol of the input's protocol part.
-fn read_part(
-    alloc: Global,
-    command: Command,
-    input: &[u8],
-    part: Span,
-) -> Result<Protocol, TextError>
-    requires short { length input.now + 1 < 2 ^ 32 }
-    requires inside { LiesIn input.now part }
-    requires part { part ≡ (parts_of input.now).protocol }
-    ensures served { MatchResult result (IsServed command input.now) (IsRefused command input.now) }
-    ensures form { IfOk result (λ p. HasForm (body_of p.body) (length p.roles)) }
-{
-    let list = tokens(alloc, input, part)?;
-    let last = line_at(input, part.end);
-    let protocol = read_protocol(alloc, input, list.as_slice(), last)?;
-    built(command, input, list.as_slice())?;
-    Ok(protocol)
+/// What an input is taken as: an accepted protocol, and the scripts of its roles.
+#[derive(Drop)]
+pub struct Input {
+    pub accepted: Accepted,
+    pub scripts: Scripts,
 }
 
 // Refused where anything but separators stands in the part, which isn't read yet.
-fn blank(input: &[u8], part: Span) -> Result<(), TextError>
+fn blank(input: &[u8], part: Span) -> Result<(), InputError>
     requires short { length input.now + 1 < 2 ^ 32 }
     requires inside { LiesIn input.now part }
     ensures ok { OnOk result (IsBlankPart input.now part) }
-    ensures err { IfErr result (λ e. (line : ℕ) × (e ≡ TextError.Refused (Text 19 line)) × IsFirstOther input.now part line) }
+    ensures err { IfErr result (λ e. (line : ℕ) × (e ≡ InputError.Refused (Refused.Line 19 line)) × IsFirstOther input.now part line) }
 {
     match first_other(input, part) {
-        Some(line) => Err(not_yet(line)),
+        Some(line) => Err(InputError::Refused(Refused::Line { code: 19, line })),
         None => Ok(()),
     }
 }
 
-/// The protocol that the input's text is, for which the command can be carried out.
+/// The accepted protocol and the scripts that the input's text says.
 ///
-/// Refused with the code and the line of the first of these that holds: 10 where the protocol part has a bad letter, 11
-/// to 19 where the reader refuses it (docs/FORMATS.md), 19 for `run` at the first `choice` or `rec`, 19 at the first
-/// byte of the scripts and then of the plan that is no separator. `Memory` where no memory is left.
-pub fn read_input(alloc: Global, command: Command, input: &[u8]) -> Result<Protocol, TextError>
+/// Refused with the first of these that holds: 10 at a bad letter of the protocol part; 11 to 19 where the reader
+/// refuses the protocol; 20 to 26 where a rule of acceptance fails, at a role and a number; 10 at a bad letter of the
+/// scripts; 30 to 36 where the scripts are refused; 19 at the first byte of the plan that is no separator.
+/// docs/FORMATS.md lists the codes. `Memory` where no memory is left.
+pub fn read_input(alloc: Global, input: &[u8]) -> Result<Input, InputError>
     requires { length input.now + 1 < 2 ^ 32 }
-    ensures taken { MatchResult result (IsTaken command input.now) (IsRefused command input.now) }
-    ensures form { IfOk result (λ p. HasForm (body_of p.body) (length p.roles)) }
+    ensures { MatchResult result (λ x. IsTaken input.now x.accepted.protocol x.scripts) (IsRefused input.now) }
 {
     let parts = split(input);
-    let protocol = read_part(alloc, command, input, parts.protocol)?;
-    blank(input, parts.scripts)?;
+    let protocol = match protocol::read_part(alloc, input, parts.protocol) {
+        Ok(protocol) => protocol,
+        Err(error) => return Err(at_line(error)),
+    };
+    let accepted = accepted_of(alloc, protocol)?;
+    let scripts = match script::read_part(alloc, input, parts.scripts, &accepted) {
+        Ok(scripts) => scripts,
+        Err(error) => return Err(at_line(error)),
+    };
     blank(input, parts.plan)?;
-    Ok(protocol)
+    Ok(Input { accepted, scripts })
 }

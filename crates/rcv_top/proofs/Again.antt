@@ -2,6 +2,11 @@
 use Rattle.std.proofs.Common.{◌≡◌, ℕ, ◌-◌, ◌≤◌, codes, List, [], ◌∷◌, length, take, drop, None, refl, sym, ap, subst, arith}
 use Rattle.std.specs.Prelude.{not, position, slice_range}
 use Rattle.rcv_tree.specs.declared.protocol.Protocol.{Protocol}
+use Rattle.rcv_model.specs.Text.{body_of}
+use Rattle.rcv_model.specs.Script.{Line}
+use Rattle.rcv_points.specs.Follow.{PointsView, ArePointsOf}
+use Rattle.rcv_accept.specs.Accepted.{IsAcceptedProtocol}
+use Rattle.rcv_script.specs.Machine.{no_lines}
 use Rattle.rcv_lexer.specs.declared.parts.Parts.{Parts}
 use Rattle.rcv_lexer.specs.Parts.{parts_of, span}
 use Rattle.rcv_lexer.specs.Pieces.{is_blank}
@@ -9,7 +14,6 @@ use Rattle.rcv_lexer.specs.Tokens.{AreTokens}
 use Rattle.rcv_printer.specs.CanonicalText.{canonical}
 use Rattle.rcv_printer.specs.Laws.{IsReadAs}
 use Rattle.rcv_printer.proofs.ReadBack.{reads_back}
-use Rattle.rcv_input.specs.declared.command.Command.TheVariants.{Check}
 use Rattle.rcv_input.specs.Input.{IsBlankPart, IsTaken}
 use Rattle.rcv_top.specs.declared.status.Status.{Status}
 use Rattle.rcv_top.specs.declared.status.Status.TheVariants as statuses
@@ -24,17 +28,17 @@ nothing_there text n = let none : n - n ≡ 0 = omega arith in ap (λ (k : ℕ).
 blank_there : (text : List ℕ) (n : ℕ) → IsBlankPart text (span n n)
 blank_there text n = subst (λ (bytes : List ℕ). position (λ b. not (is_blank b)) bytes ≡ None) (sym (nothing_there text n)) refl
 
-taken_again : (text : List ℕ) (p : Protocol) → IsReadAs text p → IsTaken Check text p
-taken_again text p back = record {
-  served = record { protocol = record { tokens = back.tokens; cut = subst (λ (parts : Parts). AreTokens text parts.protocol back.tokens) (sym back.one_part) back.are_tokens; read = back.read }; built = tt };
-  no_scripts = subst (λ (parts : Parts). IsBlankPart text parts.scripts) (sym back.one_part) (blank_there text (length text));
+taken_again : (text : List ℕ) (p : Protocol) (points : PointsView) → IsReadAs text p → ArePointsOf (body_of p.body) points → IsAcceptedProtocol p → IsTaken text p (no_lines p.roles)
+taken_again text p points back are lawful = record {
+  protocol = record { text = record { tokens = back.tokens; cut = subst (λ (parts : Parts). AreTokens text parts.protocol back.tokens) (sym back.one_part) back.are_tokens; read = back.read }; accepted = lawful };
+  are_scripts = record { tokens = []; cut = subst (λ (parts : Parts). AreTokens text parts.scripts []) (sym back.one_part) ([], nothing_there text (length text), refl); points = points; are_points = are; read = refl };
   no_plan = subst (λ (parts : Parts). IsBlankPart text parts.plan) (sym back.one_part) (blank_there text (length text));
 }
 
-again : (input : List ℕ) (p : Protocol) → IsTaken Check input p → IsTaken Check (canonical p) p
-again input p taken =
-    let text = taken.served.protocol in
-    taken_again (canonical p) p (reads_back input (parts_of input).protocol text.tokens p text.cut text.read)
+again : (input : List ℕ) (p : Protocol) (lines : List (List Line)) → IsTaken input p lines → IsTaken (canonical p) p (no_lines p.roles)
+again input p lines taken =
+    let text = taken.protocol.text in
+    taken_again (canonical p) p taken.are_scripts.points (reads_back input (parts_of input).protocol text.tokens p text.cut text.read) taken.are_scripts.are_points taken.protocol.accepted
 
 pub checks_stay : ChecksStay
 checks_stay input bytes outcome short = go statuses.Completed bytes refl outcome short
@@ -42,7 +46,7 @@ checks_stay input bytes outcome short = go statuses.Completed bytes refl outcome
     go : (s : Status) (b : List ℕ) → s ≡ statuses.Completed → IsOutcome (codes "check" ∷ []) input s b → length b ≤ most_bytes → IsOutcome (codes "check" ∷ []) b statuses.Completed b
     go s b is (usage none) few = absurd cc
     go s b is (too_long command many) few = absurd cc
-    go s b is (refused command code line asked first) few = absurd cc
-    go s b is (checked p asked taken) few = checked p (record { words_are = refl; short = few }) (again input p taken)
-    go s b is (completed p journal asked session done) few = absurd (two_commands (codes "check" ∷ []) asked.words_are refl)
-    go s b is (limited p journal asked session end) few = absurd cc
+    go s b is (refused command refusal asked first) few = absurd cc
+    go s b is (checked p lines asked taken) few = checked p (no_lines p.roles) (record { words_are = refl; short = few }) (again input p lines taken)
+    go s b is (completed session journal asked held done) few = absurd (two_commands (codes "check" ∷ []) asked.words_are refl)
+    go s b is (limited session journal asked held end) few = absurd cc

@@ -1,5 +1,5 @@
 -- What the top call says, from what it read and wrote.
-use Rattle.std.proofs.Common.{◌≡◌, ℕ, Some, None, Option, List, [], ◌∷◌, ◌++◌, length, refl, sym, ◌∙◌, ap, subst, ◌⊎◌, inl, inr, ⊎_elim, append-nil, arith}
+use Rattle.std.proofs.Common.{◌≡◌, ℕ, codes, Some, None, Option, List, [], ◌∷◌, ◌++◌, length, refl, sym, ◌∙◌, ap, subst, ◌⊎◌, inl, inr, ⊎_elim, append-nil, arith}
 use Rattle.std.specs.Prelude.{◌≤◌, Result, Ok, Err, Vec}
 use Rattle.std.proofs.lemmas.Bool.{cases_lt}
 use Rattle.std.specs.declared.alloc.Global.{Global}
@@ -8,14 +8,11 @@ use Rattle.rcv_io.specs.declared.fault.ReadError.{ReadError}
 use Rattle.rcv_io.specs.declared.fault.ReadError.TheVariants as errors
 use Rattle.rcv_io.specs.Causes.{Rose}
 use Rattle.rcv_io.specs.Source.{Took, ReadsWhole}
-use Rattle.rcv_tree.specs.declared.protocol.Protocol.{Protocol}
 use Rattle.rcv_tree.specs.declared.entry.Entry.{Entry}
 use Rattle.rcv_tree.specs.declared.entry.Entry.TheVariants.{Recover}
 use Rattle.rcv_tree.specs.declared.role.RoleSet.{RoleSet}
 use Rattle.rcv_model.specs.Run.{IsRun}
 use Rattle.rcv_model.specs.Text.{body_of}
-use Rattle.rcv_model.specs.Plain.{IsPlain}
-use Rattle.rcv_model.specs.Form.{HasForm}
 use Rattle.rcv_model.specs.Undo.{only}
 use Rattle.rcv_model.specs.Journal.{start, durable, reading, IsLegal}
 use Rattle.rcv_model.specs.Final.{IsOneThread}
@@ -24,15 +21,15 @@ use Rattle.rcv_model.proofs.OneThread.{one_journal}
 use Rattle.rcv_model.proofs.Cuts.{undo_exactly}
 use Rattle.rcv_model.proofs.Forms.{proper}
 use Rattle.rcv_model.proofs.Legal.{accepted_runs}
-use Rattle.rcv_model.proofs.PlainNets.{plain_accepted, plain_reach}
+use Rattle.rcv_model.proofs.Reached.{reach}
 use Rattle.rcv_model.proofs.StableLines.{reading_join}
-use Rattle.rcv_input.specs.declared.command.Command.{Command}
-use Rattle.rcv_input.specs.declared.command.Command.TheVariants.{Run, Check}
-use Rattle.rcv_input.proofs.Plain.{run_is_plain}
-use Rattle.rcv_core.specs.Setup.{rules_of}
+use Rattle.rcv_accept.specs.Accepted.{IsAcceptedProtocol}
+use Rattle.rcv_core.specs.Setup.{SetupView, rules_of}
+use Rattle.rcv_top.specs.declared.command.Command.{Command}
+use Rattle.rcv_top.specs.declared.command.Command.TheVariants.{Run, Check}
 use Rattle.rcv_top.specs.declared.status.Status.{Status}
 use Rattle.rcv_top.specs.declared.status.Status.TheVariants as statuses
-use Rattle.rcv_top.specs.Outcome.{word_of, IsCommand, IsSomeCommand, IsNoCommand, usage_line, most_bytes, session_of, IsSession, IsOutcome, usage, too_long, refused, checked, completed, limited}
+use Rattle.rcv_top.specs.Outcome.{words_of, IsCommand, IsSomeCommand, IsNoCommand, usage_line, most_bytes, IsSession, IsOutcome, usage, too_long, refused, checked, completed, limited}
 use Rattle.rcv_top.specs.Headline.{IsExactRecovery, IsHeadline}
 use Rattle.rcv_top.specs.Calls.{Around, ReadNothing, WroteNothing, IsInput, TakesTooMuch, WantsMemory, FailsToRead, Says, Wrote, WritesLegalJournal}
 
@@ -44,60 +41,58 @@ nothing_more (Some xs) = ap (λ l. Some l) (append-nil xs)
 said : (words : List (List ℕ)) (call : Around) (input bytes : List ℕ) (status : Status) → IsInput words call input → length input ≤ most_bytes → IsOutcome words input status bytes → call.written_after ≡ append_known call.written_before bytes → Says words call status
 said words call input bytes status is short (usage none) wrote = record { input = input; bytes = _; is_input = is; outcome = usage none; writes = wrote }
 said words call input bytes status is short (too_long command many) wrote = absurd (omega (arith, short, many))
-said words call input bytes status is short (refused command code line asked first) wrote = record { input = input; bytes = _; is_input = is; outcome = refused command code line asked first; writes = wrote }
-said words call input bytes status is short (checked p asked taken) wrote = record { input = input; bytes = _; is_input = is; outcome = checked p asked taken; writes = wrote }
-said words call input bytes status is short (completed p journal read session done) wrote = record { input = input; bytes = _; is_input = is; outcome = completed p journal read session done; writes = wrote }
-said words call input bytes status is short (limited p journal read session end) wrote = record { input = input; bytes = _; is_input = is; outcome = limited p journal read session end; writes = wrote }
+said words call input bytes status is short (refused command refusal asked first) wrote = record { input = input; bytes = _; is_input = is; outcome = refused command refusal asked first; writes = wrote }
+said words call input bytes status is short (checked p lines asked taken) wrote = record { input = input; bytes = _; is_input = is; outcome = checked p lines asked taken; writes = wrote }
+said words call input bytes status is short (completed session journal asked held done) wrote = record { input = input; bytes = _; is_input = is; outcome = completed session journal asked held done; writes = wrote }
+said words call input bytes status is short (limited session journal asked held end) wrote = record { input = input; bytes = _; is_input = is; outcome = limited session journal asked held end; writes = wrote }
 
 pub answered : (words : List (List ℕ)) (call : Around) (input bytes : List ℕ) (status result : Status) → IsInput words call input → length input ≤ most_bytes → IsOutcome words input status bytes → Wrote call.written_before call.written_after call.write_faults_before call.write_faults_after bytes status result → Says words call result
 answered words call input bytes status result is short outcome (inl w) = subst (Says words call) (sym w.0) (said words call input bytes status is short outcome w.1)
 answered words call input bytes status result is short outcome (inr w) = subst (Says words call) (sym w.0) (record { rose = w.1; input = input; status = status; bytes = bytes; is_input = is; outcome = outcome; writes = w.2 })
 
--- the one-thread journal of a plain protocol is what the headline says
-pub headline_of : (protocol : Protocol) (journal : List Entry) → IsPlain (body_of protocol.body) → HasForm (body_of protocol.body) (length protocol.roles) → IsOneThread (rules_of (session_of protocol)) journal → IsHeadline (rules_of (session_of protocol)) journal
-headline_of protocol journal plain form alone = record {
+-- the one-thread journal of an accepted protocol is what the headline says
+pub headline_of : (session : SetupView) (journal : List Entry) → IsAcceptedProtocol session.protocol → IsOneThread (rules_of session) journal → IsHeadline (rules_of session) journal
+headline_of session journal lawful alone = record {
   legal = law.legal alone;
-  reaches = λ front back e. plain_reach (body_of protocol.body) (length protocol.roles) (λ r. []) front back plain form (subst (IsLegal (rules_of (session_of protocol))) (sym e) (law.legal alone));
+  reaches = λ front back e. reach (rules_of session) (body_of session.protocol.body) front back refl lawful.form lawful.accepted (subst (IsLegal (rules_of session)) (sym e) (law.legal alone));
   undoes = λ front back p concerned kept undone e. exact front (Recover p concerned kept undone ∷ back) p concerned kept undone e;
   final = law.final alone;
 }
   where
-    law : OneJournal (rules_of (session_of protocol)) journal journal
-    law = one_journal (rules_of (session_of protocol)) journal journal
+    law : OneJournal (rules_of session) journal journal
+    law = one_journal (rules_of session) journal journal
 
-    run : (front back : List Entry) → front ++ back ≡ journal → IsRun (rules_of (session_of protocol)).net (reading (rules_of (session_of protocol)) front).kept
-    run front back e = accepted_runs (rules_of (session_of protocol)) journal (proper (body_of protocol.body) (length protocol.roles) form) (plain_accepted (body_of protocol.body) (length protocol.roles) plain form).0 (law.legal alone) front back e
+    run : (front back : List Entry) → front ++ back ≡ journal → IsRun (rules_of session).net (reading (rules_of session) front).kept
+    run front back e = accepted_runs (rules_of session) journal (proper (body_of session.protocol.body) (length session.protocol.roles) lawful.form) lawful.accepted (law.legal alone) front back e
 
-    exact : (front rest : List Entry) (p : ℕ) (concerned : RoleSet) (kept : List ℕ) (undone : ℕ) → front ++ rest ≡ journal → IsExactRecovery (rules_of (session_of protocol)) (reading (rules_of (session_of protocol)) front) (reading (rules_of (session_of protocol)) (front ++ Recover p concerned kept undone ∷ [])) p
+    exact : (front rest : List Entry) (p : ℕ) (concerned : RoleSet) (kept : List ℕ) (undone : ℕ) → front ++ rest ≡ journal → IsExactRecovery (rules_of session) (reading (rules_of session) front) (reading (rules_of session) (front ++ Recover p concerned kept undone ∷ [])) p
     exact front rest p concerned kept undone e =
-        let before = reading (rules_of (session_of protocol)) front in
-        let sets = undo_exactly (rules_of (session_of protocol)).net (only p (durable (rules_of (session_of protocol)) before p) before.kept) before.kept (run front rest e).1.queued in
-        record { has = sets.0; exact = sets.1; left = ap (λ s. s.kept) (reading_join (rules_of (session_of protocol)) (start (length protocol.roles)) front (Recover p concerned kept undone ∷ [])) }
+        let before = reading (rules_of session) front in
+        let sets = undo_exactly (rules_of session).net (only p (durable (rules_of session) before p) before.kept) before.kept (run front rest e).1.queued in
+        record { has = sets.0; exact = sets.1; left = ap (λ s. s.kept) (reading_join (rules_of session) (start (length session.protocol.roles)) front (Recover p concerned kept undone ∷ [])) }
 
-pub session_headline : (input : List ℕ) (p : Protocol) (journal : List Entry) (bytes : List ℕ) → IsSession input p journal bytes → IsHeadline (rules_of (session_of p)) journal
-session_headline input p journal bytes session =
-    let plain = run_is_plain input p session.taken in
-    headline_of p journal plain.0 plain.1 session.alone
+pub session_headline : (input : List ℕ) (session : SetupView) (journal : List Entry) (bytes : List ℕ) → IsSession input session journal bytes → IsHeadline (rules_of session) journal
+session_headline input session journal bytes held = headline_of session journal held.taken.protocol.accepted held.alone
 
 -- the words aren't two commands
 pub two_commands : (words : List (List ℕ)) → IsCommand words Run → IsCommand words Check → ⊥
-two_commands words run check = let same : word_of Run ∷ [] ≡ word_of Check ∷ [] = sym run ∙ check in let e : word_of Run ≡ word_of Check = cc in absurd (omega (arith, ap length e))
+two_commands words run check = let same : words_of Run ≡ words_of Check = sym run ∙ check in let e : codes "run" ≡ codes "check" = cc in absurd (omega (arith, ap length e))
 
 -- the same for what the call wrote
 pub wrote_headline : (words : List (List ℕ)) (call : Around) (input bytes : List ℕ) (status result : Status) → IsInput words call input → IsCommand words Run → IsOutcome words input status bytes → Wrote call.written_before call.written_after call.write_faults_before call.write_faults_after bytes status result → (result ≡ statuses.Completed) ⊎ (result ≡ statuses.Limited) → WritesLegalJournal call
 wrote_headline words call input bytes status result is command outcome (inr w) ended = absurd (⊎_elim (λ e. let f = w.0 in cc) (λ e. let f = w.0 in cc) ended)
 wrote_headline words call input bytes status result is command outcome (inl w) ended = go status bytes refl outcome (⊎_elim (λ e. inl (sym w.0 ∙ e)) (λ e. inr (sym w.0 ∙ e)) ended)
   where
-    journal_of : (p : Protocol) (journal : List Entry) → IsSession input p journal bytes → WritesLegalJournal call
-    journal_of p journal session = record { input = input; takes = is.takes; whole = is.whole (Run, command); protocol = p; journal = journal; bytes = bytes; session = session; writes = w.1; headline = session_headline input p journal bytes session }
+    journal_of : (session : SetupView) (journal : List Entry) → IsSession input session journal bytes → WritesLegalJournal call
+    journal_of session journal held = record { input = input; takes = is.takes; whole = is.whole (Run, command); session = session; journal = journal; bytes = bytes; is_session = held; writes = w.1; headline = session_headline input session journal bytes held }
 
     go : (s : Status) (b : List ℕ) → b ≡ bytes → IsOutcome words input s b → (s ≡ statuses.Completed) ⊎ (s ≡ statuses.Limited) → WritesLegalJournal call
     go s b same (usage none) e = absurd (⊎_elim (λ f. cc) (λ f. cc) e)
     go s b same (too_long c many) e = absurd (⊎_elim (λ f. cc) (λ f. cc) e)
-    go s b same (refused other code line asked first) e = absurd (⊎_elim (λ f. cc) (λ f. cc) e)
-    go s b same (checked p asked taken) e = absurd (two_commands words command asked.words_are)
-    go s b same (completed p journal read session done) e = journal_of p journal (subst (IsSession input p journal) same session)
-    go s b same (limited p journal read session end) e = journal_of p journal (subst (IsSession input p journal) same session)
+    go s b same (refused other refusal asked first) e = absurd (⊎_elim (λ f. cc) (λ f. cc) e)
+    go s b same (checked p lines asked taken) e = absurd (two_commands words command asked.words_are)
+    go s b same (completed session journal asked held done) e = journal_of session journal (subst (IsSession input session journal) same held)
+    go s b same (limited session journal asked held end) e = journal_of session journal (subst (IsSession input session journal) same held)
 
 -- nothing was taken
 nothing_taken : (o : Option (List ℕ)) (given : ℕ) → Took o o given given []
@@ -122,7 +117,7 @@ input_of words call input most v command reads end same = record {
   unread = λ no_command. absurd (no_command command.0 command.1);
 }
 
-pub asked_outcome : (words : List (List ℕ)) (command : Command) (input : List ℕ) (status : Status) (bytes : List ℕ) → IsCommand words command → IsOutcome (word_of command ∷ []) input status bytes → IsOutcome words input status bytes
+pub asked_outcome : (words : List (List ℕ)) (command : Command) (input : List ℕ) (status : Status) (bytes : List ℕ) → IsCommand words command → IsOutcome (words_of command) input status bytes → IsOutcome words input status bytes
 asked_outcome words which input status bytes command outcome = subst (λ w. IsOutcome w input status bytes) (sym command) outcome
 
 -- too much was taken

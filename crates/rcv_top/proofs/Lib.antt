@@ -1,5 +1,5 @@
 pub mod Sessions
 pub mod Answering
 pub mod Outcomes
-pub mod Completing
+pub mod Ending
 pub mod Again

@@ -5,15 +5,14 @@ use Rattle.std.specs.declared.option.Option.{Option}
 use Rattle.std.specs.declared.string.String.{String}
 use Rattle.std.specs.declared.alloc.Global.{Global}
 use Rattle.std.specs.Io.KnownBytes.{append_known, IsAtEnd}
-use Rattle.rcv_tree.specs.declared.protocol.Protocol.{Protocol}
 use Rattle.rcv_tree.specs.declared.entry.Entry.{Entry}
 use Rattle.rcv_io.specs.Causes.{Rose}
 use Rattle.rcv_io.specs.Source.{Took}
 use Rattle.rcv_io.specs.Sink.{WroteBeginning}
-use Rattle.rcv_core.specs.Setup.{rules_of}
+use Rattle.rcv_core.specs.Setup.{SetupView, rules_of}
 use Rattle.rcv_top.specs.declared.status.Status.{Status}
 use Rattle.rcv_top.specs.declared.status.Status.TheVariants.{Completed, Usage, Refused, Limited, ReadFault, WriteFault, Memory, TooLong}
-use Rattle.rcv_top.specs.Outcome.{IsSomeCommand, IsNoCommand, most_bytes, session_of, IsSession, IsOutcome}
+use Rattle.rcv_top.specs.Outcome.{IsSomeCommand, IsNoCommand, most_bytes, IsSession, IsOutcome}
 use Rattle.rcv_top.specs.Headline.{IsHeadline}
 
 -- Words as their bytes.
@@ -123,17 +122,17 @@ Says words call WriteFault = FailsToWrite words call
 Says words call Memory = WantsMemory words call
 Says words call TooLong = TakesTooMuch words call
 
--- The input is taken as a protocol, and what was written is the text of a journal of it as the headline says.
+-- The input is taken as a session, and what was written is the text of a journal of it as the headline says.
 pub record WritesLegalJournal (call : Around) : Type 0 where
   pub input : List ℕ
   pub takes : Takes call input
   pub whole : IsAtEnd call.rest_after
-  pub protocol : Protocol
+  pub session : SetupView
   pub journal : List Entry
   pub bytes : List ℕ
-  pub session : IsSession input protocol journal bytes
+  pub is_session : IsSession input session journal bytes
   pub writes : call.written_after ≡ append_known call.written_before bytes
-  pub headline : IsHeadline (rules_of (session_of protocol)) journal
+  pub headline : IsHeadline (rules_of session) journal
 
 -- These bytes were written with this status; or the sink failed.
 abbrev pub Wrote : Option (List ℕ) → Option (List ℕ) → ℕ → ℕ → List ℕ → Status → Status → Type 0

@@ -1,24 +1,21 @@
 // What the commands answer, from the bytes of an input to those of an output.
 
-ghost use Rattle.std.specs.Prelude.{◌≡◌, ℕ, ◌≤◌, ◌∷◌, [], codes, length, IfOk};
-ghost use Rattle.rcv_tree.specs.declared.refusal.Refusal.TheVariants.{Text};
-ghost use Rattle.rcv_input.specs.declared.command.Command.TheVariants.{Run};
+ghost use Rattle.std.specs.Prelude.{◌≡◌, ◌≤◌, ◌∷◌, [], codes, length, IfOk};
+ghost use Rattle.rcv_input.specs.declared.refused.Refused as refusals;
 ghost use Rattle.rcv_input.specs.Input.{IsTaken};
-ghost use Rattle.rcv_input.specs.Line.{IsTextError, refusal_line};
+ghost use Rattle.rcv_input.specs.Line.{refusal_line};
 ghost use Rattle.rcv_printer.specs.CanonicalText.{canonical};
-ghost use Rattle.rcv_top.specs.Outcome.{IsOutcome, word_of};
+ghost use Rattle.rcv_top.specs.Outcome.{IsOutcome, words_of};
 
+use crate::command::Command;
 use crate::status::Status;
 use rcv_core::book::Book;
 use rcv_core::outcome::Outcome;
 use rcv_core::setup::Setup;
-use rcv_input::command::Command;
-use rcv_input::{read_input, refusal_line};
+use rcv_input::{Input, InputError, read_input, refusal_line};
 use rcv_journal::text::text_of;
-use rcv_lexer::token::TextError;
 use rcv_printer::print_protocol;
 use rcv_tree::protocol::Protocol;
-use rcv_tree::refusal::Refusal;
 use std::alloc::{AllocError, Global};
 
 /// A status, and the bytes that are written with it.
@@ -28,30 +25,30 @@ pub struct Output {
     pub bytes: Vec<u8>,
 }
 
-/// What is written for an input of at most 1,048,576 bytes, and with which status: the first refusal of the input for
-/// the command, or what the command makes of its protocol.
+/// What is written for an input of at most 1,048,576 bytes, and with which status: the first refusal of the input, or
+/// what the command makes of its protocol and its scripts.
 ///
 /// The error comes where no memory was left.
 pub fn answer(alloc: Global, command: Command, input: &[u8]) -> Result<Output, AllocError>
     requires { length input.now ≤ 1048576 }
-    ensures { IfOk result (λ output. IsOutcome (word_of command ∷ []) input.now output.status output.bytes.items) }
+    ensures { IfOk result (λ output. IsOutcome (words_of command) input.now output.status output.bytes.items) }
 {
-    match read_input(alloc, command, input) {
-        Ok(protocol) => match command {
-            Command::Run => run(alloc, input, protocol),
-            Command::Check => check(alloc, &protocol),
+    match read_input(alloc, input) {
+        Ok(taken) => match command {
+            Command::Run => run(alloc, input, taken),
+            Command::Check => check(alloc, taken.accepted.protocol()),
         },
         Err(error) => refuse(alloc, error),
     }
 }
 
 // Runs a session to its end, and writes its journal.
-fn run(alloc: Global, input: &[u8], protocol: Protocol) -> Result<Output, AllocError>
+fn run(alloc: Global, input: &[u8], taken: Input) -> Result<Output, AllocError>
     requires short { length input.now ≤ 1048576 }
-    requires taken { IsTaken Run input.now protocol }
+    requires taken { IsTaken input.now taken.accepted.protocol taken.scripts }
     ensures { IfOk result (λ output. IsOutcome (codes "run" ∷ []) input.now output.status output.bytes.items) }
 {
-    let setup = Setup::plain(alloc, protocol)?;
+    let setup = Setup::of(taken.accepted, taken.scripts);
     let mut book = Book::new(alloc, &setup)?;
     book.run_alone()?;
     let bytes = text_of(alloc, &book)?;
@@ -74,16 +71,14 @@ fn check(alloc: Global, protocol: &Protocol) -> Result<Output, AllocError>
 }
 
 // Writes the line of a refusal.
-fn refuse(alloc: Global, error: TextError) -> Result<Output, AllocError>
-    requires { IsTextError error }
-    ensures { IfOk result (λ output. (code : ℕ) × (line : ℕ) × (error ≡ TextError.Refused (Text code line)) × (output.status ≡ Status.Refused) × (output.bytes.items ≡ refusal_line code line)) }
+fn refuse(alloc: Global, error: InputError) -> Result<Output, AllocError>
+    ensures { IfOk result (λ output. (refusal : refusals.Refused) × (error ≡ InputError.Refused refusal) × (output.status ≡ Status.Refused) × (output.bytes.items ≡ refusal_line refusal)) }
 {
     match error {
-        TextError::Refused(Refusal::Text { code, line }) => Ok(Output {
+        InputError::Refused(refused) => Ok(Output {
             status: Status::Refused,
-            bytes: refusal_line(alloc, code, line)?,
+            bytes: refusal_line(alloc, &refused)?,
         }),
-        TextError::Refused(_) => unreachable!(),
-        TextError::Memory => Err(AllocError),
+        InputError::Memory => Err(AllocError),
     }
 }

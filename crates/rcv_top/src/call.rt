@@ -1,7 +1,7 @@
 // The top call.
 
 ghost use Rattle.std.specs.Prelude.{◌≡◌, ◌≤◌, ◌⊎◌};
-ghost use Rattle.rcv_input.specs.declared.command.Command.TheVariants.{Run};
+ghost use Rattle.rcv_top.specs.declared.command.Command.TheVariants.{Run};
 ghost use Rattle.rcv_top.specs.Outcome.{IsCommand};
 ghost use Rattle.rcv_top.specs.Calls.{bytes_of, around, Says, Wrote, WritesLegalJournal};
 

@@ -1,10 +1,11 @@
 // The whole program as one call: from words and an input to a status and bytes.
 #![tactic(auto)]
 
-ghost use Rattle.rcv_top.specs.Laws.{ChecksStay, OneOutcome, SessionsAreLegal, SessionsComplete};
+ghost use Rattle.rcv_top.specs.Laws.{ChecksStay, OneOutcome, SessionsAreLegal, SessionsEnd};
 
 mod answer;
 mod call;
+mod command;
 mod gate;
 mod status;
 #[cfg(test)]
@@ -25,9 +26,9 @@ pub fn sessions_are_legal()
     ensures { SessionsAreLegal }
 {}
 
-/// The session of each input that `run` takes, and that isn't too long, completes.
-pub fn sessions_complete()
-    ensures { SessionsComplete }
+/// The session of each input that is taken, and that isn't too long, completes, or it is limited by a role at the limit.
+pub fn sessions_end()
+    ensures { SessionsEnd }
 {}
 
 /// What `check` wrote, given to `check` again, is written as it is.

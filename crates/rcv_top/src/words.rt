@@ -1,16 +1,16 @@
 // The command that words say.
 
-ghost use Rattle.std.specs.Prelude.{◌≡◌, IfSome, IfNone};
-ghost use Rattle.rcv_input.specs.declared.command.Command.{Command};
-ghost use Rattle.rcv_top.specs.Outcome.{word_of, IsCommand, IsNoCommand};
+ghost use Rattle.std.specs.Prelude.{◌≡◌, ◌∷◌, [], IfSome, IfNone};
+ghost use Rattle.rcv_top.specs.declared.command.Command.{Command};
+ghost use Rattle.rcv_top.specs.Outcome.{words_of, IsCommand, IsNoCommand};
 ghost use Rattle.rcv_top.specs.Calls.{bytes_of};
 
-use rcv_input::command::Command;
+use crate::command::Command;
 
 // The command that has this word.
 fn named(word: &str) -> Option<Command>
-    ensures some { IfSome result (λ command. word.now ≡ word_of command) }
-    ensures none { IfNone result ((command : Command) → word.now ≡ word_of command → ⊥) }
+    ensures some { IfSome result (λ command. word.now ∷ [] ≡ words_of command) }
+    ensures none { IfNone result ((command : Command) → word.now ∷ [] ≡ words_of command → ⊥) }
 {
     match word {
         "run" => Some(Command::Run),

@@ -1,20 +1,29 @@
--- Scripts or a plan are refused where they stand.
-use Rattle.std.proofs.Common.{subst}
+-- A rule of acceptance that fails, or a plan.
+use Rattle.std.proofs.Common.{sym, subst}
 use Rattle.std.proofs.lemmas.Result.{err_from_is_err_and}
+use Rattle.rcv_tree.specs.declared.protocol.Protocol.{Protocol}
 use Rattle.rcv_lexer.specs.declared.parts.Parts.{Parts}
-use Rattle.rcv_input.specs.Input.{IsBlankPart, IsFirstOther}
-use Rattle.rcv_input.proofs.Reading.{by_scripts, by_plan}
+use Rattle.rcv_reader.specs.Symbols.{symbols_of}
+use Rattle.rcv_grammar.proofs.Filling.{read_texts_are_full}
+use Rattle.rcv_accept.specs.Accepted.{AcceptedView, IsAcceptedProtocol}
+use Rattle.rcv_input.specs.Input.{IsProtocolOf, IsFirstOther}
+use Rattle.rcv_input.proofs.Reading.{by_rule, by_plan}
 use Rattle.rcv_input.proofs.input.read_input.Goals as goal
 
-pub returns-in_err-blank-clause-taken : goal.returns-in_err-blank-clause-taken
-returns-in_err-blank-clause-taken c =
+pub accepted_of-requires-clause-full : goal.accepted_of-requires-clause-full
+accepted_of-requires-clause-full c =
+    let text = c.in-Ok.ensures.read in
+    read_texts_are_full (symbols_of c.args.input.now text.tokens) c.in-Ok.protocol text.read
+
+pub returns-in_err-accepted : goal.returns-in_err-accepted
+returns-in_err-accepted c =
+    let p = err_from_is_err_and c.from_residual.result c.from_residual.ensures.1 in
+    rw (p.1, p.2) (by_rule c.args.input.now c.in-Ok.protocol c.in_err-accepted.field-0.0 c.in-Ok.ensures.read c.in_err-accepted.ensures)
+
+pub returns-in_err-blank : goal.returns-in_err-blank
+returns-in_err-blank c =
     let p = err_from_is_err_and c.from_residual-in_err-blank.result c.from_residual-in_err-blank.ensures.1 in
     let h = c.in_err-blank.ensures.err in
-    rw (p.1, p.2) (by_scripts c.args.command c.args.input.now c.in_ok-protocol.protocol c.in_err-blank.field-0.0 h.0 c.in_ok-protocol.ensures.served h.1 (subst (λ (x : Parts). IsFirstOther c.args.input.now x.scripts h.0) c.split-parts.ensures.parts h.2))
-
-pub returns-in_err-blank-2-clause-taken : goal.returns-in_err-blank-2-clause-taken
-returns-in_err-blank-2-clause-taken c =
-    let p = err_from_is_err_and c.from_residual-in_err-blank-2.result c.from_residual-in_err-blank-2.ensures.1 in
-    let h = c.in_err-blank-2.ensures.err in
-    rw (p.1, p.2) (by_plan c.args.command c.args.input.now c.in_ok-protocol.protocol c.in_err-blank-2.field-0.0 h.0 c.in_ok-protocol.ensures.served (subst (λ (x : Parts). IsBlankPart c.args.input.now x.scripts) c.split-parts.ensures.parts c.in_ok-blank.ensures.ok) h.1
-    (subst (λ (x : Parts). IsFirstOther c.args.input.now x.plan h.0) c.split-parts.ensures.parts h.2))
+    rw (p.1, p.2) (by_plan c.args.input.now c.in_ok-accepted.accepted.protocol c.in-Ok-read_part.scripts c.in_err-blank.field-0.0 h.0
+    (record { text = subst (IsProtocolOf c.args.input.now) (sym c.in_ok-accepted.ensures) c.in-Ok.ensures.read; accepted = subst (λ (v : AcceptedView). IsAcceptedProtocol v.protocol) c.accepted.view_is c.accepted.invariant.accepted })
+    c.in-Ok-read_part.ensures h.1 (subst (λ (x : Parts). IsFirstOther c.args.input.now x.plan h.0) c.split-parts.ensures.parts h.2))

@@ -1,0 +1,22 @@
+-- A bad letter, the scripts' refusal, or scripts.
+use Rattle.std.proofs.Common.{List, ap, subst, ◌∙◌}
+use Rattle.std.specs.Prelude.{MatchResult}
+use Rattle.std.proofs.lemmas.Result.{err_from_is_err_and}
+use Rattle.rcv_tree.specs.declared.protocol.Protocol.{Protocol}
+use Rattle.rcv_lexer.specs.declared.token.Token.{Token}
+use Rattle.rcv_lexer.specs.Tokens as lexer
+use Rattle.rcv_script.specs.Symbols.{symbols_of}
+use Rattle.rcv_script.specs.Refusals as script
+use Rattle.rcv_input.proofs.Reading.{by_script_letter, scripts_read}
+use Rattle.rcv_input.proofs.script.read_part.Goals as goal
+
+pub returns-in_err-list : goal.returns-in_err-list
+returns-in_err-list c =
+    let p = err_from_is_err_and c.from_residual.result c.from_residual.ensures.1 in
+    rw (p.1, p.2) (by_script_letter c.args.input.now c.args.accepted.now.protocol c.in_err-list.field-0.0 (subst (λ part. lexer.IsRefused c.args.input.now part c.in_err-list.field-0.0) c.requires.part c.in_err-list.ensures.tokens))
+
+pub returns : goal.returns
+returns c =
+    scripts_read c.args.input.now c.args.accepted.now.protocol c.points.result.now c.in_ok-list.list.items c.args.part c.line_at-last.result c.read_scripts.result c.requires.part c.line_at-last.ensures c.in_ok-list.ensures.tokens c.points.ensures
+    (subst (λ (q : Protocol). MatchResult c.read_scripts.result (script.AreRead q.roles c.points.result.now (symbols_of c.args.input.now c.in_ok-list.list.items)) (script.IsRefused c.args.input.now c.in_ok-list.list.items c.line_at-last.result q.roles c.points.result.now)) c.protocol.ensures.value
+    (subst (λ (ts : List Token). MatchResult c.read_scripts.result (script.AreRead c.protocol.result.now.roles c.points.result.now (symbols_of c.args.input.now ts)) (script.IsRefused c.args.input.now ts c.line_at-last.result c.protocol.result.now.roles c.points.result.now)) c.as_slice.ensures.value c.read_scripts.ensures))

@@ -1,0 +1,88 @@
+// Reads the protocol part of an input, and has its protocol accepted.
+
+ghost use Rattle.std.specs.Prelude.{◌≡◌, [], ◌+◌, ◌^◌, ◌<◌, ◌≤◌, length, slice_index_or, IfOk, MatchResult};
+ghost use Rattle.rcv_model.specs.Form.{HasForm};
+ghost use Rattle.rcv_model.specs.Places.{IsFull};
+ghost use Rattle.rcv_model.specs.Text.{body_of};
+ghost use Rattle.rcv_lexer.specs.Parts.{LiesIn, parts_of};
+ghost use Rattle.rcv_input.specs.Input.{IsProtocolOf};
+ghost use Rattle.rcv_input.specs.Refusals.{IsUnread, IsRule, SaysRule, IsRuledOut};
+
+use crate::blank::line_at;
+use crate::refused::{InputError, Refused};
+use rcv_accept::accept;
+use rcv_accept::accepted::Accepted;
+use rcv_lexer::token::{Span, TextError};
+use rcv_lexer::tokens;
+use rcv_reader::read_protocol;
+use rcv_tree::name::{Name, Names};
+use rcv_tree::protocol::Protocol;
+use rcv_tree::refusal::Refusal;
+use rcv_tree::role::RoleId;
+use std::alloc::{AllocError, Global};
+
+/// The protocol of the input's protocol part.
+pub fn read_part(alloc: Global, input: &[u8], part: Span) -> Result<Protocol, TextError>
+    requires short { length input.now + 1 < 2 ^ 32 }
+    requires inside { LiesIn input.now part }
+    requires part { part ≡ (parts_of input.now).protocol }
+    ensures read { MatchResult result (IsProtocolOf input.now) (IsUnread input.now) }
+    ensures form { IfOk result (λ p. HasForm (body_of p.body) (length p.roles)) }
+{
+    let list = tokens(alloc, input, part)?;
+    let last = line_at(input, part.end);
+    read_protocol(alloc, input, list.as_slice(), last)
+}
+
+// The names, copied. Fails where memory runs out.
+fn copy_of(alloc: Global, names: &Names) -> Result<Names, AllocError>
+    ensures { IfOk result (λ copy. copy ≡ names.now) }
+{
+    let mut copy = Names::new(alloc);
+    for name in names.as_slice() {
+        copy.push(Name::of(alloc, name.as_slice())?)?;
+    }
+    Ok(copy)
+}
+
+// The name of a role, copied; empty where there is no such role. Fails where memory runs out.
+fn name_of(alloc: Global, names: &Names, role: RoleId) -> Result<Name, AllocError>
+    ensures { IfOk result (λ name. name ≡ slice_index_or names.now role []) }
+{
+    match names.as_slice().get(role.0 as usize) {
+        Some(name) => Name::of(alloc, name.as_slice()),
+        None => Ok(Name::new(alloc)),
+    }
+}
+
+// The refusal by a rule, with the name of its role. Fails where memory runs out.
+fn ruled_out(alloc: Global, roles: &Names, refusal: Refusal) -> Result<Refused, AllocError>
+    requires { IsRule refusal }
+    ensures { IfOk result (SaysRule roles.now refusal) }
+{
+    match refusal {
+        Refusal::Rule { code, role, point } => Ok(Refused::Rule {
+            code,
+            role: name_of(alloc, roles, role)?,
+            number: point,
+        }),
+        _ => unreachable!(),
+    }
+}
+
+/// The protocol, which is of the reader's form, as an accepted one, or the refusal by a rule of acceptance.
+pub fn accepted_of(alloc: Global, protocol: Protocol) -> Result<Accepted, InputError>
+    requires form { HasForm (body_of protocol.body) (length protocol.roles) }
+    requires full { IsFull [] [] (body_of protocol.body) }
+    ensures { MatchResult result (λ a. a.protocol ≡ protocol) (IsRuledOut protocol) }
+{
+    // The protocol is gone where it isn't accepted.
+    let roles = copy_of(alloc, &protocol.roles)?;
+    match accept(alloc, protocol) {
+        Ok(accepted) => Ok(accepted),
+        Err(TextError::Refused(refusal)) => {
+            Err(InputError::Refused(ruled_out(alloc, &roles, refusal)?))
+        }
+        Err(TextError::Memory) => Err(InputError::Memory),
+    }
+}

@@ -1,0 +1,111 @@
+-- The session of what is taken comes to its end, and each role's line is known there.
+use Rattle.std.proofs.Common.{◌≡◌, ℕ, codes, zero, suc, ◌+◌, ◌<◌, Some, List, [], ◌∷◌, length, refl, ◌∙◌, ap, subst, inl, inr, ⊎_elim, ◌⊎◌, arith}
+use Rattle.std.specs.Prelude.{◌≤◌, slice_get, slice_index}
+use Rattle.std.proofs.lemmas.Bool.{cases_eq}
+use Rattle.rcv_tree.specs.declared.entry.Entry.{Entry}
+use Rattle.rcv_model.specs.Text.{body_of}
+use Rattle.rcv_model.specs.Net.{IsIn}
+use Rattle.rcv_model.specs.Next.{IsProper, AreNext}
+use Rattle.rcv_model.specs.Run.{acts, place_of}
+use Rattle.rcv_model.specs.Act.{IsDone}
+use Rattle.rcv_model.specs.Journal.{Rules, State, reading, IsLegal}
+use Rattle.rcv_model.specs.Final.{IsFinal, AreDone, HasOneAtLimit, IsOneThread, ChoosesOffered}
+use Rattle.rcv_model.specs.Laws.{OneJournal}
+use Rattle.rcv_model.proofs.Forms.{proper}
+use Rattle.rcv_model.proofs.NextLists.{lists_exist}
+use Rattle.rcv_model.proofs.Choosing.{chosen_in}
+use Rattle.rcv_model.proofs.OneThread.{one_journal}
+use Rattle.rcv_model.proofs.Threads.{one_thread}
+use Rattle.rcv_model.proofs.Finals.{done_or_limited}
+use Rattle.rcv_core.specs.Setup.{SetupView, net_for, lines_of, rules_of}
+use Rattle.rcv_input.specs.Input.{IsTaken}
+use Rattle.rcv_journal.specs.declared.line.RoleLine.{RoleLine}
+use Rattle.rcv_journal.specs.declared.line.RoleWord.{RoleWord}
+use Rattle.rcv_journal.specs.declared.line.RoleWord.TheVariants.{Done, Limit, Waits}
+use Rattle.rcv_journal.specs.JournalText.{journal_text}
+use Rattle.rcv_journal.specs.Lines.{IsWordOf, IsLineOf, AreLinesOf}
+use Rattle.rcv_top.specs.declared.command.Command.TheVariants.{Run}
+use Rattle.rcv_top.specs.declared.status.Status.TheVariants.{Completed, Limited}
+use Rattle.rcv_top.specs.Outcome.{most_bytes, IsSession, IsAsked, IsOutcome, completed, limited}
+use Rattle.rcv_top.specs.Laws.{IsAtLimit, IsEnding, SessionsEnd}
+
+-- ---- the word of a role
+
+is_done_or_not : (rules : Rules) (s : State) (r : ℕ) → IsProper rules.net rules.roles → IsDone rules.net r s.kept ⊎ (IsDone rules.net r s.kept → ⊥)
+is_done_or_not rules s r lawful = go (lists_exist rules.net rules.roles r (place_of 0 (acts r s.kept)) lawful)
+  where
+    go : (zs : List ℕ) × AreNext rules.net r (place_of 0 (acts r s.kept)) zs → IsDone rules.net r s.kept ⊎ (IsDone rules.net r s.kept → ⊥)
+    go ([], next) = inl (λ z is_next. next.complete z is_next)
+    go (z ∷ zs, next) = inr (λ done. done z (next.sound z (inl refl)))
+
+role_word : (rules : Rules) (s : State) (r : ℕ) → IsProper rules.net rules.roles → (word : RoleWord) × IsWordOf rules s r word
+role_word rules s r lawful =
+    ⊎_elim (λ done. (Done, done)) (λ more. ⊎_elim (λ at. (Limit, (more, at))) (λ below. (Waits, (more, below))) (cases_eq (slice_index s.raw r) rules.limit)) (is_done_or_not rules s r lawful)
+
+-- ---- the lines of the roles
+
+abbrev line_at : (rules : Rules) → State → IsProper rules.net rules.roles → ℕ → RoleLine
+line_at rules s lawful r = record { role = r; kept = length (acts r s.kept); raw = slice_index s.raw r; word = (role_word rules s r lawful).0 }
+
+-- the lines of so many roles, from r on
+abbrev lines_from : (rules : Rules) → State → IsProper rules.net rules.roles → ℕ → ℕ → List RoleLine
+lines_from rules s lawful r zero = []
+lines_from rules s lawful r (suc n) = line_at rules s lawful r ∷ lines_from rules s lawful (suc r) n
+
+as_many : (rules : Rules) (s : State) (lawful : IsProper rules.net rules.roles) (r n : ℕ) → length (lines_from rules s lawful r n) ≡ n
+as_many rules s lawful r zero = refl
+as_many rules s lawful r (suc n) = ap suc (as_many rules s lawful (suc r) n)
+
+same_some : {A : Type 0} (a b : A) → Some a ≡ Some b → a ≡ b
+same_some a b e = cc
+
+each_line : (rules : Rules) (s : State) (lawful : IsProper rules.net rules.roles) (r n i : ℕ) (x : RoleLine) → slice_get (lines_from rules s lawful r n) i ≡ Some x → line_at rules s lawful (r + i) ≡ x
+each_line rules s lawful r zero i x at = absurd (cc)
+each_line rules s lawful r (suc n) zero x at = ap (line_at rules s lawful) (omega arith) ∙ same_some (line_at rules s lawful r) x at
+each_line rules s lawful r (suc n) (suc i) x at = ap (line_at rules s lawful) (omega arith) ∙ each_line rules s lawful (suc r) n i x at
+
+are_lines : (rules : Rules) (s : State) (lawful : IsProper rules.net rules.roles) → AreLinesOf rules s (lines_from rules s lawful 0 rules.roles)
+are_lines rules s lawful = record {
+  all = as_many rules s lawful 0 rules.roles;
+  each = λ r line at.
+      let is = each_line rules s lawful 0 rules.roles r line at in
+      subst (IsLineOf rules s r) (ap (line_at rules s lawful) (omega arith) ∙ is) (record { role = refl; kept = refl; raw = refl; word = (role_word rules s r lawful).1 });
+}
+
+-- ---- the law
+
+pub sessions_end : SessionsEnd
+sessions_end input session short taken = record { journal = one.0; bytes = journal_text session one.0 lines; is_session = held; ends = ⊎_elim complete limit (done_or_limited rules one.0 lawful taken.protocol.accepted.accepted chooses (omega arith) (law.legal one.1) final) }
+  where
+    rules : Rules
+    rules = rules_of session
+
+    lawful : IsProper rules.net rules.roles
+    lawful = proper (body_of session.protocol.body) (length session.protocol.roles) taken.protocol.accepted.form
+
+    one : (journal : List Entry) × IsOneThread rules journal
+    one = one_thread rules lawful
+
+    law : OneJournal rules one.0 one.0
+    law = one_journal rules one.0 one.0
+
+    final : IsFinal rules (reading rules one.0)
+    final = law.final one.1
+
+    lines : List RoleLine
+    lines = lines_from rules (reading rules one.0) lawful 0 rules.roles
+
+    held : IsSession input session one.0 (journal_text session one.0 lines)
+    held = record { taken = taken; alone = one.1; text = record { lines = lines; are_lines = are_lines rules (reading rules one.0) lawful; is_text = refl } }
+
+    chooses : ChoosesOffered rules
+    chooses r events attempt zs some = chosen_in (net_for session) (lines_of session) r events attempt zs some
+
+    asked : IsAsked (codes "run" ∷ []) Run input
+    asked = record { words_are = refl; short = short }
+
+    complete : AreDone rules (reading rules one.0) → IsOutcome (codes "run" ∷ []) input Completed (journal_text session one.0 lines) ⊎ (IsOutcome (codes "run" ∷ []) input Limited (journal_text session one.0 lines) × IsAtLimit session one.0)
+    complete done = inl (completed session one.0 asked held (final, done))
+
+    limit : HasOneAtLimit rules (reading rules one.0) → IsOutcome (codes "run" ∷ []) input Completed (journal_text session one.0 lines) ⊎ (IsOutcome (codes "run" ∷ []) input Limited (journal_text session one.0 lines) × IsAtLimit session one.0)
+    limit at = inr (limited session one.0 asked held (final, λ done. at.2 (done at.0 at.1)), at)
