@@ -17,9 +17,10 @@ use Rattle.rcv_printer.proofs.ReadBack.{reads_back}
 use Rattle.rcv_input.specs.Input.{IsBlankPart, IsTaken}
 use Rattle.rcv_top.specs.declared.status.Status.{Status}
 use Rattle.rcv_top.specs.declared.status.Status.TheVariants as statuses
-use Rattle.rcv_top.specs.Outcome.{most_bytes, IsOutcome, usage, too_long, refused, checked, completed, limited}
+use Rattle.rcv_top.specs.Commands.{Run, Check, Project}
+use Rattle.rcv_top.specs.Outcome.{most_bytes, IsOutcome, usage, too_long, refused, checked, projected, no_role, completed, limited}
 use Rattle.rcv_top.specs.Laws.{ChecksStay}
-use Rattle.rcv_top.proofs.Answering.{two_commands}
+use Rattle.rcv_top.proofs.Answering.{one_command}
 
 -- an empty part is blank
 nothing_there : (text : List ℕ) (n : ℕ) → slice_range text n n ≡ []
@@ -48,5 +49,7 @@ checks_stay input bytes outcome short = go statuses.Completed bytes refl outcome
     go s b is (too_long command many) few = absurd cc
     go s b is (refused command refusal asked first) few = absurd cc
     go s b is (checked p lines asked taken) few = checked p (no_lines p.roles) (record { words_are = refl; short = few }) (again input p lines taken)
-    go s b is (completed session journal asked held done) few = absurd (two_commands (codes "check" ∷ []) asked.words_are refl)
+    go s b is (projected p lines name role asked taken named text) few = absurd (let other = one_command (codes "check" ∷ []) (Project name) Check asked.words_are refl in cc)
+    go s b is (no_role p lines name asked taken named) few = absurd cc
+    go s b is (completed session journal asked held done) few = absurd (let other = one_command (codes "check" ∷ []) Run Check asked.words_are refl in cc)
     go s b is (limited session journal asked held end) few = absurd cc

@@ -25,11 +25,10 @@ use Rattle.rcv_model.proofs.Reached.{reach}
 use Rattle.rcv_model.proofs.StableLines.{reading_join}
 use Rattle.rcv_accept.specs.Accepted.{IsAcceptedProtocol}
 use Rattle.rcv_core.specs.Setup.{SetupView, rules_of}
-use Rattle.rcv_top.specs.declared.command.Command.{Command}
-use Rattle.rcv_top.specs.declared.command.Command.TheVariants.{Run, Check}
 use Rattle.rcv_top.specs.declared.status.Status.{Status}
 use Rattle.rcv_top.specs.declared.status.Status.TheVariants as statuses
-use Rattle.rcv_top.specs.Outcome.{words_of, IsCommand, IsSomeCommand, IsNoCommand, usage_line, most_bytes, IsSession, IsOutcome, usage, too_long, refused, checked, completed, limited}
+use Rattle.rcv_top.specs.Commands.{CommandView, Run, Check, Project, words_of, IsCommand, IsSomeCommand, IsNoCommand}
+use Rattle.rcv_top.specs.Outcome.{usage_line, most_bytes, IsSession, IsOutcome, usage, too_long, refused, checked, projected, no_role, completed, limited}
 use Rattle.rcv_top.specs.Headline.{IsExactRecovery, IsHeadline}
 use Rattle.rcv_top.specs.Calls.{Around, ReadNothing, WroteNothing, IsInput, TakesTooMuch, WantsMemory, FailsToRead, Says, Wrote, WritesLegalJournal}
 
@@ -43,6 +42,8 @@ said words call input bytes status is short (usage none) wrote = record { input 
 said words call input bytes status is short (too_long command many) wrote = absurd (omega (arith, short, many))
 said words call input bytes status is short (refused command refusal asked first) wrote = record { input = input; bytes = _; is_input = is; outcome = refused command refusal asked first; writes = wrote }
 said words call input bytes status is short (checked p lines asked taken) wrote = record { input = input; bytes = _; is_input = is; outcome = checked p lines asked taken; writes = wrote }
+said words call input bytes status is short (projected p lines name role asked taken named text) wrote = record { input = input; bytes = _; is_input = is; outcome = projected p lines name role asked taken named text; writes = wrote }
+said words call input bytes status is short (no_role p lines name asked taken named) wrote = record { input = input; bytes = _; is_input = is; outcome = no_role p lines name asked taken named; writes = wrote }
 said words call input bytes status is short (completed session journal asked held done) wrote = record { input = input; bytes = _; is_input = is; outcome = completed session journal asked held done; writes = wrote }
 said words call input bytes status is short (limited session journal asked held end) wrote = record { input = input; bytes = _; is_input = is; outcome = limited session journal asked held end; writes = wrote }
 
@@ -74,9 +75,23 @@ headline_of session journal lawful alone = record {
 pub session_headline : (input : List ℕ) (session : SetupView) (journal : List Entry) (bytes : List ℕ) → IsSession input session journal bytes → IsHeadline (rules_of session) journal
 session_headline input session journal bytes held = headline_of session journal held.taken.protocol.accepted held.alone
 
--- the words aren't two commands
-pub two_commands : (words : List (List ℕ)) → IsCommand words Run → IsCommand words Check → ⊥
-two_commands words run check = let same : words_of Run ≡ words_of Check = sym run ∙ check in let e : codes "run" ≡ codes "check" = cc in absurd (omega (arith, ap length e))
+-- the words are one command
+same_word : (a b : List ℕ) → a ∷ [] ≡ b ∷ [] → a ≡ b
+same_word a b e = cc
+
+pub one_command : (words : List (List ℕ)) (c d : CommandView) → IsCommand words c → IsCommand words d → c ≡ d
+one_command words Run Run x y = refl
+one_command words Run Check x y = let e = same_word (codes "run") (codes "check") (sym x ∙ y) in absurd (omega (arith, ap length e))
+one_command words Run (Project name) x y = let e : words_of Run ≡ words_of (Project name) = sym x ∙ y in absurd (omega (arith, ap length e))
+one_command words Check Run x y = let e = same_word (codes "check") (codes "run") (sym x ∙ y) in absurd (omega (arith, ap length e))
+one_command words Check Check x y = refl
+one_command words Check (Project name) x y = let e : words_of Check ≡ words_of (Project name) = sym x ∙ y in absurd (omega (arith, ap length e))
+one_command words (Project name) Run x y = let e : words_of (Project name) ≡ words_of Run = sym x ∙ y in absurd (omega (arith, ap length e))
+one_command words (Project name) Check x y = let e : words_of (Project name) ≡ words_of Check = sym x ∙ y in absurd (omega (arith, ap length e))
+one_command words (Project name) (Project other) x y =
+    let e : codes "project" ∷ codes "--role" ∷ name ∷ [] ≡ codes "project" ∷ codes "--role" ∷ other ∷ [] = sym x ∙ y in
+    let same : name ≡ other = cc in
+    ap (λ (n : List ℕ). Project n) same
 
 -- the same for what the call wrote
 pub wrote_headline : (words : List (List ℕ)) (call : Around) (input bytes : List ℕ) (status result : Status) → IsInput words call input → IsCommand words Run → IsOutcome words input status bytes → Wrote call.written_before call.written_after call.write_faults_before call.write_faults_after bytes status result → (result ≡ statuses.Completed) ⊎ (result ≡ statuses.Limited) → WritesLegalJournal call
@@ -90,7 +105,9 @@ wrote_headline words call input bytes status result is command outcome (inl w) e
     go s b same (usage none) e = absurd (⊎_elim (λ f. cc) (λ f. cc) e)
     go s b same (too_long c many) e = absurd (⊎_elim (λ f. cc) (λ f. cc) e)
     go s b same (refused other refusal asked first) e = absurd (⊎_elim (λ f. cc) (λ f. cc) e)
-    go s b same (checked p lines asked taken) e = absurd (two_commands words command asked.words_are)
+    go s b same (checked p lines asked taken) e = absurd (let other = one_command words Run Check command asked.words_are in cc)
+    go s b same (projected p lines name role asked taken named text) e = absurd (let other = one_command words Run (Project name) command asked.words_are in cc)
+    go s b same (no_role p lines name asked taken named) e = absurd (⊎_elim (λ f. cc) (λ f. cc) e)
     go s b same (completed session journal asked held done) e = journal_of session journal (subst (IsSession input session journal) same held)
     go s b same (limited session journal asked held end) e = journal_of session journal (subst (IsSession input session journal) same held)
 
@@ -117,7 +134,7 @@ input_of words call input most v command reads end same = record {
   unread = λ no_command. absurd (no_command command.0 command.1);
 }
 
-pub asked_outcome : (words : List (List ℕ)) (command : Command) (input : List ℕ) (status : Status) (bytes : List ℕ) → IsCommand words command → IsOutcome (words_of command) input status bytes → IsOutcome words input status bytes
+pub asked_outcome : (words : List (List ℕ)) (command : CommandView) (input : List ℕ) (status : Status) (bytes : List ℕ) → IsCommand words command → IsOutcome (words_of command) input status bytes → IsOutcome words input status bytes
 asked_outcome words which input status bytes command outcome = subst (λ w. IsOutcome w input status bytes) (sym command) outcome
 
 -- too much was taken

@@ -24,7 +24,7 @@ use Rattle.rcv_journal.specs.declared.line.RoleWord.{RoleWord}
 use Rattle.rcv_journal.specs.declared.line.RoleWord.TheVariants.{Done, Limit, Waits}
 use Rattle.rcv_journal.specs.JournalText.{journal_text}
 use Rattle.rcv_journal.specs.Lines.{IsWordOf, IsLineOf, AreLinesOf}
-use Rattle.rcv_top.specs.declared.command.Command.TheVariants.{Run}
+use Rattle.rcv_top.specs.Commands.{Run}
 use Rattle.rcv_top.specs.declared.status.Status.TheVariants.{Completed, Limited}
 use Rattle.rcv_top.specs.Outcome.{most_bytes, IsSession, IsAsked, IsOutcome, completed, limited}
 use Rattle.rcv_top.specs.Laws.{IsAtLimit, IsEnding, SessionsEnd}

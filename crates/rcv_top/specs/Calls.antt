@@ -12,7 +12,8 @@ use Rattle.rcv_io.specs.Sink.{WroteBeginning}
 use Rattle.rcv_core.specs.Setup.{SetupView, rules_of}
 use Rattle.rcv_top.specs.declared.status.Status.{Status}
 use Rattle.rcv_top.specs.declared.status.Status.TheVariants.{Completed, Usage, Refused, Limited, ReadFault, WriteFault, Memory, TooLong}
-use Rattle.rcv_top.specs.Outcome.{IsSomeCommand, IsNoCommand, most_bytes, IsSession, IsOutcome}
+use Rattle.rcv_top.specs.Commands.{IsSomeCommand, IsNoCommand}
+use Rattle.rcv_top.specs.Outcome.{most_bytes, IsSession, IsOutcome}
 use Rattle.rcv_top.specs.Headline.{IsHeadline}
 
 -- Words as their bytes.

@@ -5,17 +5,24 @@ ghost use Rattle.rcv_input.specs.declared.refused.Refused as refusals;
 ghost use Rattle.rcv_input.specs.Input.{IsTaken};
 ghost use Rattle.rcv_input.specs.Line.{refusal_line};
 ghost use Rattle.rcv_printer.specs.CanonicalText.{canonical};
-ghost use Rattle.rcv_top.specs.Outcome.{IsOutcome, words_of};
+ghost use Rattle.rcv_top.specs.Commands.{view_of, words_of};
+ghost use Rattle.rcv_top.specs.Outcome.{IsOutcome};
+ghost use Rattle.rcv_top.specs.Projection.{IsProjection};
 
 use crate::command::Command;
+use crate::role::place_of;
 use crate::status::Status;
+use rcv_accept::accepted::Accepted;
 use rcv_core::book::Book;
 use rcv_core::outcome::Outcome;
 use rcv_core::setup::Setup;
-use rcv_input::{Input, InputError, read_input, refusal_line};
+use rcv_input::{Input, InputError, Refused, read_input, refusal_line};
 use rcv_journal::text::text_of;
 use rcv_printer::print_protocol;
+use rcv_project::local::project;
+use rcv_project::text::print_local;
 use rcv_tree::protocol::Protocol;
+use rcv_tree::role::RoleId;
 use std::alloc::{AllocError, Global};
 
 /// A status, and the bytes that are written with it.
@@ -29,14 +36,15 @@ pub struct Output {
 /// what the command makes of its protocol and its scripts.
 ///
 /// The error comes where no memory was left.
-pub fn answer(alloc: Global, command: Command, input: &[u8]) -> Result<Output, AllocError>
+pub fn answer(alloc: Global, command: Command<'_>, input: &[u8]) -> Result<Output, AllocError>
     requires { length input.now ≤ 1048576 }
-    ensures { IfOk result (λ output. IsOutcome (words_of command) input.now output.status output.bytes.items) }
+    ensures { IfOk result (λ output. IsOutcome (words_of (view_of command.entry)) input.now output.status output.bytes.items) }
 {
     match read_input(alloc, input) {
         Ok(taken) => match command {
             Command::Run => run(alloc, input, taken),
             Command::Check => check(alloc, taken.accepted.protocol()),
+            Command::Project { role } => project_role(alloc, &taken.accepted, role),
         },
         Err(error) => refuse(alloc, error),
     }
@@ -67,6 +75,25 @@ fn check(alloc: Global, protocol: &Protocol) -> Result<Output, AllocError>
     Ok(Output {
         status: Status::Completed,
         bytes: print_protocol(alloc, protocol)?,
+    })
+}
+
+// Writes what the role with this name does, if the protocol declares it.
+fn project_role(alloc: Global, accepted: &Accepted, name: &[u8]) -> Result<Output, AllocError>
+    ensures { IfOk result (λ output. IsProjection accepted.now.protocol name.now output.status output.bytes.items) }
+{
+    // Tells the proof that there are at most eight roles.
+    let _count = accepted.roles();
+    let Some(place) = place_of(&accepted.protocol().roles, name) else {
+        return Ok(Output {
+            status: Status::Refused,
+            bytes: refusal_line(alloc, &Refused::NoRole)?,
+        });
+    };
+    let local = project(accepted, RoleId(place as u8));
+    Ok(Output {
+        status: Status::Completed,
+        bytes: print_local(alloc, &local)?,
     })
 }
 

@@ -1,8 +1,7 @@
 // The top call.
 
 ghost use Rattle.std.specs.Prelude.{◌≡◌, ◌≤◌, ◌⊎◌};
-ghost use Rattle.rcv_top.specs.declared.command.Command.TheVariants.{Run};
-ghost use Rattle.rcv_top.specs.Outcome.{IsCommand};
+ghost use Rattle.rcv_top.specs.Commands.{Run, IsCommand};
 ghost use Rattle.rcv_top.specs.Calls.{bytes_of, around, Says, Wrote, WritesLegalJournal};
 
 use crate::answer::answer;
@@ -21,14 +20,16 @@ const USAGE: &[u8] =
 
 /// Does what the program does: reads the words, then the whole source, and writes the answer.
 ///
-/// `words` are those behind the program's name; they are a command exactly where they are the one word `run` or the one
-/// word `check`. The output is made whole in memory before the first byte of it is written. The answer says how the call
-/// ended:
+/// `words` are those behind the program's name; they are a command exactly where they are the one word `run`, the one
+/// word `check`, or the words `project`, `--role` and any third one, which names a role. The output is made whole in
+/// memory before the first byte of it is written. The answer says how the call ended:
 /// - `Completed`: under `run` the session of the input completed, and its journal was written; under `check` the input's
-///   protocol was written as its canonical text.
-/// - `Limited`: a session was run, some role isn't done at the journal's end, and the journal was written.
+///   protocol was written as its canonical text; under `project` what the role does was written.
+/// - `Limited`: a session was run, some role isn't done at the journal's end, as it came to the limit, and the journal was
+///   written.
 /// - `Usage`: the words are no command; nothing was read, and the usage line was written.
-/// - `Refused`: the input is refused for the command, and the line of its first refusal was written.
+/// - `Refused`: the input is refused, and the line of its first refusal was written; or under `project` the protocol
+///   doesn't declare the role, and the line for that was written.
 /// - `ReadFault`: the source's count of faults rose, and nothing was written.
 /// - `WriteFault`: the sink's count of faults rose, and a beginning of what should be written was, not all of it.
 /// - `Memory`: memory was wanted, and nothing was written.

@@ -2,9 +2,11 @@
 
 /// A command.
 #[derive(Clone, Copy, Debug, PartialEq, Eq)]
-pub enum Command {
+pub enum Command<'a> {
     /// Runs the session of the input, and writes its journal.
     Run,
     /// Writes the canonical text of the input's protocol.
     Check,
+    /// Writes what the role with this name does at each of its places.
+    Project { role: &'a [u8] },
 }

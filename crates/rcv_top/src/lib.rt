@@ -7,6 +7,7 @@ mod answer;
 mod call;
 mod command;
 mod gate;
+mod role;
 mod status;
 #[cfg(test)]
 mod tests;

@@ -1,16 +1,15 @@
 // The command that words say.
 
 ghost use Rattle.std.specs.Prelude.{◌≡◌, ◌∷◌, [], IfSome, IfNone};
-ghost use Rattle.rcv_top.specs.declared.command.Command.{Command};
-ghost use Rattle.rcv_top.specs.Outcome.{words_of, IsCommand, IsNoCommand};
+ghost use Rattle.rcv_top.specs.Commands.{CommandView, view_of, words_of, IsCommand, IsNoCommand};
 ghost use Rattle.rcv_top.specs.Calls.{bytes_of};
 
 use crate::command::Command;
 
-// The command that has this word.
-fn named(word: &str) -> Option<Command>
-    ensures some { IfSome result (λ command. word.now ∷ [] ≡ words_of command) }
-    ensures none { IfNone result ((command : Command) → word.now ∷ [] ≡ words_of command → ⊥) }
+// The command that has this word alone.
+fn of_one(word: &str) -> Option<Command<'_>>
+    ensures some { IfSome result (λ command. word.now ∷ [] ≡ words_of (view_of command)) }
+    ensures none { IfNone result ((command : CommandView) → word.now ∷ [] ≡ words_of command → ⊥) }
 {
     match word {
         "run" => Some(Command::Run),
@@ -19,13 +18,27 @@ fn named(word: &str) -> Option<Command>
     }
 }
 
-/// The command that the words are, if they are one: they are its word alone.
-pub fn command_of(words: &[String]) -> Option<Command>
-    ensures some { IfSome result (IsCommand (bytes_of words.now)) }
+// The command that has these words.
+fn of_three<'a>(word: &str, option: &str, value: &'a str) -> Option<Command<'a>>
+    ensures some { IfSome result (λ command. word.now ∷ option.now ∷ value.now ∷ [] ≡ words_of (view_of command)) }
+    ensures none { IfNone result ((command : CommandView) → word.now ∷ option.now ∷ value.now ∷ [] ≡ words_of command → ⊥) }
+{
+    match (word, option) {
+        ("project", "--role") => Some(Command::Project {
+            role: value.as_bytes(),
+        }),
+        _ => None,
+    }
+}
+
+/// The command that the words are, if they are one: `run`, `check`, or `project`, `--role` and any word.
+pub fn command_of(words: &[String]) -> Option<Command<'_>>
+    ensures some { IfSome result (λ command. IsCommand (bytes_of words.now) (view_of command)) }
     ensures none { IfNone result (IsNoCommand (bytes_of words.now)) }
 {
-    let [word] = words else {
-        return None;
-    };
-    named(word.as_str())
+    match words {
+        [word] => of_one(word.as_str()),
+        [word, option, value] => of_three(word.as_str(), option.as_str(), value.as_str()),
+        _ => None,
+    }
 }

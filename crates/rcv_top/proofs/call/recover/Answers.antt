@@ -1,6 +1,7 @@
 -- The words decide what is read, what is read decides what is written.
 use Rattle.std.proofs.Common.{◌≤◌, refl, sym, subst, List, ℕ, length}
-use Rattle.rcv_top.specs.Outcome.{IsSomeCommand, IsNoCommand, most_bytes}
+use Rattle.rcv_top.specs.Commands.{view_of, IsSomeCommand, IsNoCommand}
+use Rattle.rcv_top.specs.Outcome.{most_bytes}
 use Rattle.rcv_top.specs.Calls.{bytes_of, around, Wrote}
 use Rattle.rcv_top.proofs.Answering.{answered, wrote_headline, usage_said, input_of, asked_outcome, too_much}
 use Rattle.rcv_top.proofs.call.recover.Goals as goal
@@ -12,24 +13,24 @@ returns-in_default-clause-says g c =
 
 pub returns-in-Err-TooLong-clause-says : goal.returns-in-Err-TooLong-clause-says
 returns-in-Err-TooLong-clause-says g c =
-    let command : IsSomeCommand (bytes_of c.args.words.now) = (c.in-Some.command, c.in-Some.ensures.some) in
+    let command : IsSomeCommand (bytes_of c.args.words.now) = (view_of c.in-Some.command, c.in-Some.ensures.some) in
     too_much (bytes_of c.args.words.now) (around g.S.Source.rest g.S.Source.given g.S.Source.faults c.args.source.now c.read_all.new.source g.K.Sink.written g.K.Sink.faults c.args.sink.now c.args.sink.now) c.in-Err-TooLong.field-0 command c.in-Err-TooLong.ensures.taken c.in-Err-TooLong.field-0-is (record { written = refl; faults = refl })
 
 pub returns-in-Ok-answer-clause-says : goal.returns-in-Ok-answer-clause-says
 returns-in-Ok-answer-clause-says g c =
-    let command : IsSomeCommand (bytes_of c.args.words.now) = (c.in-Some.command, c.in-Some.ensures.some) in
+    let command : IsSomeCommand (bytes_of c.args.words.now) = (view_of c.in-Some.command, c.in-Some.ensures.some) in
     answered (bytes_of c.args.words.now) (around g.S.Source.rest g.S.Source.given g.S.Source.faults c.args.source.now c.read_all.new.source g.K.Sink.written g.K.Sink.faults c.args.sink.now c.write-in-Ok-answer.new.sink) c.as_slice.result.now c.in-Ok-answer.output.bytes.items c.in-Ok-answer.output.status c.write-in-Ok-answer.result
     (input_of (bytes_of c.args.words.now) (around g.S.Source.rest g.S.Source.given g.S.Source.faults c.args.source.now c.read_all.new.source g.K.Sink.written g.K.Sink.faults c.args.sink.now c.write-in-Ok-answer.new.sink) c.as_slice.result.now 1048576 c.in-Ok.input command c.in-Ok.ensures.taken c.in-Ok.ensures.end c.as_slice.ensures.value)
     (subst (λ (l : List ℕ). length l ≤ most_bytes) (sym c.as_slice.ensures.value) c.in-Ok.ensures.short)
-    (asked_outcome (bytes_of c.args.words.now) c.in-Some.command c.as_slice.result.now c.in-Ok-answer.output.status c.in-Ok-answer.output.bytes.items command.1 c.in-Ok-answer.ensures)
+    (asked_outcome (bytes_of c.args.words.now) (view_of c.in-Some.command) c.as_slice.result.now c.in-Ok-answer.output.status c.in-Ok-answer.output.bytes.items command.1 c.in-Ok-answer.ensures)
     (subst (λ (b : List ℕ). Wrote (g.K.Sink.written c.args.sink.now) (g.K.Sink.written c.write-in-Ok-answer.new.sink) (g.K.Sink.faults c.args.sink.now) (g.K.Sink.faults c.write-in-Ok-answer.new.sink) b c.in-Ok-answer.output.status c.write-in-Ok-answer.result) c.as_slice-in-Ok-answer.ensures.value c.write-in-Ok-answer.ensures.wrote)
 
 pub returns-in-Ok-answer-clause-headline : goal.returns-in-Ok-answer-clause-headline
 returns-in-Ok-answer-clause-headline g c is_run ended =
-    let command : IsSomeCommand (bytes_of c.args.words.now) = (c.in-Some.command, c.in-Some.ensures.some) in
+    let command : IsSomeCommand (bytes_of c.args.words.now) = (view_of c.in-Some.command, c.in-Some.ensures.some) in
     wrote_headline (bytes_of c.args.words.now) (around g.S.Source.rest g.S.Source.given g.S.Source.faults c.args.source.now c.read_all.new.source g.K.Sink.written g.K.Sink.faults c.args.sink.now c.write-in-Ok-answer.new.sink) c.as_slice.result.now c.in-Ok-answer.output.bytes.items c.in-Ok-answer.output.status c.write-in-Ok-answer.result
     (input_of (bytes_of c.args.words.now) (around g.S.Source.rest g.S.Source.given g.S.Source.faults c.args.source.now c.read_all.new.source g.K.Sink.written g.K.Sink.faults c.args.sink.now c.write-in-Ok-answer.new.sink) c.as_slice.result.now 1048576 c.in-Ok.input command c.in-Ok.ensures.taken c.in-Ok.ensures.end c.as_slice.ensures.value)
     is_run
-    (asked_outcome (bytes_of c.args.words.now) c.in-Some.command c.as_slice.result.now c.in-Ok-answer.output.status c.in-Ok-answer.output.bytes.items command.1 c.in-Ok-answer.ensures)
+    (asked_outcome (bytes_of c.args.words.now) (view_of c.in-Some.command) c.as_slice.result.now c.in-Ok-answer.output.status c.in-Ok-answer.output.bytes.items command.1 c.in-Ok-answer.ensures)
     (subst (λ (b : List ℕ). Wrote (g.K.Sink.written c.args.sink.now) (g.K.Sink.written c.write-in-Ok-answer.new.sink) (g.K.Sink.faults c.args.sink.now) (g.K.Sink.faults c.write-in-Ok-answer.new.sink) b c.in-Ok-answer.output.status c.write-in-Ok-answer.result) c.as_slice-in-Ok-answer.ensures.value c.write-in-Ok-answer.ensures.wrote)
     ended
