@@ -28,5 +28,12 @@ pub fn read_part(
     let list = tokens(alloc, input, part)?;
     let last = line_at(input, part.end);
     let roles = &accepted.protocol().roles;
-    read_scripts(alloc, input, list.as_slice(), last, roles, accepted.points())
+    read_scripts(
+        alloc,
+        input,
+        list.as_slice(),
+        last,
+        roles,
+        accepted.points(),
+    )
 }

@@ -9,5 +9,8 @@ use rcv_tree::name::Names;
 pub fn place_of(names: &Names, name: &[u8]) -> Option<usize>
     ensures { result ≡ place_of names.now name.now }
 {
-    names.as_slice().iter().position(|other| other.as_slice() == name)
+    names
+        .as_slice()
+        .iter()
+        .position(|other| other.as_slice() == name)
 }
