@@ -1,6 +1,5 @@
 -- A refusal is decided by the symbols up to the refused one.
-use Rattle.std.proofs.Common.{◌≡◌, ℕ, suc, ◌≤◌, List, [], ◌∷◌, ◌++◌, length, refl, sym, ap, subst, ◌∙◌, arith, length-append}
-use Rattle.rcv_model.specs.Script.{Line}
+use Rattle.std.proofs.Common.{◌≡◌, ◌≤◌, List, [], ◌∷◌, ◌++◌, length, sym, ap, subst, ◌∙◌, arith, length-append}
 use Rattle.rcv_script.specs.declared.fault.Fault.{Fault}
 use Rattle.rcv_script.specs.Symbols.{Symbol}
 use Rattle.rcv_script.specs.Machine.{Item, Scripts, Lines, ALine, This, AWord, ASigned, ANumber, AnEnd, ATest, AnAtom, Factors, Terms, Outcome, On, Wrong, step, after, at_end, Taken, Refuses, answer, reading, awaited}

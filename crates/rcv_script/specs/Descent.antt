@@ -29,15 +29,19 @@ Goes {X} {Y} (Err e) front said old new = Halts e front old new
 abbrev pub IsNotNext : Symbol → List Symbol → Type 0
 IsNotNext t ts = (us : List Symbol) → ts ≡ t ∷ us → ⊥
 
+-- no word is the next symbol
 abbrev pub NoWord : List Symbol → Type 0
 NoWord ts = (w : List ℕ) → IsNotNext (Word w) ts
 
+-- no number is the next symbol
 abbrev pub NoNumber : List Symbol → Type 0
 NoNumber ts = (n : ℕ) → IsNotNext (Number n) ts
 
+-- a place in an expression
 abbrev pub place_at : List (List ℕ) → Option Fault → Option Fault → ℕ → Place
 place_at names value attempt depth = record { names = names; value = value; attempt = attempt; depth = depth }
 
+-- behind these lines of a role
 abbrev pub writing : PointsView → ℕ → List (List ℕ) → List Line → Writing
 writing points role names lines = record { points = points; role = role; names = names; lines = map line_of lines }
 
@@ -46,6 +50,7 @@ abbrev pub Stops : ReadError → (Item → Item) → List Symbol → List Symbol
 Stops errors.Memory front old new = Unit {0}
 Stops (errors.Refused fault) front old new = (k : Item) → answer (front k) old ≡ Refuses fault new
 
+-- it comes to what is awaited behind, or stops
 abbrev pub Passes : {X : Type 0} → Result X ReadError → (Item → Item) → List Symbol → List Symbol → Type 0
 Passes (Ok x) front old new = (k : Item) → answer (front k) old ≡ answer k new
 Passes (Err e) front old new = Stops e front old new
@@ -59,6 +64,7 @@ term_sign true = signs.Minus
 abbrev pub IsWordAtom : Place → List ℕ → Atom → Type 0
 IsWordAtom p w a = (k : script.Expr → Item) → word_atom p w k ≡ On (k (atom_expr a))
 
+-- that fault speaks against the word
 abbrev pub IsNoWordAtom : Place → List ℕ → Fault → Type 0
 IsNoWordAtom p w fault = (k : script.Expr → Item) → word_atom p w k ≡ Wrong fault
 

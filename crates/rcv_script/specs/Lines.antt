@@ -10,6 +10,7 @@ use Rattle.rcv_script.specs.declared.line.Line.TheVariants.{Var, Send, Pick, On}
 use Rattle.rcv_points.specs.Follow.{PointsView}
 use Rattle.rcv_script.specs.Expressions.{sum_expr}
 
+-- how a line compares
 abbrev pub test_of : Comparison → Test
 test_of Less = script.Less
 test_of AtMost = script.AtMost
@@ -18,13 +19,16 @@ test_of Differ = script.Differ
 test_of More = script.More
 test_of AtLeast = script.AtLeast
 
+-- the condition of a line
 abbrev pub condition_of : Condition → script.Condition
 condition_of c = record { left = sum_expr c.left; test = test_of c.comparison; right = sum_expr c.right }
 
+-- the condition of a pick line, if it has one
 abbrev pub when_of : Option Condition → Option script.Condition
 when_of None = None
 when_of (Some c) = Some (condition_of c)
 
+-- what a line says
 abbrev pub line_of : Line → script.Line
 line_of (Var first) = script.VarLine first
 line_of (Send label number) = script.SendLine label (sum_expr number)

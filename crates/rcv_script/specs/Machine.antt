@@ -12,6 +12,7 @@ use Rattle.rcv_script.specs.declared.words.LineKind.{LineKind}
 use Rattle.rcv_script.specs.declared.words.LineKind.TheVariants as kinds
 use Rattle.rcv_script.specs.Symbols.{Symbol, Is, Word, Number, Other}
 
+-- the code of a fault
 abbrev pub code_of : Fault → ℕ
 code_of faults.Token = 30
 code_of faults.Role = 31
@@ -36,17 +37,20 @@ pub record Writing : Type 0 where
   pub points : PointsView
   pub role : ℕ
   pub names : List (List ℕ)
+  -- a line, or the brace behind the last one
   pub lines : List Line
 
 -- Between scripts: the protocol's roles and points, the lines of each role, and the roles that have a script.
 pub record Known : Type 0 where
   pub roles : List (List ℕ)
   pub points : PointsView
+  -- the word role
   pub scripts : List (List Line)
   pub given : List ℕ
 
 -- ---- what is awaited
 
+-- Each item says what is awaited behind it, for what was read.
 pub data Item : Type 0 where
   Scripts : (known : Known) → Item  -- ("role" Word "{" line* "}")*
   Lines : (s : Writing) (k : List Line → Item) → Item  -- line* "}"
@@ -71,6 +75,7 @@ abbrev pub unless : Option Fault → Outcome → Outcome
 unless None next = next
 unless (Some fault) next = Wrong fault
 
+-- the fault where the test holds
 abbrev pub fault_if : Bool → Fault → Option Fault
 fault_if test fault = cond test (Some fault) None
 
@@ -85,17 +90,21 @@ or_fault (Some fault) other = Some fault
 abbrev pub place_of : List (List ℕ) → List ℕ → Option ℕ
 place_of names name = position (λ other. bytes_eq other name) names
 
+-- the place that was found
 abbrev pub or_zero : Option ℕ → ℕ
 or_zero None = 0
 or_zero (Some n) = n
 
+-- the place of a name that is known
 abbrev pub place_in : List (List ℕ) → List ℕ → ℕ
 place_in names name = or_zero (place_of names name)
 
+-- a place was found
 abbrev pub is_some : Option ℕ → Bool
 is_some None = false
 is_some (Some n) = true
 
+-- the number is one of these
 abbrev pub is_listed : ℕ → List ℕ → Bool
 is_listed n ns = list_any (λ other. n == other) ns
 
@@ -104,6 +113,7 @@ abbrev pub new_role : List ℕ → Option ℕ → Option Fault
 new_role given None = Some faults.Role
 new_role given (Some r) = fault_if (is_listed r given) faults.Role
 
+-- what speaks against the name of a role
 abbrev pub role_fault : List (List ℕ) → List ℕ → List ℕ → Option Fault
 role_fault roles given name = new_role given (place_of roles name)
 
@@ -115,9 +125,11 @@ is_sent role label m = (m.sender == role) && bytes_eq m.label label
 abbrev pub is_part : ℕ → List ℕ → PointView → Bool
 is_part role label m = (m.sender == role || m.receiver == role) && bytes_eq m.label label
 
+-- the role sends a message with this label
 abbrev pub sends : PointsView → ℕ → List ℕ → Bool
 sends points role label = list_any (is_sent role label) points.messages
 
+-- it sends or receives one
 abbrev pub takes_part : PointsView → ℕ → List ℕ → Bool
 takes_part points role label = list_any (is_part role label) points.messages
 
@@ -125,6 +137,7 @@ takes_part points role label = list_any (is_part role label) points.messages
 abbrev pub sends_bare : PointsView → ℕ → List ℕ → Bool
 sends_bare points role label = list_any (λ m. is_sent role label m && not m.payload) points.messages
 
+-- one that it sends or receives has no sorts
 abbrev pub takes_bare : PointsView → ℕ → List ℕ → Bool
 takes_bare points role label = list_any (λ m. is_part role label m && not m.payload) points.messages
 
@@ -135,6 +148,7 @@ is_send_of label (VarLine first) = false
 is_send_of label (PickLine other when) = false
 is_send_of label (OnLine other place expr) = false
 
+-- one of these lines is a send line with this label
 abbrev pub has_send : List ℕ → List Line → Bool
 has_send label lines = list_any (is_send_of label) lines
 
@@ -144,9 +158,11 @@ send_fault points role before label =
     or_fault (fault_if (not (sends points role label)) faults.Label)
     (or_fault (fault_if (has_send label before) faults.Label) (fault_if (sends_bare points role label) faults.NoPayload))
 
+-- of a pick line
 abbrev pub pick_fault : PointsView → ℕ → List ℕ → Option Fault
 pick_fault points role label = fault_if (not (sends points role label)) faults.Label
 
+-- of an on line
 abbrev pub on_fault : PointsView → ℕ → List ℕ → Option Fault
 on_fault points role label = fault_if (not (takes_part points role label)) faults.Label
 
@@ -156,6 +172,7 @@ var_fault names name =
     or_fault (fault_if (bytes_eq name (codes "value") || bytes_eq name (codes "attempt")) faults.Variable)
     (fault_if (is_some (place_of names name)) faults.Variable)
 
+-- a variable that is set is declared before
 abbrev pub set_fault : List (List ℕ) → List ℕ → Option Fault
 set_fault names name = fault_if (not (is_some (place_of names name))) faults.Variable
 
@@ -165,16 +182,20 @@ set_fault names name = fault_if (not (is_some (place_of names name))) faults.Var
 abbrev pub deciding : List (List ℕ) → Place
 deciding names = record { names = names; value = Some faults.Variable; attempt = None; depth = 0 }
 
+-- where an on line computes
 abbrev pub remembering : Writing → List ℕ → Place
 remembering s label =
     record { names = s.names; value = fault_if (takes_bare s.points s.role label) faults.NoPayload; attempt = Some faults.AttemptInState; depth = 0 }
 
+-- inside one more parenthesis or sign
 abbrev pub deeper : Place → Place
 deeper p = record { names = p.names; value = p.value; attempt = p.attempt; depth = p.depth + 1 }
 
+-- an atom, and what is multiplied with it
 abbrev pub a_product : Place → (Expr → Item) → Item
 a_product p k = AnAtom p (λ e. Factors p e k)
 
+-- a product, and what is added and subtracted
 abbrev pub a_sum : Place → (Expr → Item) → Item
 a_sum p k = a_product p (λ e. Terms p e k)
 
@@ -183,12 +204,14 @@ abbrev pub variable : Option ℕ → (Expr → Item) → Outcome
 variable None k = Wrong faults.Variable
 variable (Some n) k = On (k (Variable n))
 
+-- a word in an expression
 abbrev pub word_atom : Place → List ℕ → (Expr → Item) → Outcome
 word_atom p w k =
     cond (bytes_eq w (codes "value")) (unless p.value (On (k TheValue)))
     (cond (bytes_eq w (codes "attempt")) (unless p.attempt (On (k TheAttempt)))
     (variable (place_of p.names w) k))
 
+-- the first symbol of an atom
 abbrev pub atom : Place → Symbol → (Expr → Item) → Outcome
 atom p (Number n) k = On (k (Literal n))
 atom p (Word w) k = word_atom p w k
@@ -196,6 +219,7 @@ atom p (Is signs.Minus) k = unless (fault_if (nat_le 32 p.depth) faults.TooMany)
 atom p (Is signs.Left) k = unless (fault_if (nat_le 32 p.depth) faults.TooMany) (On (a_sum (deeper p) (λ e. This (Is signs.Right) (k e))))
 atom p _ k = Wrong faults.Token
 
+-- a mark that compares
 abbrev pub test : Symbol → (Test → Item) → Outcome
 test (Is signs.Less) k = On (k Less)
 test (Is signs.AtMost) k = On (k AtMost)
@@ -207,16 +231,20 @@ test _ k = Wrong faults.Token
 
 -- ---- lines
 
+-- "=" expr ";"
 abbrev pub with_expr : Place → (Expr → Item) → Item
 with_expr p k = This (Is signs.Equals) (a_sum p (λ e. This (Is signs.Semicolon) (k e)))
 
+-- what is awaited behind the word var
 abbrev pub var_line : List (List ℕ) → (List (List ℕ) × Line → Item) → Item
 var_line names k =
     AWord (var_fault names) (λ n. This (Is signs.Equals) (ASigned (λ z. This (Is signs.Semicolon) (k (names ++ n ∷ [], VarLine z)))))
 
+-- what is awaited behind the word send
 abbrev pub send_line : Writing → (List (List ℕ) × Line → Item) → Item
 send_line s k = AWord (send_fault s.points s.role s.lines) (λ l. with_expr (deciding s.names) (λ e. k (s.names, SendLine l e)))
 
+-- expr, a mark that compares, expr ";"
 abbrev pub condition : Place → (Expr × Test × Expr → Item) → Item
 condition p k = a_sum p (λ a. ATest (λ t. a_sum p (λ b. This (Is signs.Semicolon) (k (a, t, b)))))
 
@@ -224,9 +252,11 @@ condition p k = a_sum p (λ a. ATest (λ t. a_sum p (λ b. This (Is signs.Semico
 abbrev pub rest_of_pick : Place → (Option Condition → Item) → Item
 rest_of_pick p k = AnEnd (k None) (condition p (λ c. k (Some (record { left = c.0; test = c.1; right = c.2 }))))
 
+-- what is awaited behind the word pick
 abbrev pub pick_line : Writing → (List (List ℕ) × Line → Item) → Item
 pick_line s k = AWord (pick_fault s.points s.role) (λ l. rest_of_pick (deciding s.names) (λ when. k (s.names, PickLine l when)))
 
+-- what is awaited behind the word on
 abbrev pub on_line : Writing → (List (List ℕ) × Line → Item) → Item
 on_line s k =
     AWord (on_fault s.points s.role) (λ l. This (Word (codes "set")) (AWord (set_fault s.names) (λ n.
@@ -246,25 +276,30 @@ abbrev pub line_fault : List (List ℕ) → List Line → LineKind → Option Fa
 line_fault names before kinds.Var = fault_if (nat_le 256 (length before) || nat_le 16 (length names)) faults.TooMany
 line_fault names before _ = fault_if (nat_le 256 (length before)) faults.TooMany
 
+-- what is awaited behind the first word of a line
 abbrev pub line_behind : Writing → LineKind → (List (List ℕ) × Line → Item) → Item
 line_behind s kinds.Var k = var_line s.names k
 line_behind s kinds.Send k = send_line s k
 line_behind s kinds.Pick k = pick_line s k
 line_behind s kinds.On k = on_line s k
 
+-- the first word of a line
 abbrev pub line_by : Writing → Option LineKind → (List (List ℕ) × Line → Item) → Outcome
 line_by s None k = Wrong faults.Token
 line_by s (Some kind) k = unless (line_fault s.names s.lines kind) (On (line_behind s kind k))
 
+-- the first symbol of a line
 abbrev pub line : Writing → Symbol → (List (List ℕ) × Line → Item) → Outcome
 line s (Word w) k = line_by s (kind_of w) k
 line s (Is sign) k = Wrong faults.Token
 line s (Number n) k = Wrong faults.Token
 line s Other k = Wrong faults.Token
 
+-- one more line of the role, with the variables behind it
 abbrev pub with_line : Writing → List (List ℕ) × Line → Writing
 with_line s x = record { points = s.points; role = s.role; names = x.0; lines = s.lines ++ x.1 ∷ [] }
 
+-- a line, or the brace behind the last one
 abbrev pub lines : Writing → Symbol → (List Line → Item) → Outcome
 lines s (Is signs.Close) k = On (k s.lines)
 lines s t k = line s t (λ x. Lines (with_line s x) k)
@@ -275,6 +310,7 @@ lines s t k = line s t (λ x. Lines (with_line s x) k)
 abbrev pub begun : PointsView → ℕ → Writing
 begun points role = record { points = points; role = role; names = []; lines = [] }
 
+-- one more script
 abbrev pub with_script : Known → ℕ → List Line → Known
 with_script known role ls =
     record { roles = known.roles; points = known.points; scripts = slice_set known.scripts role ls; given = known.given ++ role ∷ [] }
@@ -284,9 +320,11 @@ abbrev pub script : List (List ℕ) → List ℕ → PointsView → (ℕ × List
 script roles given points k =
     AWord (role_fault roles given) (λ n. This (Is signs.Open) (Lines (begun points (place_in roles n)) (λ ls. k (place_in roles n, ls))))
 
+-- a script, and the scripts behind it
 abbrev pub script_of : Known → Item
 script_of known = script known.roles known.given known.points (λ x. Scripts (with_script known x.0 x.1))
 
+-- the word role
 abbrev pub scripts : Known → Symbol → Outcome
 scripts known (Word w) = cond (bytes_eq w (codes "role")) (On (script_of known)) (Wrong faults.Token)
 scripts known (Is sign) = Wrong faults.Token
@@ -314,32 +352,39 @@ same signs.Minus signs.Minus = true
 same signs.Times signs.Times = true
 same _ _ = false
 
+-- the symbol is the awaited one
 abbrev pub meets : Symbol → Symbol → Bool
 meets (Is a) (Is b) = same a b
 meets (Word a) (Word b) = bytes_eq a b
 meets _ _ = false
 
+-- any word against which nothing speaks
 abbrev pub word : Symbol → (List ℕ → Option Fault) → (List ℕ → Item) → Outcome
 word (Word w) fault k = unless (fault w) (On (k w))
 word _ fault k = Wrong faults.Token
 
+-- any number
 abbrev pub number : Symbol → (ℕ → Item) → Outcome
 number (Number n) k = On (k n)
 number _ k = Wrong faults.Token
 
+-- a number, or a sign
 abbrev pub signed : Symbol → (ℤ → Item) → Outcome
 signed (Is signs.Minus) k = On (ANumber (λ n. k (neg_ℤ (pos n))))
 signed t k = number t (λ n. k (pos n))
 
+-- the end of a line, or its condition
 abbrev pub end_or_when : Symbol → Item → Item → Outcome
 end_or_when (Is signs.Semicolon) plain when = On plain
 end_or_when (Word w) plain when = cond (bytes_eq w (codes "when")) (On when) (Wrong faults.Token)
 end_or_when _ plain when = Wrong faults.Token
 
+-- one more factor, or what is awaited behind
 abbrev pub factors : Place → Expr → (Expr → Item) → Symbol → Outcome → Outcome
 factors p left k (Is signs.Times) over = On (AnAtom p (λ e. Factors p (Times left e) k))
 factors p left k _ over = over
 
+-- one more term, or what is awaited behind
 abbrev pub terms : Place → Expr → (Expr → Item) → Symbol → Outcome → Outcome
 terms p left k (Is signs.Plus) over = On (a_product p (λ e. Terms p (Plus left e) k))
 terms p left k (Is signs.Minus) over = On (a_product p (λ e. Terms p (Minus left e) k))
@@ -372,10 +417,12 @@ at_end (Factors p left k) = at_end (k left)
 at_end (Terms p left k) = at_end (k left)
 at_end _ = Refuses faults.Token []
 
+-- what follows an outcome
 abbrev pub after : Outcome → List Symbol → (Item → Answer) → Answer
 after (On item) left go = go item
 after (Wrong fault) left go = Refuses fault left
 
+-- the answer from what is awaited on
 abbrev pub answer : Item → List Symbol → Answer
 answer item [] = at_end item
 answer item (t ∷ ts) = after (step t item) (t ∷ ts) (λ next. answer next ts)
@@ -388,5 +435,6 @@ no_lines roles = map (λ name. []) roles
 abbrev pub awaited : List (List ℕ) → PointsView → Item
 awaited roles points = Scripts (record { roles = roles; points = points; scripts = no_lines roles; given = [] })
 
+-- the answer to all symbols
 abbrev pub reading : List (List ℕ) → PointsView → List Symbol → Answer
 reading roles points symbols = answer (awaited roles points) symbols

@@ -44,6 +44,7 @@ computing_mark m =
     else (if bytes_eq m (codes "*") then Some Times
     else None))
 
+-- the first of two marks
 abbrev pub or_else : Option Sign → Option Sign → Option Sign
 or_else None other = other
 or_else (Some s) other = Some s
@@ -52,6 +53,7 @@ or_else (Some s) other = Some s
 abbrev pub mark : List ℕ → Option Sign
 mark m = or_else (block_mark m) (or_else (comparing_mark m) (computing_mark m))
 
+-- the mark, or else this symbol
 abbrev pub sign_or : Option Sign → Symbol → Symbol
 sign_or None symbol = symbol
 sign_or (Some s) symbol = Is s
@@ -65,6 +67,7 @@ decimal n (digit ∷ digits) = decimal (n * 10 + (digit - 48)) digits
 abbrev pub greatest : ℕ
 greatest = 9223372036854775807
 
+-- a number that a script may have
 abbrev pub number_or_other : ℕ → Symbol
 number_or_other n = if nat_le n greatest then Number n else Other
 
@@ -79,6 +82,7 @@ no_sign kinds.Word bytes = Word bytes
 no_sign kinds.Number bytes = number_or_other (decimal 0 bytes)
 no_sign _ bytes = Other
 
+-- what a token of this kind with these bytes says
 abbrev pub symbol_by : Kind → List ℕ → Symbol
 symbol_by kind bytes = sign_or (sign_by kind bytes) (no_sign kind bytes)
 
