@@ -1,18 +1,16 @@
 -- An input has one answer.
-use Rattle.std.proofs.Common.{◌≡◌, ℕ, ◌+◌, ◌<◌, ◌≤◌, List, [], ◌∷◌, length, map, refl, sym, ap, subst, ◌∙◌, arith}
+use Rattle.std.proofs.Common.{◌≡◌, ℕ, ◌+◌, ◌<◌, ◌≤◌, List, [], length, sym, ap, subst, ◌∙◌, arith}
 use Rattle.std.specs.Prelude.{slice_index_or}
 use Rattle.std.proofs.lemmas.List.{ext_get_or}
 use Rattle.rcv_tree.specs.declared.protocol.Protocol.{Protocol}
-use Rattle.rcv_tree.specs.declared.refusal.Refusal.TheVariants as refusals
 use Rattle.rcv_model.specs.Text.{Body, body_of}
 use Rattle.rcv_model.specs.Script as model
-use Rattle.rcv_model.specs.Places.{net_of, singles}
-use Rattle.rcv_model.specs.Accept.{choices, IsRefusal}
+use Rattle.rcv_model.specs.Places.{net_of}
+use Rattle.rcv_model.specs.Accept.{IsRefusal}
 use Rattle.rcv_model.proofs.Accepting.{one_refusal}
 use Rattle.rcv_model.proofs.Decided.{faultless}
 use Rattle.rcv_lexer.specs.declared.token.Span.{Span}
 use Rattle.rcv_lexer.specs.declared.token.Token.{Token}
-use Rattle.rcv_lexer.specs.declared.token.TextError.TheVariants as errors
 use Rattle.rcv_lexer.specs.Parts.{parts_of}
 use Rattle.rcv_lexer.specs.Tokens.{AreTokens, IsLetter, line_at}
 use Rattle.rcv_lexer.proofs.Once.{one_reading}
@@ -21,11 +19,9 @@ use Rattle.rcv_reader.specs.Machine as reading
 use Rattle.rcv_reader.specs.Refusals as reader
 use Rattle.rcv_grammar.specs.Laws.{SayTheSame}
 use Rattle.rcv_grammar.proofs.Once.{texts_have_one_tree}
-use Rattle.rcv_points.specs.Follow.{PointsView, ArePointsOf, offered_at, message_of, choice_of}
-use Rattle.rcv_accept.specs.Accepted.{IsAcceptedProtocol}
+use Rattle.rcv_points.specs.Follow.{PointsView, ArePointsOf, offered_at}
 use Rattle.rcv_script.specs.Symbols as scripts
 use Rattle.rcv_script.specs.Machine as scripting
-use Rattle.rcv_script.specs.Refusals as script
 use Rattle.rcv_input.specs.declared.refused.Refused.{Refused}
 use Rattle.rcv_input.specs.declared.refused.Refused.TheVariants.{Line, Rule}
 use Rattle.rcv_input.specs.Input.{AreProtocolTokens, AreScriptTokens, IsProtocolOf, IsAcceptedOf, AreScriptsOf, IsBlankPart, IsFirstOther, IsTaken}

@@ -1,5 +1,5 @@
 -- What an input is: an accepted protocol with the scripts of its roles.
-use Rattle.std.specs.Prelude.{◌≡◌, ℕ, ◌+◌, not, List, position, Some, None, length}
+use Rattle.std.specs.Prelude.{◌≡◌, ℕ, ◌+◌, not, List, position, Some, None}
 use Rattle.rcv_tree.specs.declared.protocol.Protocol.{Protocol}
 use Rattle.rcv_model.specs.Text.{body_of}
 use Rattle.rcv_model.specs.Script.{Line}

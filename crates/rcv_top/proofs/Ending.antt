@@ -1,14 +1,13 @@
 -- The session of what is taken comes to its end, and each role's line is known there.
-use Rattle.std.proofs.Common.{◌≡◌, ℕ, codes, zero, suc, ◌+◌, ◌<◌, Some, List, [], ◌∷◌, length, refl, ◌∙◌, ap, subst, inl, inr, ⊎_elim, ◌⊎◌, arith}
-use Rattle.std.specs.Prelude.{◌≤◌, slice_get, slice_index}
+use Rattle.std.proofs.Common.{◌≡◌, ℕ, codes, zero, suc, ◌+◌, Some, List, [], ◌∷◌, length, refl, ◌∙◌, ap, subst, inl, inr, ⊎_elim, ◌⊎◌, arith}
+use Rattle.std.specs.Prelude.{slice_get, slice_index}
 use Rattle.std.proofs.lemmas.Bool.{cases_eq}
 use Rattle.rcv_tree.specs.declared.entry.Entry.{Entry}
 use Rattle.rcv_model.specs.Text.{body_of}
-use Rattle.rcv_model.specs.Net.{IsIn}
 use Rattle.rcv_model.specs.Next.{IsProper, AreNext}
 use Rattle.rcv_model.specs.Run.{acts, place_of}
 use Rattle.rcv_model.specs.Act.{IsDone}
-use Rattle.rcv_model.specs.Journal.{Rules, State, reading, IsLegal}
+use Rattle.rcv_model.specs.Journal.{Rules, State, reading}
 use Rattle.rcv_model.specs.Final.{IsFinal, AreDone, HasOneAtLimit, IsOneThread, ChoosesOffered}
 use Rattle.rcv_model.specs.Laws.{OneJournal}
 use Rattle.rcv_model.proofs.Forms.{proper}
@@ -17,8 +16,7 @@ use Rattle.rcv_model.proofs.Choosing.{chosen_in}
 use Rattle.rcv_model.proofs.OneThread.{one_journal}
 use Rattle.rcv_model.proofs.Threads.{one_thread}
 use Rattle.rcv_model.proofs.Finals.{done_or_limited}
-use Rattle.rcv_core.specs.Setup.{SetupView, net_for, lines_of, rules_of}
-use Rattle.rcv_input.specs.Input.{IsTaken}
+use Rattle.rcv_core.specs.Setup.{net_for, lines_of, rules_of}
 use Rattle.rcv_journal.specs.declared.line.RoleLine.{RoleLine}
 use Rattle.rcv_journal.specs.declared.line.RoleWord.{RoleWord}
 use Rattle.rcv_journal.specs.declared.line.RoleWord.TheVariants.{Done, Limit, Waits}
@@ -26,8 +24,8 @@ use Rattle.rcv_journal.specs.JournalText.{journal_text}
 use Rattle.rcv_journal.specs.Lines.{IsWordOf, IsLineOf, AreLinesOf}
 use Rattle.rcv_top.specs.Commands.{Run}
 use Rattle.rcv_top.specs.declared.status.Status.TheVariants.{Completed, Limited}
-use Rattle.rcv_top.specs.Outcome.{most_bytes, IsSession, IsAsked, IsOutcome, completed, limited}
-use Rattle.rcv_top.specs.Laws.{IsAtLimit, IsEnding, SessionsEnd}
+use Rattle.rcv_top.specs.Outcome.{IsSession, IsAsked, IsOutcome, completed, limited}
+use Rattle.rcv_top.specs.Laws.{IsAtLimit, SessionsEnd}
 
 -- ---- the word of a role
 

@@ -33,7 +33,6 @@ use Rattle.rcv_journal.specs.Lines.{AreLinesOf, IsTextOf}
 use Rattle.rcv_journal.proofs.OneText.{one_text}
 use Rattle.rcv_top.specs.Commands.{CommandView, Run, Check, Project, IsNoCommand}
 use Rattle.rcv_top.specs.Outcome.{most_bytes, place_of, local_of, IsSession, IsAsked, usage, too_long, refused, checked, projected, no_role, completed, limited}
-use Rattle.rcv_project.specs.Local.{LocalView}
 use Rattle.rcv_project.specs.LocalText as projection
 use Rattle.rcv_project.specs.LocalText.{LineView, AreLinesAt, places_to, line_text}
 use Rattle.rcv_project.proofs.OneText.{roles_have_one_text}

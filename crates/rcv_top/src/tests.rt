@@ -80,3 +80,28 @@ fn without_words_nothing_is_read(rt: HostRuntime) -> Result<(), Fail> {
     assert_eq!(rt; read_all(alloc, &mut source, 4096)?.as_slice(), PING);
     Ok(())
 }
+
+#[test]
+fn a_role_is_projected(rt: HostRuntime) -> Result<(), Fail> {
+    let alloc = rt.alloc();
+    for (role, status, text) in [
+        (
+            "B",
+            Status::Completed,
+            "0 receives from A: 1 ping\n1 sends: 2 pong to A\n2 done\n",
+        ),
+        ("C", Status::Refused, "refused 27 NoRole\n"),
+    ] {
+        let words = [
+            String::from_str(alloc, "project")?,
+            String::from_str(alloc, "--role")?,
+            String::from_str(alloc, role)?,
+        ];
+        let mut source = ping(alloc, Vec::new(alloc))?;
+        let mut sink = MemSink::new(alloc, 8, Vec::new(alloc), 4096)?;
+        let ended = recover(alloc, words.as_slice(), &mut source, &mut sink, &NoGate);
+        assert_eq!(rt; ended, status);
+        assert_eq!(rt; sink.written(), text.as_bytes());
+    }
+    Ok(())
+}

@@ -1,7 +1,6 @@
 -- A rule of acceptance that fails, or a plan.
 use Rattle.std.proofs.Common.{sym, subst}
 use Rattle.std.proofs.lemmas.Result.{err_from_is_err_and}
-use Rattle.rcv_tree.specs.declared.protocol.Protocol.{Protocol}
 use Rattle.rcv_lexer.specs.declared.parts.Parts.{Parts}
 use Rattle.rcv_reader.specs.Symbols.{symbols_of}
 use Rattle.rcv_grammar.proofs.Filling.{read_texts_are_full}

@@ -1,5 +1,5 @@
 -- A bad letter, the scripts' refusal, or scripts.
-use Rattle.std.proofs.Common.{List, ap, subst, ◌∙◌}
+use Rattle.std.proofs.Common.{List, subst}
 use Rattle.std.specs.Prelude.{MatchResult}
 use Rattle.std.proofs.lemmas.Result.{err_from_is_err_and}
 use Rattle.rcv_tree.specs.declared.protocol.Protocol.{Protocol}

@@ -1,6 +1,5 @@
 -- The book of the session is run to its end, and its text is the answer.
 use Rattle.std.proofs.Common.{codes, ◌∷◌, [], subst, sym}
-use Rattle.rcv_core.specs.Setup.{SetupView}
 use Rattle.rcv_top.specs.declared.status.Status.{Status}
 use Rattle.rcv_top.specs.Outcome.{IsOutcome}
 use Rattle.rcv_top.proofs.Sessions.{session_of, ended, final_of, answer_completed, answer_limited}
