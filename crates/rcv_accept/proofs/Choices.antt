@@ -1,15 +1,14 @@
 -- The choices of a text, by their list of points.
-use Rattle.std.proofs.Common.{◌≡◌, ℕ, zero, suc, ◌<◌, ◌≤◌, List, [], ◌∷◌, length, map, get_or, refl, sym, ◌∙◌, ap, subst, ◌⊎◌, inl, inr, ⊎_elim, arith}
+use Rattle.std.proofs.Common.{◌≡◌, ℕ, zero, suc, ◌<◌, ◌≤◌, List, [], ◌∷◌, length, get_or, refl, sym, ◌∙◌, ap, subst, ◌⊎◌, inl, inr, ⊎_elim, arith}
 use Rattle.std.specs.Prelude.{Option}
 use Rattle.std.proofs.lemmas.List.{get_or_read}
-use Rattle.rcv_model.specs.Text.{Body, End, Single, Choose, Loop, Again, Beside, Call, Bodies, NoMore, Or}
+use Rattle.rcv_model.specs.Text.{Body, End, Single, Choose, Loop, Again, Parallel, Call, Bodies, NoMore, Or}
 use Rattle.rcv_model.specs.Net.{IsIn}
 use Rattle.rcv_model.specs.Places.{Frame, Behind, Inside, Spot, singles, singles_of, net_of}
 use Rattle.rcv_model.specs.Form.{HasForm}
 use Rattle.rcv_model.specs.Accept.{choices, choices_of, IsFirstOf, Fails, subject}
-use Rattle.rcv_model.proofs.PlacesLemmas.{offers_sound, offers_complete}
 use Rattle.rcv_model.proofs.Forms.{Has, has_left, has_right, InFrames, offered, AllWithin, within_join, in_range}
-use Rattle.rcv_points.specs.Follow.{ChoiceView, PointsView, choice_of, net_in}
+use Rattle.rcv_points.specs.Follow.{ChoiceView, PointsView, IsChosen, net_in}
 use Rattle.rcv_points.proofs.Whole.{same_net}
 use Rattle.rcv_accept.specs.declared.fault.Fault.{Fault}
 use Rattle.rcv_accept.specs.Faults.{AreOf, IsFirst, FailsWithin}
@@ -33,7 +32,7 @@ mutual
       (within P (Inside name body rest ∷ fs) body (λ p i. all p (⊎_elim (λ h. inl (has_left p (singles body) (singles rest) h)) (λ i. ⊎_elim (λ h. inl (has_left p (singles body) (singles rest) h)) (λ i. ⊎_elim (λ h. inl (has_right p (singles body) (singles rest) h)) (λ h. inr h) i) i) i)))
       (within P fs rest (λ p i. all p (⊎_elim (λ h. inl (has_right p (singles body) (singles rest) h)) (λ h. inr h) i)))
   within P fs (Again name rest) all = within P fs rest all
-  within P fs (Beside bs rest) all = within_join P (choices_of (Behind rest ∷ fs) bs) (choices fs rest)
+  within P fs (Parallel bs rest) all = within_join P (choices_of (Behind rest ∷ fs) bs) (choices fs rest)
       (within_of P (Behind rest ∷ fs) bs (λ p i. all p (⊎_elim (λ h. inl (has_left p (singles_of bs) (singles rest) h)) (λ i. ⊎_elim (λ h. inl (has_right p (singles_of bs) (singles rest) h)) (λ h. inr h) i) i)))
       (within P fs rest (λ p i. all p (⊎_elim (λ h. inl (has_right p (singles_of bs) (singles rest) h)) (λ h. inr h) i)))
   within P fs (Call name roles rest) all = within P fs rest all
@@ -55,26 +54,26 @@ first_in_text body roles s p form i =
     let a = in_range 1 p (singles body) form.numbered h in
     (a.0, omega (arith, a.1))
 
--- a first point of a choice is in the list of one, and the other way
-of_list : (es : List (ℕ × Spot)) (j p : ℕ) → j < length (map choice_of es) → IsIn p (get_or (map choice_of es) j no_choice).offered → IsFirstOf es (get_or (map choice_of es) j no_choice).subject p
-of_list [] j p lt i = absurd (omega arith)
-of_list (e ∷ es) zero p lt i = inl (refl, offers_sound e.1 p i)
-of_list (e ∷ es) (suc j) p lt i = inr (of_list es j p (omega arith) i)
+-- what an item of the list says, and an item that says it
+chosen_at : (vs : List ChoiceView) (j p : ℕ) → j < length vs → IsIn p (get_or vs j no_choice).offered → IsChosen vs (get_or vs j no_choice).subject p
+chosen_at [] j p lt i = absurd (omega arith)
+chosen_at (v ∷ vs) zero p lt i = inl (refl, i)
+chosen_at (v ∷ vs) (suc j) p lt i = inr (chosen_at vs j p (omega arith) i)
 
-to_list : (es : List (ℕ × Spot)) (s p : ℕ) → IsFirstOf es s p → (j : ℕ) × (j < length (map choice_of es)) × (s ≡ (get_or (map choice_of es) j no_choice).subject) × IsIn p (get_or (map choice_of es) j no_choice).offered
-to_list [] s p i = absurd i
-to_list (e ∷ es) s p (inl a) = (zero, omega arith, sym a.0, offers_complete e.1 p a.1)
-to_list (e ∷ es) s p (inr i) = let a = to_list es s p i in (suc a.0, omega (arith, a.1), a.2, a.3)
+chosen_index : (vs : List ChoiceView) (s p : ℕ) → IsChosen vs s p → (j : ℕ) × (j < length vs) × (s ≡ (get_or vs j no_choice).subject) × IsIn p (get_or vs j no_choice).offered
+chosen_index [] s p i = absurd i
+chosen_index (v ∷ vs) s p (inl a) = (zero, omega arith, sym a.0, a.1)
+chosen_index (v ∷ vs) s p (inr i) = let a = chosen_index vs s p i in (suc a.0, omega (arith, a.1), a.2, a.3)
 
 module _ (body : Body) (roles : ℕ) (points : PointsView) (are : AreOf body roles points) where
   same : net_in points ≡ net_of body
   same = same_net body roles points are.form are.all
 
   is_first : (j p : ℕ) → j < length points.choices → IsIn p (get_or points.choices j no_choice).offered → IsFirstOf (choices [] body) (get_or points.choices j no_choice).subject p
-  is_first j p lt i = subst (λ vs. j < length vs → IsIn p (get_or vs j no_choice).offered → IsFirstOf (choices [] body) (get_or vs j no_choice).subject p) (sym are.all.choices) (of_list (choices [] body) j p) lt i
+  is_first j p lt i = (are.all.choices (get_or points.choices j no_choice).subject p).0 (chosen_at points.choices j p lt i)
 
   is_listed : (s p : ℕ) → IsFirstOf (choices [] body) s p → (j : ℕ) × (j < length points.choices) × (s ≡ (get_or points.choices j no_choice).subject) × IsIn p (get_or points.choices j no_choice).offered
-  is_listed s p i = subst (λ vs. (j : ℕ) × (j < length vs) × (s ≡ (get_or vs j no_choice).subject) × IsIn p (get_or vs j no_choice).offered) (sym are.all.choices) (to_list (choices [] body) s p i)
+  is_listed s p i = chosen_index points.choices s p ((are.all.choices s p).1 i)
 
   pub choice_in_text : (j p : ℕ) (v : ChoiceView) → j < length points.choices → get_or points.choices j no_choice ≡ v → IsIn p v.offered → IsInText (net_in points) p
   choice_in_text j p v lt e i = subst (λ net. IsInText net p) (sym same) (first_in_text body roles (get_or points.choices j no_choice).subject p are.form (is_first j p lt (subst (λ (w : ChoiceView). IsIn p w.offered) (sym e) i)))

@@ -10,9 +10,12 @@ use Rattle.rcv_model.specs.Accept.{HasSubjects, IsReached, Fails, unreachable, I
 use Rattle.rcv_model.proofs.Decided.{faultless}
 use Rattle.rcv_model.proofs.Refusals.{Case, IsUnreached, SubjectIsSilent}
 use Rattle.rcv_model.proofs.LeastRefusal.{told}
+use Rattle.rcv_accept.specs.declared.rule.Rule.{Rule}
+use Rattle.rcv_accept.specs.declared.rule.Rule.TheVariants.{Unreachable}
+use Rattle.rcv_accept.specs.Rules.{code_of}
 use Rattle.rcv_accept.specs.declared.fault.Fault.{Fault}
 use Rattle.rcv_accept.specs.Faults.{IsFirst, IsEarlier, FailsWithin, FailsAtRole, FailsAtPlace, FailsAtPoint}
-use Rattle.rcv_accept.specs.Lists.{IsLeastCode}
+use Rattle.rcv_accept.specs.Lists.{IsLeastRule}
 use Rattle.rcv_accept.proofs.Firsts.{first_same, first_both}
 
 -- the faults at a role's first places, at the first roles, and at the first points
@@ -99,12 +102,15 @@ module _ (body : Body) (roles : ℕ) (form : HasForm body roles) where
   moved : {c q m r k : ℕ} → Fails body roles c q m → q ≡ r → m ≡ k → Fails body roles c r k
   moved {c = c} {q = q} {k = k} f e g = subst (λ i. Fails body roles c i k) e (subst (Fails body roles c q) g f)
 
-  pub place_none : (r k : ℕ) → IsLeastCode body roles r k None → IsFirst (FailsAtPlace body roles r k) None
+  pub place_none : (r k : ℕ) → IsLeastRule body roles r k None → IsFirst (FailsAtPlace body roles r k) None
   place_none r k a c q m x = a c x.0.0.0 x.0.0.1 (moved x.0.0.2 x.0.1 x.1)
 
-  pub place_some : (r k code : ℕ) → IsLeastCode body roles r k (Some code) → IsFirst (FailsAtPlace body roles r k) (Some (record { code = code; role = r; number = k }))
-  place_some r k code a = ((((a.0, a.1, a.2), refl), refl), λ d q m x. after d q m x (a.3 d x.0.0.0 x.0.0.1 (moved x.0.0.2 x.0.1 x.1)))
+  pub place_some : (r k : ℕ) (rule : Rule) → IsLeastRule body roles r k (Some rule) → IsFirst (FailsAtPlace body roles r k) (Some (record { rule = rule; role = r; number = k }))
+  place_some r k rule a = ((((a.0, a.1, a.2), refl), refl), λ d q m x. after d q m x (a.3 d x.0.0.0 x.0.0.1 (moved x.0.0.2 x.0.1 x.1)))
     where
+      code : ℕ
+      code = code_of rule
+
       after : (d q m : ℕ) → FailsAtPlace body roles r k d q m → code ≤ d → IsNotAfter code r k d q m
       after d q m x le = ⊎_elim (λ lt. inl lt) (λ ge. inr (omega (arith, le, ge), inr (sym x.0.1, let e = x.1 in omega arith))) (cases_lt code d)
 
@@ -150,7 +156,7 @@ module _ (body : Body) (roles : ℕ) (form : HasForm body roles) where
   pub point_none : (p : ℕ) → IsReached (net_of body) p → IsFirst (FailsAtPoint body roles p) None
   point_none p way c q m x = (unreached x.0).1.3 (subst (IsReached (net_of body)) (sym x.1) way)
 
-  pub point_some : (p s : ℕ) → (IsReached (net_of body) p → ⊥) → 1 ≤ p → p ≤ (net_of body).count → (net_of body).sender p ≡ s → IsFirst (FailsAtPoint body roles p) (Some (record { code = 26; role = s; number = p }))
+  pub point_some : (p s : ℕ) → (IsReached (net_of body) p → ⊥) → 1 ≤ p → p ≤ (net_of body).count → (net_of body).sender p ≡ s → IsFirst (FailsAtPoint body roles p) (Some (record { rule = Unreachable; role = s; number = p }))
   point_some p s none low high e = (((omega arith, omega arith, unreachable e low high none), refl), λ d q m x. inr (sym (unreached x.0).0, inr (sym e ∙ ap (net_of body).sender (sym x.1) ∙ (unreached x.0).1.0, let g = x.1 in omega arith)))
 
   pub points_none : IsFirst (BeforePoint body roles 0) None

@@ -6,3 +6,6 @@ pub mod Faults
 pub mod Choices
 pub mod Rows
 pub mod Accepting
+pub mod Named
+pub mod LeastAlike
+pub mod Examples

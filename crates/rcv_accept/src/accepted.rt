@@ -66,7 +66,7 @@ impl Accepted {
         &self.points
     }
 
-    /// How many roles it declares: at most eight, counted from 0.
+    /// How many roles it declares. (`protocol` tells that they are at most eight.)
     pub fn roles(&self) -> u8
         ensures { result ≡ roles_of self.now }
     {

@@ -3,6 +3,7 @@
 
 ghost use Rattle.rcv_accept.specs.Laws.{AcceptedOrRefused};
 
+mod acceptance;
 pub mod accepted;
 mod fault;
 mod labels;
@@ -10,12 +11,12 @@ mod nexts;
 mod outlook;
 mod places;
 mod reach;
-mod search;
+mod rule;
 mod subjects;
 #[cfg(test)]
 mod tests;
 
-pub use search::accept;
+pub use acceptance::accept;
 
 /// A text in the reader's form is accepted or has its refusal, and never both.
 pub fn texts_are_one_of_both()

@@ -1,10 +1,9 @@
 // What lies ahead of each role at each of its places, found once.
 
-ghost use Rattle.std.specs.Prelude.{◌≡◌, ◌↔◌, ◌<◌, ◌≤◌, IsTrue, IfOk, length, Some, slice_get};
+ghost use Rattle.std.specs.Prelude.{◌≡◌, ◌↔◌, ◌<◌, ◌≤◌, IsTrue, IfOk, length};
 ghost use Rattle.rcv_model.specs.Next.{IsPlaceOf};
 ghost use Rattle.rcv_points.specs.Follow.{net_in};
-ghost use Rattle.rcv_next.specs.Ahead.{IsAhead};
-ghost use Rattle.rcv_accept.specs.Outlook.{IsRow, AreRows};
+ghost use Rattle.rcv_accept.specs.Outlook.{IsAheadIfOwn, IsRow, AreRows};
 
 use rcv_next::ahead::{Ahead, look_ahead};
 use rcv_points::points::Points;
@@ -20,14 +19,13 @@ pub fn is_place_of(points: &Points, role: RoleId, place: u16) -> bool
     if place == 0 {
         return true;
     }
-    let point = Point(place);
-    points.sender(point) == role || points.receiver(point) == role
+    points.is_of(Point(place), role)
 }
 
 // What lies ahead of a role at a place that is one of its own, else nothing. Fails where memory runs out.
 fn ahead_at(alloc: Global, points: &Points, role: RoleId, place: u16) -> Result<Ahead, AllocError>
     requires { place ≤ length points.now.messages }
-    ensures { IfOk result (λ a. IsPlaceOf (net_in points.now) role place → IsAhead (net_in points.now) role place a.next.items a.may_end) }
+    ensures { IfOk result (λ a. IsAheadIfOwn (net_in points.now) role place a) }
 {
     if is_place_of(points, role, place) {
         look_ahead(alloc, points, role, place)

@@ -1,9 +1,11 @@
-// A text for each rule that fails, and one that is accepted. A, B and C are its roles.
+// A text that is refused, and one that is accepted. A, B and C are its roles.
 
 ghost use Rattle.std.specs.Prelude.{◌≡◌, [], ◌∷◌, IfOk, length};
 ghost use Rattle.rcv_model.specs.Form.{HasForm};
-ghost use Rattle.rcv_model.specs.Places.{IsFull};
-ghost use Rattle.rcv_model.specs.Text.{Body, End, Single, Choose, Loop, Again, Or, NoMore, body_of, stmt_body};
+ghost use Rattle.rcv_model.specs.Places.{IsFull, singles};
+ghost use Rattle.rcv_tree.specs.Words.{IsWord};
+ghost use Rattle.std.specs.List.{All};
+ghost use Rattle.rcv_model.specs.Text.{Body, End, Single, Choose, Or, NoMore, body_of, stmt_body};
 
 use crate::accept;
 use crate::accepted::Accepted;
@@ -60,7 +62,7 @@ fn two(alloc: Global, first: Stmt, second: Stmt) -> Result<Block, AllocError>
 
 // A choice at A.
 fn choice(alloc: Global, left: Block, right: Block) -> Result<Stmt, AllocError>
-    ensures { IfOk result (λ stmt. (rest : Body) → stmt_body stmt rest ≡ Choose 0 (Or (body_of left) (Or (body_of right) NoMore)) rest) }
+    ensures { IfOk result (λ s. (rest : Body) → stmt_body s rest ≡ Choose 0 (Or (body_of left) (Or (body_of right) NoMore)) rest) }
 {
     let mut branches = Blocks::new(alloc);
     branches.push(left)?;
@@ -71,29 +73,25 @@ fn choice(alloc: Global, left: Block, right: Block) -> Result<Stmt, AllocError>
     })
 }
 
-// rec X { message; continue X; }
-fn looping(alloc: Global, inside: Stmt) -> Result<Stmt, AllocError>
-    ensures { IfOk result (λ stmt. (rest : Body) → stmt_body stmt rest ≡ Loop (88 ∷ []) (stmt_body inside (Again (88 ∷ []) End)) rest) }
+// The roles A, B and C.
+fn three(alloc: Global) -> Result<Names, AllocError>
+    ensures { IfOk result (λ roles. roles ≡ (65 ∷ []) ∷ (66 ∷ []) ∷ (67 ∷ []) ∷ []) }
 {
-    let again = Stmt::Continue {
-        name: Name::of(alloc, b"X")?,
-    };
-    Ok(Stmt::Rec {
-        name: Name::of(alloc, b"X")?,
-        body: two(alloc, inside, again)?,
-    })
+    let mut roles = Names::new(alloc);
+    roles.push(Name::of(alloc, b"A")?)?;
+    roles.push(Name::of(alloc, b"B")?)?;
+    roles.push(Name::of(alloc, b"C")?)?;
+    Ok(roles)
 }
 
 // What becomes of the body.
 fn judged(alloc: Global, body: Block) -> Result<Accepted, TextError>
     requires form { HasForm (body_of body) 3 }
     requires full { IsFull [] [] (body_of body) }
+    requires labels { All (λ m. IsWord m.1.label) (singles (body_of body)) }
     ensures { IfOk result (λ a. length a.protocol.roles ≡ 3) }
 {
-    let mut roles = Names::new(alloc);
-    roles.push(Name::of(alloc, b"A")?)?;
-    roles.push(Name::of(alloc, b"B")?)?;
-    roles.push(Name::of(alloc, b"C")?)?;
+    let roles = three(alloc)?;
     accept(
         alloc,
         Protocol {
@@ -110,6 +108,7 @@ fn judged(alloc: Global, body: Block) -> Result<Accepted, TextError>
 fn refusal_of(alloc: Global, body: Block) -> Result<(), TextError>
     requires form { HasForm (body_of body) 3 }
     requires full { IsFull [] [] (body_of body) }
+    requires labels { All (λ m. IsWord m.1.label) (singles (body_of body)) }
 {
     let _accepted = judged(alloc, body)?;
     Ok(())
@@ -118,75 +117,12 @@ fn refusal_of(alloc: Global, body: Block) -> Result<(), TextError>
 fn is_refused(alloc: Global, body: Block, code: u8, role: RoleId, point: u16) -> bool
     requires form { HasForm (body_of body) 3 }
     requires full { IsFull [] [] (body_of body) }
+    requires labels { All (λ m. IsWord m.1.label) (singles (body_of body)) }
 {
     match refusal_of(alloc, body) {
         Err(TextError::Refused(refusal)) => refusal == Refusal::Rule { code, role, point },
         _ => false,
     }
-}
-
-#[test]
-fn a_subject_sends_the_first_points_of_its_choice(rt: HostRuntime) -> Result<(), Fail> {
-    let alloc = rt.alloc();
-    let left = one(alloc, message(alloc, b"m", B, A, 1)?)?;
-    let right = one(alloc, message(alloc, b"n", A, B, 2)?)?;
-    let body = one(alloc, choice(alloc, left, right)?)?;
-    assert!(rt; is_refused(alloc, body, 20, A, 1));
-    Ok(())
-}
-
-#[test]
-fn next_points_are_all_sends_or_all_receives(rt: HostRuntime) -> Result<(), Fail> {
-    let alloc = rt.alloc();
-    let left = two(
-        alloc,
-        message(alloc, b"x", A, B, 1)?,
-        message(alloc, b"y", B, C, 2)?,
-    )?;
-    let right = two(
-        alloc,
-        message(alloc, b"z", A, B, 3)?,
-        message(alloc, b"w", C, B, 4)?,
-    )?;
-    let body = one(alloc, choice(alloc, left, right)?)?;
-    assert!(rt; is_refused(alloc, body, 21, C, 0));
-    Ok(())
-}
-
-#[test]
-fn receives_have_one_sender(rt: HostRuntime) -> Result<(), Fail> {
-    let alloc = rt.alloc();
-    let left = two(
-        alloc,
-        message(alloc, b"x", A, B, 1)?,
-        message(alloc, b"y", A, C, 2)?,
-    )?;
-    let right = two(
-        alloc,
-        message(alloc, b"z", A, B, 3)?,
-        message(alloc, b"w", B, C, 4)?,
-    )?;
-    let body = one(alloc, choice(alloc, left, right)?)?;
-    assert!(rt; is_refused(alloc, body, 22, C, 0));
-    Ok(())
-}
-
-#[test]
-fn next_points_are_told_apart_by_their_labels(rt: HostRuntime) -> Result<(), Fail> {
-    let alloc = rt.alloc();
-    let left = two(
-        alloc,
-        message(alloc, b"x", A, B, 1)?,
-        message(alloc, b"done", B, C, 2)?,
-    )?;
-    let right = two(
-        alloc,
-        message(alloc, b"y", A, B, 3)?,
-        message(alloc, b"done", B, C, 4)?,
-    )?;
-    let body = one(alloc, choice(alloc, left, right)?)?;
-    assert!(rt; is_refused(alloc, body, 23, C, 0));
-    Ok(())
 }
 
 #[test]
@@ -200,29 +136,6 @@ fn a_role_that_sends_next_is_led_there(rt: HostRuntime) -> Result<(), Fail> {
         message(alloc, b"z", C, B, 3)?,
     )?;
     assert!(rt; is_refused(alloc, body, 24, C, 0));
-    Ok(())
-}
-
-#[test]
-fn a_role_with_a_next_point_comes_to_one(rt: HostRuntime) -> Result<(), Fail> {
-    let alloc = rt.alloc();
-    let left = two(
-        alloc,
-        message(alloc, b"x", A, B, 1)?,
-        message(alloc, b"t", B, C, 2)?,
-    )?;
-    let right = one(alloc, message(alloc, b"y", A, B, 3)?)?;
-    let body = one(alloc, choice(alloc, left, right)?)?;
-    assert!(rt; is_refused(alloc, body, 25, C, 0));
-    Ok(())
-}
-
-#[test]
-fn points_behind_an_endless_loop_are_not_reached(rt: HostRuntime) -> Result<(), Fail> {
-    let alloc = rt.alloc();
-    let endless = looping(alloc, message(alloc, b"m", A, B, 1)?)?;
-    let body = two(alloc, endless, message(alloc, b"n", A, B, 2)?)?;
-    assert!(rt; is_refused(alloc, body, 26, A, 2));
     Ok(())
 }
 

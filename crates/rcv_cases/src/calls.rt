@@ -1,37 +1,72 @@
-// Calls of `run` whose source or sink fails, and inputs of many bytes.
+// Calls that no case can say: a source or a sink that fails, or has no room.
 
 use rcv_io::{MemSink, MemSource};
 use rcv_top::{NoGate, recover};
-use std::alloc::{AllocError, Global};
-use std::{fs, io};
+use std::io;
 
-/// Prints how each call ends, and what it wrote.
-pub fn print_calls(rt: &HostRuntime) -> io::Result<()> {
-    let alloc = rt.alloc();
-    let calls: [(&str, u64, u64, usize); 4] = [
-        ("no failing call", 0, 0, 4096),
-        ("failing read", 2, 0, 4096),
-        ("failing write", 0, 2, 4096),
-        ("sink without room", 0, 0, 12),
-    ];
-    for (name, read, write, room) in calls {
-        let ping = fs::read(rt, "ping.stdin")?;
-        let mut sink = MemSink::new(alloc, 8, vec![in alloc; write]?, room)?;
-        let number = run(alloc, ping, read, &mut sink)?;
-        let written = String::from_utf8_lossy(alloc, sink.written())?;
-        println!(rt; "{name}: {number} {:?}", written.as_str())?;
-    }
-    for (name, bytes) in [("longest", 1_048_576), ("too long", 1_048_577)] {
-        let mut sink = MemSink::new(alloc, 4096, Vec::new(alloc), 4096)?;
-        let number = run(alloc, vec![in alloc; b' '; bytes]?, 0, &mut sink)?;
-        println!(rt; "{name}: {number}")?;
+const PING: &[u8] =
+    b"module ping; global protocol Ping(role A, role B) { ping() from A to B; pong() from B to A; }";
+
+// A call of `run` on PING: the numbers of the failing read and the failing write, 0 for none, and the room of the sink.
+struct Call {
+    name: &'static str,
+    read: u64,
+    write: u64,
+    room: usize,
+    status: u8,
+    written: &'static [u8],
+}
+
+const CALLS: [Call; 3] = [
+    Call {
+        name: "failing read",
+        read: 2,
+        write: 0,
+        room: 4096,
+        status: 4,
+        written: b"",
+    },
+    Call {
+        name: "failing write",
+        read: 0,
+        write: 2,
+        room: 4096,
+        status: 5,
+        written: b"send A 1",
+    },
+    Call {
+        name: "sink without room",
+        read: 0,
+        write: 0,
+        room: 12,
+        status: 5,
+        written: b"send A 1 pin",
+    },
+];
+
+/// Prints each call that ends otherwise than it has to, or writes other bytes.
+pub fn try_calls(rt: &HostRuntime) -> io::Result<()> {
+    for call in CALLS.iter() {
+        try_call(rt, call)?;
     }
     Ok(())
 }
 
-// The number of the status of `run` on this input, whose call with the number `failing` fails.
-fn run(alloc: Global, input: Vec<u8>, failing: u64, sink: &mut MemSink) -> Result<u8, AllocError> {
+// Prints what differs in this call. The sink takes 8 bytes at a time.
+fn try_call(rt: &HostRuntime, call: &Call) -> io::Result<()> {
+    let alloc = rt.alloc();
     let words = [String::from_str(alloc, "run")?];
-    let mut source = MemSource::new(input, 4096, vec![in alloc; failing]?);
-    Ok(recover(alloc, words.as_slice(), &mut source, sink, &NoGate).number())
+    let input = Vec::from_slice(alloc, PING)?;
+    let mut source = MemSource::new(input, 4096, vec![in alloc; call.read]?);
+    let mut sink = MemSink::new(alloc, 8, vec![in alloc; call.write]?, call.room)?;
+    let number = recover(alloc, words.as_slice(), &mut source, &mut sink, &NoGate).number();
+    if number != call.status || sink.written() != call.written {
+        let written = String::from_utf8_lossy(alloc, sink.written())?;
+        println!(rt;
+            "{} ends with {number} and writes {:?}",
+            call.name,
+            written.as_str()
+        )?;
+    }
+    Ok(())
 }

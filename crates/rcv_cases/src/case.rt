@@ -1,42 +1,49 @@
-// A case in files: NAME.args (one word a line), NAME.stdin, NAME.stdout and NAME.status.
+// A case as its file says it: the words, the input, and the answer that is wanted.
 
-use rcv_io::{MemSink, MemSource};
-use rcv_top::{NoGate, recover};
+use crate::piece::bytes_of;
 use std::alloc::{AllocError, Global};
-use std::{fs, io};
 
-// How many bytes an answer may have.
-const ROOM: usize = 65_536;
-
-/// Prints `NAME ok` where the answer to the case is the wanted one, else what differs.
-pub fn print_case(rt: &HostRuntime, name: &str) -> io::Result<()> {
-    let alloc = rt.alloc();
-    let args = String::from_utf8_lossy(alloc, file(rt, name, "args")?.as_slice())?;
-    let words = words(alloc, args.as_str())?;
-    let mut source = MemSource::new(file(rt, name, "stdin")?, 4096, Vec::new(alloc));
-    let mut sink = MemSink::new(alloc, 4096, Vec::new(alloc), ROOM)?;
-    let status = recover(alloc, words.as_slice(), &mut source, &mut sink, &NoGate);
-    let number = format!(in alloc; "{}\n", status.number())?;
-    if number.as_bytes() != file(rt, name, "status")?.as_slice() {
-        return println!(rt; "{name} ends with {number}");
-    }
-    if sink.written() != file(rt, name, "stdout")?.as_slice() {
-        return println!(rt; "{name} writes other bytes");
-    }
-    println!(rt; "{name} ok")
+/// What a program is called with, and how it has to answer.
+#[derive(Drop)]
+pub struct Case {
+    pub words: Vec<String>,
+    pub input: Vec<u8>,
+    pub status: String,
+    pub output: Vec<u8>,
 }
 
-// A file of the case.
-fn file(rt: &HostRuntime, name: &str, end: &str) -> io::Result<Vec<u8>> {
-    let path = format!(in rt.alloc(); "{name}.{end}")?;
-    fs::read(rt, path.as_str())
+/// The case that a file says: what it shows, a line `$ rcv WORDS`, the input, a line `== status N`, the output.
+///
+/// None where the file has another form.
+pub fn read_case(alloc: Global, text: &str) -> Result<Option<Case>, AllocError> {
+    let Some((_, called)) = text.split_once("\n$ rcv") else {
+        return Ok(None);
+    };
+    let Some((words, rest)) = called.split_once('\n') else {
+        return Ok(None);
+    };
+    let Some((input, answer)) = rest.split_once("== status ") else {
+        return Ok(None);
+    };
+    let Some((status, output)) = answer.split_once('\n') else {
+        return Ok(None);
+    };
+    Ok(Some(Case {
+        words: words_of(alloc, words)?,
+        input: bytes_of(alloc, input)?,
+        status: String::from_str(alloc, status)?,
+        output: bytes_of(alloc, output)?,
+    }))
 }
 
-// The words, one a line.
-fn words(alloc: Global, args: &str) -> Result<Vec<String>, AllocError> {
+// The words behind the program's name, divided by single spaces; `""` is the empty word.
+fn words_of(alloc: Global, line: &str) -> Result<Vec<String>, AllocError> {
     let mut words = Vec::new(alloc);
-    for word in args.lines() {
-        words.push(String::from_str(alloc, word)?)?;
+    for word in line.split(' ') {
+        if !word.is_empty() {
+            let word = if word == "\"\"" { "" } else { word };
+            words.push(String::from_str(alloc, word)?)?;
+        }
     }
     Ok(words)
 }

@@ -3,3 +3,4 @@ pub mod Following
 pub mod Acting
 pub mod Books
 pub mod Alone
+pub mod Examples

@@ -1,12 +1,17 @@
 -- Worked cases of the machine: what it takes, and where it refuses with which code.
-use Rattle.std.proofs.Common.{◌≡◌, ℕ, zero, suc, true, codes, List, [], ◌∷◌, ◌++◌, Some, None, refl}
+use Rattle.std.proofs.Common.{◌≡◌, ℕ, zero, suc, true, codes, List, [], ◌∷◌, ◌++◌, Some, None, refl, arith}
 use Rattle.std.specs.Prelude.{Option}
 use Rattle.rcv_lexer.specs.Parts.{parts_of}
 use Rattle.rcv_lexer.specs.Tokens.{line_at}
-use Rattle.rcv_reader.specs.declared.sign.Sign.TheVariants.{Module, Global, Protocol, Role, From, To, Choice, At, Rec, Continue, Par, Do, Open, Close, Left, Right, Comma, Semicolon, Less, Greater}
+use Rattle.rcv_reader.specs.declared.sign.Sign.TheVariants.{Module, Global, Protocol, Role, From, To, Choice, At, Rec, Continue, Par, And, Do, Open, Close, Left, Right, Comma, Semicolon, Less, Greater}
 use Rattle.rcv_reader.specs.declared.fault.Fault.TheVariants.{AfterContinue}
 use Rattle.rcv_reader.specs.Symbols.{Symbol, Is, Name, Quoted}
-use Rattle.rcv_reader.specs.Grammar.{NoStmt, AMessage}
+use Rattle.rcv_model.specs.Text as trees
+use Rattle.rcv_tree.specs.declared.protocol.Decl.{Decl}
+use Rattle.rcv_tree.specs.declared.protocol.Protocol as tree
+use Rattle.rcv_reader.specs.Grammar.{Written, NoStmt, AMessage, AChoice, ARec, AContinue, APar, ADo, NoBlock, ABlock, Source, IsDerived, spelling}
+use Rattle.rcv_reader.specs.Refusals.{IsRead}
+use Rattle.rcv_grammar.proofs.Answered.{source_read}
 use Rattle.rcv_reader.specs.Machine.{Place, RoleName, Receiver, Rest, Wrong, step, Answer, Taken, Refuses, answer, code_of, reading}
 use Rattle.rcv_reader.specs.Descent.{known}
 use Rattle.rcv_reader.specs.Refusals.{line_before}
@@ -211,3 +216,46 @@ line_of_the_separator = refl
 two_receivers : written_of (both ++ more_roles) (tree_of (both ++ more_roles) 0 (AMessage (codes "X") [] (codes "A") (codes "B") (codes "C" ∷ []) NoStmt))
     ≡ AMessage (codes "X") [] (codes "A") (codes "B") [] (AMessage (codes "X") [] (codes "A") (codes "C") [] NoStmt)
 two_receivers = refl
+
+-- ---- texts of each production
+
+abbrev source_with : Written → Source
+source_with w = record { module_name = codes "X"; module_more = []; declared = []; name = codes "Y"; role = codes "A"; other_roles = codes "B" ∷ []; body = w }
+
+-- a par of two blocks and a do: derived, though not read yet
+par_and_do : IsDerived (text (Is Par ∷ Is Open ∷ message (Is Close ∷ Is And ∷ Is Open ∷ Is Do ∷ y ∷ Is Left ∷ a ∷ Is Comma ∷ b ∷ Is Right ∷ Is Semicolon ∷ Is Close ∷ Is Close ∷ [])))
+par_and_do = (
+  source_with (APar (AMessage (codes "X") [] (codes "A") (codes "B") [] NoStmt) (ADo (codes "Y") (codes "A") (codes "B" ∷ []) NoStmt) NoBlock NoStmt),
+  (tt, (tt, tt, tt, tt, tt, tt), refl),
+)
+
+abbrev decl_as : List ℕ → List ℕ → Decl
+decl_as word alias = record { word = word; schema = codes "X"; extern_name = []; file = []; alias = alias }
+
+abbrev three : List (List ℕ)
+three = codes "A" ∷ codes "B" ∷ codes "C" ∷ []
+
+-- a dotted module, both declarations, sorts, two receivers, a choice of two, a recursion with its continue
+abbrev each_production : Source
+each_production =
+    record {
+      module_name = codes "X";
+      module_more = codes "Y" ∷ [];
+      declared = decl_as (codes "type") (codes "T") ∷ decl_as (codes "data") (codes "U") ∷ [];
+      name = codes "Y";
+      role = codes "A";
+      other_roles = codes "B" ∷ codes "C" ∷ [];
+      body = ARec (codes "X")
+          (AChoice (codes "A") (AMessage (codes "X") (codes "T" ∷ codes "U" ∷ []) (codes "A") (codes "B") (codes "C" ∷ []) (AContinue (codes "X") NoStmt))
+          (ABlock (AMessage (codes "X") [] (codes "A") (codes "B") [] (AMessage (codes "Y") [] (codes "B") (codes "C") [] NoStmt)) NoBlock) NoStmt) NoStmt;
+    }
+
+each_is_read : (p : tree.Protocol) × IsRead (spelling each_production) p
+each_is_read =
+    source_read (spelling each_production) each_production (known three 4) (omega arith) ((refl, (refl, tt)), (tt, (tt, tt, (tt, tt, tt), tt), tt), refl) refl
+
+its_tree : tree_of three 0 each_production.body
+    ≡ trees.Loop (codes "X") (trees.Choose 0 (trees.Or
+    (trees.Single (codes "X") (codes "T" ∷ codes "U" ∷ []) 0 1 1 (trees.Single (codes "X") (codes "T" ∷ codes "U" ∷ []) 0 2 2 (trees.Again (codes "X") trees.End)))
+    (trees.Or (trees.Single (codes "X") [] 0 1 3 (trees.Single (codes "Y") [] 1 2 4 trees.End)) trees.NoMore)) trees.End) trees.End
+its_tree = refl

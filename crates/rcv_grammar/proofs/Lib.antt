@@ -4,4 +4,8 @@ pub mod Cutting
 pub mod Canonizing
 pub mod Filling
 pub mod Once
+pub mod Fine
+pub mod Printables
+pub mod Named
+pub mod Answered
 pub mod Examples

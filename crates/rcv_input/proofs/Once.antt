@@ -1,11 +1,15 @@
 -- An input has one answer.
-use Rattle.std.proofs.Common.{◌≡◌, ℕ, ◌+◌, ◌<◌, ◌≤◌, List, [], length, sym, ap, subst, ◌∙◌, arith}
-use Rattle.std.specs.Prelude.{slice_index_or}
-use Rattle.std.proofs.lemmas.List.{ext_get_or}
+use Rattle.std.proofs.Common.{◌≡◌, ℕ, zero, suc, ◌∷◌, refl, ◌+◌, List, [], length, map, sym, ap, subst, ◌∙◌}
+use Rattle.std.specs.Prelude.{Some, slice_get}
+use Rattle.std.specs.List.{All}
+use Rattle.std.proofs.lemmas.List.Elements.{All-head, All-tail}
+use Rattle.rcv_tree.specs.Words.{IsWord}
+use Rattle.rcv_grammar.proofs.Named.{read_texts_have_names}
 use Rattle.rcv_tree.specs.declared.protocol.Protocol.{Protocol}
 use Rattle.rcv_model.specs.Text.{Body, body_of}
 use Rattle.rcv_model.specs.Script as model
-use Rattle.rcv_model.specs.Places.{net_of}
+use Rattle.rcv_session.specs.Session.{SessionView}
+use Rattle.rcv_model.specs.Places.{singles}
 use Rattle.rcv_model.specs.Accept.{IsRefusal}
 use Rattle.rcv_model.proofs.Accepting.{one_refusal}
 use Rattle.rcv_model.proofs.Decided.{faultless}
@@ -19,14 +23,15 @@ use Rattle.rcv_reader.specs.Machine as reading
 use Rattle.rcv_reader.specs.Refusals as reader
 use Rattle.rcv_grammar.specs.Laws.{SayTheSame}
 use Rattle.rcv_grammar.proofs.Once.{texts_have_one_tree}
-use Rattle.rcv_points.specs.Follow.{PointsView, ArePointsOf, offered_at}
+use Rattle.rcv_points.specs.Follow.{message_of}
 use Rattle.rcv_script.specs.Symbols as scripts
 use Rattle.rcv_script.specs.Machine as scripting
 use Rattle.rcv_input.specs.declared.refused.Refused.{Refused}
 use Rattle.rcv_input.specs.declared.refused.Refused.TheVariants.{Line, Rule}
 use Rattle.rcv_input.specs.Input.{AreProtocolTokens, AreScriptTokens, IsProtocolOf, IsAcceptedOf, AreScriptsOf, IsBlankPart, IsFirstOther, IsTaken}
-use Rattle.rcv_input.specs.Refusals.{IsRefusedText, AreRefusedScripts, name_of, IsFirstRefusal, letter, unread, ruled_out, script_letter, unscripted, planned}
-use Rattle.rcv_input.specs.Laws.{InputsHaveOneAnswer}
+use Rattle.rcv_input.specs.Refusals.{IsRefusedText, AreRefusedScripts, IsFirstRefusal, letter, unread, ruled_out, script_letter, unscripted, planned}
+use Rattle.rcv_input.proofs.Answered.{answered}
+use Rattle.rcv_input.specs.Laws.{AreSame, InputsHaveOneAnswer}
 
 -- ---- tokens
 
@@ -81,61 +86,49 @@ is_accepted input p q c r n a text refusal =
     let moved : IsRefusal (body_of p.body) (length p.roles) c r n = moves (RuledOut c r n) q p (same_text input q p text a.text) refusal in
     (faultless (body_of p.body) (length p.roles) a.accepted.form).1 (a.accepted.accepted, a.accepted.subjects) c r n moved.fails
 
-same_rule : (input : List ℕ) (p q : Protocol) (c r n d s m : ℕ) → IsProtocolOf input p → IsProtocolOf input q → IsRefusal (body_of p.body) (length p.roles) c r n → IsRefusal (body_of q.body) (length q.roles) d s m
-    → Rule c (name_of p r) n ≡ Rule d (name_of q s) m
-same_rule input p q c r n d s m x y a b =
+same_name : (names : List (List ℕ)) (r s : ℕ) (x y : List ℕ) → r ≡ s → slice_get names r ≡ Some x → slice_get names s ≡ Some y → x ≡ y
+same_name names r s x y same at other = cc
+
+same_rule : (input : List ℕ) (p q : Protocol) (c r n : ℕ) (name : List ℕ) (d s m : ℕ) (other : List ℕ) → IsProtocolOf input p → IsProtocolOf input q → IsRefusal (body_of p.body) (length p.roles) c r n → IsRefusal (body_of q.body) (length q.roles) d s m
+    → slice_get p.roles r ≡ Some name → slice_get q.roles s ≡ Some other → Rule c name n ≡ Rule d other m
+same_rule input p q c r n name d s m other x y a b at there =
     let say = same_text input p q x y in
     let one = one_refusal (body_of q.body) (length q.roles) c r n d s m (moves (RuledOut c r n) p q say a) b in
-    ap (λ (k : ℕ). Rule k (name_of p r) n) one.0 ∙ ap (λ (rs : List (List ℕ)). Rule d (slice_index_or rs r []) n) say.role_names ∙ ap (λ (k : ℕ). Rule d (name_of q k) n) one.1 ∙ ap (λ (k : ℕ). Rule d (name_of q s) k) one.2
-
--- ---- points
-
-same_points : (body : Body) (a b : PointsView) → ArePointsOf body a → ArePointsOf body b → a ≡ b
-same_points body a b x y = together places (x.messages ∙ sym y.messages) (x.choices ∙ sym y.choices)
-  where
-    each : (k : ℕ) → k < length a.places → offered_at a k ≡ offered_at b k
-    each k less = let all = x.all in let inside : k ≤ (net_of body).count = omega (arith, less, all) in x.offered k inside ∙ sym (y.offered k inside)
-
-    places : a.places ≡ b.places
-    places = ext_get_or [] a.places b.places (x.all ∙ sym y.all) each
-
-    together : a.places ≡ b.places → a.messages ≡ b.messages → a.choices ≡ b.choices → a ≡ b
-    together p m c =
-        ap (λ l. record { places = l; messages = a.messages; choices = a.choices }) p ∙ ap (λ l. record { places = b.places; messages = l; choices = a.choices }) m
-        ∙ ap (λ l. record { places = b.places; messages = b.messages; choices = l }) c
+    let names = same_name q.roles r s name other one.1 (subst (λ (rs : List (List ℕ)). slice_get rs r ≡ Some name) say.role_names at) there in
+    ap (λ (k : ℕ). Rule k name n) one.0 ∙ ap (λ (k : List ℕ). Rule d k n) names ∙ ap (λ (k : ℕ). Rule d other k) one.2
 
 -- ---- scripts
 
 -- what a machine that reads them says of the scripts of one reading holds of the other's
-abbrev machine : List ℕ → List (List ℕ) → PointsView → List Token → scripting.Answer
-machine input roles points ts = scripting.reading roles points (scripts.symbols_of input ts)
+abbrev machine : List ℕ → List (List ℕ) → Body → List Token → scripting.Answer
+machine input roles body ts = scripting.reading roles (map message_of (singles body)) (scripts.symbols_of input ts)
 
-same_machine : (input : List ℕ) (p q : Protocol) (a b : PointsView) (ts us : List Token) → SayTheSame p q → ArePointsOf (body_of p.body) a → ArePointsOf (body_of q.body) b → AreScriptTokens input ts → AreScriptTokens input us
-    → machine input p.roles a ts ≡ machine input q.roles b us
-same_machine input p q a b ts us say x y cut other =
-    ap (λ (rs : List (List ℕ)). machine input rs a ts) say.role_names
-    ∙ ap (λ (points : PointsView). machine input q.roles points ts) (same_points (body_of q.body) a b (subst (λ (body : Body). ArePointsOf body a) say.bodies x) y)
-    ∙ ap (machine input q.roles b) (one_reading.tokens input (parts_of input).scripts ts us cut other)
+same_machine : (input : List ℕ) (p q : Protocol) (ts us : List Token) → SayTheSame p q → AreScriptTokens input ts → AreScriptTokens input us
+    → machine input p.roles (body_of p.body) ts ≡ machine input q.roles (body_of q.body) us
+same_machine input p q ts us say cut other =
+    ap (λ (rs : List (List ℕ)). machine input rs (body_of p.body) ts) say.role_names
+    ∙ ap (λ (body : Body). machine input q.roles body ts) say.bodies
+    ∙ ap (machine input q.roles (body_of q.body)) (one_reading.tokens input (parts_of input).scripts ts us cut other)
 
-are_scripts : (input : List ℕ) (p q : Protocol) (lines : List (List model.Line)) (points : PointsView) (us : List Token) (code line : ℕ) → SayTheSame p q → AreScriptsOf input p lines → ArePointsOf (body_of q.body) points → AreScriptTokens input us
-    → AreRefusedScripts input q points us code line → ⊥
-are_scripts input p q lines points us code line say s are cut h =
-    let same = same_machine input p q s.points points s.tokens us say s.are_points are s.cut cut in
+are_scripts : (input : List ℕ) (p q : Protocol) (lines : List (List model.Line)) (us : List Token) (code line : ℕ) → SayTheSame p q → AreScriptsOf input p lines → AreScriptTokens input us
+    → AreRefusedScripts input q us code line → ⊥
+are_scripts input p q lines us code line say s cut h =
+    let same = same_machine input p q s.tokens us say s.cut cut in
     let taken = s.read in
     let refused = h.2 in
     cc
 
 same_lines : (input : List ℕ) (p q : Protocol) (l m : List (List model.Line)) → SayTheSame p q → AreScriptsOf input p l → AreScriptsOf input q m → l ≡ m
 same_lines input p q l m say s t =
-    let same = same_machine input p q s.points t.points s.tokens t.tokens say s.are_points t.are_points s.cut t.cut in
+    let same = same_machine input p q s.tokens t.tokens say s.cut t.cut in
     let taken = s.read in
     let other = t.read in
     cc
 
-same_unscripted : (input : List ℕ) (p q : Protocol) (a b : PointsView) (ts us : List Token) (code line other_code other_line : ℕ) → SayTheSame p q → ArePointsOf (body_of p.body) a → ArePointsOf (body_of q.body) b → AreScriptTokens input ts
-    → AreScriptTokens input us → AreRefusedScripts input p a ts code line → AreRefusedScripts input q b us other_code other_line → Line code line ≡ Line other_code other_line
-same_unscripted input p q a b ts us code line other_code other_line say are others cut other x y =
-    let same = same_machine input p q a b ts us say are others cut other in
+same_unscripted : (input : List ℕ) (p q : Protocol) (ts us : List Token) (code line other_code other_line : ℕ) → SayTheSame p q → AreScriptTokens input ts
+    → AreScriptTokens input us → AreRefusedScripts input p ts code line → AreRefusedScripts input q us other_code other_line → Line code line ≡ Line other_code other_line
+same_unscripted input p q ts us code line other_code other_line say cut other x y =
+    let same = same_machine input p q ts us say cut other in
     let tokens = one_reading.tokens input (parts_of input).scripts ts us cut other in
     let x2 = x.2 in
     let y2 = y.2 in
@@ -164,53 +157,78 @@ same_other input part m n a b =
 one_first : (input : List ℕ) (r s : Refused) → IsFirstRefusal input r → IsFirstRefusal input s → r ≡ s
 one_first input r s (letter l1 x1) (letter l2 x2) = same_letter input (parts_of input).protocol l1 l2 x1 x2
 one_first input r s (letter l1 x1) (unread ts2 c2 l2 cut2 x2) = absurd (no_letter input (parts_of input).protocol ts2 l1 cut2 x1)
-one_first input r s (letter l1 x1) (ruled_out p2 c2 r2 n2 text2 x2) = absurd (no_letter input (parts_of input).protocol (text2).tokens l1 (text2).cut x1)
+one_first input r s (letter l1 x1) (ruled_out p2 c2 r2 n2 name2 text2 x2 at2) = absurd (no_letter input (parts_of input).protocol (text2).tokens l1 (text2).cut x1)
 one_first input r s (letter l1 x1) (script_letter p2 l2 acc2 x2) = absurd (no_letter input (parts_of input).protocol (acc2.text).tokens l1 (acc2.text).cut x1)
-one_first input r s (letter l1 x1) (unscripted p2 points2 ts2 c2 l2 acc2 are2 cut2 x2) = absurd (no_letter input (parts_of input).protocol (acc2.text).tokens l1 (acc2.text).cut x1)
+one_first input r s (letter l1 x1) (unscripted p2 ts2 c2 l2 acc2 cut2 x2) = absurd (no_letter input (parts_of input).protocol (acc2.text).tokens l1 (acc2.text).cut x1)
 one_first input r s (letter l1 x1) (planned p2 lines2 l2 acc2 are2 x2) = absurd (no_letter input (parts_of input).protocol (acc2.text).tokens l1 (acc2.text).cut x1)
 one_first input r s (unread ts1 c1 l1 cut1 x1) (letter l2 x2) = absurd (no_letter input (parts_of input).protocol ts1 l2 cut1 x2)
 one_first input r s (unread ts1 c1 l1 cut1 x1) (unread ts2 c2 l2 cut2 x2) = same_unread input ts1 ts2 c1 l1 c2 l2 cut1 cut2 x1 x2
-one_first input r s (unread ts1 c1 l1 cut1 x1) (ruled_out p2 c2 r2 n2 text2 x2) = absurd (is_read input p2 text2 ts1 c1 l1 cut1 x1)
+one_first input r s (unread ts1 c1 l1 cut1 x1) (ruled_out p2 c2 r2 n2 name2 text2 x2 at2) = absurd (is_read input p2 text2 ts1 c1 l1 cut1 x1)
 one_first input r s (unread ts1 c1 l1 cut1 x1) (script_letter p2 l2 acc2 x2) = absurd (is_read input p2 acc2.text ts1 c1 l1 cut1 x1)
-one_first input r s (unread ts1 c1 l1 cut1 x1) (unscripted p2 points2 ts2 c2 l2 acc2 are2 cut2 x2) = absurd (is_read input p2 acc2.text ts1 c1 l1 cut1 x1)
+one_first input r s (unread ts1 c1 l1 cut1 x1) (unscripted p2 ts2 c2 l2 acc2 cut2 x2) = absurd (is_read input p2 acc2.text ts1 c1 l1 cut1 x1)
 one_first input r s (unread ts1 c1 l1 cut1 x1) (planned p2 lines2 l2 acc2 are2 x2) = absurd (is_read input p2 acc2.text ts1 c1 l1 cut1 x1)
-one_first input r s (ruled_out p1 c1 r1 n1 text1 x1) (letter l2 x2) = absurd (no_letter input (parts_of input).protocol (text1).tokens l2 (text1).cut x2)
-one_first input r s (ruled_out p1 c1 r1 n1 text1 x1) (unread ts2 c2 l2 cut2 x2) = absurd (is_read input p1 text1 ts2 c2 l2 cut2 x2)
-one_first input r s (ruled_out p1 c1 r1 n1 text1 x1) (ruled_out p2 c2 r2 n2 text2 x2) = same_rule input p1 p2 c1 r1 n1 c2 r2 n2 text1 text2 x1 x2
-one_first input r s (ruled_out p1 c1 r1 n1 text1 x1) (script_letter p2 l2 acc2 x2) = absurd (is_accepted input p2 p1 c1 r1 n1 acc2 text1 x1)
-one_first input r s (ruled_out p1 c1 r1 n1 text1 x1) (unscripted p2 points2 ts2 c2 l2 acc2 are2 cut2 x2) = absurd (is_accepted input p2 p1 c1 r1 n1 acc2 text1 x1)
-one_first input r s (ruled_out p1 c1 r1 n1 text1 x1) (planned p2 lines2 l2 acc2 are2 x2) = absurd (is_accepted input p2 p1 c1 r1 n1 acc2 text1 x1)
+one_first input r s (ruled_out p1 c1 r1 n1 name1 text1 x1 at1) (letter l2 x2) = absurd (no_letter input (parts_of input).protocol (text1).tokens l2 (text1).cut x2)
+one_first input r s (ruled_out p1 c1 r1 n1 name1 text1 x1 at1) (unread ts2 c2 l2 cut2 x2) = absurd (is_read input p1 text1 ts2 c2 l2 cut2 x2)
+one_first input r s (ruled_out p1 c1 r1 n1 name1 text1 x1 at1) (ruled_out p2 c2 r2 n2 name2 text2 x2 at2) = same_rule input p1 p2 c1 r1 n1 name1 c2 r2 n2 name2 text1 text2 x1 x2 at1 at2
+one_first input r s (ruled_out p1 c1 r1 n1 name1 text1 x1 at1) (script_letter p2 l2 acc2 x2) = absurd (is_accepted input p2 p1 c1 r1 n1 acc2 text1 x1)
+one_first input r s (ruled_out p1 c1 r1 n1 name1 text1 x1 at1) (unscripted p2 ts2 c2 l2 acc2 cut2 x2) = absurd (is_accepted input p2 p1 c1 r1 n1 acc2 text1 x1)
+one_first input r s (ruled_out p1 c1 r1 n1 name1 text1 x1 at1) (planned p2 lines2 l2 acc2 are2 x2) = absurd (is_accepted input p2 p1 c1 r1 n1 acc2 text1 x1)
 one_first input r s (script_letter p1 l1 acc1 x1) (letter l2 x2) = absurd (no_letter input (parts_of input).protocol (acc1.text).tokens l2 (acc1.text).cut x2)
 one_first input r s (script_letter p1 l1 acc1 x1) (unread ts2 c2 l2 cut2 x2) = absurd (is_read input p1 acc1.text ts2 c2 l2 cut2 x2)
-one_first input r s (script_letter p1 l1 acc1 x1) (ruled_out p2 c2 r2 n2 text2 x2) = absurd (is_accepted input p1 p2 c2 r2 n2 acc1 text2 x2)
+one_first input r s (script_letter p1 l1 acc1 x1) (ruled_out p2 c2 r2 n2 name2 text2 x2 at2) = absurd (is_accepted input p1 p2 c2 r2 n2 acc1 text2 x2)
 one_first input r s (script_letter p1 l1 acc1 x1) (script_letter p2 l2 acc2 x2) = same_letter input (parts_of input).scripts l1 l2 x1 x2
-one_first input r s (script_letter p1 l1 acc1 x1) (unscripted p2 points2 ts2 c2 l2 acc2 are2 cut2 x2) = absurd (no_letter input (parts_of input).scripts ts2 l1 cut2 x1)
+one_first input r s (script_letter p1 l1 acc1 x1) (unscripted p2 ts2 c2 l2 acc2 cut2 x2) = absurd (no_letter input (parts_of input).scripts ts2 l1 cut2 x1)
 one_first input r s (script_letter p1 l1 acc1 x1) (planned p2 lines2 l2 acc2 are2 x2) = absurd (no_letter input (parts_of input).scripts are2.tokens l1 are2.cut x1)
-one_first input r s (unscripted p1 points1 ts1 c1 l1 acc1 are1 cut1 x1) (letter l2 x2) = absurd (no_letter input (parts_of input).protocol (acc1.text).tokens l2 (acc1.text).cut x2)
-one_first input r s (unscripted p1 points1 ts1 c1 l1 acc1 are1 cut1 x1) (unread ts2 c2 l2 cut2 x2) = absurd (is_read input p1 acc1.text ts2 c2 l2 cut2 x2)
-one_first input r s (unscripted p1 points1 ts1 c1 l1 acc1 are1 cut1 x1) (ruled_out p2 c2 r2 n2 text2 x2) = absurd (is_accepted input p1 p2 c2 r2 n2 acc1 text2 x2)
-one_first input r s (unscripted p1 points1 ts1 c1 l1 acc1 are1 cut1 x1) (script_letter p2 l2 acc2 x2) = absurd (no_letter input (parts_of input).scripts ts1 l2 cut1 x2)
-one_first input r s (unscripted p1 points1 ts1 c1 l1 acc1 are1 cut1 x1) (unscripted p2 points2 ts2 c2 l2 acc2 are2 cut2 x2) = same_unscripted input p1 p2 points1 points2 ts1 ts2 c1 l1 c2 l2 (same_text input p1 p2 acc1.text acc2.text) are1 are2 cut1 cut2 x1 x2
-one_first input r s (unscripted p1 points1 ts1 c1 l1 acc1 are1 cut1 x1) (planned p2 lines2 l2 acc2 are2 x2) = absurd (are_scripts input p2 p1 lines2 points1 ts1 c1 l1 (same_text input p2 p1 acc2.text acc1.text) are2 are1 cut1 x1)
+one_first input r s (unscripted p1 ts1 c1 l1 acc1 cut1 x1) (letter l2 x2) = absurd (no_letter input (parts_of input).protocol (acc1.text).tokens l2 (acc1.text).cut x2)
+one_first input r s (unscripted p1 ts1 c1 l1 acc1 cut1 x1) (unread ts2 c2 l2 cut2 x2) = absurd (is_read input p1 acc1.text ts2 c2 l2 cut2 x2)
+one_first input r s (unscripted p1 ts1 c1 l1 acc1 cut1 x1) (ruled_out p2 c2 r2 n2 name2 text2 x2 at2) = absurd (is_accepted input p1 p2 c2 r2 n2 acc1 text2 x2)
+one_first input r s (unscripted p1 ts1 c1 l1 acc1 cut1 x1) (script_letter p2 l2 acc2 x2) = absurd (no_letter input (parts_of input).scripts ts1 l2 cut1 x2)
+one_first input r s (unscripted p1 ts1 c1 l1 acc1 cut1 x1) (unscripted p2 ts2 c2 l2 acc2 cut2 x2) = same_unscripted input p1 p2 ts1 ts2 c1 l1 c2 l2 (same_text input p1 p2 acc1.text acc2.text) cut1 cut2 x1 x2
+one_first input r s (unscripted p1 ts1 c1 l1 acc1 cut1 x1) (planned p2 lines2 l2 acc2 are2 x2) = absurd (are_scripts input p2 p1 lines2 ts1 c1 l1 (same_text input p2 p1 acc2.text acc1.text) are2 cut1 x1)
 one_first input r s (planned p1 lines1 l1 acc1 are1 x1) (letter l2 x2) = absurd (no_letter input (parts_of input).protocol (acc1.text).tokens l2 (acc1.text).cut x2)
 one_first input r s (planned p1 lines1 l1 acc1 are1 x1) (unread ts2 c2 l2 cut2 x2) = absurd (is_read input p1 acc1.text ts2 c2 l2 cut2 x2)
-one_first input r s (planned p1 lines1 l1 acc1 are1 x1) (ruled_out p2 c2 r2 n2 text2 x2) = absurd (is_accepted input p1 p2 c2 r2 n2 acc1 text2 x2)
+one_first input r s (planned p1 lines1 l1 acc1 are1 x1) (ruled_out p2 c2 r2 n2 name2 text2 x2 at2) = absurd (is_accepted input p1 p2 c2 r2 n2 acc1 text2 x2)
 one_first input r s (planned p1 lines1 l1 acc1 are1 x1) (script_letter p2 l2 acc2 x2) = absurd (no_letter input (parts_of input).scripts are1.tokens l2 are1.cut x2)
-one_first input r s (planned p1 lines1 l1 acc1 are1 x1) (unscripted p2 points2 ts2 c2 l2 acc2 are2 cut2 x2) = absurd (are_scripts input p1 p2 lines1 points2 ts2 c2 l2 (same_text input p1 p2 acc1.text acc2.text) are1 are2 cut2 x2)
+one_first input r s (planned p1 lines1 l1 acc1 are1 x1) (unscripted p2 ts2 c2 l2 acc2 cut2 x2) = absurd (are_scripts input p1 p2 lines1 ts2 c2 l2 (same_text input p1 p2 acc1.text acc2.text) are1 cut2 x2)
 one_first input r s (planned p1 lines1 l1 acc1 are1 x1) (planned p2 lines2 l2 acc2 are2 x2) = same_other input (parts_of input).plan l1 l2 x1 x2
 
-not_both : (input : List ℕ) (p : Protocol) (lines : List (List model.Line)) (r : Refused) → IsTaken input p lines → IsFirstRefusal input r → ⊥
-not_both input p lines r taken (letter l1 x1) = no_letter input (parts_of input).protocol (taken.protocol.text).tokens l1 (taken.protocol.text).cut x1
-not_both input p lines r taken (unread ts1 c1 l1 cut1 x1) = is_read input p taken.protocol.text ts1 c1 l1 cut1 x1
-not_both input p lines r taken (ruled_out p1 c1 r1 n1 text1 x1) = is_accepted input p p1 c1 r1 n1 taken.protocol text1 x1
-not_both input p lines r taken (script_letter p1 l1 acc1 x1) = no_letter input (parts_of input).scripts taken.are_scripts.tokens l1 taken.are_scripts.cut x1
-not_both input p lines r taken (unscripted p1 points1 ts1 c1 l1 acc1 are1 cut1 x1) = are_scripts input p p1 lines points1 ts1 c1 l1 (same_text input p p1 taken.protocol.text acc1.text) taken.are_scripts are1 cut1 x1
-not_both input p lines r taken (planned p1 lines1 l1 acc1 are1 x1) = is_blank_there input (parts_of input).plan l1 taken.no_plan x1
+not_both : (input : List ℕ) (s : SessionView) (r : Refused) → IsTaken input s → IsFirstRefusal input r → ⊥
+not_both input s r taken (letter l1 x1) = no_letter input (parts_of input).protocol (taken.protocol.text).tokens l1 (taken.protocol.text).cut x1
+not_both input s r taken (unread ts1 c1 l1 cut1 x1) = is_read input s.protocol taken.protocol.text ts1 c1 l1 cut1 x1
+not_both input s r taken (ruled_out p1 c1 r1 n1 name1 text1 x1 at1) = is_accepted input s.protocol p1 c1 r1 n1 taken.protocol text1 x1
+not_both input s r taken (script_letter p1 l1 acc1 x1) = no_letter input (parts_of input).scripts taken.are_scripts.tokens l1 taken.are_scripts.cut x1
+not_both input s r taken (unscripted p1 ts1 c1 l1 acc1 cut1 x1) =
+    are_scripts input s.protocol p1 s.scripts ts1 c1 l1 (same_text input s.protocol p1 taken.protocol.text acc1.text) taken.are_scripts cut1 x1
+not_both input s r taken (planned p1 lines1 l1 acc1 are1 x1) = is_blank_there input (parts_of input).plan l1 taken.no_plan x1
 
-one_content : (input : List ℕ) (p q : Protocol) (l m : List (List model.Line)) → IsTaken input p l → IsTaken input q m → SayTheSame p q × (l ≡ m)
-one_content input p q l m a b =
-    let say = same_text input p q a.protocol.text b.protocol.text in
-    (say, same_lines input p q l m say a.are_scripts b.are_scripts)
+one_content : (input : List ℕ) (s t : SessionView) → IsTaken input s → IsTaken input t → AreSame s t
+one_content input s t a b =
+    let say = same_text input s.protocol t.protocol a.protocol.text b.protocol.text in
+    record { protocols = say; scripts = same_lines input s.protocol t.protocol s.scripts t.scripts say a.are_scripts b.are_scripts }
+
+-- ---- the name of a role
+
+is_word : (names : List (List ℕ)) (r : ℕ) (name : List ℕ) → All IsWord names → slice_get names r ≡ Some name → IsWord name
+is_word [] r name all at = absurd cc
+is_word (x ∷ names) zero name all at = let same : x ≡ name = cc in subst IsWord same (All-head IsWord x names all)
+is_word (x ∷ names) (suc r) name all at = is_word names r name (All-tail IsWord x names all) at
+
+named : (input : List ℕ) (r : Refused) (code : ℕ) (name : List ℕ) (number : ℕ) → r ≡ Rule code name number → IsFirstRefusal input r → IsWord name
+named input r code name number is (letter l x) = absurd cc
+named input r code name number is (unread ts c l cut x) = absurd cc
+named input r code name number is (ruled_out p c role n other text x at) =
+    let same : other ≡ name = cc in
+    let names = read_texts_have_names input (parts_of input).protocol text.tokens p text.cut text.read in
+    subst IsWord same (is_word p.roles role other names.role_words at)
+named input r code name number is (script_letter p l acc x) = absurd cc
+named input r code name number is (unscripted p ts c l acc cut x) = absurd cc
+named input r code name number is (planned p lines l acc are x) = absurd cc
 
 pub one_answer : InputsHaveOneAnswer
-one_answer = record { protocols = one_content; either = not_both; refusals = one_first }
+one_answer = record {
+  answered = answered;
+  sessions = one_content;
+  either = not_both;
+  refusals = one_first;
+  named = λ input code name number. named input (Rule code name number) code name number refl;
+}

@@ -8,9 +8,11 @@ abbrev pub code_names : List (ℕ × List ℕ)
 code_names =
     (10, codes "Letter") ∷ (11, codes "Token") ∷ (12, codes "Deep") ∷ (13, codes "Name") ∷ (14, codes "Twice") ∷ (15, codes "SelfMessage")
     ∷ (16, codes "AfterContinue") ∷ (17, codes "Unguarded") ∷ (18, codes "TooMany") ∷ (19, codes "NotYet")
-    ∷ (20, codes "Subject") ∷ (21, codes "Mixed") ∷ (22, codes "Senders") ∷ (23, codes "Labels") ∷ (24, codes "NotEnabled") ∷ (25, codes "MaybeDone")
+    ∷ (20, codes "Subject") ∷ (21, codes "Mixed")
+    ∷ (22, codes "Senders") ∷ (23, codes "Labels") ∷ (24, codes "NotEnabled") ∷ (25, codes "MaybeDone")
     ∷ (26, codes "Unreachable") ∷ (27, codes "NoRole")
-    ∷ (30, codes "Token") ∷ (31, codes "Role") ∷ (32, codes "Label") ∷ (33, codes "Variable") ∷ (34, codes "AttemptInState") ∷ (35, codes "NoPayload")
+    ∷ (30, codes "Token") ∷ (31, codes "Role") ∷ (32, codes "Label")
+    ∷ (33, codes "Variable") ∷ (34, codes "AttemptInState") ∷ (35, codes "NoPayload")
     ∷ (36, codes "TooMany") ∷ []
 
 -- The name that stands beside a code in the list; none where the code isn't in it.

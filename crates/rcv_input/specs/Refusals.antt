@@ -1,5 +1,5 @@
 -- Why an input is refused: the first of its faults.
-use Rattle.std.specs.Prelude.{◌≡◌, ℕ, List, [], length, slice_index_or}
+use Rattle.std.specs.Prelude.{◌≡◌, ℕ, ◌<◌, Some, List, length, slice_get}
 use Rattle.rcv_tree.specs.declared.protocol.Protocol.{Protocol}
 use Rattle.rcv_tree.specs.declared.refusal.Refusal.{Refusal}
 use Rattle.rcv_tree.specs.declared.refusal.Refusal.TheVariants as refusals
@@ -12,8 +12,7 @@ use Rattle.rcv_lexer.specs.declared.token.TextError.TheVariants as errors
 use Rattle.rcv_lexer.specs.Parts.{parts_of}
 use Rattle.rcv_lexer.specs.Tokens.{IsLetter, line_at}
 use Rattle.rcv_reader.specs.Refusals as reader
-use Rattle.rcv_points.specs.Follow.{PointsView, ArePointsOf}
-use Rattle.rcv_script.specs.Refusals as script
+use Rattle.rcv_script.specs.Scripts.{AreRefusedFor}
 use Rattle.rcv_input.specs.declared.refused.Refused.{Refused}
 use Rattle.rcv_input.specs.declared.refused.Refused.TheVariants.{Line, Rule, NoRole}
 use Rattle.rcv_input.specs.declared.refused.InputError.{InputError}
@@ -25,31 +24,32 @@ abbrev pub IsRefusedText : List ℕ → List Token → ℕ → ℕ → Type 0
 IsRefusedText input tokens code line =
     reader.IsRefused input tokens (line_at input (parts_of input).protocol.end) (errors.Refused (refusals.Text code line))
 
--- Those of the scripts part are, for the roles of this protocol and these points.
-abbrev pub AreRefusedScripts : List ℕ → Protocol → PointsView → List Token → ℕ → ℕ → Type 0
-AreRefusedScripts input p points tokens code line =
-    script.IsRefused input tokens (line_at input (parts_of input).scripts.end) p.roles points (errors.Refused (refusals.Text code line))
-
--- The name of a role.
-abbrev pub name_of : Protocol → ℕ → List ℕ
-name_of p r = slice_index_or p.roles r []
+-- Those of the scripts part are, for the roles and the messages of this protocol.
+abbrev pub AreRefusedScripts : List ℕ → Protocol → List Token → ℕ → ℕ → Type 0
+AreRefusedScripts input p tokens code line =
+    AreRefusedFor input tokens (line_at input (parts_of input).scripts.end) p (errors.Refused (refusals.Text code line))
 
 -- This is the first refusal of the input.
 pub data IsFirstRefusal (input : List ℕ) : Refused → Type 0 where
   -- the protocol part has a bad letter
   letter : (line : ℕ) → IsLetter input (parts_of input).protocol line → IsFirstRefusal input (Line 10 line)
   -- it has tokens, and the reader refuses them
-  unread : (tokens : List Token) (code line : ℕ) → AreProtocolTokens input tokens → IsRefusedText input tokens code line → IsFirstRefusal input (Line code line)
-  -- they are a protocol, and a rule of acceptance fails
+  unread :
+      (tokens : List Token) (code line : ℕ) → AreProtocolTokens input tokens → IsRefusedText input tokens code line
+      → IsFirstRefusal input (Line code line)
+  -- they are a protocol, and a rule of acceptance fails at a role of this name
   ruled_out :
-      (p : Protocol) (code role number : ℕ) → IsProtocolOf input p → IsRefusal (body_of p.body) (length p.roles) code role number
-      → IsFirstRefusal input (Rule code (name_of p role) number)
+      (p : Protocol) (code role number : ℕ) (name : List ℕ) → IsProtocolOf input p
+      → IsRefusal (body_of p.body) (length p.roles) code role number → slice_get p.roles role ≡ Some name
+      → IsFirstRefusal input (Rule code name number)
   -- it is accepted, but the scripts part has a bad letter
-  script_letter : (p : Protocol) (line : ℕ) → IsAcceptedOf input p → IsLetter input (parts_of input).scripts line → IsFirstRefusal input (Line 10 line)
+  script_letter :
+      (p : Protocol) (line : ℕ) → IsAcceptedOf input p → IsLetter input (parts_of input).scripts line
+      → IsFirstRefusal input (Line 10 line)
   -- that has tokens too, which are refused
   unscripted :
-      (p : Protocol) (points : PointsView) (tokens : List Token) (code line : ℕ) → IsAcceptedOf input p → ArePointsOf (body_of p.body) points
-      → AreScriptTokens input tokens → AreRefusedScripts input p points tokens code line → IsFirstRefusal input (Line code line)
+      (p : Protocol) (tokens : List Token) (code line : ℕ) → IsAcceptedOf input p → AreScriptTokens input tokens
+      → AreRefusedScripts input p tokens code line → IsFirstRefusal input (Line code line)
   -- they are scripts, but there is a plan
   planned :
       (p : Protocol) (lines : List (List model.Line)) (line : ℕ) → IsAcceptedOf input p → AreScriptsOf input p lines
@@ -77,18 +77,19 @@ IsUnscripted input p errors.Memory = Unit {0}
 IsUnscripted input p (errors.Refused r) =
     (code : ℕ) × (line : ℕ) × (r ≡ refusals.Text code line) × (IsAcceptedOf input p → IsFirstRefusal input (Line code line))
 
--- The refusal is by a rule; and this says it, with the name that the role has among these.
-abbrev pub IsRule : Refusal → Type 0
-IsRule r = (code : ℕ) × (role : ℕ) × (number : ℕ) × (r ≡ refusals.Rule code role number)
+-- The refusal is by a rule, at a role that these names have; and this says it, with the name of the role.
+abbrev pub IsRule : List (List ℕ) → Refusal → Type 0
+IsRule names r = (code : ℕ) × (role : ℕ) × (number : ℕ) × (r ≡ refusals.Rule code role number) × (role < length names)
 
 abbrev pub SaysRule : List (List ℕ) → Refusal → Refused → Type 0
 SaysRule names r said =
-    (code : ℕ) × (role : ℕ) × (number : ℕ) × (r ≡ refusals.Rule code role number) × (said ≡ Rule code (slice_index_or names role []) number)
+    (code : ℕ) × (role : ℕ) × (number : ℕ) × (name : List ℕ) × (r ≡ refusals.Rule code role number)
+    × (slice_get names role ≡ Some name) × (said ≡ Rule code name number)
 
 -- A rule of acceptance fails, at the role of this name.
 abbrev pub IsRuledOut : Protocol → InputError → Type 0
 IsRuledOut p causes.Memory = Unit {0}
 IsRuledOut p (causes.Refused (Rule code name number)) =
-    (role : ℕ) × (name ≡ name_of p role) × IsRefusal (body_of p.body) (length p.roles) code role number
+    (role : ℕ) × (slice_get p.roles role ≡ Some name) × IsRefusal (body_of p.body) (length p.roles) code role number
 IsRuledOut p (causes.Refused (Line code line)) = ⊥
 IsRuledOut p (causes.Refused NoRole) = ⊥

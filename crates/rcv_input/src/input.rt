@@ -1,6 +1,7 @@
 // Reads an input.
 
-ghost use Rattle.std.specs.Prelude.{◌≡◌, ℕ, ◌+◌, ◌^◌, ◌<◌, length, MatchResult, IfErr, OnOk};
+ghost use Rattle.std.specs.Prelude.{◌≡◌, ℕ, ◌+◌, ◌^◌, ◌<◌, length, MatchResult, IfOk, IfErr, OnOk};
+ghost use Rattle.rcv_script.specs.Scripts.{AreScriptsFor};
 ghost use Rattle.rcv_lexer.specs.Parts.{LiesIn};
 ghost use Rattle.rcv_input.specs.Input.{IsBlankPart, IsFirstOther, IsTaken};
 ghost use Rattle.rcv_input.specs.Refusals.{IsRefused};
@@ -35,7 +36,7 @@ fn blank(input: &[u8], part: Span) -> Result<(), InputError>
     }
 }
 
-/// The accepted protocol and the scripts that the input's text says.
+/// The accepted protocol and the scripts that the input's text says. The input has fewer than 2^32 - 1 bytes.
 ///
 /// Refused with the first of these that holds: 10 at a bad letter of the protocol part; 11 to 19 where the reader
 /// refuses the protocol; 20 to 26 where a rule of acceptance fails, at a role and a number; 10 at a bad letter of the
@@ -43,7 +44,9 @@ fn blank(input: &[u8], part: Span) -> Result<(), InputError>
 /// docs/FORMATS.md lists the codes. `Memory` where no memory is left.
 pub fn read_input(alloc: Global, input: &[u8]) -> Result<Input, InputError>
     requires { length input.now + 1 < 2 ^ 32 }
-    ensures { MatchResult result (λ x. IsTaken input.now x.accepted.protocol x.scripts) (IsRefused input.now) }
+    ensures taken { MatchResult result
+        (λ x. IsTaken input.now (record { protocol = x.accepted.protocol; scripts = x.scripts.lines })) (IsRefused input.now) }
+    ensures belong { IfOk result (λ x. AreScriptsFor x.accepted.protocol x.scripts) }
 {
     let parts = split(input);
     let protocol = match protocol::read_part(alloc, input, parts.protocol) {

@@ -1,7 +1,8 @@
 // Reads the protocol part of an input, and has its protocol accepted.
 
-ghost use Rattle.std.specs.Prelude.{◌≡◌, [], ◌+◌, ◌^◌, ◌<◌, ◌≤◌, length, slice_index_or, IfOk, MatchResult};
+ghost use Rattle.std.specs.Prelude.{◌≡◌, [], ◌+◌, ◌^◌, ◌<◌, ◌≤◌, length, slice_get, Some, IfOk, MatchResult};
 ghost use Rattle.rcv_model.specs.Form.{HasForm};
+ghost use Rattle.rcv_model.specs.Names.{HasNames};
 ghost use Rattle.rcv_model.specs.Places.{IsFull};
 ghost use Rattle.rcv_model.specs.Text.{body_of};
 ghost use Rattle.rcv_lexer.specs.Parts.{LiesIn, parts_of};
@@ -45,19 +46,17 @@ fn copy_of(alloc: Global, names: &Names) -> Result<Names, AllocError>
     Ok(copy)
 }
 
-// The name of a role, copied; empty where there is no such role. Fails where memory runs out.
+// The name of a role, copied. Fails where memory runs out.
 fn name_of(alloc: Global, names: &Names, role: RoleId) -> Result<Name, AllocError>
-    ensures { IfOk result (λ name. name ≡ slice_index_or names.now role []) }
+    requires { role < length names.now }
+    ensures { IfOk result (λ name. slice_get names.now role ≡ Some name) }
 {
-    match names.as_slice().get(role.0 as usize) {
-        Some(name) => Name::of(alloc, name.as_slice()),
-        None => Ok(Name::new(alloc)),
-    }
+    Name::of(alloc, names.as_slice()[role.0 as usize].as_slice())
 }
 
 // The refusal by a rule, with the name of its role. Fails where memory runs out.
 fn ruled_out(alloc: Global, roles: &Names, refusal: Refusal) -> Result<Refused, AllocError>
-    requires { IsRule refusal }
+    requires { IsRule roles.now refusal }
     ensures { IfOk result (SaysRule roles.now refusal) }
 {
     match refusal {
@@ -74,6 +73,7 @@ fn ruled_out(alloc: Global, roles: &Names, refusal: Refusal) -> Result<Refused, 
 pub fn accepted_of(alloc: Global, protocol: Protocol) -> Result<Accepted, InputError>
     requires form { HasForm (body_of protocol.body) (length protocol.roles) }
     requires full { IsFull [] [] (body_of protocol.body) }
+    requires names { HasNames protocol.roles (body_of protocol.body) }
     ensures { MatchResult result (λ a. a.protocol ≡ protocol) (IsRuledOut protocol) }
 {
     // The protocol is gone where it isn't accepted.

@@ -1,6 +1,7 @@
 // Reads the scripts part of an input.
 
-ghost use Rattle.std.specs.Prelude.{◌≡◌, ◌+◌, ◌^◌, ◌<◌, ◌≤◌, length, MatchResult};
+ghost use Rattle.std.specs.Prelude.{◌≡◌, ◌+◌, ◌^◌, ◌<◌, ◌≤◌, length, IfOk, MatchResult};
+ghost use Rattle.rcv_script.specs.Scripts.{AreScriptsFor};
 ghost use Rattle.rcv_lexer.specs.Parts.{LiesIn, parts_of};
 ghost use Rattle.rcv_input.specs.Input.{AreScriptsOf};
 ghost use Rattle.rcv_input.specs.Refusals.{IsUnscripted};
@@ -23,17 +24,11 @@ pub fn read_part(
     requires short { length input.now + 1 < 2 ^ 32 }
     requires inside { LiesIn input.now part }
     requires part { part ≡ (parts_of input.now).scripts }
-    ensures { MatchResult result (AreScriptsOf input.now accepted.now.protocol) (IsUnscripted input.now accepted.now.protocol) }
+    ensures read { MatchResult result
+        (λ scripts. AreScriptsOf input.now accepted.now.protocol scripts.lines) (IsUnscripted input.now accepted.now.protocol) }
+    ensures belong { IfOk result (AreScriptsFor accepted.now.protocol) }
 {
     let list = tokens(alloc, input, part)?;
     let last = line_at(input, part.end);
-    let roles = &accepted.protocol().roles;
-    read_scripts(
-        alloc,
-        input,
-        list.as_slice(),
-        last,
-        roles,
-        accepted.points(),
-    )
+    read_scripts(alloc, input, list.as_slice(), last, accepted)
 }

@@ -1,5 +1,5 @@
 // A sink into memory with a fixed room, which may take bytes in small pieces and fail at chosen calls.
-ghost use Rattle.std.specs.Prelude.{◌≡◌, ◌↔◌, ◌<◌, ◌≤◌, Some, [], min, length, IsErr, IfOk, OnErr};
+ghost use Rattle.std.specs.Prelude.{◌≡◌, ◌↔◌, ◌<◌, ◌≤◌, Some, [], min, length, IsErr, IfOk, OnOk, OnErr};
 ghost use Rattle.rcv_io.specs.Causes.{HasCause};
 ghost use Rattle.rcv_io.specs.Memory.{SinkFails, after_write, after_failed_write};
 
@@ -90,6 +90,7 @@ impl Sink for MemSink {
 
         // as every sink
         ensures some { IfOk result (λ n. 0 < length piece.now → 0 < n) }
+        ensures fine { OnOk result (self.new.faults ≡ self.old.faults) }
         ensures cause { HasCause self.old.faults self.new.faults result }
     {
         self.calls = self.calls.saturating_add(1);

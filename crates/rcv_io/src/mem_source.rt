@@ -1,5 +1,5 @@
 // A source over bytes in memory, which may give them in small pieces and fail at chosen calls.
-ghost use Rattle.std.specs.Prelude.{◌≡◌, ◌↔◌, ◌<◌, ◌≤◌, ◌++◌, [], Some, min, length, take, drop, IsErr, IfOk, OnErr};
+ghost use Rattle.std.specs.Prelude.{◌≡◌, ◌↔◌, ◌<◌, ◌≤◌, ◌++◌, [], Some, min, length, take, drop, IsErr, IfOk, OnOk, OnErr};
 ghost use Rattle.rcv_io.specs.Causes.{HasCause};
 ghost use Rattle.rcv_io.specs.Memory.{SourceFails, after_read, after_failed_read};
 
@@ -79,6 +79,7 @@ impl Source for MemSource {
 
         // as every source
         ensures end { IfOk result (λ n. n ≡ 0 → 0 < length buf.new → self.new.rest ≡ []) }
+        ensures fine { OnOk result (self.new.faults ≡ self.old.faults) }
         ensures cause { HasCause self.old.faults self.new.faults result }
     {
         self.calls = self.calls.saturating_add(1);

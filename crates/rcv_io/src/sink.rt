@@ -1,5 +1,5 @@
 // Where bytes go.
-ghost use Rattle.std.specs.Prelude.{◌≡◌, ◌<◌, ℕ, List, length, take, is_some, IfOk, OnErr};
+ghost use Rattle.std.specs.Prelude.{◌≡◌, ◌<◌, ℕ, List, length, take, is_some, IfOk, OnOk, OnErr};
 ghost use Rattle.std.specs.declared.option.Option.{Option};
 ghost use Rattle.std.specs.Io.{WritesAtMost};
 ghost use Rattle.std.specs.Io.KnownBytes.{append_known};
@@ -20,7 +20,7 @@ pub trait Sink {
 
     /// Writes some bytes from the front of `piece`, and answers how many: 0 only where `piece` is empty.
     ///
-    /// `Failed` comes only where the count of faults rose, and nothing was written then.
+    /// `Failed` comes only where the count of faults rose, and nothing was written then. `Ok` leaves the count as it was.
     fn write(&mut self, piece: &[u8]) -> Result<usize, Failed>
         ensures bound { WritesAtMost result piece.now }
         ensures some { IfOk result (λ n. 0 < length piece.now → 0 < n) }
@@ -28,6 +28,7 @@ pub trait Sink {
             (λ n. written self.new ≡ append_known (written self.old) (take n piece.now)) }
 
         ensures kept { OnErr result (written self.new ≡ written self.old) }
+        ensures fine { OnOk result (faults self.new ≡ faults self.old) }
         ensures cause { HasCause (faults self.old) (faults self.new) result }
 
         // Whether what was written is told never changes.

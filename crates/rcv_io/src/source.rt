@@ -1,5 +1,5 @@
 // Where bytes come from.
-ghost use Rattle.std.specs.Prelude.{◌≡◌, ◌<◌, ℕ, List, length, take, is_some, IfOk, OnErr};
+ghost use Rattle.std.specs.Prelude.{◌≡◌, ◌<◌, ℕ, List, length, take, is_some, IfOk, OnOk, OnErr};
 ghost use Rattle.std.specs.declared.option.Option.{Option};
 ghost use Rattle.std.specs.Io.{ReadsAtMost};
 ghost use Rattle.std.specs.Io.KnownBytes.{IsAtEnd, prepend_known};
@@ -24,7 +24,7 @@ pub trait Source {
     /// Reads some bytes into the front of `buf`, and answers how many: 0 only at the end, or where `buf` is empty.
     /// Nothing is said of `buf` behind these bytes.
     ///
-    /// `Failed` comes only where the count of faults rose, and nothing was taken then.
+    /// `Failed` comes only where the count of faults rose, and nothing was taken then. `Ok` leaves the count as it was.
     fn read(&mut self, buf: &mut [u8]) -> Result<usize, Failed>
         ensures bound { ReadsAtMost result buf.new }
         ensures bytes { IfOk result
@@ -34,6 +34,7 @@ pub trait Source {
 
         ensures kept { OnErr result (rest self.new ≡ rest self.old) }
         ensures none_given { OnErr result (given self.new ≡ given self.old) }
+        ensures fine { OnOk result (faults self.new ≡ faults self.old) }
         ensures cause { HasCause (faults self.old) (faults self.new) result }
 
         // Whether what is left is told never changes.

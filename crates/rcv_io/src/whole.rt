@@ -13,8 +13,9 @@ const BUFFER: usize = 4096;
 
 /// Every byte of the source to its end, at most `most` of them.
 ///
-/// `ReadFault` comes only where the source's count of faults rose in this call, and `TooLong` exactly where more
-/// than `most` bytes were taken from it. What was taken before an error is gone from the source.
+/// `most` is at most 1,048,576. `ReadFault` comes only where the source's count of faults rose in this call, and always
+/// where it is greater than before. `TooLong` comes exactly where more than `most` bytes were taken from the source.
+/// What was taken before an error is gone from it.
 pub fn read_all<S: Source>(alloc: Global, source: &mut S, most: usize) -> Result<Vec<u8>, ReadError>
     requires { most ≤ 1048576 }
 
@@ -24,6 +25,8 @@ pub fn read_all<S: Source>(alloc: Global, source: &mut S, most: usize) -> Result
 
     ensures fault { IsErrOf result ReadError.ReadFault
         → Rose (S.faults source.old) (S.faults source.new) }
+    ensures fault_always { S.faults source.old < S.faults source.new
+        → IsErrOf result ReadError.ReadFault }
     ensures too_long { IsErrOf result ReadError.TooLong
         → IfSome (S.rest source.old) (λ told. most < length told) }
     ensures too_many { IsErrOf result ReadError.TooLong
@@ -49,14 +52,15 @@ pub fn read_all<S: Source>(alloc: Global, source: &mut S, most: usize) -> Result
     }
 }
 
-/// Writes all of `bytes`. Each call of the sink is offered all that is left.
+/// Writes all of `bytes`.
 ///
-/// `WriteFault` comes only where the sink's count of faults rose in this call. Then a beginning of `bytes` was
-/// written, and not all of them.
+/// `WriteFault` comes only where the sink's count of faults rose in this call, and `Ok` leaves the count as it was.
+/// After `WriteFault` a beginning of `bytes` was written, and not all of them.
 pub fn write_all_of<K: Sink>(sink: &mut K, bytes: &[u8]) -> Result<(), WriteFault>
     ensures all { OnOk result (K.written sink.new ≡ append_known (K.written sink.old) bytes.now) }
     ensures beginning { OnErr result
         (WroteBeginning (K.written sink.old) (K.written sink.new) bytes.now) }
+    ensures fine { OnOk result (K.faults sink.new ≡ K.faults sink.old) }
     ensures cause { HasCause (K.faults sink.old) (K.faults sink.new) result }
     ensures told { is_some (K.written sink.new) ≡ is_some (K.written sink.old) }
 {

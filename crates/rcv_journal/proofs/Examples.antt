@@ -5,14 +5,14 @@ use Rattle.std.specs.Fmt.{digits}
 use Rattle.rcv_tree.specs.declared.event.Dir.TheVariants.{Sent, Got}
 use Rattle.rcv_tree.specs.declared.entry.Entry.{Entry}
 use Rattle.rcv_tree.specs.declared.entry.Entry.TheVariants.{Send, Recv, Crash, Recover}
-use Rattle.rcv_core.specs.Setup.{SetupView, net_for}
+use Rattle.rcv_session.specs.Session.{SessionView, net_for}
 use Rattle.rcv_journal.specs.declared.line.RoleLine.{RoleLine}
 use Rattle.rcv_journal.specs.declared.line.RoleWord.{RoleWord}
 use Rattle.rcv_journal.specs.declared.line.RoleWord.TheVariants.{Done, Limit, Waits}
 use Rattle.rcv_journal.specs.JournalText.{entry_line, role_line, last_line, journal_text}
 
 -- ping from A to B, pong from B to A
-record IsPing (setup : SetupView) : Type 0 where
+record IsPing (setup : SessionView) : Type 0 where
   roles : setup.protocol.roles ≡ codes "A" ∷ codes "B" ∷ []
   ping : (net_for setup).label 1 ≡ codes "ping"
   pong : (net_for setup).label 2 ≡ codes "pong"
@@ -33,40 +33,40 @@ entries = sent 0 1 1 (pos 0) ∷ got 1 1 2 (pos 0) 1 ∷ sent 1 2 3 (pos 0) ∷ 
 lines : List RoleLine
 lines = line 0 2 2 Done ∷ line 1 2 2 Done ∷ []
 
-whole_text : (setup : SetupView) → IsPing setup → journal_text setup entries lines ≡ codes "send A 1 ping 0 @1\nrecv B 1 ping 0 @2 <1\nsend B 2 pong 0 @3\nrecv A 2 pong 0 @4 <3\nrole A kept 2 raw 2 done\nrole B kept 2 raw 2 done\ncompleted\n"
+whole_text : (setup : SessionView) → IsPing setup → journal_text setup entries lines ≡ codes "send A 1 ping 0 @1\nrecv B 1 ping 0 @2 <1\nsend B 2 pong 0 @3\nrecv A 2 pong 0 @4 <3\nrole A kept 2 raw 2 done\nrole B kept 2 raw 2 done\ncompleted\n"
 unfolding entries lines sent got line digits
 whole_text setup is = rw (is.roles, is.ping, is.pong) refl
 
 -- the least number of 64 bits, and many digits
-least_number : (setup : SetupView) → IsPing setup → entry_line setup (sent 0 1 120 (negsuc 9223372036854775807)) ≡ codes "send A 1 ping -9223372036854775808 @120\n"
+least_number : (setup : SessionView) → IsPing setup → entry_line setup (sent 0 1 120 (negsuc 9223372036854775807)) ≡ codes "send A 1 ping -9223372036854775808 @120\n"
 unfolding sent digits
 least_number setup is = rw (is.roles, is.ping) refl
 
-crash_line : (setup : SetupView) → IsPing setup → entry_line setup (Crash 1) ≡ codes "crash B\n"
+crash_line : (setup : SessionView) → IsPing setup → entry_line setup (Crash 1) ≡ codes "crash B\n"
 crash_line setup is = rw is.roles refl
 
 -- both roles are concerned, or one alone
-all_undone : (setup : SetupView) → IsPing setup → entry_line setup (Recover 0 (record { 0 = 3 }) (replicate 8 0) 4) ≡ codes "recover A undone 4: A 0 B 0\n"
+all_undone : (setup : SessionView) → IsPing setup → entry_line setup (Recover 0 (record { 0 = 3 }) (replicate 8 0) 4) ≡ codes "recover A undone 4: A 0 B 0\n"
 unfolding digits
 all_undone setup is = rw is.roles refl
 
-one_concerned : (setup : SetupView) → IsPing setup → entry_line setup (Recover 1 (record { 0 = 2 }) (0 ∷ 12 ∷ 0 ∷ 0 ∷ 0 ∷ 0 ∷ 0 ∷ 0 ∷ []) 0) ≡ codes "recover B undone 0: B 12\n"
+one_concerned : (setup : SessionView) → IsPing setup → entry_line setup (Recover 1 (record { 0 = 2 }) (0 ∷ 12 ∷ 0 ∷ 0 ∷ 0 ∷ 0 ∷ 0 ∷ 0 ∷ []) 0) ≡ codes "recover B undone 0: B 12\n"
 unfolding digits
 one_concerned setup is = rw is.roles refl
 
 -- the ends of sessions
-both_limited : (setup : SetupView) → IsPing setup → last_line setup (line 0 7 10000 Limit ∷ line 1 7 10000 Limit ∷ []) ≡ codes "limited A B\n"
+both_limited : (setup : SessionView) → IsPing setup → last_line setup (line 0 7 10000 Limit ∷ line 1 7 10000 Limit ∷ []) ≡ codes "limited A B\n"
 unfolding line
 both_limited setup is = rw is.roles refl
 
-one_limited : (setup : SetupView) → IsPing setup → last_line setup (line 0 6 12 Waits ∷ line 1 7 10000 Limit ∷ []) ≡ codes "limited B\n"
+one_limited : (setup : SessionView) → IsPing setup → last_line setup (line 0 6 12 Waits ∷ line 1 7 10000 Limit ∷ []) ≡ codes "limited B\n"
 unfolding line
 one_limited setup is = rw is.roles refl
 
-limit_line : (setup : SetupView) → IsPing setup → role_line setup (line 1 7 10000 Limit) ≡ codes "role B kept 7 raw 10000 limit\n"
+limit_line : (setup : SessionView) → IsPing setup → role_line setup (line 1 7 10000 Limit) ≡ codes "role B kept 7 raw 10000 limit\n"
 unfolding line digits
 limit_line setup is = rw is.roles refl
 
-waits_line : (setup : SetupView) → IsPing setup → role_line setup (line 0 0 3 Waits) ≡ codes "role A kept 0 raw 3 waits\n"
+waits_line : (setup : SessionView) → IsPing setup → role_line setup (line 0 0 3 Waits) ≡ codes "role A kept 0 raw 3 waits\n"
 unfolding line digits
 waits_line setup is = rw is.roles refl

@@ -1,29 +1,26 @@
 -- The entries of a legal journal name declared roles and points of the text.
-use Rattle.std.proofs.Common.{◌≡◌, ℕ, ◌<◌, true, List, [], ◌∷◌, ◌++◌, length, ◌∙◌, subst}
+use Rattle.std.proofs.Common.{◌≡◌, ℕ, ◌<◌, true, List, [], ◌∷◌, length, ◌∙◌, subst}
 use Rattle.std.proofs.lemmas.List.{length-set, length-replicate}
 use Rattle.std.proofs.lemmas.List.Elements.{All-nil, All-cons}
 use Rattle.std.proofs.lemmas.Option.{slice_get_within}
 use Rattle.rcv_tree.specs.declared.event.Event.{Event}
 use Rattle.rcv_tree.specs.declared.entry.Entry.{Entry}
 use Rattle.rcv_tree.specs.declared.entry.Entry.TheVariants.{Send, Recv, Crash, Recover}
-use Rattle.rcv_model.specs.Net.{Net, IsIn, IsWalk}
+use Rattle.rcv_model.specs.Net.{IsIn}
 use Rattle.rcv_model.specs.Next.{IsNext, AreNext, IsProper}
-use Rattle.rcv_model.specs.Journal.{State, start, after, May, IsLegalFrom, IsLegal}
+use Rattle.rcv_model.specs.Journal.{State, start, group_of, after, May, IsLegalFrom, IsLegal}
 use Rattle.rcv_model.proofs.Forms.{proper}
+use Rattle.rcv_model.proofs.NextLists.{next_offered}
+use Rattle.rcv_model.proofs.Numbers.{length_unmarked}
 use Rattle.rcv_accept.specs.Accepted.{IsAcceptedProtocol}
-use Rattle.rcv_core.specs.Setup.{SetupView, text_of, roles_of, net_for, rules_of}
+use Rattle.rcv_session.specs.Session.{SessionView, text_of, roles_of, net_for, rules_of}
 use Rattle.rcv_journal.specs.JournalText.{IsNamedEvent, IsNamed, AreNamed}
 
--- the last point of a walk is offered somewhere
-last_offered : (net : Net) (k z : ℕ) (way : List ℕ) → IsWalk net k (way ++ z ∷ []) → (j : ℕ) × IsIn z (net.offers j)
-last_offered net k z [] walk = (k, walk.0)
-last_offered net k z (p ∷ way) walk = last_offered net p z way walk.1
-
-module _ (setup : SetupView) (form : IsProper (net_for setup) (roles_of setup)) where
+module _ (setup : SessionView) (form : IsProper (net_for setup) (roles_of setup)) where
   at_next : (e : Event) (k : ℕ) (offered : List ℕ) → e.role < roles_of setup → AreNext (net_for setup) e.role k offered → IsIn e.point offered → IsNamedEvent setup e
   at_next e k offered declared next among =
       let n : IsNext (net_for setup) e.role k e.point = next.sound e.point among in
-      let there = last_offered (net_for setup) k e.point n.way n.walk in
+      let there = next_offered (net_for setup) e.role k e.point n in
       let inside = form.in_text there.0 e.point there.1 in
       record { role = declared; first = inside.0; last = inside.1 }
 
@@ -37,13 +34,13 @@ module _ (setup : SetupView) (form : IsProper (net_for setup) (roles_of setup)) 
   keeps_size s (Send e) size = size
   keeps_size s (Recv e) size = size
   keeps_size s (Crash p) size = length-set s.crashed p _ ∙ size
-  keeps_size s (Recover p concerned kept undone) size = length-set s.crashed p _ ∙ size
+  keeps_size s (Recover p concerned kept undone) size = length_unmarked (group_of (rules_of setup) p) 0 s.crashed ∙ size
 
   named_from : (s : State) (entries : List Entry) → length s.crashed ≡ roles_of setup → IsLegalFrom (rules_of setup) s entries → AreNamed setup entries
   named_from s [] size legal = All-nil (IsNamed setup)
   named_from s (e ∷ entries) size legal =
       All-cons (IsNamed setup) e entries (named s e size legal.0) (named_from (after (rules_of setup) s e) entries (keeps_size s e size) legal.1)
 
-pub legal_is_named : (setup : SetupView) (entries : List Entry) → IsAcceptedProtocol setup.protocol → IsLegal (rules_of setup) entries → AreNamed setup entries
+pub legal_is_named : (setup : SessionView) (entries : List Entry) → IsAcceptedProtocol setup.protocol → IsLegal (rules_of setup) entries → AreNamed setup entries
 legal_is_named setup entries plain legal =
     named_from setup (proper (text_of setup) (roles_of setup) plain.form) (start (roles_of setup)) entries (length-replicate (roles_of setup) _) legal

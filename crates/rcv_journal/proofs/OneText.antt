@@ -6,7 +6,7 @@ use Rattle.rcv_tree.specs.declared.entry.Entry.{Entry}
 use Rattle.rcv_model.specs.Journal.{Rules, State, reading}
 use Rattle.rcv_model.specs.Act.{IsDone}
 use Rattle.rcv_model.specs.Final.{AreDone}
-use Rattle.rcv_core.specs.Setup.{SetupView, rules_of}
+use Rattle.rcv_session.specs.Session.{SessionView, rules_of}
 use Rattle.rcv_journal.specs.declared.line.RoleLine.{RoleLine}
 use Rattle.rcv_journal.specs.declared.line.RoleWord.{RoleWord}
 use Rattle.rcv_journal.specs.declared.line.RoleWord.TheVariants.{Done, Limit, Waits}
@@ -56,7 +56,7 @@ same_from rules s r (x ∷ xs) (y ∷ ys) size a b =
 from_start : (rules : Rules) (s : State) (lines : List RoleLine) → AreLinesOf rules s lines → EachFrom rules s 0 lines
 from_start rules s lines are i x at = subst (λ n. IsLineOf rules s n x) (omega arith) (are.each i x at)
 
-pub one_text : (setup : SetupView) (entries : List Entry) (a b : List ℕ) → IsTextOf setup entries a → IsTextOf setup entries b → a ≡ b
+pub one_text : (setup : SessionView) (entries : List Entry) (a b : List ℕ) → IsTextOf setup entries a → IsTextOf setup entries b → a ≡ b
 one_text setup entries a b i j =
     let same : i.lines ≡ j.lines = same_from (rules_of setup) (reading (rules_of setup) entries) 0 i.lines j.lines (i.are_lines.all ∙ sym j.are_lines.all) (from_start (rules_of setup) (reading (rules_of setup) entries) i.lines i.are_lines) (from_start (rules_of setup) (reading (rules_of setup) entries) j.lines j.are_lines) in
     i.is_text ∙ ap (journal_text setup entries) same ∙ sym j.is_text
@@ -94,7 +94,7 @@ all_are rules s r (x ∷ xs) each say = go (is_done x.word) refl say (all_are ru
     go false e say later = absurd (cc)
     go true e say later = one_more rules s r (length xs) (has_done rules s r x.word (first rules s r x xs each).word e) (later say)
 
-pub completed_is_written : (setup : SetupView) (s : State) (lines : List RoleLine) → AreLinesOf (rules_of setup) s lines → (last_line setup lines ≡ codes "completed\n") ↔ AreDone (rules_of setup) s
+pub completed_is_written : (setup : SessionView) (s : State) (lines : List RoleLine) → AreLinesOf (rules_of setup) s lines → (last_line setup lines ≡ codes "completed\n") ↔ AreDone (rules_of setup) s
 completed_is_written setup s lines are = (told, λ done. rw (says done) refl)
   where
     each : EachFrom (rules_of setup) s 0 lines

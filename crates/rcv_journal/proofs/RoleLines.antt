@@ -8,7 +8,7 @@ use Rattle.std.proofs.Math.Seq.{get_or-append_seam}
 use Rattle.std.proofs.lemmas.Option.{slice_get_within, slice_get-get_or, get_or_from_slice_get}
 use Rattle.rcv_model.specs.Act.{IsDone}
 use Rattle.rcv_model.specs.Journal.{Rules, State}
-use Rattle.rcv_core.specs.Setup.{SetupView, roles_of, rules_of}
+use Rattle.rcv_session.specs.Session.{SessionView, roles_of, rules_of}
 use Rattle.rcv_journal.specs.declared.line.RoleLine.{RoleLine}
 use Rattle.rcv_journal.specs.declared.line.RoleWord.{RoleWord}
 use Rattle.rcv_journal.specs.declared.line.RoleWord.TheVariants.{Done, Limit, Waits}
@@ -35,22 +35,22 @@ one_more_line rules s lines x n size each is r y at = ⊎_elim before last (case
         let same : x ≡ y = sym (get_or-append_seam lines x [] y) ∙ ap (λ k. get_or (lines ++ x ∷ []) k y) (sym here) ∙ y_is in
         subst (λ k. IsLineOf rules s k y) (sym size ∙ sym here) (subst (IsLineOf rules s n) same is)
 
-pub have_roles : (setup : SetupView) (s : State) (lines : List RoleLine) → AreLinesOf (rules_of setup) s lines → HaveRoles setup lines
+pub have_roles : (setup : SessionView) (s : State) (lines : List RoleLine) → AreLinesOf (rules_of setup) s lines → HaveRoles setup lines
 have_roles setup s lines are k d lt =
     let line = are.each k (get_or lines k d) (slice_get-get_or lines k d lt) in
     subst (λ r. r < roles_of setup) (sym line.role) (subst (λ n. k < n) are.all lt)
 
--- the word that follows from whether the role is done and from its raw count
-abbrev pub word_from : Bool → ℕ → RoleWord
-word_from done raw = cond done Done (cond (raw == 10000) Limit Waits)
+-- the word that follows from whether the role is done, from its raw count and from the limit
+abbrev pub word_from : Bool → ℕ → ℕ → RoleWord
+word_from done raw limit = cond done Done (cond (raw == limit) Limit Waits)
 
-pub is_word : (rules : Rules) (s : State) (r : ℕ) (done : Bool) (raw : ℕ) → rules.limit ≡ 10000 → raw ≡ slice_index s.raw r → IsTrue done ↔ IsDone rules.net r s.kept → IsWordOf rules s r (word_from done raw)
-is_word rules s r true raw limit count told = told.0 refl
-is_word rules s r false raw limit count told = go (raw == 10000) refl
+pub is_word : (rules : Rules) (s : State) (r : ℕ) (done : Bool) (raw limit : ℕ) → limit ≡ rules.limit → raw ≡ slice_index s.raw r → IsTrue done ↔ IsDone rules.net r s.kept → IsWordOf rules s r (word_from done raw limit)
+is_word rules s r true raw limit at count told = told.0 refl
+is_word rules s r false raw limit at count told = go (raw == limit) refl
   where
     not_done : IsDone rules.net r s.kept → ⊥
     not_done done = let wrong : false ≡ true = told.1 done in absurd (cc)
 
-    go : (b : Bool) → (raw == 10000) ≡ b → IsWordOf rules s r (cond b Limit Waits)
-    go true e = let ten : raw ≡ 10000 = grind (arith, nat_tests) in (not_done, sym count ∙ ten ∙ sym limit)
-    go false e = (not_done, λ at. let ten : raw ≡ 10000 = count ∙ at ∙ limit in absurd (grind (arith, nat_tests)))
+    go : (b : Bool) → (raw == limit) ≡ b → IsWordOf rules s r (cond b Limit Waits)
+    go true e = let same : raw ≡ limit = grind (arith, nat_tests) in (not_done, sym count ∙ same ∙ at)
+    go false e = (not_done, λ is. let same : raw ≡ limit = count ∙ is ∙ sym at in absurd (grind (arith, nat_tests)))

@@ -6,48 +6,48 @@ use Rattle.rcv_tree.specs.Bits.{has_bit}
 use Rattle.rcv_tree.specs.declared.event.Event.{Event}
 use Rattle.rcv_tree.specs.declared.entry.Entry.{Entry}
 use Rattle.rcv_tree.specs.declared.entry.Entry.TheVariants.{Send, Recv, Crash, Recover}
-use Rattle.rcv_core.specs.Setup.{SetupView, roles_of, net_for}
+use Rattle.rcv_session.specs.Session.{SessionView, roles_of, net_for}
 use Rattle.rcv_journal.specs.declared.line.RoleLine.{RoleLine}
 use Rattle.rcv_journal.specs.declared.line.RoleWord.{RoleWord}
 use Rattle.rcv_journal.specs.declared.line.RoleWord.TheVariants.{Done, Limit, Waits}
 
 -- The event is one of a declared role at a point of the text.
-pub record IsNamedEvent (setup : SetupView) (e : Event) : Type 0 where
+pub record IsNamedEvent (setup : SessionView) (e : Event) : Type 0 where
   pub role : e.role < roles_of setup
   pub first : 1 ≤ e.point
   pub last : e.point ≤ (net_for setup).count
 
 -- Each role and each point that the entry names is one of the protocol.
-abbrev pub IsNamed : SetupView → Entry → Type 0
+abbrev pub IsNamed : SessionView → Entry → Type 0
 IsNamed setup (Send e) = IsNamedEvent setup e
 IsNamed setup (Recv e) = IsNamedEvent setup e
 IsNamed setup (Crash p) = p < roles_of setup
 IsNamed setup (Recover p concerned kept undone) = p < roles_of setup
 
-abbrev pub AreNamed : SetupView → List Entry → Type 0
+abbrev pub AreNamed : SessionView → List Entry → Type 0
 AreNamed setup entries = All (IsNamed setup) entries
 
 -- The roles of these lines are declared.
-abbrev pub HaveRoles : SetupView → List RoleLine → Type 0
+abbrev pub HaveRoles : SessionView → List RoleLine → Type 0
 HaveRoles setup lines = All (λ line. line.role < roles_of setup) lines
 
 -- The name of a role.
-abbrev pub name_of : SetupView → ℕ → List ℕ
+abbrev pub name_of : SessionView → ℕ → List ℕ
 name_of setup r = slice_index_or setup.protocol.roles r []
 
 -- What a Send and a Recv have in common: `ROLE POINT LABEL VALUE @STAMP`.
-abbrev pub event_text : SetupView → Event → List ℕ
+abbrev pub event_text : SessionView → Event → List ℕ
 event_text setup e =
     name_of setup e.role ++ codes " " ++ decimal e.point ++ codes " " ++ (net_for setup).label e.point
     ++ codes " " ++ signed_decimal e.value ++ codes " @" ++ decimal e.stamp
 
 -- What a recovery says of role q: ` ROLE KEPT` where the role is concerned, else nothing.
-abbrev pub kept_text : SetupView → ℕ → List ℕ → ℕ → List ℕ
+abbrev pub kept_text : SessionView → ℕ → List ℕ → ℕ → List ℕ
 kept_text setup concerned kept q =
     if has_bit concerned q then codes " " ++ name_of setup q ++ codes " " ++ decimal (slice_index kept q) else []
 
 -- The line of an entry.
-abbrev pub entry_line : SetupView → Entry → List ℕ
+abbrev pub entry_line : SessionView → Entry → List ℕ
 entry_line setup (Send e) = codes "send " ++ event_text setup e ++ codes "\n"
 entry_line setup (Recv e) = codes "recv " ++ event_text setup e ++ codes " <" ++ decimal e.sent ++ codes "\n"
 entry_line setup (Crash p) = codes "crash " ++ name_of setup p ++ codes "\n"
@@ -62,7 +62,7 @@ word_text Limit = codes "limit"
 word_text Waits = codes "waits"
 
 -- The line of a role: `role ROLE kept N raw N WORD`.
-abbrev pub role_line : SetupView → RoleLine → List ℕ
+abbrev pub role_line : SessionView → RoleLine → List ℕ
 role_line setup line =
     codes "role " ++ name_of setup line.role ++ codes " kept " ++ decimal line.kept
     ++ codes " raw " ++ decimal line.raw ++ codes " " ++ word_text line.word ++ codes "\n"
@@ -79,16 +79,16 @@ is_limit Limit = true
 is_limit Waits = false
 
 -- A space and the role's name where the line has the word `limit`, else nothing.
-abbrev pub limit_text : SetupView → RoleLine → List ℕ
+abbrev pub limit_text : SessionView → RoleLine → List ℕ
 limit_text setup line = if is_limit line.word then codes " " ++ name_of setup line.role else []
 
 -- How the session ended: completed where all roles are done, else which roles are at the limit.
-abbrev pub last_line : SetupView → List RoleLine → List ℕ
+abbrev pub last_line : SessionView → List RoleLine → List ℕ
 last_line setup lines =
     if list_all (λ line. is_done line.word) lines then codes "completed\n"
     else codes "limited" ++ flat_map (limit_text setup) lines ++ codes "\n"
 
 -- The whole text.
-abbrev pub journal_text : SetupView → List Entry → List RoleLine → List ℕ
+abbrev pub journal_text : SessionView → List Entry → List RoleLine → List ℕ
 journal_text setup entries lines =
     flat_map (entry_line setup) entries ++ flat_map (role_line setup) lines ++ last_line setup lines

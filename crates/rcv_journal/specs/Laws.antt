@@ -4,7 +4,7 @@ use Rattle.rcv_tree.specs.declared.entry.Entry.{Entry}
 use Rattle.rcv_model.specs.Journal.{State, IsLegal}
 use Rattle.rcv_model.specs.Final.{AreDone}
 use Rattle.rcv_accept.specs.Accepted.{IsAcceptedProtocol}
-use Rattle.rcv_core.specs.Setup.{SetupView, rules_of}
+use Rattle.rcv_session.specs.Session.{SessionView, rules_of}
 use Rattle.rcv_journal.specs.declared.line.RoleLine.{RoleLine}
 use Rattle.rcv_journal.specs.JournalText.{AreNamed, last_line}
 use Rattle.rcv_journal.specs.Lines.{AreLinesOf, IsTextOf}
@@ -12,14 +12,16 @@ use Rattle.rcv_journal.specs.Lines.{AreLinesOf, IsTextOf}
 -- Each role and each point in a legal journal has a name.
 abbrev pub LegalJournalsAreNamed : Type 0
 LegalJournalsAreNamed =
-    (setup : SetupView) (entries : List Entry) → IsAcceptedProtocol setup.protocol → IsLegal (rules_of setup) entries → AreNamed setup entries
+    (setup : SessionView) (entries : List Entry)
+    → IsAcceptedProtocol setup.protocol → IsLegal (rules_of setup) entries → AreNamed setup entries
 
 -- A journal has one text.
 abbrev pub JournalsHaveOneText : Type 0
 JournalsHaveOneText =
-    (setup : SetupView) (entries : List Entry) (a b : List ℕ) → IsTextOf setup entries a → IsTextOf setup entries b → a ≡ b
+    (setup : SessionView) (entries : List Entry) (a b : List ℕ) → IsTextOf setup entries a → IsTextOf setup entries b → a ≡ b
 
 -- The last line is `completed` exactly where all roles are done.
 abbrev pub CompletedIsWritten : Type 0
 CompletedIsWritten =
-    (setup : SetupView) (s : State) (lines : List RoleLine) → AreLinesOf (rules_of setup) s lines → (last_line setup lines ≡ codes "completed\n") ↔ AreDone (rules_of setup) s
+    (setup : SessionView) (s : State) (lines : List RoleLine)
+    → AreLinesOf (rules_of setup) s lines → (last_line setup lines ≡ codes "completed\n") ↔ AreDone (rules_of setup) s

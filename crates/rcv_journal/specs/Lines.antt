@@ -4,7 +4,7 @@ use Rattle.rcv_tree.specs.declared.entry.Entry.{Entry}
 use Rattle.rcv_model.specs.Run.{acts}
 use Rattle.rcv_model.specs.Act.{IsDone}
 use Rattle.rcv_model.specs.Journal.{Rules, State, reading}
-use Rattle.rcv_core.specs.Setup.{SetupView, rules_of}
+use Rattle.rcv_session.specs.Session.{SessionView, rules_of}
 use Rattle.rcv_journal.specs.declared.line.RoleLine.{RoleLine}
 use Rattle.rcv_journal.specs.declared.line.RoleWord.{RoleWord}
 use Rattle.rcv_journal.specs.declared.line.RoleWord.TheVariants.{Done, Limit, Waits}
@@ -29,7 +29,7 @@ pub record AreLinesOf (rules : Rules) (s : State) (lines : List RoleLine) : Type
   pub each : (r : ℕ) (line : RoleLine) → slice_get lines r ≡ Some line → IsLineOf rules s r line
 
 -- The bytes are the text of this journal.
-pub record IsTextOf (setup : SetupView) (entries : List Entry) (bytes : List ℕ) : Type 0 where
+pub record IsTextOf (setup : SessionView) (entries : List Entry) (bytes : List ℕ) : Type 0 where
   pub lines : List RoleLine
   pub are_lines : AreLinesOf (rules_of setup) (reading (rules_of setup) entries) lines
   pub is_text : bytes ≡ journal_text setup entries lines

@@ -2,11 +2,12 @@
 
 ghost use Rattle.std.specs.Prelude.{◌≡◌, ◌<◌, ◌++◌, OnOk, flat_map, codes, decimal};
 ghost use Rattle.std.specs.List.{range_with_len};
-ghost use Rattle.rcv_core.specs.Setup.{roles_of};
+ghost use Rattle.rcv_session.specs.Session.{roles_of};
 ghost use Rattle.rcv_journal.specs.JournalText.{IsNamedEvent, IsNamed, AreNamed, name_of, event_text, kept_text, entry_line};
 
-use crate::writer::Writer;
+use crate::name::write_name;
 use rcv_core::setup::Setup;
+use rcv_text::writer::Writer;
 use rcv_tree::entry::Entry;
 use rcv_tree::event::Event;
 use rcv_tree::role::{RoleId, RoleSet};
@@ -17,15 +18,15 @@ fn write_event(text: &mut Writer, setup: &Setup, event: &Event) -> Result<(), Al
     requires { IsNamedEvent setup.now event.now }
     ensures { OnOk result (text.new ≡ text.old ++ event_text setup.now event.now) }
 {
-    text.role(setup, event.role)?;
+    write_name(text, setup, event.role)?;
     text.word(b" ")?;
-    text.number(event.point.0 as u64)?;
+    text.number(event.point.0)?;
     text.word(b" ")?;
     text.word(setup.label(event.point))?;
     text.word(b" ")?;
-    text.signed(event.value)?;
+    text.signed_number(event.value)?;
     text.word(b" @")?;
-    text.number(event.stamp)
+    text.large_number(event.stamp)
 }
 
 // What a recovery says of one role.
@@ -44,9 +45,9 @@ fn write_kept(
         return Ok(());
     }
     text.word(b" ")?;
-    text.role(setup, role)?;
+    write_name(text, setup, role)?;
     text.word(b" ")?;
-    text.number(kept[role.0 as usize] as u64)
+    text.large_number(kept[role.0 as usize] as u64)
 }
 
 // What a recovery says of the concerned roles.
@@ -57,7 +58,8 @@ fn write_concerned(
     concerned: RoleSet,
     kept: &[u32; 8],
 ) -> Result<(), AllocError>
-    ensures { OnOk result (text.new ≡ text.old ++ flat_map (kept_text setup.now concerned.0 kept.now) (range_with_len 0 (roles_of setup.now))) }
+    ensures { OnOk result (text.new ≡ text.old
+        ++ flat_map (kept_text setup.now concerned.0 kept.now) (range_with_len 0 (roles_of setup.now))) }
 {
     for role in 0..setup.protocol().roles.as_slice().len() {
         write_kept(text, setup, RoleId(role as u8), concerned, kept)?;
@@ -79,11 +81,11 @@ fn write_entry(text: &mut Writer, setup: &Setup, entry: &Entry) -> Result<(), Al
             text.word(b"recv ")?;
             write_event(text, setup, event)?;
             text.word(b" <")?;
-            text.number(event.sent)?;
+            text.large_number(event.sent)?;
         }
         Entry::Crash(role) => {
             text.word(b"crash ")?;
-            text.role(setup, *role)?;
+            write_name(text, setup, *role)?;
         }
         Entry::Recover {
             role,
@@ -92,9 +94,9 @@ fn write_entry(text: &mut Writer, setup: &Setup, entry: &Entry) -> Result<(), Al
             undone,
         } => {
             text.word(b"recover ")?;
-            text.role(setup, *role)?;
+            write_name(text, setup, *role)?;
             text.word(b" undone ")?;
-            text.number(*undone as u64)?;
+            text.large_number(*undone as u64)?;
             text.word(b":")?;
             write_concerned(text, setup, *concerned, kept)?;
         }

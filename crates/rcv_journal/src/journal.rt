@@ -6,8 +6,8 @@ ghost use Rattle.rcv_journal.specs.JournalText.{AreNamed, HaveRoles, journal_tex
 use crate::entries::write_entries;
 use crate::line::RoleLine;
 use crate::roles::{write_last, write_roles};
-use crate::writer::Writer;
 use rcv_core::setup::Setup;
+use rcv_text::writer::Writer;
 use rcv_tree::entry::Entry;
 use std::alloc::{AllocError, Global};
 

@@ -6,18 +6,19 @@ ghost use Rattle.rcv_journal.specs.Laws.{LegalJournalsAreNamed, JournalsHaveOneT
 mod entries;
 pub mod journal;
 pub mod line;
+mod name;
 mod roles;
-#[cfg(test)]
-mod tests;
 pub mod text;
-mod writer;
 
-/// Each role and each point in a legal journal has a name.
+/// Want of memory, which is the one error of the calls of this crate.
+pub use std::alloc::AllocError as Memory;
+
+/// Each role and each point in a legal journal of an accepted protocol has a name.
 pub fn legal_journals_are_named()
     ensures { LegalJournalsAreNamed }
 {}
 
-/// A journal has one text.
+/// A journal has at most one text.
 pub fn journals_have_one_text()
     ensures { JournalsHaveOneText }
 {}

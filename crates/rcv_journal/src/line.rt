@@ -9,7 +9,7 @@ pub enum RoleWord {
     Done,
     /// It has made as many events as a role may make.
     Limit,
-    /// It waits for a message.
+    /// Neither: it waits for a message, or for room in a channel.
     Waits,
 }
 

@@ -2,12 +2,13 @@
 
 ghost use Rattle.std.specs.Prelude.{◌≡◌, ◌<◌, ◌++◌, OnOk, flat_map};
 ghost use Rattle.std.specs.List.{list_all};
-ghost use Rattle.rcv_core.specs.Setup.{roles_of};
+ghost use Rattle.rcv_session.specs.Session.{roles_of};
 ghost use Rattle.rcv_journal.specs.JournalText.{HaveRoles, is_done, limit_text, word_text, role_line, last_line};
 
 use crate::line::{RoleLine, RoleWord};
-use crate::writer::Writer;
+use crate::name::write_name;
 use rcv_core::setup::Setup;
+use rcv_text::writer::Writer;
 use std::alloc::AllocError;
 
 // The word as it is written.
@@ -27,11 +28,11 @@ fn write_role(text: &mut Writer, setup: &Setup, line: &RoleLine) -> Result<(), A
     ensures { OnOk result (text.new ≡ text.old ++ role_line setup.now line.now) }
 {
     text.word(b"role ")?;
-    text.role(setup, line.role)?;
+    write_name(text, setup, line.role)?;
     text.word(b" kept ")?;
-    text.number(line.kept as u64)?;
+    text.large_number(line.kept as u64)?;
     text.word(b" raw ")?;
-    text.number(line.raw as u64)?;
+    text.large_number(line.raw as u64)?;
     text.word(b" ")?;
     text.word(text_of_word(line.word))?;
     text.word(b"\n")
@@ -63,7 +64,7 @@ fn write_limited(text: &mut Writer, setup: &Setup, lines: &[RoleLine]) -> Result
     for line in lines {
         if line.word == RoleWord::Limit {
             text.word(b" ")?;
-            text.role(setup, line.role)?;
+            write_name(text, setup, line.role)?;
         }
     }
     Ok(())

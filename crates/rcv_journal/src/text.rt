@@ -2,7 +2,7 @@
 
 ghost use Rattle.std.specs.Prelude.{◌≡◌, ◌<◌, ◌≤◌, ◌==◌, if◌then◌else◌, IfOk};
 ghost use Rattle.rcv_model.specs.Final.{IsFinal};
-ghost use Rattle.rcv_core.specs.Setup.{roles_of, rules_of};
+ghost use Rattle.rcv_session.specs.Session.{roles_of, rules_of};
 ghost use Rattle.rcv_core.specs.Book.{state_of};
 ghost use Rattle.rcv_journal.specs.declared.line.RoleWord.TheVariants.{Done, Limit, Waits};
 ghost use Rattle.rcv_journal.specs.Lines.{IsLineOf, AreLinesOf, IsTextOf};
@@ -13,16 +13,13 @@ use rcv_core::book::Book;
 use rcv_tree::role::RoleId;
 use std::alloc::{AllocError, Global};
 
-// How many events a role may make.
-const LIMIT: u32 = 10_000;
-
-// How a role ended that is done or not, and made so many events.
-fn word_of(done: bool, raw: u32) -> RoleWord
-    ensures { result ≡ (if done then Done else (if raw == 10000 then Limit else Waits)) }
+// How a role ended that is done or not, and made so many events of those that it may make.
+fn word_of(done: bool, raw: u32, limit: u32) -> RoleWord
+    ensures { result ≡ (if done then Done else (if raw == limit then Limit else Waits)) }
 {
     if done {
         RoleWord::Done
-    } else if raw == LIMIT {
+    } else if raw == limit {
         RoleWord::Limit
     } else {
         RoleWord::Waits
@@ -39,7 +36,7 @@ fn line_of(book: &Book<'_>, role: RoleId) -> RoleLine
         role,
         kept: book.kept(role),
         raw,
-        word: word_of(book.done(role), raw),
+        word: word_of(book.done(role), raw, book.setup().limit()),
     }
 }
 

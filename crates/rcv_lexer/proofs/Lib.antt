@@ -1,4 +1,5 @@
 pub mod Fitting
 pub mod Scanning
 pub mod Once
+pub mod TokenBytes
 pub mod Examples

@@ -56,10 +56,12 @@ span start end = record { start = start; end = end }
 
 abbrev pub behind_scripts : ℕ → ℕ → ℕ → Option Separator → Parts
 behind_scripts stop protocol scripts None = record { protocol = span 0 protocol; scripts = span scripts stop; plan = span stop stop }
-behind_scripts stop protocol scripts (Some s) = record { protocol = span 0 protocol; scripts = span scripts s.place; plan = span s.behind stop }
+behind_scripts stop protocol scripts (Some s) =
+    record { protocol = span 0 protocol; scripts = span scripts s.place; plan = span s.behind stop }
 
 abbrev pub parts_from : List ℕ → Option Separator → Parts
-parts_from bundle None = record { protocol = span 0 (length bundle); scripts = span (length bundle) (length bundle); plan = span (length bundle) (length bundle) }
+parts_from bundle None =
+    record { protocol = span 0 (length bundle); scripts = span (length bundle) (length bundle); plan = span (length bundle) (length bundle) }
 parts_from bundle (Some s) =
     if s.plan then record { protocol = span 0 s.place; scripts = span s.place s.place; plan = span s.behind (length bundle) }
     else behind_scripts (length bundle) s.place s.behind (first_from false true s.behind (drop s.behind bundle))

@@ -1,7 +1,7 @@
 // Cuts a bundle into its parts, and a part into its tokens.
 #![tactic(auto)]
 
-ghost use Rattle.rcv_lexer.specs.Laws.{PartHasOneReading};
+ghost use Rattle.rcv_lexer.specs.Laws.{PartHasOneReading, WordsAreWords};
 
 mod parts;
 mod piece;
@@ -11,9 +11,15 @@ pub mod token;
 pub use parts::{Parts, split};
 pub use scan::tokens;
 
-/// A part has one list of tokens or one first bad letter, and never both.
+/// A part has one list of tokens or one first bad letter: one of both, and never both.
 pub fn part_has_one_reading()
     ensures { PartHasOneReading }
+{}
+
+/// The bytes of each word are a letter, and letters and digits behind it, at most 64; those of a number are digits; a
+/// text has between its quotes at most 64 bytes, and no quote and no line feed among them.
+pub fn words_are_words()
+    ensures { WordsAreWords }
 {}
 
 #[cfg(test)]

@@ -5,9 +5,9 @@ use Rattle.rcv_tree.specs.declared.event.Event.{Event}
 use Rattle.rcv_tree.specs.declared.entry.Entry.{Entry}
 use Rattle.rcv_tree.specs.declared.entry.Entry.TheVariants.{Send, Recv, Crash, Recover}
 use Rattle.rcv_model.specs.Journal.{Rules, State, events_of, after, reading, IsFree, MaySend, MayRecv, IsLegalFrom, IsLegal}
-use Rattle.rcv_model.specs.Final.{IsActOf, CanAct, IsFinal, AreDone, IsCompleted, HasOneAtLimit}
+use Rattle.rcv_model.specs.Final.{IsLimited, IsActOf, CanAct, IsFinal, AreDone, IsCompleted, HasOneAtLimit}
 use Rattle.rcv_model.specs.Run.{acts}
-use Rattle.rcv_model.specs.Line.{LineHolds}
+use Rattle.rcv_model.specs.StableLine.{StableLineHolds}
 use Rattle.rcv_model.proofs.StableLines.{line_holds, whole_line}
 use Rattle.rcv_model.specs.Plain.{bare_rules, HasNoCrashes}
 use Rattle.rcv_model.proofs.OneThread.{one_journal}
@@ -103,6 +103,12 @@ tight_final = record { none_crashed = calm; none_due = λ r lt due. (let lt = du
 limited : HasOneAtLimit tight t0
 limited = (0, omega arith, (λ done. done 1 (next_at 0 0 (omega arith) begin (λ e. omega arith))), refl)
 
+is_limited : IsLimited tight t0
+is_limited = (tight_final, λ done. done 0 (omega arith) 1 (next_at 0 0 (omega arith) begin (λ e. omega arith)))
+
+not_limited : IsLimited bare (reading bare journal) → ⊥
+not_limited l = l.1 completed.1
+
 -- the journal that one thread is shown to have is this one
 found : (one_thread rules ping_proper).0 ≡ journal
 found = (one_journal rules (one_thread rules ping_proper).0 journal).same ping_proper.two_ends (one_thread rules ping_proper).1 ping_journal
@@ -111,5 +117,5 @@ found = (one_journal rules (one_thread rules ping_proper).0 journal).same ping_p
 abbrev two : List Event
 two = (reading bare (take 2 journal)).kept
 
-line_stays : LineHolds bare two (reading bare journal).kept (λ r. length (acts r two))
-line_stays = line_holds bare (take 2 journal) (drop 2 journal) (λ r. length (acts r two)) ping_proper ping_accepted legal (whole_line bare two (λ r. refl)).stable
+line_stays : StableLineHolds bare.net bare.every two (reading bare journal).kept (λ r. length (acts r two))
+line_stays = line_holds bare (take 2 journal) (drop 2 journal) (λ r. length (acts r two)) ping_proper ping_accepted legal (whole_line bare.net bare.every two (λ r. refl)).stable

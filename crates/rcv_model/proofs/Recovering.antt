@@ -1,77 +1,73 @@
 -- A crashed role has its Recover entry.
-use Rattle.std.proofs.Common.{◌≡◌, ℕ, ◌-◌, ◌<◌, ◌≤◌, Bool, true, false, cond, Option, Some, None, List, length, map, refl, sym, ◌∙◌, subst, ◌⊎◌, inl, inr, ⊎_elim, arith}
-use Rattle.std.specs.Prelude.{◌↔◌, if◌then◌else◌, slice_get}
+use Rattle.std.proofs.Common.{◌≡◌, ℕ, ◌-◌, ◌+◌, ◌<◌, ◌≤◌, true, false, cond, List, length, map, refl, sym, ◌∙◌, subst, ◌⊎◌, inl, inr, arith}
+use Rattle.std.specs.Prelude.{◌↔◌, if◌then◌else◌, slice_index}
 use Rattle.std.specs.Int.{bit_at}
 use Rattle.std.specs.List.{range_with_len}
-use Rattle.std.proofs.lemmas.Bool.{cases_eq, cases_lt}
+use Rattle.std.proofs.lemmas.Bool.{cases_Bool}
 use Rattle.std.proofs.lemmas.Bool.Decides.{nat_tests}
 use Rattle.std.proofs.lemmas.List.FromFn.{get_or-map-range_with_len}
+use Rattle.rcv_tree.specs.Bits.{has_bit, is_listed}
 use Rattle.rcv_tree.specs.declared.event.Event.{Event}
 use Rattle.rcv_tree.specs.declared.entry.Entry.TheVariants.{Recover}
-use Rattle.rcv_model.specs.Run.{Act, acts}
-use Rattle.rcv_model.specs.Undo.{keep}
+use Rattle.rcv_model.specs.Run.{acts}
+use Rattle.rcv_model.specs.Undo.{bound_of}
 use Rattle.rcv_model.specs.Next.{IsProper}
-use Rattle.rcv_model.specs.Table.{IsConcerned}
-use Rattle.rcv_model.specs.Journal.{Rules, State, durable, is_among, IsConcernedIn, May}
+use Rattle.rcv_model.specs.Table.{start_of}
+use Rattle.rcv_model.specs.Journal.{Rules, State, durable, group_of, kept_by, IsConcernedIn, concerned_in, May}
 use Rattle.rcv_model.specs.Final.{IsCrashed}
-use Rattle.rcv_model.proofs.Numbers.{picked_few, is_picked}
-use Rattle.rcv_model.proofs.RestartLists.{is_concerned}
 use Rattle.rcv_model.proofs.BitSets.{bits, bit_is, byte}
-
-holds : {P Q : Type 0} → P ⊎ Q → Bool
-holds (inl p) = true
-holds (inr q) = false
+use Rattle.rcv_model.proofs.Concerned.{listed_concerned}
+use Rattle.rcv_model.proofs.Numbers.{picked_few, is_picked}
+use Rattle.rcv_model.proofs.Scanning.{among as is_in_list, is_member as of_list}
 
 module _ (rules : Rules) (s : State) (p : ℕ) (proper : IsProper rules.net rules.roles) where
-  few : length (keep rules.net p (durable rules s p) s.kept) ≤ length s.kept
-  few = let e = is_picked rules.net p (durable rules s p) s.kept in subst (λ (l : List Event). length l ≤ length s.kept) (sym e) (picked_few _ s.kept)
+  -- who is concerned is listed
+  pub listed : (q : ℕ) → (is_listed (concerned_in rules s p) q ≡ true) ↔ IsConcernedIn rules s p q
+  listed q =
+      let c = listed_concerned rules.net rules.roles (start_of (durable rules s) s.kept) proper (group_of rules p) q in
+      (λ t. c.0 (of_list q (concerned_in rules s p) t), λ a. is_in_list q (concerned_in rules s p) (c.1 a))
 
-  by_act : (kept : List Event) (q : ℕ) (o : Option Act) → slice_get (acts p s.kept) (durable rules s p) ≡ o → length kept < length s.kept → IsConcernedIn rules s p kept q ⊎ (IsConcernedIn rules s p kept q → ⊥)
-  by_act kept q None e lt = inr (λ c. ⊎_elim (λ a. let f = a.0 in omega arith) (λ a. none (sym e ∙ a.1.1)) c)
-    where
-      none : {a : Act} → None ≡ Some a → ⊥
-      none f = cc
-  by_act kept q (Some b) e lt = ⊎_elim
-      (λ c. inl (inr (lt, (b, e, c))))
-      (λ n. inr (λ c. ⊎_elim (λ a. let f = a.0 in omega arith) (λ a. n (subst (λ (x : Act). IsConcerned rules.net p x.point q) (same (sym a.1.1 ∙ e)) a.1.2)) c))
-      (is_concerned rules.net rules.roles p b.point q proper)
-    where
-      same : {x y : Act} → Some x ≡ Some y → x ≡ y
-      same f = cc
-
-  in_recovery : (kept : List Event) (q : ℕ) → IsConcernedIn rules s p kept q ⊎ (IsConcernedIn rules s p kept q → ⊥)
-  in_recovery kept q = ⊎_elim
-      (λ lt. by_act kept q (slice_get (acts p s.kept) (durable rules s p)) refl lt)
-      (λ le. ⊎_elim
-      (λ e. ⊎_elim (λ f. inl (inl (e, f))) (λ n. inr (λ c. ⊎_elim (λ a. n a.1) (λ a. let g = a.0 in omega arith) c)) (cases_eq q p))
-      (λ n. inr (λ c. ⊎_elim (λ a. n a.0) (λ a. let g = a.0 in omega arith) c))
-      (cases_eq (length kept) (length s.kept)))
-      (cases_lt (length kept) (length s.kept))
-
-  test : ℕ → Bool
-  test q = holds (in_recovery (keep rules.net p (durable rules s p) s.kept) q)
+  few : length (kept_by rules s p) ≤ length s.kept
+  few = let e = is_picked rules.net (bound_of (group_of rules p) (durable rules s) s.kept) s.kept in subst (λ (l : List Event). length l ≤ length s.kept) (sym e) (picked_few _ s.kept)
 
   pub concerned : ℕ
-  concerned = bits test 8
+  concerned = bits (is_listed (concerned_in rules s p)) 8
 
-  told : (q : ℕ) → q < 8 → (is_among concerned q ≡ true) ↔ IsConcernedIn rules s p (keep rules.net p (durable rules s p) s.kept) q
-  unfolding concerned test holds
-  told q lt = go (in_recovery (keep rules.net p (durable rules s p) s.kept) q) (bit_is test 8 q lt)
+  told : (q : ℕ) → q < 8 → (has_bit concerned q ≡ true) ↔ IsConcernedIn rules s p q
+  unfolding concerned
+  told q lt = go (cases_Bool (is_listed (concerned_in rules s p) q)) (bit_is (is_listed (concerned_in rules s p)) 8 q lt) (listed q)
     where
-      go : (d : IsConcernedIn rules s p (keep rules.net p (durable rules s p) s.kept) q ⊎ (IsConcernedIn rules s p (keep rules.net p (durable rules s p) s.kept) q → ⊥)) → bit_at (bits test 8) q ≡ cond (holds d) 1 0 → (is_among (bits test 8) q ≡ true) ↔ IsConcernedIn rules s p (keep rules.net p (durable rules s p) s.kept) q
-      go (inl c) e = (λ t. c, λ a. grind (arith, nat_tests))
-      go (inr n) e = (λ t. absurd (grind (arith, nat_tests)), λ a. absurd (n a))
+      go : (is_listed (concerned_in rules s p) q ≡ true) ⊎ (is_listed (concerned_in rules s p) q ≡ false) → bit_at (bits (is_listed (concerned_in rules s p)) 8) q ≡ cond (is_listed (concerned_in rules s p) q) 1 0 → ((is_listed (concerned_in rules s p) q ≡ true) ↔ IsConcernedIn rules s p q) → (has_bit (bits (is_listed (concerned_in rules s p)) 8) q ≡ true) ↔ IsConcernedIn rules s p q
+      go (inl t) e l = (λ u. l.0 t, λ a. same (subst (λ b. bit_at (bits (is_listed (concerned_in rules s p)) 8) q ≡ cond b 1 0) t e))
+        where
+          same : bit_at (bits (is_listed (concerned_in rules s p)) 8) q ≡ 1 → has_bit (bits (is_listed (concerned_in rules s p)) 8) q ≡ true
+          same f = grind (arith, nat_tests)
+      go (inr t) e l = (λ u. absurd (no (subst (λ b. bit_at (bits (is_listed (concerned_in rules s p)) 8) q ≡ cond b 1 0) t e) u), λ a. absurd (let u = l.1 a in cc))
+        where
+          no : bit_at (bits (is_listed (concerned_in rules s p)) 8) q ≡ 0 → has_bit (bits (is_listed (concerned_in rules s p)) 8) q ≡ true → ⊥
+          no f u = grind (arith, nat_tests)
 
   abbrev counted : ℕ → ℕ
-  counted q = if is_among concerned q then length (acts q (keep rules.net p (durable rules s p) s.kept)) else 0
+  counted q = if has_bit concerned q then length (acts q (kept_by rules s p)) else 0
 
-  pub recovery : IsCrashed s p → May rules s (Recover p (record { 0 = concerned }) (map counted (range_with_len 0 8)) (length s.kept - length (keep rules.net p (durable rules s p) s.kept)))
+  pub recovery : IsCrashed s p → May rules s (Recover p (record { 0 = concerned }) (map counted (range_with_len 0 8)) (length s.kept - length (kept_by rules s p)))
   unfolding concerned
   recovery crashed = record {
     crashed = crashed;
-    byte = byte test;
+    byte = byte (is_listed (concerned_in rules s p));
     concerned = told;
     eight = refl;
     counts = λ q lt. get_or-map-range_with_len counted 0 8 q q 0 lt (omega arith);
     undone = let f = few in omega arith;
+  }
+
+  -- an entry whose set is that of the list, with the right counts
+  pub may_recover : (set : ℕ) (kept : List ℕ) (removed : ℕ) → IsCrashed s p → set < 256 → ((q : ℕ) → q < 8 → has_bit set q ≡ is_listed (concerned_in rules s p) q) → length kept ≡ 8 → ((q : ℕ) → q < 8 → slice_index kept q ≡ (if has_bit set q then length (acts q (kept_by rules s p)) else 0)) → removed + length (kept_by rules s p) ≡ length s.kept → May rules s (Recover p (record { 0 = set }) kept removed)
+  may_recover set kept removed crashed low same eight counts undone = record {
+    crashed = crashed;
+    byte = low;
+    concerned = λ q lt. (λ t. (listed q).0 (sym (same q lt) ∙ t), λ c. same q lt ∙ (listed q).1 c);
+    eight = eight;
+    counts = counts;
+    undone = undone;
   }

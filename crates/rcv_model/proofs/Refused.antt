@@ -1,27 +1,27 @@
 -- Entries that may not come, and places where a protocol fails.
-use Rattle.std.proofs.Common.{◌≡◌, ℕ, zero, suc, List, [], ◌∷◌, ◌++◌, refl, sym, ◌∙◌, ap, subst, inl, inr, ⊎_elim, append_assoc, arith}
-use Rattle.std.specs.Prelude.{pos, replicate, Some, true, false}
+use Rattle.std.proofs.Common.{◌≡◌, ℕ, zero, suc, ◌≤◌, List, [], ◌∷◌, ◌++◌, refl, sym, ◌∙◌, ap, subst, inl, inr, ⊎_elim, arith}
+use Rattle.std.specs.Prelude.{pos, replicate, true, false}
 use Rattle.rcv_tree.specs.declared.event.Message.{Message}
-use Rattle.rcv_tree.specs.declared.event.Dir.TheVariants.{Got}
 use Rattle.rcv_tree.specs.declared.entry.Entry.{Entry}
 use Rattle.rcv_tree.specs.declared.entry.Entry.TheVariants.{Send, Recv, Crash}
 use Rattle.rcv_model.specs.Net.{IsIn, IsWalk}
 use Rattle.rcv_model.specs.Next.{HasNone, IsNext, AreNext}
 use Rattle.rcv_model.specs.Text.{Body, End, Single, Choose, Loop, Again, NoMore, Or}
-use Rattle.rcv_model.specs.Places.{branch, single}
-use Rattle.rcv_model.specs.Run.{Act, channel}
-use Rattle.rcv_model.specs.Journal.{Rules, State, start, reading, IsDue, IsConcernedIn, May}
+use Rattle.rcv_model.specs.Places.{branch, single, net_of}
+use Rattle.rcv_model.specs.Run.{channel}
+use Rattle.rcv_model.specs.Journal.{Rules, State, start, reading, IsDue, May}
 use Rattle.rcv_model.specs.Final.{IsActOf}
-use Rattle.rcv_model.specs.Accept.{Fails, subject, IsNotAfter, IsRefusal}
+use Rattle.rcv_model.specs.Accept.{choices, IsFirstOf, Fails, subject, mixed, senders, labels, not_enabled, maybe_done, unreachable, IsNotAfter, IsRefusal}
 use Rattle.rcv_model.specs.Form.{HasForm}
+use Rattle.rcv_model.proofs.Accepting.{one_refusal}
+use Rattle.rcv_model.proofs.PlacesLemmas.{offers_complete}
 use Rattle.rcv_model.proofs.Decided.{faultless}
 use Rattle.rcv_model.proofs.LeastRefusal.{accepted_or_refused}
 use Rattle.std.specs.List.Sorted.{IsStrictlyIncreasing}
-use Rattle.rcv_model.specs.Table.{mark, marks, IsMarkedAt, IsConcerned}
-use Rattle.rcv_model.specs.Undo.{keep}
 use Rattle.rcv_model.proofs.Same.{one_next}
 use Rattle.rcv_model.proofs.Cases.{plain, ping, says, hears, send, recv, recover, two_buyer, shop, two_crashes, until_first, four_roles, workers}
-use Rattle.rcv_model.proofs.Walks.{walk_front}
+use Rattle.rcv_model.proofs.Forms.{proper}
+use Rattle.rcv_model.proofs.Recovering.{listed}
 
 abbrev after_two : List Entry
 after_two = send 0 1 1 ∷ recv 1 1 2 1 ∷ []
@@ -143,7 +143,7 @@ abbrev before_second : State
 before_second = reading two_crashes (until_first ++ send 0 1 6 ∷ recv 1 1 7 6 ∷ Crash 1 ∷ [])
 
 must_name_a : May two_crashes before_second (recover 1 2 (replicate 8 0) 1) → ⊥
-must_name_a m = let x = (m.concerned 0 (omega arith)).1 (inr (omega arith, (record { dir = Got; point = 1 }, refl, (2, inr ((λ e. omega arith), record { before = 1 ∷ []; after = []; walk = (2 ∷ [], (inl refl, tt), refl); not_yet = no; now = inl refl }))))) in absurd (cc)
+must_name_a m = let x = (m.concerned 0 (omega arith)).1 (inr (1, 1, inl refl, refl, (2, inr ((λ e. omega arith), record { before = 1 ∷ []; after = []; walk = (2 ∷ [], (inl refl, tt), refl); not_yet = no; now = inl refl })))) in absurd (cc)
   where
     no : IsIn 0 (1 ∷ []) → ⊥
     no (inl e) = omega arith
@@ -182,64 +182,48 @@ by_three = plain two_buyer 3 (λ r. 3) (λ r. 4 ∷ [])
 abbrev a_crashed : State
 a_crashed = record (start 3) { kept = says 0 1 7 1 ∷ hears 0 2 80 4 3 ∷ says 0 4 50 5 ∷ hears 0 5 0 8 7 ∷ []; crashed = true ∷ false ∷ false ∷ [] }
 
-data Behind5 : ℕ → Type 0 where
-  at_5 : Behind5 5
-  at_6 : Behind5 6
-  at_7 : Behind5 7
-  at_8 : Behind5 8
-
-step : (p j : ℕ) (u : List ℕ) → IsIn p (j ∷ []) → Behind5 j → mark shop.net (0 ∷ []) j ≡ 0 ∷ [] → (Behind5 p → marks shop.net (0 ∷ []) u ≡ 0 ∷ []) → marks shop.net (0 ∷ []) (p ∷ u) ≡ 0 ∷ []
-step p j u (inl e) c m ih = ap (λ l. marks shop.net l u) (ap (λ x. mark shop.net (0 ∷ []) x) e ∙ m) ∙ ih (subst Behind5 (sym e) c)
-step p j u (inr i) c m ih = absurd i
-
-unmarked : (k : ℕ) (u : List ℕ) → Behind5 k → IsWalk shop.net k u → marks shop.net (0 ∷ []) u ≡ 0 ∷ []
-unmarked k [] b walk = refl
-unmarked k (p ∷ u) at_5 walk = step p 6 u walk.0 at_6 refl (λ c. unmarked p u c walk.1)
-unmarked k (p ∷ u) at_6 walk = step p 7 u walk.0 at_7 refl (λ c. unmarked p u c walk.1)
-unmarked k (p ∷ u) at_7 walk = step p 8 u walk.0 at_8 refl (λ c. unmarked p u c walk.1)
-unmarked k (p ∷ u) at_8 walk = absurd walk.0
+shop_form : HasForm two_buyer 3
+shop_form = record { numbered = (refl, (refl, (refl, (refl, (refl, (refl, (refl, (refl, (refl, (refl, tt)))))))))); ends = (omega arith, omega arith, (λ e. omega arith), (omega arith, omega arith, (λ e. omega arith), (omega arith, omega arith, (λ e. omega arith), (omega arith, omega arith, (λ e. omega arith), (omega arith, omega arith, (λ e. omega arith), (omega arith, omega arith, (λ e. omega arith), (omega arith, omega arith, (λ e. omega arith), (omega arith, omega arith, (λ e. omega arith), (omega arith, omega arith, (λ e. omega arith), (omega arith, omega arith, (λ e. omega arith), tt)))))))))); subjects = (omega arith, (tt, (tt, tt)), tt); few_roles = omega arith; few_points = omega arith }
 
 -- ok from B to A marks nobody where A failed, and nothing behind it does
-a_alone : (q z : ℕ) → IsMarkedAt shop.net 0 5 q z → q ≡ 0
-a_alone q z m = only (go m.before m.after m.walk.0 m.walk.1 m.walk.2 m.now)
-  where
-    only : IsIn q (0 ∷ []) → q ≡ 0
-    only (inl e) = e
-    only (inr i) = absurd i
-
-    go : (before after w : List ℕ) → IsWalk shop.net 5 w → before ++ z ∷ after ≡ 5 ∷ w → IsIn q (marks shop.net (0 ∷ []) (before ++ z ∷ [])) → IsIn q (0 ∷ [])
-    go [] after w walk e i = let f : z ≡ 5 = cc in subst (λ x. IsIn q (marks shop.net (0 ∷ []) (x ∷ []))) f i
-    go (x ∷ b) after w walk e i =
-        let f : x ≡ 5 = cc in
-        let g : b ++ z ∷ after ≡ w = cc in
-        let u : IsWalk shop.net 5 (b ++ z ∷ []) = walk_front shop.net 5 (b ++ z ∷ []) after (subst (IsWalk shop.net 5) (sym (append_assoc b (z ∷ []) after ∙ g)) walk) in
-        subst (IsIn q) (unmarked 5 (b ++ z ∷ []) at_5 u) (subst (λ y. IsIn q (marks shop.net (0 ∷ []) (y ∷ (b ++ z ∷ [])))) f i)
-
 must_not_name_b : May by_three a_crashed (recover 0 7 (3 ∷ 0 ∷ 0 ∷ replicate 5 0) 1) → ⊥
-must_not_name_b m = go ((m.concerned 1 (omega arith)).0 refl)
-  where
-    go : IsConcernedIn by_three a_crashed 0 (keep shop.net 0 3 a_crashed.kept) 1 → ⊥
-    go (inl a) = let x = a.0 in omega arith
-    go (inr a) = here a.1.0 a.1.1 a.1.2
-      where
-        here : (b : Act) → Some (record { dir = Got; point = 5 }) ≡ Some b → IsConcerned shop.net 0 b.point 1 → ⊥
-        here b e c = from b.point (point b e) c
-          where
-            point : (b : Act) → Some (record { dir = Got; point = 5 }) ≡ Some b → b.point ≡ 5
-            point b e = sym (ap (λ (a : Act). a.point) (inner e))
-              where
-                inner : {x y : Act} → Some x ≡ Some y → x ≡ y
-                inner e = cc
-
-            from : (n : ℕ) → n ≡ 5 → IsConcerned shop.net 0 n 1 → ⊥
-            from n f c = ⊎_elim (λ a. let x = a.0 in omega arith) (λ a. let x = a_alone 1 _ (subst (λ k. IsMarkedAt shop.net 0 k 1 c.0) f a.1) in omega arith) c.1
+must_not_name_b m =
+    let c = (listed by_three a_crashed 0 (proper two_buyer 3 shop_form) 1).1 ((m.concerned 1 (omega arith)).0 refl) in
+    absurd (cc)
 
 -- so the text with the wrong subject has a refusal
 abbrev odd : Body
 odd = Choose 1 (Or (Single [] [] 0 1 1 End) (Or (Single [] [] 1 0 2 End) NoMore)) End
 
 odd_form : HasForm odd 2
-odd_form = record { numbered = (refl, (refl, tt)); ends = (omega arith, omega arith, (λ e. omega arith), (omega arith, omega arith, (λ e. omega arith), tt)); few_roles = omega arith; few_points = omega arith }
+odd_form = record { numbered = (refl, (refl, tt)); ends = (omega arith, omega arith, (λ e. omega arith), (omega arith, omega arith, (λ e. omega arith), tt)); subjects = (omega arith, (tt, (tt, tt)), tt); few_roles = omega arith; few_points = omega arith }
 
 odd_refused : (c : ℕ) × (r : ℕ) × (n : ℕ) × IsRefusal odd 2 c r n
 odd_refused = ⊎_elim (λ a. absurd ((faultless odd 2 odd_form).1 a 20 1 1 wrong_subject)) (λ r. r) (accepted_or_refused odd 2 odd_form)
+
+-- which is the one for B, at the point that A sends: no rule comes before that on subjects, and no other point fails it
+odd_least : {d q m : ℕ} → Fails odd 2 d q m → IsNotAfter 20 1 1 d q m
+odd_least (subject {s} {p} i n) = at_subject i n
+  where
+    point : (p : ℕ) → IsIn p (1 ∷ 2 ∷ []) → ((net_of odd).sender p ≡ 1 → ⊥) → p ≡ 1
+    point p (inl e) n = e
+    point p (inr (inl e)) n = absurd (n (ap (net_of odd).sender e))
+    point p (inr (inr i)) n = absurd i
+
+    at_subject : {s p : ℕ} → IsFirstOf (choices [] odd) s p → ((net_of odd).sender p ≡ s → ⊥) → IsNotAfter 20 1 1 20 s p
+    at_subject {s} {p} (inl a) n =
+        let e : p ≡ 1 = point p (offers_complete (record { left = odd; frames = [] }) p a.1) (λ f. n (f ∙ a.0)) in
+        inr (refl, inr (a.0, subst (λ x. 1 ≤ x) (sym e) (omega arith)))
+    at_subject {s} {p} (inr i) n = absurd i
+odd_least (mixed x y lt at nx ny a b) = inl (omega arith)
+odd_least (senders x y lt at nx ny a b c) = inl (omega arith)
+odd_least (labels x y lt at nx ny a n) = inl (omega arith)
+odd_least (not_enabled lt at n) = inl (omega arith)
+odd_least (maybe_done z w lt at nz walk end none) = inl (omega arith)
+odd_least (unreachable e low high n) = inl (omega arith)
+
+odd_refusal : IsRefusal odd 2 20 1 1
+odd_refusal = record { fails = wrong_subject; least = λ d q m f. odd_least f }
+
+no_other_refusal : (d q m : ℕ) → IsRefusal odd 2 d q m → (20 ≡ d) × (1 ≡ q) × (1 ≡ m)
+no_other_refusal d q m refusal = one_refusal odd 2 20 1 1 d q m odd_refusal refusal

@@ -5,15 +5,16 @@ use Rattle.std.proofs.lemmas.Bool.{cases_eq, cases_lt}
 use Rattle.std.proofs.lemmas.Bool.Decides.{nat_tests}
 use Rattle.std.proofs.lemmas.Option.{slice_get_within}
 use Rattle.std.proofs.Math.Nat.{le-div_iff_mul-le, mul-le-mul_right}
+use Rattle.rcv_tree.specs.Bits.{is_listed}
 use Rattle.rcv_tree.specs.declared.event.Event.{Event}
 use Rattle.rcv_tree.specs.declared.entry.Entry.{Entry}
 use Rattle.rcv_tree.specs.declared.entry.Entry.TheVariants.{Send, Recv, Crash, Recover}
 use Rattle.rcv_model.specs.Net.{Net, IsPrefix, HasTwoEnds}
 use Rattle.rcv_model.specs.Run.{act_of, acts, put, taken, IsQueued, IsRun}
-use Rattle.rcv_model.specs.Undo.{Link, Depends, one, more, keep, keep_within, only, IsCut, picked}
+use Rattle.rcv_model.specs.Undo.{Link, Depends, one, more, keep_within, bound_of, IsCut, picked}
 use Rattle.rcv_model.specs.Next.{IsProper, IsAccepted}
-use Rattle.rcv_model.specs.Journal.{Rules, State, start, durable, after, reading_from, reading, IsLegalFrom, IsLegal}
-use Rattle.rcv_model.specs.Line.{IsStable, IsLine, LineHolds}
+use Rattle.rcv_model.specs.Journal.{Rules, State, start, durable, group_of, kept_by, after, reading_from, reading, IsLegalFrom, IsLegal}
+use Rattle.rcv_model.specs.StableLine.{IsStable, IsStableLine, StableLineHolds}
 use Rattle.rcv_model.proofs.Keeping.{by_role, is_recv, scan_of}
 use Rattle.rcv_model.proofs.Queues.{around}
 use Rattle.rcv_model.proofs.Cuts.{latest}
@@ -141,24 +142,24 @@ module _ (rules : Rules) (line : ℕ → ℕ) (multiple : (r : ℕ) → (k : ℕ
     same = λ r. sym (take_same (by_role r now) (by_role r (now ++ e ∷ [])) (line r) (by_role_front r now (e ∷ [])) (stays.enough r)) ∙ stays.same r;
   }
 
-  stay_kept : (s : State) (p : ℕ) → IsQueued rules.net s.kept → Stays line h s.kept → Stays line h (keep rules.net p (durable rules s p) s.kept)
-  stay_kept s p queued stays = record { enough = enough; same = λ r. take_same (by_role r (keep rules.net p (durable rules s p) s.kept)) (by_role r s.kept) (line r) (front r) (enough r) ∙ stays.same r }
+  stay_kept : (s : State) (p : ℕ) → IsQueued rules.net s.kept → Stays line h s.kept → Stays line h (kept_by rules s p)
+  stay_kept s p queued stays = record { enough = enough; same = λ r. take_same (by_role r (kept_by rules s p)) (by_role r s.kept) (line r) (front r) (enough r) ∙ stays.same r }
     where
-      front : (r : ℕ) → IsPrefix (by_role r (keep rules.net p (durable rules s p) s.kept)) (by_role r s.kept)
-      front = (scan_of rules.net (only p (durable rules s p) s.kept) s.kept queued).front
+      front : (r : ℕ) → IsPrefix (by_role r (kept_by rules s p)) (by_role r s.kept)
+      front = (scan_of rules.net (bound_of (group_of rules p) (durable rules s) s.kept) s.kept queued).front
 
-      low : line p ≤ durable rules s p
-      low = let m = multiple p in subst (λ n. n ≤ durable rules s p) m.1 (floor_high m.0 (rules.every p) (length (acts p s.kept)) (omega (arith, m.1, stays.enough p, as_many p s.kept)))
+      low : (r : ℕ) → line r ≤ durable rules s r
+      low r = let m = multiple r in subst (λ n. n ≤ durable rules s r) m.1 (floor_high m.0 (rules.every r) (length (acts r s.kept)) (omega (arith, m.1, stays.enough r, as_many r s.kept)))
 
-      allowed : (r : ℕ) → line r ≤ only p (durable rules s p) s.kept r
-      allowed r = go (cases_eq r p)
+      allowed : (r : ℕ) → line r ≤ bound_of (group_of rules p) (durable rules s) s.kept r
+      allowed r = go (is_listed (group_of rules p) r)
         where
-          go : (r ≡ p) ⊎ (r ≡ p → ⊥) → line r ≤ only p (durable rules s p) s.kept r
-          go (inl e) = subst (λ b. line r ≤ cond b (durable rules s p) (length (acts r s.kept))) (sym (eq-eqb r p e)) (subst (λ q. line q ≤ durable rules s p) (sym e) low)
-          go (inr n) = subst (λ b. line r ≤ cond b (durable rules s p) (length (acts r s.kept))) (sym (ne_eqb r p n)) (omega (arith, stays.enough r, as_many r s.kept))
+          go : (b : Bool) → line r ≤ cond b (durable rules s r) (length (acts r s.kept))
+          go true = low r
+          go false = omega (arith, stays.enough r, as_many r s.kept)
 
-      enough : (r : ℕ) → line r ≤ length (by_role r (keep rules.net p (durable rules s p) s.kept))
-      enough r = omega (arith, kept_within rules.net s.kept line (only p (durable rules s p) s.kept) queued (closed_of_counts rules.net s.kept line (counts_now s.kept stays)) allowed r (omega (arith, stays.enough r, as_many r s.kept)), as_many r (keep rules.net p (durable rules s p) s.kept))
+      enough : (r : ℕ) → line r ≤ length (by_role r (kept_by rules s p))
+      enough r = omega (arith, kept_within rules.net s.kept line (bound_of (group_of rules p) (durable rules s) s.kept) queued (closed_of_counts rules.net s.kept line (counts_now s.kept stays)) allowed r (omega (arith, stays.enough r, as_many r s.kept)), as_many r (kept_by rules s p))
 
   stay_one : (s : State) (e : Entry) → IsQueued rules.net s.kept → Stays line h s.kept → Stays line h (after rules s e).kept
   stay_one s (Send e) queued stays = stay_more s.kept e stays
@@ -179,8 +180,8 @@ pub legal_back : (rules : Rules) (s : State) (front back : List Entry) → IsLeg
 legal_back rules s [] back legal = legal
 legal_back rules s (e ∷ front) back legal = legal_back rules (after rules s e) front back legal.1
 
-pub line_holds : (rules : Rules) (front back : List Entry) (line : ℕ → ℕ) → IsProper rules.net rules.roles → IsAccepted rules.net rules.roles → IsLegal rules (front ++ back) → IsStable rules (reading rules front).kept line → LineHolds rules (reading rules front).kept (reading rules (front ++ back)).kept line
-line_holds rules front back line proper accepted legal stable = subst (λ (s : State). LineHolds rules (reading rules front).kept s.kept line) (sym (reading_join rules (start rules.roles) front back)) end
+pub line_holds : (rules : Rules) (front back : List Entry) (line : ℕ → ℕ) → IsProper rules.net rules.roles → IsAccepted rules.net rules.roles → IsLegal rules (front ++ back) → IsStable rules.net rules.every (reading rules front).kept line → StableLineHolds rules.net rules.every (reading rules front).kept (reading rules (front ++ back)).kept line
+line_holds rules front back line proper accepted legal stable = subst (λ (s : State). StableLineHolds rules.net rules.every (reading rules front).kept s.kept line) (sym (reading_join rules (start rules.roles) front back)) end
   where
     run : IsRun rules.net (reading rules front).kept
     run = accepted_runs rules (front ++ back) proper accepted legal front back refl
@@ -191,7 +192,7 @@ line_holds rules front back line proper accepted legal stable = subst (λ (s : S
     all : IsRun rules.net (reading_from rules (reading rules front) back).kept × Stays line (reading rules front).kept (reading_from rules (reading rules front) back).kept
     all = stay_all rules line stable.steps (reading rules front).kept counts (reading rules front) back proper.two_ends (sends_keep_accepted rules proper accepted) (legal_back rules (start rules.roles) front back legal) run (record { enough = λ r. omega (arith, stable.kept r, as_many r (reading rules front).kept); same = λ r. refl })
 
-    end : LineHolds rules (reading rules front).kept (reading_from rules (reading rules front) back).kept line
+    end : StableLineHolds rules.net rules.every (reading rules front).kept (reading_from rules (reading rules front) back).kept line
     end = record {
       stable = record {
         steps = stable.steps;
@@ -201,9 +202,13 @@ line_holds rules front back line proper accepted legal stable = subst (λ (s : S
       stays = all.1.same;
     }
 
+-- so the greatest line doesn't fall
+pub never_falls : (rules : Rules) (front back : List Entry) (before after : ℕ → ℕ) → IsProper rules.net rules.roles → IsAccepted rules.net rules.roles → IsLegal rules (front ++ back) → IsStableLine rules.net rules.every (reading rules front).kept before → IsStableLine rules.net rules.every (reading rules (front ++ back)).kept after → (r : ℕ) → before r ≤ after r
+never_falls rules front back before after proper accepted legal a b = b.greatest before (line_holds rules front back before proper accepted legal a.stable).stable
+
 -- the greater of two stable lines, role by role, is one
-pub lines_join : (rules : Rules) (h : List Event) (a b : ℕ → ℕ) → IsStable rules h a → IsStable rules h b → IsStable rules h (λ r. max (a r) (b r))
-lines_join rules h a b x y = record {
+pub lines_join : (net : Net) (every : ℕ → ℕ) (h : List Event) (a b : ℕ → ℕ) → IsStable net every h a → IsStable net every h b → IsStable net every h (λ r. max (a r) (b r))
+lines_join net every h a b x y = record {
   steps = λ r. ⊎_elim (λ lt. let m = y.steps r in (m.0, omega (arith, m.1, lt))) (λ le. let m = x.steps r in (m.0, omega (arith, m.1, le))) (cases_lt (a r) (b r));
   kept = λ r. omega (arith, x.kept r, y.kept r);
   closed = λ s r k i j p t lt. ⊎_elim
@@ -220,12 +225,12 @@ made_before h i e at' =
     omega (arith, more, ap length (acts_own a.front e), length-append (acts e.role a.front) (record { dir = e.dir; point = e.point } ∷ []), ap (λ l. length (acts e.role l)) a.taken_is)
 
 -- with a step of 1 all that is kept is within the line
-pub whole_line : (rules : Rules) (h : List Event) → ((r : ℕ) → rules.every r ≡ 1) → IsLine rules h (λ r. length (acts r h))
-whole_line rules h every = record {
+pub whole_line : (net : Net) (every : ℕ → ℕ) (h : List Event) → ((r : ℕ) → every r ≡ 1) → IsStableLine net every h (λ r. length (acts r h))
+whole_line net every h ones = record {
   stable = record {
-    steps = λ r. (length (acts r h), ap (λ e. length (acts r h) * e) (every r) ∙ omega arith);
+    steps = λ r. (length (acts r h), ap (λ e. length (acts r h) * e) (ones r) ∙ omega arith);
     kept = λ r. omega arith;
-    closed = λ s r k i j p t lt. inside s i p.event p.at (eqb_role rules.net s r p.event p.puts);
+    closed = λ s r k i j p t lt. inside s i p.event p.at (eqb_role net s r p.event p.puts);
   };
   greatest = λ other stable r. stable.kept r;
 }

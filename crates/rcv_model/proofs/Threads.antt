@@ -7,7 +7,7 @@ use Rattle.rcv_tree.specs.declared.entry.Entry.TheVariants.{Send, Recv, Crash, R
 use Rattle.rcv_model.specs.Next.{IsProper}
 use Rattle.rcv_model.specs.Journal.{Rules, State, start, after, IsDue}
 use Rattle.rcv_model.specs.Final.{IsCrashed, IsActOf, CanAct, IsFinal, IsLeastOf, IsStep, IsOneThreadFrom, IsOneThread}
-use Rattle.rcv_model.specs.Numbers.{lines_of}
+use Rattle.rcv_model.specs.Numbers.{crash_line_count}
 use Rattle.rcv_model.proofs.Numbers.{Bounds, at_start, after_one, few_entries, sizes}
 use Rattle.rcv_model.proofs.OneThread.{step_may}
 use Rattle.rcv_model.proofs.Recovering.{recovery}
@@ -24,7 +24,7 @@ least P decide (suc n) = go (least P decide n) (decide n)
     go (inr none) (inr m) = inr (λ r lt p. ⊎_elim (λ low. none r low p) (λ le. m (subst P (omega (arith, le)) p)) (cases_lt r n))
 
 module _ (rules : Rules) (proper : IsProper rules.net rules.roles) where
-  step_or_final : (s : State) → length s.crashed ≡ rules.roles → ((e : Entry) × IsStep rules s e) ⊎ IsFinal rules s
+  pub step_or_final : (s : State) → length s.crashed ≡ rules.roles → ((e : Entry) × IsStep rules s e) ⊎ IsFinal rules s
   step_or_final s size = first (least (IsCrashed s) (is_crashed rules s) rules.roles)
     where
       third : ((r : ℕ) → IsCrashed s r → ⊥) → ((r : ℕ) → r < rules.roles → IsDue rules s r → ⊥) → ((r : ℕ) × (r < rules.roles) × IsLeastOf (CanAct rules s) r) ⊎ ((r : ℕ) → r < rules.roles → CanAct rules s r → ⊥) → ((e : Entry) × IsStep rules s e) ⊎ IsFinal rules s
@@ -46,7 +46,7 @@ module _ (rules : Rules) (proper : IsProper rules.net rules.roles) where
       first (inr none) = second (λ r c. none r (subst (λ n. r < n) size (slice_get_within s.crashed r true c)) c) (least (IsDue rules s) (is_due rules s) rules.roles)
 
   -- as many steps as there may be
-  steps : (fuel n : ℕ) (s : State) → rules.roles * rules.limit + 2 * lines_of rules < n + fuel → Bounds rules n s → (journal : List Entry) × IsOneThreadFrom rules s journal
+  steps : (fuel n : ℕ) (s : State) → rules.roles * rules.limit + 2 * crash_line_count rules < n + fuel → Bounds rules n s → (journal : List Entry) × IsOneThreadFrom rules s journal
   steps zero n s lt b = absurd (let le = few_entries rules n s b in omega arith)
   steps (suc fuel) n s lt b = go (step_or_final s (sizes rules n s b).crashed) (λ e c. steps fuel (n + 1) (after rules s e) (omega arith) c)
     where
@@ -55,4 +55,4 @@ module _ (rules : Rules) (proper : IsProper rules.net rules.roles) where
       go (inl a) rest = let j = rest a.0 (after_one rules n s a.0 b (step_may rules s a.0 a.1)) in (a.0 ∷ j.0, (a.1, j.1))
 
 pub one_thread : (rules : Rules) → IsProper rules.net rules.roles → (journal : List Entry) × IsOneThread rules journal
-one_thread rules proper = steps rules proper (rules.roles * rules.limit + 2 * lines_of rules + 1) 0 (start rules.roles) (omega arith) (at_start rules)
+one_thread rules proper = steps rules proper (rules.roles * rules.limit + 2 * crash_line_count rules + 1) 0 (start rules.roles) (omega arith) (at_start rules)

@@ -1,7 +1,7 @@
 -- What a search has found so far, each place once.
 use Rattle.std.specs.Prelude.{◌≡◌, ◌↔◌, ℕ, ◌+◌, ◌⊎◌, Bool, true, false, not, List, [], ◌∷◌, length, take, slice_index_or}
 use Rattle.std.specs.List.{count_by}
-use Rattle.std.specs.List.Sorted.{IsStrictlyIncreasing}
+use Rattle.rcv_tree.specs.Bits.{has_point, IsPoint}
 use Rattle.rcv_model.specs.Net.{Net, IsIn, IsPrefix, IsWalk, last_of}
 use Rattle.rcv_model.specs.Next.{IsOf, HasNone}
 
@@ -12,6 +12,11 @@ pub record AreOnce (flags : List Bool) (items : List ℕ) (count : ℕ) : Type 0
   pub flagged : (j : ℕ) → IsIn j (take count items) → slice_index_or flags j false ≡ true
   pub found : (j : ℕ) → slice_index_or flags j false ≡ true → IsIn j (take count items)
   pub room : count_by not flags + count ≡ 257
+
+-- The same, and the set holds the points among the places that were found.
+pub record AreFound (flags : List Bool) (items : List ℕ) (count : ℕ) (words : List ℕ) : Type 0 where
+  pub once : AreOnce flags items count
+  pub marked : (p : ℕ) → IsPoint p → has_point words p ≡ slice_index_or flags p false
 
 -- this very number
 abbrev pub Is : ℕ → ℕ → Type 0
@@ -42,6 +47,10 @@ ArePlacesAhead net r k js = (j : ℕ) → IsIn j js ↔ IsWay net r k j
 abbrev pub IsOwnOf : Net → ℕ → List ℕ → ℕ → Type 0
 IsOwnOf net r js p = (j : ℕ) × IsIn j js × IsOwn net r j p
 
+-- Some of these places offers the point.
+abbrev pub IsOfferedBy : Net → List ℕ → ℕ → Type 0
+IsOfferedBy net js p = (j : ℕ) × IsIn j js × IsIn p (net.offers j)
+
 -- Some of these places offers nothing.
 abbrev pub HasEnd : Net → List ℕ → Type 0
 HasEnd net js = (j : ℕ) × IsIn j js × (net.offers j ≡ [])
@@ -49,8 +58,3 @@ HasEnd net js = (j : ℕ) × IsIn j js × (net.offers j ≡ [])
 -- The place offers this point alone, which isn't one of role r.
 abbrev pub IsForced : Net → ℕ → ℕ → ℕ → Type 0
 IsForced net r k p = (net.offers k ≡ p ∷ []) × (IsOf net r p → ⊥)
-
--- The same numbers, ascending.
-pub record AreAscending (js zs : List ℕ) : Type 0 where
-  pub ascending : IsStrictlyIncreasing zs
-  pub same : (z : ℕ) → IsIn z zs ↔ IsIn z js

@@ -1,15 +1,16 @@
 // The points that a role can come to next from a place.
 
-ghost use Rattle.std.specs.Prelude.{◌≡◌, ◌≤◌, ◌↔◌, ℕ, [], IsTrue, IfOk, length};
+ghost use Rattle.std.specs.Prelude.{◌≡◌, ◌≤◌, ◌↔◌, ℕ, IsTrue, IfOk, length};
+ghost use Rattle.rcv_tree.specs.Bits.{members};
 ghost use Rattle.rcv_model.specs.Net.{IsIn};
 ghost use Rattle.rcv_points.specs.Follow.{net_in};
 ghost use Rattle.rcv_next.specs.Ahead.{IsAhead};
-ghost use Rattle.rcv_next.specs.Found.{Adds, IsOwn, IsOwnOf, HasEnd};
+ghost use Rattle.rcv_next.specs.Found.{IsOfferedBy, HasEnd};
 
 use crate::places::Places;
-use crate::search::{is_of, places_ahead};
+use crate::search::places_ahead;
 use rcv_points::points::Points;
-use rcv_tree::point::Point;
+use rcv_tree::point::{Point, PointSet};
 use rcv_tree::role::RoleId;
 use std::alloc::{AllocError, Global};
 
@@ -33,36 +34,25 @@ pub fn look_ahead(
     requires { place ≤ length points.now.messages }
     ensures { IfOk result (λ a. IsAhead (net_in points.now) role place a.next.items a.may_end) }
 {
-    let places = places_ahead(points, role, place);
+    // The points keep within the text.
+    points.count();
+    let own = points.of_role(role);
+    let places = places_ahead(points, role, own, place);
     let may_end = some_ends(points, &places);
-    let next = own_points(points, role, &places).ascending(alloc)?;
+    let next = own_points(points, own, &places).list(alloc)?;
     Ok(Ahead { next, may_end })
 }
 
-// The role's own points that these places offer.
-fn own_points(points: &Points, role: RoleId, places: &Places) -> Places
+// The role's own points that these places offer, where these are all of its own.
+fn own_points(points: &Points, own: PointSet, places: &Places) -> PointSet
     requires { (j : ℕ) → IsIn j places.now → j ≤ length points.now.messages }
-    ensures { Adds (IsOwnOf (net_in points.now) role places.now) [] result }
+    ensures { (z : ℕ) → IsIn z (members result.0) ↔ (IsOfferedBy (net_in points.now) places.now z × IsIn z (members own.0)) }
 {
-    let mut own = Places::new();
+    let mut offered = PointSet::none();
     for place in places.as_slice() {
-        add_own(points, role, *place, &mut own);
+        offered = offered.union(points.offered_set(*place));
     }
-    own
-}
-
-// Adds the role's own points that the place offers.
-fn add_own(points: &Points, role: RoleId, place: u16, own: &mut Places)
-    requires { place ≤ length points.now.messages }
-    ensures { Adds (IsOwn (net_in points.now) role place) own.old own.new }
-{
-    // The points keep within the text.
-    points.count();
-    for point in points.offered(place) {
-        if is_of(points, role, *point) {
-            own.add(point.0);
-        }
-    }
+    offered.intersection(own)
 }
 
 // Whether one of these places offers nothing.

@@ -8,3 +8,5 @@ pub mod reached;
 mod search;
 #[cfg(test)]
 mod tests;
+
+pub use std::alloc::AllocError as Memory;

@@ -1,20 +1,22 @@
 -- The points that were found for a text in the form which the reader gives are the points of the text, and say its protocol.
-use Rattle.std.proofs.Common.{◌≡◌, ℕ, zero, suc, ◌+◌, ◌-◌, ◌<◌, ◌≤◌, Bool, true, false, cond, Some, None, List, [], ◌∷◌, ◌++◌, length, map, get_or, reverse, refl, sym, ◌∙◌, ap, subst, ◌⊎◌, inl, inr, arith}
+use Rattle.std.proofs.Common.{◌≡◌, ℕ, zero, suc, ◌+◌, ◌-◌, ◌<◌, ◌≤◌, Bool, true, false, cond, Some, None, List, [], ◌∷◌, ◌++◌, length, map, get_or, reverse, replicate, refl, sym, ◌∙◌, ap, subst, ◌⊎◌, inl, inr, arith}
 use Rattle.std.specs.Prelude.{◌==◌}
 use Rattle.std.proofs.lemmas.Bool.{cases_lt}
 use Rattle.std.proofs.lemmas.Bool.Decides.{nat_tests}
 use Rattle.std.proofs.lemmas.List.{map-append, length-map, reverse-append, reverse-reverse}
 use Rattle.std.specs.List.Sorted.{IsStrictlyIncreasing}
-use Rattle.rcv_model.specs.Text.{Body, End, Single, Choose, Loop, Again, Beside, Call, Bodies, NoMore, Or}
+use Rattle.rcv_model.specs.Text.{Body, End, Single, Choose, Loop, Again, Parallel, Call, Bodies, NoMore, Or}
 use Rattle.rcv_model.specs.Net.{Net}
 use Rattle.rcv_model.specs.Next.{IsProper}
 use Rattle.rcv_model.specs.Form.{HasForm, IsNumberedFrom}
-use Rattle.rcv_model.specs.Places.{Frame, Behind, Inside, Spot, Single_at, spots, spots_of, singles, singles_of, single_at, find_spot, offers_at, offers_of, next_of, env_of, firsts, IsFull, net_of}
+use Rattle.rcv_model.specs.Places.{Frame, Behind, Inside, Spot, SingleMessage, spots, spots_of, singles, singles_of, single_at, find_spot, offers_at, offers_of, next_of, env_of, firsts, IsFull, net_of}
 use Rattle.rcv_model.specs.Accept.{choices, choices_of}
 use Rattle.rcv_model.proofs.Same.{text_rises}
 use Rattle.rcv_model.proofs.Forms.{proper}
 use Rattle.rcv_points.specs.Follow.{PointsView, AreWithin, ArePointsOf, offered_at, message_at, no_message, message_of, choice_of, net_in}
-use Rattle.rcv_points.specs.Walk.{Found, Adds, AddsFull, follows, follows_of, chosen, chosen_of}
+use Rattle.rcv_points.specs.Walk.{Found, Adds, AddsFull, HavePoints, HavePointsIn, follows, follows_of, chosen, chosen_of, by_subject}
+use Rattle.rcv_points.proofs.Choosing.{gathered}
+use Rattle.rcv_tree.specs.Bits.{IsPoint}
 
 offers_behind : ℕ × Spot → List ℕ
 offers_behind e = offers_at e.1
@@ -29,7 +31,7 @@ mutual
   follows_spots fs (Choose s bs rest) = ap (λ l. l ++ follows (env_of fs) (next_of fs) rest) (follows_of_spots (Behind rest ∷ fs) bs) ∙ ap (λ l. map offers_behind (spots_of (Behind rest ∷ fs) bs) ++ l) (follows_spots fs rest) ∙ sym (map-append offers_behind (spots_of (Behind rest ∷ fs) bs) (spots fs rest))
   follows_spots fs (Loop name body rest) = ap (λ l. l ++ follows (env_of fs) (next_of fs) rest) (follows_spots (Inside name body rest ∷ fs) body) ∙ ap (λ l. map offers_behind (spots (Inside name body rest ∷ fs) body) ++ l) (follows_spots fs rest) ∙ sym (map-append offers_behind (spots (Inside name body rest ∷ fs) body) (spots fs rest))
   follows_spots fs (Again name rest) = follows_spots fs rest
-  follows_spots fs (Beside bs rest) = ap (λ l. l ++ follows (env_of fs) (next_of fs) rest) (follows_of_spots (Behind rest ∷ fs) bs) ∙ ap (λ l. map offers_behind (spots_of (Behind rest ∷ fs) bs) ++ l) (follows_spots fs rest) ∙ sym (map-append offers_behind (spots_of (Behind rest ∷ fs) bs) (spots fs rest))
+  follows_spots fs (Parallel bs rest) = ap (λ l. l ++ follows (env_of fs) (next_of fs) rest) (follows_of_spots (Behind rest ∷ fs) bs) ∙ ap (λ l. map offers_behind (spots_of (Behind rest ∷ fs) bs) ++ l) (follows_spots fs rest) ∙ sym (map-append offers_behind (spots_of (Behind rest ∷ fs) bs) (spots fs rest))
   follows_spots fs (Call name roles rest) = follows_spots fs rest
 
   follows_of_spots : (fs : List Frame) (bs : Bodies) → follows_of (env_of fs) (next_of fs) bs ≡ map offers_behind (spots_of fs bs)
@@ -43,7 +45,7 @@ mutual
   chosen_choices fs (Choose s bs rest) = ap (λ l. choice_of (s, record { left = Choose s bs rest; frames = fs }) ∷ l) (ap (λ l. l ++ chosen (env_of fs) (next_of fs) rest) (chosen_of_choices (Behind rest ∷ fs) bs) ∙ ap (λ l. map choice_of (choices_of (Behind rest ∷ fs) bs) ++ l) (chosen_choices fs rest) ∙ sym (map-append choice_of (choices_of (Behind rest ∷ fs) bs) (choices fs rest)))
   chosen_choices fs (Loop name body rest) = ap (λ l. l ++ chosen (env_of fs) (next_of fs) rest) (chosen_choices (Inside name body rest ∷ fs) body) ∙ ap (λ l. map choice_of (choices (Inside name body rest ∷ fs) body) ++ l) (chosen_choices fs rest) ∙ sym (map-append choice_of (choices (Inside name body rest ∷ fs) body) (choices fs rest))
   chosen_choices fs (Again name rest) = chosen_choices fs rest
-  chosen_choices fs (Beside bs rest) = ap (λ l. l ++ chosen (env_of fs) (next_of fs) rest) (chosen_of_choices (Behind rest ∷ fs) bs) ∙ ap (λ l. map choice_of (choices_of (Behind rest ∷ fs) bs) ++ l) (chosen_choices fs rest) ∙ sym (map-append choice_of (choices_of (Behind rest ∷ fs) bs) (choices fs rest))
+  chosen_choices fs (Parallel bs rest) = ap (λ l. l ++ chosen (env_of fs) (next_of fs) rest) (chosen_of_choices (Behind rest ∷ fs) bs) ∙ ap (λ l. map choice_of (choices_of (Behind rest ∷ fs) bs) ++ l) (chosen_choices fs rest) ∙ sym (map-append choice_of (choices_of (Behind rest ∷ fs) bs) (choices fs rest))
   chosen_choices fs (Call name roles rest) = chosen_choices fs rest
 
   chosen_of_choices : (fs : List Frame) (bs : Bodies) → chosen_of (env_of fs) (next_of fs) bs ≡ map choice_of (choices_of fs bs)
@@ -51,7 +53,7 @@ mutual
   chosen_of_choices fs (Or b bs) = ap (λ l. l ++ chosen_of (env_of fs) (next_of fs) bs) (chosen_choices fs b) ∙ ap (λ l. map choice_of (choices fs b) ++ l) (chosen_of_choices fs bs) ∙ sym (map-append choice_of (choices fs b) (choices_of fs bs))
 
 -- the points of a list, one by one
-single_point : ℕ × Single_at → ℕ
+single_point : ℕ × SingleMessage → ℕ
 single_point e = e.0
 
 spot_point : ℕ × Spot → ℕ
@@ -67,7 +69,7 @@ mutual
   same_points fs (Choose s bs rest) = map-append spot_point (spots_of (Behind rest ∷ fs) bs) (spots fs rest) ∙ ap (λ l. l ++ map spot_point (spots fs rest)) (same_points_of (Behind rest ∷ fs) bs) ∙ ap (λ l. map single_point (singles_of bs) ++ l) (same_points fs rest) ∙ sym (map-append single_point (singles_of bs) (singles rest))
   same_points fs (Loop name body rest) = map-append spot_point (spots (Inside name body rest ∷ fs) body) (spots fs rest) ∙ ap (λ l. l ++ map spot_point (spots fs rest)) (same_points (Inside name body rest ∷ fs) body) ∙ ap (λ l. map single_point (singles body) ++ l) (same_points fs rest) ∙ sym (map-append single_point (singles body) (singles rest))
   same_points fs (Again name rest) = same_points fs rest
-  same_points fs (Beside bs rest) = map-append spot_point (spots_of (Behind rest ∷ fs) bs) (spots fs rest) ∙ ap (λ l. l ++ map spot_point (spots fs rest)) (same_points_of (Behind rest ∷ fs) bs) ∙ ap (λ l. map single_point (singles_of bs) ++ l) (same_points fs rest) ∙ sym (map-append single_point (singles_of bs) (singles rest))
+  same_points fs (Parallel bs rest) = map-append spot_point (spots_of (Behind rest ∷ fs) bs) (spots fs rest) ∙ ap (λ l. l ++ map spot_point (spots fs rest)) (same_points_of (Behind rest ∷ fs) bs) ∙ ap (λ l. map single_point (singles_of bs) ++ l) (same_points fs rest) ∙ sym (map-append single_point (singles_of bs) (singles rest))
   same_points fs (Call name roles rest) = same_points fs rest
 
   same_points_of : (fs : List Frame) (bs : Bodies) → map spot_point (spots_of fs bs) ≡ map single_point (singles_of bs)
@@ -79,7 +81,7 @@ abbrev Counts : ℕ → List ℕ → Type 0
 Counts n [] = Unit {0}
 Counts n (p ∷ ps) = (p ≡ n) × Counts (n + 1) ps
 
-numbers_count : (n : ℕ) (es : List (ℕ × Single_at)) → IsNumberedFrom n es → Counts n (map single_point es)
+numbers_count : (n : ℕ) (es : List (ℕ × SingleMessage)) → IsNumberedFrom n es → Counts n (map single_point es)
 unfolding single_point
 numbers_count n [] num = tt
 numbers_count n (e ∷ es) num = (num.0, numbers_count (n + 1) es num.1)
@@ -126,7 +128,7 @@ places_told body (suc k) num =
     ap (λ l. get_or l k []) (follows_spots [] body) ∙ sym (behind_start body k ∙ found_spot 1 (suc k) (spots [] body) (spots_count body num) (omega arith) ∙ ap (λ i. get_or (map offers_behind (spots [] body)) i []) (omega arith))
 
 -- the same for messages
-message_told : (n p : ℕ) (es : List (ℕ × Single_at)) → IsNumberedFrom n es → n ≤ p → get_or (map message_of es) (p - n) no_message ≡ message_of (p, single_at p es)
+message_told : (n p : ℕ) (es : List (ℕ × SingleMessage)) → IsNumberedFrom n es → n ≤ p → get_or (map message_of es) (p - n) no_message ≡ message_of (p, single_at p es)
 message_told n p [] num le = refl
 message_told n p (e ∷ es) num le = go (e.0 == p) refl (message_told (n + 1) p es num.1)
   where
@@ -140,7 +142,7 @@ message_told n p (e ∷ es) num le = go (e.0 == p) refl (message_told (n + 1) p 
         let a : p - n ≡ suc (p - (n + 1)) = omega arith in
         ap (λ i. get_or (message_of e ∷ map message_of es) i no_message) a ∙ ih lt
 
-no_single : (n p : ℕ) (es : List (ℕ × Single_at)) → IsNumberedFrom n es → p < n → single_at p es ≡ single_at p []
+no_single : (n p : ℕ) (es : List (ℕ × SingleMessage)) → IsNumberedFrom n es → p < n → single_at p es ≡ single_at p []
 no_single n p [] num lt = refl
 no_single n p (e ∷ es) num lt =
     let f = num.0 in
@@ -229,26 +231,61 @@ within body roles points form told = record {
 forward : {A : Type 0} (found xs : List A) → found ≡ [] ++ reverse xs → reverse found ≡ xs
 forward found xs e = ap reverse e ∙ reverse-reverse xs
 
+-- the points of a text in the reader's form are points
+abbrev AllPoints : List (ℕ × SingleMessage) → Type 0
+AllPoints [] = Unit {0}
+AllPoints (e ∷ es) = IsPoint e.0 × AllPoints es
+
+all_points : (n : ℕ) (es : List (ℕ × SingleMessage)) → 1 ≤ n → n + length es ≤ 257 → IsNumberedFrom n es → AllPoints es
+all_points n [] low high num = tt
+all_points n (e ∷ es) low high num = let f = num.0 in (record { first = omega (arith, low, f); last = omega (arith, high, f) }, all_points (n + 1) es (omega arith) (omega (arith, high)) num.1)
+
+points_left : (xs ys : List (ℕ × SingleMessage)) → AllPoints (xs ++ ys) → AllPoints xs
+points_left [] ys a = tt
+points_left (x ∷ xs) ys a = (a.0, points_left xs ys a.1)
+
+points_right : (xs ys : List (ℕ × SingleMessage)) → AllPoints (xs ++ ys) → AllPoints ys
+points_right [] ys a = a
+points_right (x ∷ xs) ys a = points_right xs ys a.1
+
+mutual
+  have_points : (b : Body) → AllPoints (singles b) → HavePoints b
+  have_points End a = tt
+  have_points (Single label sorts s r p rest) a = (a.0, have_points rest a.1)
+  have_points (Choose s bs rest) a = (have_points_in bs (points_left (singles_of bs) (singles rest) a), have_points rest (points_right (singles_of bs) (singles rest) a))
+  have_points (Loop name body rest) a = (have_points body (points_left (singles body) (singles rest) a), have_points rest (points_right (singles body) (singles rest) a))
+  have_points (Again name rest) a = have_points rest a
+  have_points (Parallel bs rest) a = (have_points_in bs (points_left (singles_of bs) (singles rest) a), have_points rest (points_right (singles_of bs) (singles rest) a))
+  have_points (Call name roles rest) a = have_points rest a
+
+  have_points_in : (bs : Bodies) → AllPoints (singles_of bs) → HavePointsIn bs
+  have_points_in NoMore a = tt
+  have_points_in (Or b bs) a = (have_points b (points_left (singles b) (singles_of bs) a), have_points_in bs (points_right (singles b) (singles_of bs) a))
+
+-- nothing was found yet
+abbrev pub nothing : List (List ℕ) → Found
+nothing none = record { recs = []; places = []; messages = []; chosen = none }
+
 -- what the walk along the whole text found, in text order
-pub walked : (body : Body) (roles : ℕ) (after : Found) (start : List ℕ) (points : PointsView) → HasForm body roles → IsFull [] [] body → AddsFull (record { recs = []; places = []; messages = []; choices = [] }) [] body after start → points.places ≡ reverse (after.places ++ start ∷ []) → points.messages ≡ reverse after.messages → points.choices ≡ reverse after.choices → ArePointsOf body points
-walked body roles after start points form full adds pl me ch = record {
+pub walked : (body : Body) (roles n : ℕ) (none : List (List ℕ)) (after : Found) (start : List ℕ) (points : PointsView) → HasForm body roles → IsFull [] [] body → none ≡ replicate n [] → 8 ≤ n → AddsFull (nothing none) [] body after start → points.places ≡ reverse (after.places ++ start ∷ []) → points.messages ≡ reverse after.messages → points.choices ≡ by_subject 0 after.chosen → ArePointsOf body points
+walked body roles n none after start points form full empty enough adds pl me ch = record {
   all = ap length places ∙ ap suc (ap length (follows_spots [] body) ∙ as_many body) ∙ omega arith;
   offered = λ k le. ap (λ l. get_or l k []) places ∙ places_told body k form.numbered;
   messages = me ∙ forward after.messages (map message_of (singles body)) had.all.messages_more;
-  choices = ch ∙ forward after.choices (chosen [] [] body) had.all.choices_more ∙ chosen_choices [] body;
+  choices = gathered body roles n after.chosen none (chosen [] [] body) points.choices form.subjects (let few = form.few_roles in omega (arith, few, enough)) empty had.all.choices_more (chosen_choices [] body) ch;
 }
   where
-    had : Adds (record { recs = []; places = []; messages = []; choices = [] }) [] body after start
-    had = adds [] [] full
+    had : Adds (nothing none) [] body after start
+    had = adds [] [] full (have_points body (all_points 1 (singles body) (omega arith) (let few = form.few_points in omega (arith, few)) form.numbered))
 
     places : points.places ≡ firsts [] [] body ∷ follows [] [] body
     places = pl ∙ reverse-append after.places (start ∷ []) ∙ ap (λ l. start ∷ l) (forward after.places (follows [] [] body) had.all.places_more) ∙ ap (λ x. x ∷ follows [] [] body) had.offered
 
 -- the walk begins with nothing
-pub from_nothing : (before : Found) (next : List ℕ) (body : Body) (after : Found) (start : List ℕ) → before.recs ≡ [] → before.places ≡ [] → before.messages ≡ [] → before.choices ≡ [] → next ≡ [] → AddsFull before next body after start → AddsFull (record { recs = []; places = []; messages = []; choices = [] }) [] body after start
-from_nothing before next body after start re pl me ch ne adds =
-    subst (λ n. AddsFull (record { recs = []; places = []; messages = []; choices = [] }) n body after start) ne
-    (subst (λ b. AddsFull b next body after start) none adds)
+pub from_nothing : (before : Found) (next : List ℕ) (body : Body) (after : Found) (start : List ℕ) → before.recs ≡ [] → before.places ≡ [] → before.messages ≡ [] → next ≡ [] → AddsFull before next body after start → AddsFull (nothing before.chosen) [] body after start
+from_nothing before next body after start re pl me ne adds =
+    subst (λ n. AddsFull (nothing before.chosen) n body after start) ne
+    (subst (λ b. AddsFull b next body after start) same adds)
   where
-    none : before ≡ record { recs = []; places = []; messages = []; choices = [] }
-    none = λ i. record { recs = re i; places = pl i; messages = me i; choices = ch i }
+    same : before ≡ nothing before.chosen
+    same = λ i. record { recs = re i; places = pl i; messages = me i; chosen = before.chosen }

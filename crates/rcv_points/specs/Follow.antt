@@ -1,11 +1,11 @@
 -- What contracts see of the points of a text: what each place offers, the message of each point, and what each choice offers.
-use Rattle.std.specs.Prelude.{◌≡◌, ℕ, ◌+◌, ◌-◌, ◌≤◌, ◌==◌, Bool, true, false, if◌then◌else◌, List, [], ◌∷◌, length, map, slice_index_or}
+use Rattle.std.specs.Prelude.{◌≡◌, ℕ, ◌+◌, ◌-◌, ◌≤◌, ◌⊎◌, ◌↔◌, ◌==◌, Bool, true, false, if◌then◌else◌, List, [], ◌∷◌, length, map, slice_index_or}
 use Rattle.std.specs.List.Sorted.{IsStrictlyIncreasing}
 use Rattle.rcv_model.specs.Text.{Body}
-use Rattle.rcv_model.specs.Net.{Net}
-use Rattle.rcv_model.specs.Next.{IsProper}
-use Rattle.rcv_model.specs.Places.{Spot, Single_at, singles, offers_at, net_of}
-use Rattle.rcv_model.specs.Accept.{choices}
+use Rattle.rcv_model.specs.Net.{Net, IsIn}
+use Rattle.rcv_model.specs.Next.{IsOf, IsProper}
+use Rattle.rcv_model.specs.Places.{Spot, SingleMessage, singles, offers_at, net_of}
+use Rattle.rcv_model.specs.Accept.{choices, IsFirstOf}
 
 -- The message of a point, without the names of its sorts.
 pub record PointView : Type 0 where
@@ -14,12 +14,12 @@ pub record PointView : Type 0 where
   pub receiver : ℕ
   pub payload : Bool  -- it has sorts
 
--- A choice: its subject, and the points that it offers.
+-- A role that is the subject of choices, and points that they offer.
 pub record ChoiceView : Type 0 where
   pub subject : ℕ
   pub offered : List ℕ
 
--- By place, from the start on: the points that can come next; by point: its message; and the choices, in text order.
+-- By place, from the start on: the points that can come next; by point: its message; and what choices offer, by their subjects.
 pub record PointsView : Type 0 where
   pub places : List (List ℕ)
   pub messages : List PointView
@@ -59,15 +59,25 @@ abbrev pub has_some : List (List ℕ) → Bool
 has_some [] = false
 has_some (n ∷ ns) = true
 
-abbrev pub message_of : ℕ × Single_at → PointView
+abbrev pub message_of : ℕ × SingleMessage → PointView
 message_of e = record { label = e.1.label; sender = e.1.sender; receiver = e.1.receiver; payload = has_some e.1.sorts }
 
 abbrev pub choice_of : ℕ × Spot → ChoiceView
 choice_of e = record { subject = e.0; offered = offers_at e.1 }
 
--- These are the points of a text: each place offers what the definition says, and messages and choices are those of the text.
+-- Choices at role s offer the point.
+abbrev pub IsChosen : List ChoiceView → ℕ → ℕ → Type 0
+IsChosen [] s p = ⊥
+IsChosen (v ∷ vs) s p = ((v.subject ≡ s) × IsIn p v.offered) ⊎ IsChosen vs s p
+
+-- The points of the text at which the role sends or receives.
+abbrev pub IsSetOfRole : Net → ℕ → List ℕ → Type 0
+IsSetOfRole net r ps = (p : ℕ) → IsIn p ps ↔ ((1 ≤ p) × (p ≤ net.count) × IsOf net r p)
+
+-- These are the points of a text: each place offers what the definition says, messages are those of the text, and a point is
+-- chosen by a role where it is among the first points of some choice at it.
 pub record ArePointsOf (body : Body) (points : PointsView) : Type 0 where
   pub all : length points.places ≡ (net_of body).count + 1
   pub offered : (k : ℕ) → k ≤ (net_of body).count → offered_at points k ≡ (net_of body).offers k
   pub messages : points.messages ≡ map message_of (singles body)
-  pub choices : points.choices ≡ map choice_of (choices [] body)
+  pub choices : (s p : ℕ) → IsChosen points.choices s p ↔ IsFirstOf (choices [] body) s p

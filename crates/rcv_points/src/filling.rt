@@ -1,16 +1,19 @@
 // One walk along a text from its end to its start, which finds what each place offers.
 
-ghost use Rattle.std.specs.Prelude.{◌≡◌, [], List, ℕ, length, IfOk};
+ghost use Rattle.std.specs.Prelude.{◌≡◌, [], length, IfOk};
 ghost use Rattle.rcv_model.specs.Form.{HasForm};
 ghost use Rattle.rcv_model.specs.Places.{IsFull};
 ghost use Rattle.rcv_model.specs.Text.{Body, body_of, bodies_of, stmt_body};
 ghost use Rattle.rcv_points.specs.Follow.{ArePointsOf};
-ghost use Rattle.rcv_points.specs.Walk.{Found, AddsFull, AddsFullOf, IsFirstIn, IsFirstInOne};
-ghost use Rattle.rcv_points.specs.Filling.{found, points_in};
+ghost use Rattle.rcv_points.specs.Walk.{IsFirstIn, IsFirstInOne};
+ghost use Rattle.rcv_points.specs.Filling.{HasPointsOf, AddsBlock, AddsBlocks, AddsStmt};
+ghost use Rattle.rcv_tree.specs.Bits.{members};
 
+use crate::chosen::Chosen;
 use crate::offered::Offered;
-use crate::points::{ChoicePoints, Message, Points};
+use crate::points::{Message, Points};
 use crate::recs::Recs;
+use rcv_tree::point::PointSet;
 use rcv_tree::protocol::Protocol;
 use rcv_tree::statement::{Block, Blocks, Stmt};
 use std::alloc::{AllocError, Global};
@@ -22,7 +25,7 @@ pub(crate) struct Filling<'a> {
     recs: Recs<'a>,
     pub(crate) places: Vec<Offered>,
     pub(crate) messages: Vec<Message>,
-    pub(crate) choices: Vec<ChoicePoints>,
+    pub(crate) chosen: Chosen,
 }
 
 /// The points of a protocol's text. Fails where memory runs out.
@@ -32,36 +35,36 @@ pub fn points_of(alloc: Global, protocol: &Protocol) -> Result<Points, AllocErro
     ensures { IfOk result (λ points. ArePointsOf (body_of protocol.now.body) points) }
 {
     let filling = Filling::whole(alloc, &protocol.body)?;
-    Ok(Points::of(filling.places, filling.messages, filling.choices))
+    let choices = filling.chosen.listed(alloc)?;
+    Ok(Points::of(filling.places, filling.messages, choices))
 }
 
 impl<'a> Filling<'a> {
     // Walks along a whole text, and turns round what was found.
     pub(crate) fn whole(alloc: Global, body: &'a Block) -> Result<Filling<'a>, AllocError>
-        ensures { IfOk result (λ filling. (roles : ℕ) → HasForm (body_of body.now) roles → IsFull [] [] (body_of body.now) → ArePointsOf (body_of body.now) (points_in filling)) }
+        ensures { IfOk result (λ filling. HasPointsOf (body_of body.now) filling) }
     {
         let mut filling = Filling {
             alloc,
             recs: Recs::new(alloc),
             places: Vec::new(alloc),
             messages: Vec::new(alloc),
-            choices: Vec::new(alloc),
+            chosen: Chosen::none(),
         };
-        let start = filling.block(body, &Offered::none(alloc))?;
-        filling.places.push(start)?;
+        let start = filling.block(body, PointSet::none())?;
+        filling.places.push(Offered::of(alloc, start)?)?;
         filling.places.reverse();
         filling.messages.reverse();
-        filling.choices.reverse();
         Ok(filling)
     }
 
     // Fills a block's places, where this is offered behind the block, and answers what the block offers.
     #[cycle(fill)]
-    fn block(&mut self, block: &'a Block, behind: &Offered) -> Result<Offered, AllocError>
-        ensures { IfOk result (λ ahead. AddsFull (found self.old) behind.now (body_of block.now) (found self.new) ahead) }
+    fn block(&mut self, block: &'a Block, behind: PointSet) -> Result<PointSet, AllocError>
+        ensures { IfOk result (λ ahead. AddsBlock self.old behind (body_of block.now) self.new ahead) }
     {
         let stmts = block.as_slice();
-        let mut ahead = behind.copy(self.alloc)?;
+        let mut ahead = behind;
         for index in (0..stmts.len()).rev() {
             ahead = self.stmt(&stmts[index], ahead)?;
         }
@@ -70,22 +73,22 @@ impl<'a> Filling<'a> {
 
     // The same for each of these blocks, and what one or the other offers.
     #[cycle(fill)]
-    fn blocks(&mut self, blocks: &'a Blocks, behind: &Offered) -> Result<Offered, AllocError>
-        ensures { IfOk result (λ ahead. AddsFullOf (found self.old) behind.now (bodies_of blocks.now) (found self.new) ahead) }
+    fn blocks(&mut self, blocks: &'a Blocks, behind: PointSet) -> Result<PointSet, AllocError>
+        ensures { IfOk result (λ ahead. AddsBlocks self.old behind (bodies_of blocks.now) self.new ahead) }
     {
         let branches = blocks.as_slice();
-        let mut union = Offered::none(self.alloc);
+        let mut union = PointSet::none();
         for index in (0..branches.len()).rev() {
             let first = self.block(&branches[index], behind)?;
-            union = first.union(&union, self.alloc)?;
+            union = first.union(union);
         }
         Ok(union)
     }
 
     // The same for a statement.
     #[cycle(fill)]
-    fn stmt(&mut self, stmt: &'a Stmt, behind: Offered) -> Result<Offered, AllocError>
-        ensures { IfOk result (λ ahead. (before : Found) (next : List ℕ) (rest : Body) → AddsFull before next rest (found self.old) behind → AddsFull before next (stmt_body stmt.now rest) (found self.new) ahead) }
+    fn stmt(&mut self, stmt: &'a Stmt, behind: PointSet) -> Result<PointSet, AllocError>
+        ensures { IfOk result (λ ahead. AddsStmt self.old behind stmt.now self.new ahead) }
     {
         match stmt {
             Stmt::Message {
@@ -95,72 +98,67 @@ impl<'a> Filling<'a> {
                 receiver,
                 point,
             } => {
-                let offered = Offered::one(self.alloc, *point)?;
                 let message = Message::of(self.alloc, label, sorts, *sender, *receiver)?;
+                let place = Offered::of(self.alloc, behind)?;
                 self.messages.push(message)?;
-                self.places.push(behind)?;
-                Ok(offered)
+                self.places.push(place)?;
+                Ok(PointSet::only(*point))
             }
             Stmt::Choice { subject, branches } => {
-                let offered = self.blocks(branches, &behind)?;
-                self.choices.push(ChoicePoints {
-                    subject: *subject,
-                    offered: offered.copy(self.alloc)?,
-                })?;
+                let offered = self.blocks(branches, behind)?;
+                self.chosen.add(*subject, offered);
                 Ok(offered)
             }
             Stmt::Rec { name, body } => {
-                let offered = first_of_block(self.alloc, &self.recs, body)?;
-                self.recs.enter(name, offered.copy(self.alloc)?)?;
-                self.block(body, &behind)?;
+                let offered = first_of_block(&self.recs, body);
+                self.recs.enter(name, offered)?;
+                self.block(body, behind)?;
                 self.recs.leave();
                 Ok(offered)
             }
-            Stmt::Continue { name } => self.recs.offered_by(name, self.alloc),
+            Stmt::Continue { name } => Ok(self.recs.offered_by(name)),
             // A full text has neither.
-            Stmt::Par { .. } => Ok(Offered::none(self.alloc)),
-            Stmt::Do { .. } => Ok(Offered::none(self.alloc)),
+            Stmt::Par { .. } => Ok(PointSet::none()),
+            Stmt::Do { .. } => Ok(PointSet::none()),
         }
     }
 }
 
 // What a block that isn't empty offers, whatever stands behind it: its first statement tells.
 #[cycle(first)]
-fn first_of_block(alloc: Global, recs: &Recs<'_>, block: &Block) -> Result<Offered, AllocError>
-    ensures { IfOk result (λ first. IsFirstIn recs.now (body_of block.now) first) }
+fn first_of_block(recs: &Recs<'_>, block: &Block) -> PointSet
+    ensures { IsFirstIn recs.now (body_of block.now) (members result.0) }
 {
     match block.as_slice().first() {
-        Some(stmt) => first_of_stmt(alloc, recs, stmt),
-        None => Ok(Offered::none(alloc)),
+        Some(stmt) => first_of_stmt(recs, stmt),
+        None => PointSet::none(),
     }
 }
 
 // What one or the other of these blocks offers, none of which is empty.
 #[cycle(first)]
-fn first_of_blocks(alloc: Global, recs: &Recs<'_>, blocks: &Blocks) -> Result<Offered, AllocError>
-    ensures { IfOk result (λ first. IsFirstInOne recs.now (bodies_of blocks.now) first) }
+fn first_of_blocks(recs: &Recs<'_>, blocks: &Blocks) -> PointSet
+    ensures { IsFirstInOne recs.now (bodies_of blocks.now) (members result.0) }
 {
     let branches = blocks.as_slice();
-    let mut union = Offered::none(alloc);
+    let mut union = PointSet::none();
     for index in (0..branches.len()).rev() {
-        let first = first_of_block(alloc, recs, &branches[index])?;
-        union = first.union(&union, alloc)?;
+        union = first_of_block(recs, &branches[index]).union(union);
     }
-    Ok(union)
+    union
 }
 
 // What a statement offers, whatever stands behind it.
 #[cycle(first)]
-fn first_of_stmt(alloc: Global, recs: &Recs<'_>, stmt: &Stmt) -> Result<Offered, AllocError>
-    ensures { IfOk result (λ first. (rest : Body) → IsFirstIn recs.now (stmt_body stmt.now rest) first) }
+fn first_of_stmt(recs: &Recs<'_>, stmt: &Stmt) -> PointSet
+    ensures { (rest : Body) → IsFirstIn recs.now (stmt_body stmt.now rest) (members result.0) }
 {
     match stmt {
-        Stmt::Message { point, .. } => Offered::one(alloc, *point),
-        Stmt::Choice { branches, .. } => first_of_blocks(alloc, recs, branches),
-        Stmt::Rec { body, .. } => first_of_block(alloc, recs, body),
-        Stmt::Continue { name } => recs.offered_by(name, alloc),
+        Stmt::Message { point, .. } => PointSet::only(*point),
+        Stmt::Choice { branches, .. } => first_of_blocks(recs, branches),
+        Stmt::Rec { body, .. } => first_of_block(recs, body),
+        Stmt::Continue { name } => recs.offered_by(name),
         // A full text has neither.
-        Stmt::Par { .. } => Ok(Offered::none(alloc)),
-        Stmt::Do { .. } => Ok(Offered::none(alloc)),
+        Stmt::Par { .. } | Stmt::Do { .. } => PointSet::none(),
     }
 }

@@ -7,13 +7,15 @@ ghost use Rattle.rcv_model.specs.Form.{HasForm};
 ghost use Rattle.rcv_model.specs.Places.{net_of};
 ghost use Rattle.rcv_points.specs.Follow.{PointsView, ArePointsOf, net_in};
 
+mod chosen;
 pub mod filling;
-mod merge;
 pub mod offered;
 pub mod points;
 mod recs;
 #[cfg(test)]
 mod tests;
+
+pub use std::alloc::AllocError as Memory;
 
 /// The points of a text say the protocol that the text says.
 pub fn points_are_the_text()

@@ -1,11 +1,13 @@
 // The points of a text: what each place offers, the message of each point, and what each choice offers.
 
-ghost use Rattle.std.specs.Prelude.{◌≡◌, ◌≤◌, length, IfOk};
-ghost use Rattle.rcv_points.specs.Follow.{PointsView, AreWithin, net_in, offered_at, message_at, has_some};
+ghost use Rattle.std.specs.Prelude.{◌≡◌, ◌↔◌, ◌≤◌, length, IsTrue, IfOk};
+ghost use Rattle.rcv_tree.specs.Bits.{members};
+ghost use Rattle.rcv_model.specs.Next.{IsOf};
+ghost use Rattle.rcv_points.specs.Follow.{PointsView, AreWithin, IsSetOfRole, net_in, offered_at, message_at, has_some};
 
 use crate::offered::Offered;
 use rcv_tree::name::{Name, Names};
-use rcv_tree::point::Point;
+use rcv_tree::point::{Point, PointSet};
 use rcv_tree::role::RoleId;
 use std::alloc::{AllocError, Global};
 use std::marker::Model;
@@ -37,7 +39,12 @@ impl Message {
         sender: RoleId,
         receiver: RoleId,
     ) -> Result<Message, AllocError>
-        ensures { IfOk result (λ message. message ≡ record { label = label.now; sender = sender; receiver = receiver; payload = has_some sorts.now }) }
+        ensures { IfOk result (λ message. message ≡ record {
+          label = label.now;
+          sender = sender;
+          receiver = receiver;
+          payload = has_some sorts.now;
+        }) }
     {
         Ok(Message {
             label: Name::of(alloc, label.as_slice())?,
@@ -48,7 +55,7 @@ impl Message {
     }
 }
 
-/// A choice: its subject, and the points that it offers, ascending.
+/// The points that choices at a role, their subject, offer.
 #[derive(Drop)]
 pub struct ChoicePoints {
     pub subject: RoleId,
@@ -63,7 +70,7 @@ impl Model for ChoicePoints {
     ghost view = { λ a. record { subject = a.subject; offered = a.offered } };
 }
 
-/// The points of a text, found once: each reader below answers in constant time and takes no memory.
+/// The points of a text, found once: each reader below takes no memory, and all but `of_role` answer in constant time.
 /// A place is 0 for the start, or a point for the place behind its message. Points are from 1 to `count`, at most 256.
 #[derive(Drop)]
 pub struct Points {
@@ -71,7 +78,7 @@ pub struct Points {
     places: Vec<Offered>,
     // By point, less 1.
     messages: Vec<Message>,
-    // In text order.
+    // By role.
     choices: Vec<ChoicePoints>,
 }
 
@@ -86,7 +93,7 @@ impl Model for Points {
 }
 
 impl Points {
-    /// What was found: for each place, point and choice, in text order.
+    /// What was found: for each place and point, in text order, and for each role that chooses.
     pub(crate) fn of(
         places: Vec<Offered>,
         messages: Vec<Message>,
@@ -133,6 +140,38 @@ impl Points {
         self.places[place as usize].as_slice()
     }
 
+    /// The same points as a set. It takes no memory.
+    pub fn offered_set(&self, place: u16) -> PointSet
+        requires { place ≤ length self.now.messages }
+        ensures { offered_at self.now place ≡ members result.0 }
+    {
+        self.places[place as usize].as_set()
+    }
+
+    /// The points at which a role sends or receives, as a set, in one pass along the points. It takes no memory.
+    pub fn of_role(&self, role: RoleId) -> PointSet
+        ensures { IsSetOfRole (net_in self.now) role (members result.0) }
+    {
+        let mut own = PointSet::none();
+        for before in 0..self.count() {
+            let point = Point(before + 1);
+            if self.is_of(point, role) {
+                own.insert(point);
+            }
+        }
+        own
+    }
+
+    /// Whether a role sends or receives at a point of the text. It takes no memory.
+    pub fn is_of(&self, point: Point, role: RoleId) -> bool
+        requires first { 1 ≤ point }
+        requires last { point ≤ length self.now.messages }
+        ensures { IsTrue result ↔ IsOf (net_in self.now) role point }
+    {
+        let message = self.message(point);
+        message.sender == role || message.receiver == role
+    }
+
     /// The role that sends the message of a point of the text.
     pub fn sender(&self, point: Point) -> RoleId
         requires first { 1 ≤ point }
@@ -169,7 +208,7 @@ impl Points {
         self.message(point).payload
     }
 
-    /// The choices, in text order: a choice stands before those in its branches.
+    /// The points that choices offer, by the subjects of the choices.
     pub fn choices(&self) -> &[ChoicePoints]
         ensures { result.now ≡ self.now.choices }
     {

@@ -1,7 +1,7 @@
 -- Canonical texts, computed.
 use Rattle.std.proofs.Common.{◌≡◌, [], ◌∷◌, ◌++◌, refl}
 use Rattle.std.specs.Prelude.{codes}
-use Rattle.rcv_model.specs.Text.{Body, End, Single, Choose, Loop, Again, Beside, Call, NoMore, Or}
+use Rattle.rcv_model.specs.Text.{Body, End, Single, Choose, Loop, Again, Parallel, Call, NoMore, Or}
 use Rattle.rcv_printer.specs.CanonicalText.{inner, module_line, decl_line, decl_lines, head_line, body_text}
 
 -- what stands on the line of a message is in the order in which it is read
@@ -24,7 +24,7 @@ stream_text : module_line (codes "stream" ∷ [])
 stream_text = refl
 
 -- blocks beside each other, and a call
-beside : body_text (codes "A" ∷ codes "B" ∷ []) [] (Beside (Or (Call (codes "P") (1 ∷ 0 ∷ []) End) (Or (Again (codes "X") End) NoMore)) End) []
+beside : body_text (codes "A" ∷ codes "B" ∷ []) [] (Parallel (Or (Call (codes "P") (1 ∷ 0 ∷ []) End) (Or (Again (codes "X") End) NoMore)) End) []
     ≡ codes "par {\n  do P(B, A);\n} and {\n  continue X;\n}\n"
 beside = refl
 

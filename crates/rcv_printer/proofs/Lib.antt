@@ -3,7 +3,5 @@ pub mod Saying
 pub mod Lines
 pub mod Spelled
 pub mod Whole
-pub mod Tokens
-pub mod Printables
 pub mod ReadBack
 pub mod Examples

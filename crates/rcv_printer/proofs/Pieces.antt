@@ -6,9 +6,12 @@ use Rattle.std.proofs.Math.Seq.{take-append_seam}
 use Rattle.rcv_lexer.specs.declared.token.Kind.{Kind}
 use Rattle.rcv_lexer.specs.declared.token.Kind.TheVariants.{Word, Text, Mark}
 use Rattle.rcv_lexer.specs.declared.piece.Piece.{Piece}
-use Rattle.rcv_lexer.specs.Pieces.{is_letter, is_word_byte, is_inside, word_of, quoted, token_of, pairs, piece_of}
+use Rattle.rcv_lexer.proofs.Fitting.{letter_is_word_byte}
+use Rattle.rcv_lexer.specs.Pieces.{is_inside, word_of, quoted, token_of, pairs, piece_of}
+use Rattle.rcv_tree.specs.Words.{is_letter, is_word_byte}
 use Rattle.rcv_reader.specs.Symbols.{unquoted}
-use Rattle.rcv_printer.specs.Printable.{Passes, IsWord, IsQuotable}
+use Rattle.rcv_lexer.specs.Tokens.{IsQuotable}
+use Rattle.rcv_tree.specs.Words.{Passes, IsWord}
 
 -- a piece with a token of this kind, or with none, and so many bytes
 abbrev pub piece : Option Kind → ℕ → Piece
@@ -24,9 +27,6 @@ run_is p [] [] h stop = refl
 run_is p [] (b ∷ bs) h stop = take_while-cons p b bs ∙ ap (λ (c : Bool). cond c (b ∷ take_while p bs) []) stop
 run_is p (b ∷ w) next h stop =
     take_while-cons p b (w ++ next) ∙ ap (λ (c : Bool). cond c (b ∷ take_while p (w ++ next)) []) h.0 ∙ ap (λ (x : List ℕ). b ∷ x) (run_is p w next h.1 stop)
-
-pub letter_is_word_byte : (b : ℕ) → is_letter b ≡ true → is_word_byte b ≡ true
-letter_is_word_byte b e = rw e refl
 
 pub word_piece : (w next : List ℕ) → IsWord w → StopsAt is_word_byte next → piece_of (w ++ next) ≡ Some (piece (Some Word) (length w))
 word_piece [] next h stop = absurd h

@@ -18,7 +18,7 @@ use Rattle.rcv_printer.specs.CanonicalText.{inner, module_line, decl_lines, head
 use Rattle.rcv_printer.specs.Laws.{whole, IsTextOf, CanonicalTextsReadBack, CanonicalTextsStay}
 use Rattle.rcv_printer.proofs.Spelled.{says_canonical}
 use Rattle.rcv_printer.proofs.Whole.{is_text_of}
-use Rattle.rcv_printer.proofs.Printables.{read_is_printable}
+use Rattle.rcv_grammar.proofs.Printables.{read_is_printable}
 
 pub reads_back : CanonicalTextsReadBack
 reads_back bundle part tokens p are read =

@@ -3,14 +3,14 @@ use Rattle.std.proofs.Common.{ℕ, List, [], ◌∷◌, ◌++◌, refl}
 use Rattle.std.specs.Prelude.{codes}
 use Rattle.rcv_tree.specs.Lists.{declarations}
 use Rattle.rcv_tree.specs.declared.protocol.Protocol.{Protocol}
-use Rattle.rcv_model.specs.Text.{Body, End, Single, Choose, Loop, Again, Beside, Call, Bodies, NoMore, Or, body_of}
+use Rattle.rcv_model.specs.Text.{Body, End, Single, Choose, Loop, Again, Parallel, Call, Bodies, NoMore, Or, body_of}
 use Rattle.rcv_reader.specs.declared.sign.Sign.{Sign}
 use Rattle.rcv_reader.specs.declared.sign.Sign.TheVariants as sign
 use Rattle.rcv_reader.specs.Symbols.{Symbol, Is, Name}
 use Rattle.rcv_reader.specs.Grammar.{stmts, blocks_behind, dotted, roles_behind, spelling}
 use Rattle.rcv_grammar.specs.Canonical.{name_at, names_at, first_name, more_names, written_of, blocks_of, source_of}
 use Rattle.rcv_printer.specs.CanonicalText.{inner, module_line, body_text, blocks_text, head_line, canonical}
-use Rattle.rcv_printer.specs.Printable.{IsName, SomeNames, IsPrintableBody, ArePrintableBlocks, IsPrintable}
+use Rattle.rcv_grammar.specs.Printable.{IsName, SomeNames, IsPrintableBody, ArePrintableBlocks, IsPrintable}
 use Rattle.rcv_printer.proofs.Saying.{Says, space, feed, left, close, call_end, right, semicolon, opened, name, keyword, says_nothing}
 use Rattle.rcv_printer.proofs.Lines.{IsMargin, behind_margin, inner_margin, says_list, dots_stop, roles_stop, says_modules, says_roles, says_decls, says_message}
 
@@ -42,9 +42,9 @@ mutual
       behind_margin margin m (keyword (codes "rec") sign.Rec (name n h.0 block refl) refl refl (λ before. refl))
   says_body roles margin (Again n rest) next s m h said =
       behind_margin margin m (keyword (codes "continue") sign.Continue (name n h.0 (semicolon (says_body roles margin rest next s m h.1 said)) refl) refl refl (λ before. refl))
-  says_body roles margin (Beside NoMore rest) next s m h said = absurd h.0
-  says_body roles margin (Beside (Or first NoMore) rest) next s m h said = absurd h.0.1
-  says_body roles margin (Beside (Or first (Or second others)) rest) next s m h said =
+  says_body roles margin (Parallel NoMore rest) next s m h said = absurd h.0
+  says_body roles margin (Parallel (Or first NoMore) rest) next s m h said = absurd h.0.1
+  says_body roles margin (Parallel (Or first (Or second others)) rest) next s m h said =
       let after = feed (says_body roles margin rest next s m h.1 said) in
       let more = close (says_blocks roles margin (codes " and ") sign.And (Or second others) _ _ m and_joins h.0.1 after) in
       let block = opened (says_body roles (inner margin) first _ _ (inner_margin margin m) h.0.0 (behind_margin margin m more)) in

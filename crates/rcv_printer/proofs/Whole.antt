@@ -1,18 +1,16 @@
 -- A text that says symbols is one part with tokens that say them.
-use Rattle.std.proofs.Common.{◌≡◌, ℕ, ◌+◌, ◌-◌, ◌≤◌, Bool, true, false, List, [], ◌∷◌, ◌++◌, length, take, drop, Option, Some, None, refl, sym, ap, subst, ◌∙◌, arith}
+use Rattle.std.proofs.Common.{◌≡◌, ℕ, ◌+◌, ◌-◌, Bool, true, false, List, [], ◌∷◌, ◌++◌, length, take, drop, Option, Some, None, refl, sym, ap, subst, ◌∙◌, arith}
 use Rattle.std.specs.Prelude.{◌==◌, ◌&&◌, slice_range}
 use Rattle.std.proofs.lemmas.Bool.Decides.{nat_tests}
-use Rattle.std.proofs.lemmas.List.{drop-drop, drop-take, take-take, length-take}
 use Rattle.std.proofs.Math.Seq.{take-length}
 use Rattle.rcv_model.proofs.Keeping.{or_false}
 use Rattle.rcv_lexer.specs.declared.token.Kind.{Kind}
 use Rattle.rcv_lexer.specs.declared.token.Token.{Token}
 use Rattle.rcv_lexer.specs.declared.piece.Piece.{Piece}
 use Rattle.rcv_lexer.specs.declared.parts.Separator.{Separator}
-use Rattle.rcv_lexer.specs.Pieces.{piece_of}
 use Rattle.rcv_lexer.specs.Parts.{here, first_from, parts_from, or_else}
 use Rattle.rcv_lexer.specs.Tokens.{Cuts, line_at, token_at, tokens_of}
-use Rattle.rcv_lexer.proofs.Fitting.{Lies, piece_lies}
+use Rattle.rcv_lexer.proofs.TokenBytes.{bytes_at, bytes_behind}
 use Rattle.rcv_reader.specs.Symbols.{Symbol, symbols_of}
 use Rattle.rcv_printer.specs.Laws.{IsOnePart, IsTextOf}
 use Rattle.rcv_printer.proofs.Saying.{symbol_if, symbols_in, breaks, Says}
@@ -39,22 +37,12 @@ one_symbol : (bundle : List ℕ) (place line len : ℕ) (token : Option Kind) (r
 one_symbol bundle place line len None rest = refl
 one_symbol bundle place line len (Some kind) rest = refl
 
--- the piece lies in what is left of the part
-piece_within : (text : List ℕ) (p : Piece) → piece_of text ≡ Some p → p.len ≤ length text
-piece_within text p e = (subst (Lies text) e (piece_lies text)).1
-
 pub symbols_are : (ps : List Piece) (bundle : List ℕ) (place k : ℕ) → Cuts ps (take k (drop place bundle)) []
     → symbols_of bundle (tokens_of bundle place ps) ≡ symbols_in ps (take k (drop place bundle))
 symbols_are [] bundle place k cuts = refl
 symbols_are (p ∷ ps) bundle place k cuts =
-    let within = piece_within (take k (drop place bundle)) p cuts.0 in
-    let fits : p.len ≤ k = omega (arith, length-take k (drop place bundle)) in
-    let n : place + p.len - place ≡ p.len = omega arith in
-    let left : k ≡ p.len + (k - p.len) = omega arith in
-    let bytes : slice_range bundle place (place + p.len) ≡ take p.len (take k (drop place bundle)) =
-    ap (λ (i : ℕ). take i (drop place bundle)) n ∙ sym (take-take p.len k (drop place bundle) fits) in
-    let behind : drop p.len (take k (drop place bundle)) ≡ take (k - p.len) (drop (place + p.len) bundle) =
-    ap (λ (i : ℕ). drop p.len (take i (drop place bundle))) left ∙ drop-take p.len (k - p.len) (drop place bundle) ∙ ap (take (k - p.len)) (drop-drop p.len place bundle) in
+    let bytes = bytes_at bundle place k p cuts.0 in
+    let behind = bytes_behind bundle place k p cuts.0 in
     one_symbol bundle place (line_at bundle place) p.len p.token (tokens_of bundle (place + p.len) ps)
     ∙ ap (λ (x : List ℕ). symbol_if p.token x (symbols_of bundle (tokens_of bundle (place + p.len) ps))) bytes
     ∙ ap (symbol_if p.token (take p.len (take k (drop place bundle))))

@@ -4,7 +4,7 @@ use Rattle.rcv_tree.specs.Lists.{declarations}
 use Rattle.rcv_tree.specs.declared.protocol.Decl.{Decl}
 use Rattle.rcv_tree.specs.declared.protocol.Protocol.{Protocol}
 use Rattle.rcv_grammar.specs.Canonical.{name_at, names_at}
-use Rattle.rcv_model.specs.Text.{Body, End, Single, Choose, Loop, Again, Beside, Call, Bodies, NoMore, Or, body_of}
+use Rattle.rcv_model.specs.Text.{Body, End, Single, Choose, Loop, Again, Parallel, Call, Bodies, NoMore, Or, body_of}
 
 -- Words, one behind another.
 abbrev pub words : List (List ℕ) → List ℕ → List ℕ
@@ -60,7 +60,7 @@ abbrev mutual
       (body_text roles (inner margin) body (words (margin ∷ codes "}\n" ∷ []) (body_text roles margin rest next)))
   body_text roles margin (Again name rest) next =
       words (margin ∷ codes "continue " ∷ name ∷ codes ";\n" ∷ []) (body_text roles margin rest next)
-  body_text roles margin (Beside blocks rest) next =
+  body_text roles margin (Parallel blocks rest) next =
       words (margin ∷ codes "par" ∷ [])
       (blocks_text roles margin (codes " ") (codes " and ") blocks (codes "\n" ++ body_text roles margin rest next))
   body_text roles margin (Call name places rest) next =

@@ -10,7 +10,7 @@ use Rattle.rcv_reader.specs.Grammar.{spelling}
 use Rattle.rcv_reader.specs.Refusals.{IsRead}
 use Rattle.rcv_grammar.specs.Canonical.{source_of}
 use Rattle.rcv_printer.specs.CanonicalText.{canonical}
-use Rattle.rcv_printer.specs.Printable.{IsPrintable}
+use Rattle.rcv_grammar.specs.Printable.{IsPrintable}
 
 -- the whole text
 abbrev pub whole : List ℕ → Span

@@ -1,4 +1,3 @@
 pub mod CanonicalText
 pub mod Laws
-pub mod Printable
 pub mod Printing

@@ -6,38 +6,39 @@ ghost use Rattle.rcv_printer.specs.CanonicalText.{module_line, decl_line, decl_l
 ghost use Rattle.rcv_printer.specs.Printing.{Puts};
 
 use crate::names::put_list;
-use crate::text::Text;
+use crate::text::put;
+use rcv_text::writer::Writer;
 use rcv_tree::name::{Name, Names};
 use rcv_tree::protocol::{Decl, Decls};
 use std::alloc::AllocError;
 
 // Puts the module's line behind the text.
-pub fn put_module(text: &mut Text, module: &Names) -> Result<(), AllocError>
+pub fn put_module(text: &mut Writer, module: &Names) -> Result<(), AllocError>
     ensures { OnOk result (Puts text.old text.new (module_line «module».now)) }
 {
-    text.put(b"module ")?;
+    put(text, b"module ")?;
     put_list(text, b"", b".", module)?;
-    text.put(b";\n")
+    put(text, b";\n")
 }
 
 // Puts the line of a declaration behind the text.
-fn put_decl(text: &mut Text, decl: &Decl) -> Result<(), AllocError>
+fn put_decl(text: &mut Writer, decl: &Decl) -> Result<(), AllocError>
     ensures { OnOk result (Puts text.old text.new (decl_line decl.now)) }
 {
-    text.put(decl.word.as_slice())?;
-    text.put(b" <")?;
-    text.put(decl.schema.as_slice())?;
-    text.put(b"> \"")?;
-    text.put(decl.extern_name.as_slice())?;
-    text.put(b"\" from \"")?;
-    text.put(decl.file.as_slice())?;
-    text.put(b"\" as ")?;
-    text.put(decl.alias.as_slice())?;
-    text.put(b";\n")
+    put(text, decl.word.as_slice())?;
+    put(text, b" <")?;
+    put(text, decl.schema.as_slice())?;
+    put(text, b"> \"")?;
+    put(text, decl.extern_name.as_slice())?;
+    put(text, b"\" from \"")?;
+    put(text, decl.file.as_slice())?;
+    put(text, b"\" as ")?;
+    put(text, decl.alias.as_slice())?;
+    put(text, b";\n")
 }
 
 // Puts the lines of the declarations behind the text.
-pub fn put_decls(text: &mut Text, decls: &Decls) -> Result<(), AllocError>
+pub fn put_decls(text: &mut Writer, decls: &Decls) -> Result<(), AllocError>
     ensures { OnOk result (Puts text.old text.new (decl_lines (declarations decls.now))) }
 {
     for decl in decls.as_slice() {
@@ -47,12 +48,12 @@ pub fn put_decls(text: &mut Text, decls: &Decls) -> Result<(), AllocError>
 }
 
 // Puts the line with the protocol's name and its roles behind the text.
-pub fn put_head(text: &mut Text, name: &Name, roles: &Names) -> Result<(), AllocError>
+pub fn put_head(text: &mut Writer, name: &Name, roles: &Names) -> Result<(), AllocError>
     ensures { OnOk result (Puts text.old text.new (head_line name.now roles.now)) }
 {
-    text.put(b"global protocol ")?;
-    text.put(name.as_slice())?;
-    text.put(b"(")?;
+    put(text, b"global protocol ")?;
+    put(text, name.as_slice())?;
+    put(text, b"(")?;
     put_list(text, b"role ", b", role ", roles)?;
-    text.put(b") {\n")
+    put(text, b") {\n")
 }

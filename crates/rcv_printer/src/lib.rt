@@ -12,6 +12,8 @@ mod tests;
 mod text;
 
 pub use printer::print_protocol;
+/// Want of memory, which is the one error of the calls of this crate.
+pub use std::alloc::AllocError as Memory;
 
 /// Where the names of a protocol are names of the grammar, its canonical text is one part, and its tokens spell the
 /// protocol with one receiver for each message.

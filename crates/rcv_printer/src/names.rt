@@ -5,7 +5,8 @@ ghost use Rattle.rcv_grammar.specs.Canonical.{name_at, names_at};
 ghost use Rattle.rcv_printer.specs.CanonicalText.{listed, comma_list};
 ghost use Rattle.rcv_printer.specs.Printing.{Puts};
 
-use crate::text::Text;
+use crate::text::put;
+use rcv_text::writer::Writer;
 use rcv_tree::name::Names;
 use rcv_tree::role::{RoleId, Roles};
 use std::alloc::AllocError;
@@ -22,7 +23,7 @@ pub fn name_of(roles: &Names, role: RoleId) -> &[u8]
 
 // Puts names behind the text, with one word before the first and another one before each that follows.
 pub fn put_list(
-    text: &mut Text,
+    text: &mut Writer,
     before: &[u8],
     between: &[u8],
     names: &Names,
@@ -31,21 +32,21 @@ pub fn put_list(
 {
     let mut word = before;
     for name in names.as_slice() {
-        text.put(word)?;
-        text.put(name.as_slice())?;
+        put(text, word)?;
+        put(text, name.as_slice())?;
         word = between;
     }
     Ok(())
 }
 
 // Puts the names of roles behind the text, with commas between.
-pub fn put_roles(text: &mut Text, roles: &Names, places: &Roles) -> Result<(), AllocError>
+pub fn put_roles(text: &mut Writer, roles: &Names, places: &Roles) -> Result<(), AllocError>
     ensures { OnOk result (Puts text.old text.new (comma_list (names_at roles.now places.now))) }
 {
     let mut word: &[u8] = b"";
     for role in places.as_slice() {
-        text.put(word)?;
-        text.put(name_of(roles, *role))?;
+        put(text, word)?;
+        put(text, name_of(roles, *role))?;
         word = b", ";
     }
     Ok(())

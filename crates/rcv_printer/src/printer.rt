@@ -5,7 +5,8 @@ ghost use Rattle.rcv_printer.specs.CanonicalText.{canonical};
 
 use crate::head::{put_decls, put_head, put_module};
 use crate::statements::put_block;
-use crate::text::Text;
+use crate::text::put;
+use rcv_text::writer::Writer;
 use rcv_tree::protocol::Protocol;
 use std::alloc::{AllocError, Global};
 
@@ -16,12 +17,12 @@ use std::alloc::{AllocError, Global};
 pub fn print_protocol(alloc: Global, protocol: &Protocol) -> Result<Vec<u8>, AllocError>
     ensures { IfOk result (λ text. text.items ≡ canonical protocol.now) }
 {
-    let mut text = Text::new(alloc);
+    let mut text = Writer::new(alloc);
     put_module(&mut text, &protocol.module)?;
     put_decls(&mut text, &protocol.decls)?;
-    text.put(b"\n")?;
+    put(&mut text, b"\n")?;
     put_head(&mut text, &protocol.name, &protocol.roles)?;
     put_block(alloc, &mut text, &protocol.roles, b"  ", &protocol.body)?;
-    text.put(b"}\n")?;
+    put(&mut text, b"}\n")?;
     Ok(text.finish())
 }

@@ -6,7 +6,8 @@ ghost use Rattle.rcv_printer.specs.CanonicalText.{inner, message_line, body_text
 ghost use Rattle.rcv_printer.specs.Printing.{Puts, PutsStatements};
 
 use crate::names::{name_of, put_list, put_roles};
-use crate::text::Text;
+use crate::text::put;
+use rcv_text::writer::Writer;
 use rcv_tree::name::{Name, Names};
 use rcv_tree::role::RoleId;
 use rcv_tree::statement::{Block, Blocks, Stmt};
@@ -23,7 +24,7 @@ fn inner(alloc: Global, margin: &[u8]) -> Result<Vec<u8>, AllocError>
 
 // Puts the line of a message behind the text.
 fn put_message(
-    text: &mut Text,
+    text: &mut Writer,
     margin: &[u8],
     label: &Name,
     sorts: &Names,
@@ -32,22 +33,22 @@ fn put_message(
 ) -> Result<(), AllocError>
     ensures { OnOk result (Puts text.old text.new (message_line margin.now label.now sorts.now sender.now receiver.now)) }
 {
-    text.put(margin)?;
-    text.put(label.as_slice())?;
-    text.put(b"(")?;
+    put(text, margin)?;
+    put(text, label.as_slice())?;
+    put(text, b"(")?;
     put_list(text, b"", b", ", sorts)?;
-    text.put(b") from ")?;
-    text.put(sender)?;
-    text.put(b" to ")?;
-    text.put(receiver)?;
-    text.put(b";\n")
+    put(text, b") from ")?;
+    put(text, sender)?;
+    put(text, b" to ")?;
+    put(text, receiver)?;
+    put(text, b";\n")
 }
 
 // Puts the statements of a block behind the text, each behind the margin.
 #[cycle(statements)]
 pub fn put_block(
     alloc: Global,
-    text: &mut Text,
+    text: &mut Writer,
     roles: &Names,
     margin: &[u8],
     block: &Block,
@@ -64,7 +65,7 @@ pub fn put_block(
 #[cycle(statements)]
 fn put_blocks(
     alloc: Global,
-    text: &mut Text,
+    text: &mut Writer,
     roles: &Names,
     margin: &[u8],
     before: &[u8],
@@ -76,11 +77,11 @@ fn put_blocks(
     let further = inner(alloc, margin)?;
     let mut word = before;
     for block in blocks.as_slice() {
-        text.put(word)?;
-        text.put(b"{\n")?;
+        put(text, word)?;
+        put(text, b"{\n")?;
         put_block(alloc, text, roles, further.as_slice(), block)?;
-        text.put(margin)?;
-        text.put(b"}")?;
+        put(text, margin)?;
+        put(text, b"}")?;
         word = between;
     }
     Ok(())
@@ -90,7 +91,7 @@ fn put_blocks(
 #[cycle(statements)]
 fn put_stmt(
     alloc: Global,
-    text: &mut Text,
+    text: &mut Writer,
     roles: &Names,
     margin: &[u8],
     stmt: &Stmt,
@@ -113,43 +114,43 @@ fn put_stmt(
             name_of(roles, *receiver),
         ),
         Stmt::Choice { subject, branches } => {
-            text.put(margin)?;
-            text.put(b"choice at ")?;
-            text.put(name_of(roles, *subject))?;
+            put(text, margin)?;
+            put(text, b"choice at ")?;
+            put(text, name_of(roles, *subject))?;
             put_blocks(alloc, text, roles, margin, b" ", b" or ", branches)?;
-            text.put(b"\n")
+            put(text, b"\n")
         }
         Stmt::Rec { name, body } => {
-            text.put(margin)?;
-            text.put(b"rec ")?;
-            text.put(name.as_slice())?;
-            text.put(b" {\n")?;
+            put(text, margin)?;
+            put(text, b"rec ")?;
+            put(text, name.as_slice())?;
+            put(text, b" {\n")?;
             put_block(alloc, text, roles, inner(alloc, margin)?.as_slice(), body)?;
-            text.put(margin)?;
-            text.put(b"}\n")
+            put(text, margin)?;
+            put(text, b"}\n")
         }
         Stmt::Continue { name } => {
-            text.put(margin)?;
-            text.put(b"continue ")?;
-            text.put(name.as_slice())?;
-            text.put(b";\n")
+            put(text, margin)?;
+            put(text, b"continue ")?;
+            put(text, name.as_slice())?;
+            put(text, b";\n")
         }
         Stmt::Par { blocks } => {
-            text.put(margin)?;
-            text.put(b"par")?;
+            put(text, margin)?;
+            put(text, b"par")?;
             put_blocks(alloc, text, roles, margin, b" ", b" and ", blocks)?;
-            text.put(b"\n")
+            put(text, b"\n")
         }
         Stmt::Do {
             protocol,
             roles: places,
         } => {
-            text.put(margin)?;
-            text.put(b"do ")?;
-            text.put(protocol.as_slice())?;
-            text.put(b"(")?;
+            put(text, margin)?;
+            put(text, b"do ")?;
+            put(text, protocol.as_slice())?;
+            put(text, b"(")?;
             put_roles(text, roles, places)?;
-            text.put(b");\n")
+            put(text, b");\n")
         }
     }
 }

@@ -1,121 +1,93 @@
-// An accepted protocol, as one of its roles sees it.
+// The machine of a role: what it does at each of its places.
 
-ghost use Rattle.std.specs.Prelude.{◌≡◌, ◌<◌, ◌≤◌};
+ghost use Rattle.std.specs.Prelude.{◌≡◌, ◌<◌, ℕ, length};
+ghost use Rattle.rcv_model.specs.Net.{Net};
 ghost use Rattle.rcv_model.specs.Next.{IsPlaceOf};
-ghost use Rattle.rcv_accept.specs.Accepted.{roles_of};
 ghost use Rattle.rcv_project.specs.Act.{view_of, IsActAt};
-ghost use Rattle.rcv_project.specs.Local.{IsLocal, net_seen, names_seen};
-ghost use Rattle.rcv_project.specs.LocalText.{is_own, name_of};
+ghost use Rattle.rcv_project.specs.Local.{TellsAct, act_at};
 
 use crate::act::Act;
-use rcv_accept::accepted::Accepted;
 use rcv_tree::point::Point;
 use rcv_tree::role::RoleId;
 use std::marker::Model;
 
-/// The machine of one role of an accepted protocol: what the role does at each of its places.
-/// Contracts see the protocol and the role.
+/// What a role does at a place, with points of its own, ascending.
 #[derive(Drop)]
-pub struct Local<'a> {
-    accepted: &'a Accepted,
-    role: RoleId,
+pub enum OwnedAct {
+    /// It sends one of these points.
+    Sends(Vec<Point>),
+    /// It receives one of these points from this role.
+    Receives(RoleId, Vec<Point>),
+    /// Its part ends here.
+    Done,
 }
 
-impl<'a> Model for Local<'a> {
-    ghost use Rattle.rcv_project.specs.Local.{LocalView, IsLocal};
-    ghost use Rattle.rcv_tree.specs.contracts.statement.Stmt as e;
-    ghost use Rattle.std.specs.Coded.{codes};
+/// A place of a role: what the role does there.
+#[derive(Drop)]
+pub struct Place {
+    pub act: OwnedAct,
+}
+
+impl Model for Place {
+    ghost use Rattle.rcv_project.specs.Act.{ActView, owned_view};
+
+    ghost Value = { ActView };
+
+    ghost view = { λ a. owned_view a.act };
+}
+
+impl Place {
+    // What the role does here. It takes no memory.
+    fn act(&self) -> Act<'_>
+        ensures { view_of result ≡ self.now }
+    {
+        match &self.act {
+            OwnedAct::Sends(points) => Act::Sends(points.as_slice()),
+            OwnedAct::Receives(from, points) => Act::Receives(*from, points.as_slice()),
+            OwnedAct::Done => Act::Done,
+        }
+    }
+}
+
+/// The machine of one role of an accepted protocol: what the role does at each of its places.
+/// It has all of its points, so that it may stand beside the protocol. Contracts see the role and its acts by place.
+#[derive(Drop)]
+pub struct Local {
+    role: RoleId,
+    // From the start on.
+    places: Vec<Place>,
+}
+
+impl Model for Local {
+    ghost use Rattle.rcv_project.specs.Local.{LocalView};
 
     ghost Value = { LocalView };
 
-    ghost coded = { Prim.hlevel (codes, e.the_row.coded) };
-
-    ghost view = { λ a. record { accepted = a.accepted.now; role = a.role } };
-
-    ghost invariant = { λ a. IsLocal a.accepted.now a.role };
+    ghost view = { λ a. record { role = a.role; acts = a.places.items } };
 }
 
-/// The machine of a declared role. It takes no memory: what the role does was found by acceptance, and is looked up.
-pub fn project(accepted: &Accepted, role: RoleId) -> Local<'_>
-    requires { role < roles_of accepted.now }
-    ensures { result ≡ record { accepted = accepted.now; role = role } }
-{
-    // Tells the proof that the protocol is accepted.
-    let _protocol = accepted.protocol();
-    Local { accepted, role }
-}
+impl Local {
+    // The machine of a role that does this at each place.
+    pub(crate) fn of(role: RoleId, places: Vec<Place>) -> Local
+        ensures { result ≡ record { role = role; acts = places.items } }
+    {
+        Local { role, places }
+    }
 
-impl<'a> Local<'a> {
+    /// The role.
+    pub fn role(&self) -> RoleId
+        ensures { result ≡ self.now.role }
+    {
+        self.role
+    }
+
     /// What the role does at a place of its own, which is 0 for the start, or one of its points for the place behind it.
-    /// It takes no memory.
+    /// It takes no memory and a constant time.
     pub fn next(&self, place: u16) -> Act<'_>
-        requires { IsPlaceOf (net_seen self.now) self.now.role place }
-        ensures act { IsActAt (net_seen self.now) self.now.role place (view_of result) }
-        ensures lawful { IsLocal self.now.accepted self.now.role }
+        requires { place < length self.now.acts }
+        ensures value { view_of result ≡ act_at self.now place }
+        ensures exact { TellsAct self.now place (view_of result) }
     {
-        let points = self.accepted.next(self.role, place);
-        match points.first() {
-            None => Act::Done,
-            Some(first) => {
-                let sender = self.sender(*first);
-                if sender == self.role {
-                    Act::Sends(points)
-                } else {
-                    Act::Receives(sender, points)
-                }
-            }
-        }
-    }
-
-    // How many points the text has.
-    pub(crate) fn count(&self) -> u16
-        ensures { result ≡ (net_seen self.now).count }
-    {
-        self.accepted.points().count()
-    }
-
-    // Whether the role sends or receives a point of the text.
-    pub(crate) fn owns(&self, point: Point) -> bool
-        requires first { 1 ≤ point }
-        requires last { point ≤ (net_seen self.now).count }
-        ensures { result ≡ is_own (net_seen self.now) self.now.role point }
-    {
-        self.sender(point) == self.role || self.receiver(point) == self.role
-    }
-
-    // The role that sends a point of the text.
-    fn sender(&self, point: Point) -> RoleId
-        requires first { 1 ≤ point }
-        requires last { point ≤ (net_seen self.now).count }
-        ensures { result ≡ (net_seen self.now).sender point }
-    {
-        self.accepted.points().sender(point)
-    }
-
-    // The role that receives a point of the text.
-    pub(crate) fn receiver(&self, point: Point) -> RoleId
-        requires first { 1 ≤ point }
-        requires last { point ≤ (net_seen self.now).count }
-        ensures value { result ≡ (net_seen self.now).receiver point }
-        ensures declared { result < roles_of self.now.accepted }
-    {
-        self.accepted.points().receiver(point)
-    }
-
-    // The label of a point of the text.
-    pub(crate) fn label(&self, point: Point) -> &[u8]
-        requires first { 1 ≤ point }
-        requires last { point ≤ (net_seen self.now).count }
-        ensures { result.now ≡ (net_seen self.now).label point }
-    {
-        self.accepted.points().label(point)
-    }
-
-    // The name of a role of the protocol.
-    pub(crate) fn name(&self, role: RoleId) -> &[u8]
-        requires { role < roles_of self.now.accepted }
-        ensures { result.now ≡ name_of (names_seen self.now) role }
-    {
-        self.accepted.protocol().roles.as_slice()[role.0 as usize].as_slice()
+        self.places[place as usize].act()
     }
 }

@@ -10,7 +10,7 @@ use Rattle.rcv_tree.specs.declared.statement.Stmt.TheFolds.{fold_out-Block, fold
 use Rattle.rcv_model.specs.Text as trees
 use Rattle.rcv_model.proofs.Text.{stmt_body-Message, stmt_body-Choice, stmt_body-Rec, stmt_body-Continue}
 use Rattle.rcv_reader.specs.declared.sign.Sign.TheVariants.{Open, Close, Or, Choice, Rec, Continue, Left, Right, From, To, At, Semicolon}
-use Rattle.rcv_reader.specs.declared.fault.ReadError.{ReadError}
+use Rattle.rcv_reader.specs.declared.fault.Stop.{Stop}
 use Rattle.rcv_reader.specs.Symbols.{Symbol, Is, Name}
 use Rattle.rcv_reader.specs.Grammar as grammar
 use Rattle.rcv_reader.specs.Grammar.{Written, NoStmt, AMessage, AChoice, ARec, AContinue, NoBlock, ABlock, stmts, sort_list, names_behind, blocks_behind, IsBegun, IsProper, AreProper}
@@ -20,13 +20,13 @@ use Rattle.rcv_reader.specs.Descent.{known, place_at, Halts, Goes, IsNotNext, a_
 use Rattle.rcv_reader.proofs.Going.{halts_behind, rest_is_first, more_is_rest, in_message, to_message}
 use Rattle.rcv_reader.proofs.Reading.{IsSame, IsOther, known_same, halts_over}
 
-pub goes_behind : (X : Type 0) (r : Result X ReadError) (s s1 s2 : State) (front mid : List Item → List Item) (behind' : X → List Item → List Item) (start between new : List Symbol)
+pub goes_behind : (X : Type 0) (r : Result X Stop) (s s1 s2 : State) (front mid : List Item → List Item) (behind' : X → List Item → List Item) (start between new : List Symbol)
     → ((k : List Item) → answer s (front k) start ≡ answer s1 (mid k) between) → Goes r s1 s2 mid behind' between new → Goes r s s2 front behind' start new
 goes_behind X (Ok x) s s1 s2 front mid behind' start between new goes h = λ k. goes k ∙ h k
 goes_behind X (Err e) s s1 s2 front mid behind' start between new goes h = halts_behind e s s1 front mid start between new goes h
 
 -- what follows from a success
-pub on_ok : (X : Type 0) (r : Result X ReadError) (P Q : Type 0) → (P → Q) → OnOk r P → OnOk r Q
+pub on_ok : (X : Type 0) (r : Result X Stop) (P Q : Type 0) → (P → Q) → OnOk r P → OnOk r Q
 on_ok X (Ok x) P Q f h = f h
 on_ok X (Err e) P Q f h = tt
 
@@ -343,12 +343,12 @@ branches_go roles r0 r1 recs q0 q1 count c0 c1 depth comes ended bs start now mi
     ∙ ap (λ (s : State). answer s (Rest (behind (place_at recs depth comes ended) false) ∷ k) now) (known_same r0 r1 c0 c1 same.0 same.2)
     ∙ ap (λ (x : List Symbol). answer (known r1 c1) (Rest (behind (place_at recs depth comes ended) false) ∷ k) x) (sym other.0)
 
-beside-in_front : (bs : List Block) → branches_in_front bs trees.NoMore ≡ trees.beside (map trees.body_of bs)
-beside-in_front [] = refl
-beside-in_front (b ∷ bs) = ap (trees.Or (trees.body_of b)) (beside-in_front bs)
+alternatives-in_front : (bs : List Block) → branches_in_front bs trees.NoMore ≡ trees.alternatives (map trees.body_of bs)
+alternatives-in_front [] = refl
+alternatives-in_front (b ∷ bs) = ap (trees.Or (trees.body_of b)) (alternatives-in_front bs)
 
 bodies_of-in_front : (bs : Blocks) → branches_in_front (blocks bs) trees.NoMore ≡ trees.bodies_of bs
-bodies_of-in_front bs = beside-in_front (blocks bs) ∙ sym (fold_out-Blocks (trees.Body → trees.Body) trees.Body trees.Bodies trees.stmt_step trees.block_step trees.blocks_step bs)
+bodies_of-in_front bs = alternatives-in_front (blocks bs) ∙ sym (fold_out-Blocks (trees.Body → trees.Body) trees.Body trees.Bodies trees.stmt_step trees.block_step trees.blocks_step bs)
 
 pub branches_read : (roles r0 recs q0 : List (List ℕ)) (count c0 c1 depth comes : ℕ) (ended : Bool) (bs : Blocks) (start now mid : List Symbol)
     → BranchesSoFar roles r0 recs q0 count c0 depth comes ended (blocks bs) start now → IsOther (Is Or) now mid → c1 ≡ c0 → AreBranches roles count c1 bs start mid
@@ -369,7 +369,7 @@ branches_read roles r0 recs q0 count c0 c1 depth comes ended bs start now mid so
 
 -- ---- what stops a message stops the statement
 
-pub message_fails : (e : ReadError) (roles r1 r2 r3 recs q1 q2 q3 : List (List ℕ)) (count c1 c2 c3 : ℕ) (p : Place) (ts t1 t2 t3 new : List Symbol) → MayBegin p ts → IsOther (Is Choice) ts t1 → IsOther (Is Rec) t1 t2 → IsOther (Is Continue) t2 t3
+pub message_fails : (e : Stop) (roles r1 r2 r3 recs q1 q2 q3 : List (List ℕ)) (count c1 c2 c3 : ℕ) (p : Place) (ts t1 t2 t3 new : List Symbol) → MayBegin p ts → IsOther (Is Choice) ts t1 → IsOther (Is Rec) t1 t2 → IsOther (Is Continue) t2 t3
     → IsSame roles r1 recs q1 count c1 → IsSame r1 r2 q1 q2 c1 c2 → IsSame r2 r3 q2 q3 c2 c3 → Halts e (known r3 c3) in_message t3 new → Halts e (known roles count) (λ k. First p ∷ k) ts new
 message_fails e roles r1 r2 r3 recs q1 q2 q3 count c1 c2 c3 p ts t1 t2 t3 new may o1 o2 o3 s1 s2 s3 h =
     let no_rec = subst (IsNotNext (Is Rec)) o1.0 o2.1 in

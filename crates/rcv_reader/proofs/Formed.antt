@@ -6,12 +6,12 @@ use Rattle.std.specs.List.{position_or_len}
 use Rattle.std.proofs.lemmas.Bool.Decides.{nat_tests}
 use Rattle.rcv_model.specs.Text as trees
 use Rattle.rcv_model.specs.Places as places
-use Rattle.rcv_model.specs.Form.{IsNumberedFrom, HaveEnds, HasForm}
+use Rattle.rcv_model.specs.Form.{IsNumberedFrom, HaveEnds, HaveSubjects, HaveSubjectsIn, HasForm}
 use Rattle.rcv_reader.specs.Grammar.{Written, NoStmt, AMessage, AChoice, ARec, AContinue, APar, ADo, Blocks, NoBlock, ABlock}
 use Rattle.rcv_reader.specs.Trees.{or_first, role_at, roles_at, points, points_of, singles, tree_of, trees_of, IsDeclared, MayReceive, IsFit, AreFit}
 
 abbrev Messages : Type 0
-Messages = List (ℕ × places.Single_at)
+Messages = List (ℕ × places.SingleMessage)
 
 numbered_append : (n m : ℕ) (xs ys : Messages) → IsNumberedFrom n xs → m ≡ n + length xs → IsNumberedFrom m ys → IsNumberedFrom n (xs ++ ys)
 numbered_append n m [] ys a e b = let same : m ≡ n = omega (arith, e) in subst (λ (k : ℕ). IsNumberedFrom k ys) same b
@@ -150,10 +150,39 @@ mutual
   ends_of roles n NoBlock h = tt
   ends_of roles n (ABlock f os) h = ends_append (length roles) (places.singles (tree_of roles n f)) (places.singles_of (trees_of roles (n + points f) os)) (ends roles n f h.0) (ends_of roles (n + points f) os h.1)
 
+single_subjects : (roles : ℕ) (label : List ℕ) (sorts : List (List ℕ)) (sender : ℕ) (rs : List ℕ) (n : ℕ) (rest : trees.Body)
+    → HaveSubjects roles rest → HaveSubjects roles (singles label sorts sender rs n rest)
+single_subjects roles label sorts sender [] n rest h = h
+single_subjects roles label sorts sender (r ∷ rs) n rest h = single_subjects roles label sorts sender rs (n + 1) rest h
+
+mutual
+  subjects : (roles : List (List ℕ)) (n : ℕ) (w : Written) → IsFit roles w → HaveSubjects (length roles) (tree_of roles n w)
+  subjects roles n NoStmt h = tt
+  subjects roles n (AMessage label ss s r rs rest) h =
+      let behind = n + (1 + length rs) in
+      single_subjects (length roles) label ss (role_at roles s) (roles_at roles (r ∷ rs)) n (tree_of roles behind rest) (subjects roles behind rest h.2)
+  subjects roles n (AChoice s f os rest) h = (
+    role_below roles s h.0,
+    (subjects roles n f h.1, subjects_in roles (n + points f) os h.2),
+    subjects roles (n + (points f + points_of os)) rest h.3,
+  )
+  subjects roles n (ARec m body rest) h = (subjects roles n body h.0, subjects roles (n + points body) rest h.1)
+  subjects roles n (AContinue m rest) h = subjects roles n rest h
+  subjects roles n (APar f g os rest) h = (
+    (subjects roles n f h.0, (subjects roles (n + points f) g h.1, subjects_in roles (n + points f + points g) os h.2)),
+    subjects roles (n + (points f + (points g + points_of os))) rest h.3,
+  )
+  subjects roles n (ADo m r rs rest) h = subjects roles n rest h
+
+  subjects_in : (roles : List (List ℕ)) (n : ℕ) (os : Blocks) → AreFit roles os → HaveSubjectsIn (length roles) (trees_of roles n os)
+  subjects_in roles n NoBlock h = tt
+  subjects_in roles n (ABlock f os) h = (subjects roles n f h.0, subjects_in roles (n + points f) os h.1)
+
 pub tree_has_form : (roles : List (List ℕ)) (w : Written) → IsFit roles w → length roles ≤ 8 → points w ≤ 256 → HasForm (tree_of roles 0 w) (length roles)
 tree_has_form roles w fit few short = record {
   numbered = numbers roles 0 w;
   ends = ends roles 0 w fit;
+  subjects = subjects roles 0 w fit;
   few_roles = few;
   few_points = let a = counts roles 0 w in omega (arith, a, short);
 }

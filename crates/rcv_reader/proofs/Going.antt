@@ -3,8 +3,8 @@ use Rattle.std.proofs.Common.{◌≡◌, ℕ, true, false, List, [], ◌∷◌, 
 use Rattle.rcv_reader.specs.declared.sign.Sign.TheVariants.{Right, Comma, Semicolon, Close, Or, Choice, Rec, Continue, Left, From, At, Par, Do}
 use Rattle.rcv_reader.specs.declared.fault.Fault.{Fault}
 use Rattle.rcv_reader.specs.declared.fault.Fault.TheVariants.{Token, AfterContinue, Unguarded, NotYet}
-use Rattle.rcv_reader.specs.declared.fault.ReadError.{ReadError}
-use Rattle.rcv_reader.specs.declared.fault.ReadError.TheVariants as errors
+use Rattle.rcv_reader.specs.declared.fault.Stop.{Stop}
+use Rattle.rcv_reader.specs.declared.fault.Stop.TheVariants as errors
 use Rattle.rcv_reader.specs.Symbols.{Symbol, Is, Name}
 use Rattle.rcv_reader.specs.Machine.{Place, Item, This, AnyName, Sorts, MoreSorts, Subject, Sender, MoreReceivers, RecName, AgainName, Opening, First, Rest, More, State, Outcome, Wrong, behind, is_open, step, after, Refuses, answer}
 use Rattle.rcv_reader.specs.Descent.{Halts, IsNotNext, starts, waits, is_unguarded, MayBegin}
@@ -19,7 +19,7 @@ wrong_step s k f t ts e = ap (λ (o : Outcome). after o (t ∷ ts) (λ s' k''. a
 pub not_first : (m t : Symbol) (ts : List Symbol) → IsNotNext m (t ∷ ts) → t ≡ m → ⊥
 not_first m t ts h e = h ts (ap (λ (x : Symbol). x ∷ ts) e)
 
-pub halts_behind : (e : ReadError) (s s' : State) (front behind : List Item → List Item) (start mid new : List Symbol)
+pub halts_behind : (e : Stop) (s s' : State) (front behind : List Item → List Item) (start mid new : List Symbol)
     → ((k : List Item) → answer s (front k) start ≡ answer s' (behind k) mid) → Halts e s' behind mid new → Halts e s front start new
 halts_behind errors.Memory s s' front behind start mid new goes halts = tt
 halts_behind (errors.Refused fault) s s' front behind start mid new goes halts = λ k. goes k ∙ halts k

@@ -6,7 +6,7 @@ use Rattle.rcv_reader.specs.declared.sign.Sign.TheVariants.{Role, Right, Comma, 
 use Rattle.rcv_reader.specs.declared.fault.Fault.TheVariants.{Token}
 use Rattle.rcv_reader.specs.Symbols.{Symbol, Is, Name, Quoted, Other}
 use Rattle.rcv_reader.specs.Grammar.{dotted, roles_behind, decl, decls, AreDecls, is_decl_word}
-use Rattle.rcv_reader.specs.Machine.{Item, This, AnyName, AnyQuoted, MoreModules, Decls, RoleName, MoreRoles, State, Outcome, Wrong, step, after, Refuses, answer}
+use Rattle.rcv_reader.specs.Machine.{Item, This, AnyName, AnyQuoted, MoreModules, Decls, RoleName, MoreRoles, State, Wrong, step, Refuses, answer}
 use Rattle.rcv_reader.specs.Descent.{known, IsNotNext, NoName, NoQuoted, module_list, names_of_roles, AddsName, IsDecl, AreSuch}
 use Rattle.rcv_reader.proofs.Stops.{stops_by}
 use Rattle.rcv_reader.proofs.Reading.{IsSame, IsOther, known_same, not_empty}

@@ -4,8 +4,8 @@ use Rattle.std.specs.Prelude.{◌≢◌, ◌==◌}
 use Rattle.rcv_tree.specs.declared.statement.Stmt.{Stmt}
 use Rattle.rcv_tree.specs.declared.statement.Stmt.TheVariants as statements
 use Rattle.rcv_reader.specs.declared.sign.Sign.TheVariants.{Right, Comma, Semicolon}
-use Rattle.rcv_reader.specs.declared.fault.ReadError.{ReadError}
-use Rattle.rcv_reader.specs.declared.fault.ReadError.TheVariants as errors
+use Rattle.rcv_reader.specs.declared.fault.Stop.{Stop}
+use Rattle.rcv_reader.specs.declared.fault.Stop.TheVariants as errors
 use Rattle.rcv_reader.specs.Symbols.{Symbol, Is, Name}
 use Rattle.rcv_reader.specs.Grammar.{names_behind, sort_list}
 use Rattle.rcv_reader.specs.Machine.{Item, This, AnyName, Sorts, MoreSorts, Receiver, MoreReceivers, State, answer, is_listed}
@@ -23,7 +23,7 @@ IsOther symbol old new = (new ≡ old) × IsNotNext symbol old
 pub known_same : (roles roles' : List (List ℕ)) (count count' : ℕ) → roles' ≡ roles → count' ≡ count → known roles count ≡ known roles' count'
 known_same roles roles' count count' r c = rw (r, c) refl
 
-pub halts_over : (e : ReadError) (s : State) (front over : List Item → List Item) (old new : List Symbol) → Halts e s front old new → Halts e s (λ k. front (over k)) old new
+pub halts_over : (e : Stop) (s : State) (front over : List Item → List Item) (old new : List Symbol) → Halts e s front old new → Halts e s (λ k. front (over k)) old new
 halts_over errors.Memory s front over old new h = tt
 halts_over (errors.Refused fault) s front over old new h = λ k. h (over k)
 

@@ -10,8 +10,8 @@ use Rattle.rcv_model.specs.Form.{HasForm}
 use Rattle.rcv_reader.specs.declared.sign.Sign.TheVariants.{Module, Global, Role, Left, Right, Open, Close, Semicolon}
 use Rattle.rcv_reader.specs.declared.sign.Sign.TheVariants as sign
 use Rattle.rcv_reader.specs.declared.fault.Fault.TheVariants.{Token}
-use Rattle.rcv_reader.specs.declared.fault.ReadError.{ReadError}
-use Rattle.rcv_reader.specs.declared.fault.ReadError.TheVariants as errors
+use Rattle.rcv_reader.specs.declared.fault.Stop.{Stop}
+use Rattle.rcv_reader.specs.declared.fault.Stop.TheVariants as errors
 use Rattle.rcv_reader.specs.Symbols.{Symbol, Is, Name}
 use Rattle.rcv_reader.specs.Grammar.{NoStmt, decls}
 use Rattle.rcv_reader.specs.Machine.{Item, This, AnyName, MoreModules, Decls, RoleName, Rest, outermost, step, Wrong, State, Refuses, answer, reading}
@@ -43,11 +43,11 @@ to_body roles r recs q count c old mid none outside fresh same goes =
     ∙ goes (Rest outermost ∷ [])
     ∙ ap (λ (x : List (List ℕ)). answer (known r c) (Rest (place_at x 1 0 false) ∷ []) mid) (sym (same ∙ outside))
 
-pub stmts_fail : (e : ReadError) (r q : List (List ℕ)) (c : ℕ) (old mid new : List Symbol) → reading old ≡ answer (known r c) (Rest (place_at q 1 0 false) ∷ []) mid → Halts e (known r c) (λ k. Rest (place_at q 1 0 false) ∷ k) mid new → Ends e old new
+pub stmts_fail : (e : Stop) (r q : List (List ℕ)) (c : ℕ) (old mid new : List Symbol) → reading old ≡ answer (known r c) (Rest (place_at q 1 0 false) ∷ []) mid → Halts e (known r c) (λ k. Rest (place_at q 1 0 false) ∷ k) mid new → Ends e old new
 stmts_fail errors.Memory r q c old mid new begun h = tt
 stmts_fail (errors.Refused fault) r q c old mid new begun h = begun ∙ h []
 
-pub end_fails : (e : ReadError) (r q r2 : List (List ℕ)) (c c2 : ℕ) (old mid left : List Symbol) → reading old ≡ answer (known r c) (Rest (place_at q 1 0 false) ∷ []) mid
+pub end_fails : (e : Stop) (r q r2 : List (List ℕ)) (c c2 : ℕ) (old mid left : List Symbol) → reading old ≡ answer (known r c) (Rest (place_at q 1 0 false) ∷ []) mid
     → ((k : List Item) → answer (known r c) (Rest (place_at q 1 0 false) ∷ k) mid ≡ answer (known r2 c2) k left) → EndFails e (known r2 c2) left → Ends e old left
 end_fails errors.Memory r q r2 c c2 old mid left begun goes h = tt
 end_fails (errors.Refused fault) r q r2 c c2 old mid left begun goes h = begun ∙ goes [] ∙ h

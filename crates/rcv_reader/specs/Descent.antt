@@ -6,8 +6,8 @@ use Rattle.rcv_tree.specs.declared.statement.Block.{Block}
 use Rattle.rcv_tree.specs.declared.statement.Blocks.{Blocks}
 use Rattle.rcv_model.specs.Text as trees
 use Rattle.rcv_reader.specs.declared.sign.Sign.TheVariants.{Module, Global, Protocol, Role, Left, Right, Open, Close, Or, Choice, Rec, Continue, Par, Do, Semicolon}
-use Rattle.rcv_reader.specs.declared.fault.ReadError.{ReadError}
-use Rattle.rcv_reader.specs.declared.fault.ReadError.TheVariants as errors
+use Rattle.rcv_reader.specs.declared.fault.Stop.{Stop}
+use Rattle.rcv_reader.specs.declared.fault.Stop.TheVariants as errors
 use Rattle.rcv_reader.specs.Symbols.{Symbol, Is, Name, Quoted}
 use Rattle.rcv_reader.specs.Grammar as grammar
 use Rattle.rcv_reader.specs.Grammar.{Written, stmts, names_behind, roles_behind, dotted, decl, decls, is_decl_word, AreDecls, blocks_behind, IsBegun, IsProper, AreProper}
@@ -22,11 +22,12 @@ abbrev pub place_at : List (List ℕ) → ℕ → ℕ → Bool → Place
 place_at recs depth comes ended = record { depth = depth; recs = recs; comes = comes; ended = ended }
 
 -- From what is awaited in front the machine comes to what is awaited behind, or stops; k is awaited after that.
-abbrev pub Halts : ReadError → State → (List Item → List Item) → List Symbol → List Symbol → Type 0
+abbrev pub Halts : Stop → State → (List Item → List Item) → List Symbol → List Symbol → Type 0
 Halts errors.Memory s front old new = Unit {0}
 Halts (errors.Refused fault) s front old new = (k : List Item) → answer s (front k) old ≡ Refuses fault new
 
-abbrev pub Goes : {X : Type 0} → Result X ReadError → State → State → (List Item → List Item) → (X → List Item → List Item) → List Symbol → List Symbol → Type 0
+abbrev pub Goes : {X : Type 0} → Result X Stop → State → State → (List Item → List Item) → (X → List Item → List Item)
+    → List Symbol → List Symbol → Type 0
 Goes (Ok x) s s' front behind old new = (k : List Item) → answer s (front k) old ≡ answer s' (behind x k) new
 Goes (Err e) s s' front behind old new = Halts e s front old new
 
@@ -196,7 +197,7 @@ abbrev pub declaring : List (List ℕ) → Item
 declaring aliases = Decls aliases
 
 -- the whole answer
-abbrev pub Ends : ReadError → List Symbol → List Symbol → Type 0
+abbrev pub Ends : Stop → List Symbol → List Symbol → Type 0
 Ends errors.Memory old new = Unit {0}
 Ends (errors.Refused fault) old new = reading old ≡ Refuses fault new
 
@@ -208,6 +209,6 @@ pub record IsHead (modules : List (List ℕ)) (ds : List Decl) (name : List ℕ)
   pub spelled : old ≡ Is Module ∷ module_list modules (Is Semicolon ∷ decls ds (Is Global ∷ Is Protocol ∷ Name name ∷ Is Left ∷ Is Role ∷ names_of_roles roles (Is Right ∷ Is Open ∷ new)))
 
 -- the fault behind the protocol
-abbrev pub EndFails : ReadError → State → List Symbol → Type 0
+abbrev pub EndFails : Stop → State → List Symbol → Type 0
 EndFails errors.Memory s left = Unit {0}
 EndFails (errors.Refused fault) s left = answer s [] left ≡ Refuses fault left

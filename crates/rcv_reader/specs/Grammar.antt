@@ -56,12 +56,14 @@ abbrev mutual
   stmts NoStmt next = next
   stmts (AMessage label sorts sender receiver others rest) next =
       Name label ∷ Is Left ∷ sort_list sorts (Is Right ∷ Is From ∷ Name sender ∷ Is To ∷ Name receiver ∷ names_behind others (Is Semicolon ∷ stmts rest next))
-  stmts (AChoice subject first others rest) next = Is Choice ∷ Is At ∷ Name subject ∷ Is Open ∷ stmts first (Is Close ∷ blocks_behind Or others (stmts rest next))
+  stmts (AChoice subject first others rest) next =
+      Is Choice ∷ Is At ∷ Name subject ∷ Is Open ∷ stmts first (Is Close ∷ blocks_behind Or others (stmts rest next))
   stmts (ARec name body rest) next = Is Rec ∷ Name name ∷ Is Open ∷ stmts body (Is Close ∷ stmts rest next)
   stmts (AContinue name rest) next = Is Continue ∷ Name name ∷ Is Semicolon ∷ stmts rest next
   stmts (APar first second others rest) next =
       Is Par ∷ Is Open ∷ stmts first (Is Close ∷ Is And ∷ Is Open ∷ stmts second (Is Close ∷ blocks_behind And others (stmts rest next)))
-  stmts (ADo name role others rest) next = Is Do ∷ Name name ∷ Is Left ∷ Name role ∷ names_behind others (Is Right ∷ Is Semicolon ∷ stmts rest next)
+  stmts (ADo name role others rest) next =
+      Is Do ∷ Name name ∷ Is Left ∷ Name role ∷ names_behind others (Is Right ∷ Is Semicolon ∷ stmts rest next)
 
   pub blocks_behind : Sign → Blocks → List Symbol → List Symbol
   blocks_behind word NoBlock next = next
@@ -80,7 +82,8 @@ abbrev mutual
   IsProper (AChoice subject first others rest) = IsBegun first × IsProper first × AreProper others × IsProper rest
   IsProper (ARec name body rest) = IsBegun body × IsProper body × IsProper rest
   IsProper (AContinue name rest) = IsProper rest
-  IsProper (APar first second others rest) = IsBegun first × IsProper first × IsBegun second × IsProper second × AreProper others × IsProper rest
+  IsProper (APar first second others rest) =
+      IsBegun first × IsProper first × IsBegun second × IsProper second × AreProper others × IsProper rest
   IsProper (ADo name role others rest) = IsProper rest
 
   pub AreProper : Blocks → Type 0

@@ -10,12 +10,15 @@ use Rattle.rcv_reader.specs.Machine.{Answer, Taken, Refuses, reading}
 -- of a list that the grammar derives, and with this symbol they are not; at the end the whole list isn't derived.
 abbrev pub IsFirstWrong : List Symbol → List Symbol → Type 0
 IsFirstWrong symbols [] = IsBeginning symbols × (IsDerived symbols → ⊥)
-IsFirstWrong symbols (t ∷ ts) = (front : List Symbol) × (symbols ≡ front ++ t ∷ ts) × IsBeginning front × (IsBeginning (front ++ t ∷ []) → ⊥)
+IsFirstWrong symbols (t ∷ ts) =
+    (front : List Symbol) × (symbols ≡ front ++ t ∷ ts) × IsBeginning front × (IsBeginning (front ++ t ∷ []) → ⊥)
 
 -- The symbols up to this one are the beginning of a list that the grammar derives, or this one begins a second protocol.
 abbrev pub IsSoFar : List Symbol → List Symbol → Type 0
 IsSoFar symbols [] = ⊥
-IsSoFar symbols (t ∷ ts) = (front : List Symbol) × (symbols ≡ front ++ t ∷ ts) × (IsBeginning (front ++ t ∷ []) ⊎ ((t ≡ Is Global) × IsDerived front))
+IsSoFar symbols (t ∷ ts) =
+    (front : List Symbol) × (symbols ≡ front ++ t ∷ ts)
+    × (IsBeginning (front ++ t ∷ []) ⊎ ((t ≡ Is Global) × IsDerived front))
 
 abbrev pub IsFair : List Symbol → Answer → Type 0
 IsFair symbols (Taken state) = IsDerived symbols

@@ -192,10 +192,12 @@ is_open p _ = false
 
 -- the first symbol of a statement, with the symbols behind it
 abbrev pub begins : State → Place → Symbol → List Symbol → List Item → Outcome
-begins s p (Name n) ts k = unless p.ended AfterContinue (On s (This (Is Left) ∷ Sorts ∷ This (Is From) ∷ Sender ∷ Rest (behind p false) ∷ k))
+begins s p (Name n) ts k =
+    unless p.ended AfterContinue (On s (This (Is Left) ∷ Sorts ∷ This (Is From) ∷ Sender ∷ Rest (behind p false) ∷ k))
 begins s p (Is Choice) ts k = unless p.ended AfterContinue (On s (This (Is At) ∷ Subject ∷ Opening p ∷ More p ∷ k))
 begins s p (Is Rec) ts k = unless p.ended AfterContinue (On s (RecName p ∷ Rest (behind p false) ∷ k))
-begins s p (Is Continue) ts k = unless p.ended AfterContinue (unless (is_open p ts) Unguarded (On s (AgainName p ∷ Rest (behind p true) ∷ k)))
+begins s p (Is Continue) ts k =
+    unless p.ended AfterContinue (unless (is_open p ts) Unguarded (On s (AgainName p ∷ Rest (behind p true) ∷ k)))
 begins s p (Is Par) ts k = unless p.ended AfterContinue (Wrong NotYet)
 begins s p (Is Do) ts k = unless p.ended AfterContinue (Wrong NotYet)
 begins s p _ ts k = Wrong Token

@@ -23,8 +23,10 @@ line_before tokens last n = line_of (drop (length tokens - n) tokens) last
 abbrev pub IsRead : List Symbol → Protocol → Type 0
 IsRead symbols p = (state : State) × (reading symbols ≡ Taken state) × Reads symbols p
 
--- At the first token at which a code holds, or at the end, this is the least code that holds, with its line.
+-- The machine stops at this token, or at the end, with this code. That it is the first at which a code holds, and the
+-- least that holds at it, is how the machine is defined; for the code 11 it is a law.
 abbrev pub IsRefused : List ℕ → List Token → ℕ → TextError → Type 0
 IsRefused bundle tokens last errors.Memory = Unit {0}
 IsRefused bundle tokens last (errors.Refused r) =
-    (fault : Fault) × (left : List Symbol) × (reading (symbols_of bundle tokens) ≡ Refuses fault left) × (r ≡ refusals.Text (code_of fault) (line_before tokens last (length left)))
+    (fault : Fault) × (left : List Symbol) × (reading (symbols_of bundle tokens) ≡ Refuses fault left)
+    × (r ≡ refusals.Text (code_of fault) (line_before tokens last (length left)))

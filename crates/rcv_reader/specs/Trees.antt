@@ -49,7 +49,7 @@ abbrev mutual
   tree_of roles n (ARec name body rest) = trees.Loop name (tree_of roles n body) (tree_of roles (n + points body) rest)
   tree_of roles n (AContinue name rest) = trees.Again name (tree_of roles n rest)
   tree_of roles n (APar first second others rest) =
-      trees.Beside (trees.Or (tree_of roles n first) (trees.Or (tree_of roles (n + points first) second) (trees_of roles (n + points first + points second) others)))
+      trees.Parallel (trees.Or (tree_of roles n first) (trees.Or (tree_of roles (n + points first) second) (trees_of roles (n + points first + points second) others)))
       (tree_of roles (n + (points first + (points second + points_of others))) rest)
   tree_of roles n (ADo name role others rest) = trees.Call name (roles_at roles (role ∷ others)) (tree_of roles n rest)
 
@@ -71,7 +71,8 @@ MayReceive roles sender before (r ∷ rs) =
 abbrev mutual
   pub IsFit : List (List ℕ) → Written → Type 0
   IsFit roles NoStmt = Unit {0}
-  IsFit roles (AMessage label sorts sender receiver others rest) = IsDeclared roles sender × MayReceive roles (role_at roles sender) [] (receiver ∷ others) × IsFit roles rest
+  IsFit roles (AMessage label sorts sender receiver others rest) =
+      IsDeclared roles sender × MayReceive roles (role_at roles sender) [] (receiver ∷ others) × IsFit roles rest
   IsFit roles (AChoice subject first others rest) = IsDeclared roles subject × IsFit roles first × AreFit roles others × IsFit roles rest
   IsFit roles (ARec name body rest) = IsFit roles body × IsFit roles rest
   IsFit roles (AContinue name rest) = IsFit roles rest

@@ -1,7 +1,7 @@
 // Why no protocol was read.
 
 ghost use Rattle.std.specs.Prelude.{◌≡◌};
-ghost use Rattle.rcv_reader.specs.declared.fault.ReadError.TheVariants.{Memory};
+ghost use Rattle.rcv_reader.specs.declared.fault.Stop.TheVariants.{Memory};
 ghost use Rattle.rcv_reader.specs.Machine.{code_of};
 
 use std::alloc::{AllocError, AllocFailed};
@@ -48,26 +48,26 @@ impl Fault {
     }
 }
 
-/// Why the reader stopped.
+/// Why the descent stopped.
 #[derive(Clone, Copy, Debug, PartialEq, Eq)]
-pub enum ReadError {
+pub enum Stop {
     /// The fault is at the token that is next, or at the end.
     Refused(Fault),
     Memory,
 }
 
-impl From<AllocError> for ReadError {
+impl From<AllocError> for Stop {
     ghost from_gives = { λ _ e. e ≡ Memory };
 
-    fn from(_e: AllocError) -> ReadError {
-        ReadError::Memory
+    fn from(_e: AllocError) -> Stop {
+        Stop::Memory
     }
 }
 
-impl<T: Drop> From<AllocFailed<T>> for ReadError {
+impl<T: Drop> From<AllocFailed<T>> for Stop {
     ghost from_gives = { λ _ e. e ≡ Memory };
 
-    fn from(_e: AllocFailed<T>) -> ReadError {
-        ReadError::Memory
+    fn from(_e: AllocFailed<T>) -> Stop {
+        Stop::Memory
     }
 }

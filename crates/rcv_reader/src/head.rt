@@ -8,7 +8,7 @@ ghost use Rattle.rcv_reader.specs.Machine.{This, AnyName, AnyQuoted, MoreModules
 ghost use Rattle.rcv_reader.specs.Descent.{declaring, a_name, a_name_of, a_quoted, AddsName, module_list, names_of_roles, known, Goes, IsNotNext, IsDecl, AreSuch};
 
 use crate::aliases::Aliases;
-use crate::fault::{Fault, ReadError};
+use crate::fault::{Fault, Stop};
 use crate::parser::{Parser, holds};
 use crate::sign::Sign;
 use crate::words::is;
@@ -25,14 +25,14 @@ fn is_decl_word(word: &[u8]) -> bool
 
 impl<'a> Parser<'a> {
     // Takes what stands between two quotes.
-    fn quoted(&mut self, alloc: Global) -> Result<Name, ReadError>
+    fn quoted(&mut self, alloc: Global) -> Result<Name, Stop>
         ensures goes { Goes result (known self.old.roles self.old.count) (known self.new.roles self.new.count) (λ k. AnyQuoted ∷ k) (λ x k. k) self.old.rest self.new.rest }
         ensures read { IfOk result (λ q. self.old.rest ≡ a_quoted q self.new.rest) }
         ensures kept { (self.new.roles ≡ self.old.roles) × (self.new.recs.items ≡ self.old.recs.items) × (self.new.count ≡ self.old.count) }
         ensures shorter { length self.new.rest ≤ length self.old.rest }
     {
         let Some((bytes, after)) = self.rest.quoted() else {
-            return Err(ReadError::Refused(Fault::Token));
+            return Err(Stop::Refused(Fault::Token));
         };
         let text = Name::of(alloc, bytes)?;
         self.rest = after;
@@ -40,7 +40,7 @@ impl<'a> Parser<'a> {
     }
 
     /// Takes the names of the module, and the mark behind them.
-    pub fn modules(&mut self, alloc: Global) -> Result<Names, ReadError>
+    pub fn modules(&mut self, alloc: Global) -> Result<Names, Stop>
         ensures goes { Goes result (known self.old.roles self.old.count) (known self.new.roles self.new.count) (λ k. AnyName ∷ MoreModules ∷ k) (λ x k. k) self.old.rest self.new.rest }
         ensures read { IfOk result (λ names. (names ≢ []) × (self.old.rest ≡ module_list names (Is Sign.Semicolon ∷ self.new.rest))) }
         ensures kept { (self.new.roles ≡ self.old.roles) × (self.new.recs.items ≡ self.old.recs.items) × (self.new.count ≡ self.old.count) }
@@ -58,7 +58,7 @@ impl<'a> Parser<'a> {
     }
 
     // Takes the name of one more role.
-    fn add_role(&mut self, alloc: Global) -> Result<(), ReadError>
+    fn add_role(&mut self, alloc: Global) -> Result<(), Stop>
         requires few { length self.old.roles ≤ 8 }
         ensures goes { Goes result (known self.old.roles self.old.count) (known self.new.roles self.new.count) (λ k. RoleName ∷ k) (λ x k. MoreRoles ∷ k) self.old.rest self.new.rest }
         ensures read { OnOk result (AddsName self.old.roles self.new.roles self.old.rest self.new.rest) }
@@ -67,13 +67,13 @@ impl<'a> Parser<'a> {
         ensures shorter { length self.new.rest ≤ length self.old.rest }
     {
         let Some((bytes, after)) = self.rest.name() else {
-            return Err(ReadError::Refused(Fault::Token));
+            return Err(Stop::Refused(Fault::Token));
         };
         if holds(bytes, self.roles.as_slice()) {
-            return Err(ReadError::Refused(Fault::Twice));
+            return Err(Stop::Refused(Fault::Twice));
         }
         if self.roles.as_slice().len() >= 8 {
-            return Err(ReadError::Refused(Fault::TooMany));
+            return Err(Stop::Refused(Fault::TooMany));
         }
         self.roles.push(Name::of(alloc, bytes)?)?;
         self.rest = after;
@@ -81,7 +81,7 @@ impl<'a> Parser<'a> {
     }
 
     /// Takes the roles behind the first word `role`, and the parenthesis behind them.
-    pub fn role_names(&mut self, alloc: Global) -> Result<(), ReadError>
+    pub fn role_names(&mut self, alloc: Global) -> Result<(), Stop>
         requires none { self.old.roles ≡ [] }
         ensures goes { Goes result (known self.old.roles self.old.count) (known self.new.roles self.new.count) (λ k. RoleName ∷ k) (λ x k. k) self.old.rest self.new.rest }
         ensures read { OnOk result ((self.new.roles ≢ []) × (self.old.rest ≡ names_of_roles self.new.roles (Is Sign.Right ∷ self.new.rest))) }
@@ -98,34 +98,34 @@ impl<'a> Parser<'a> {
     }
 
     // Takes the word `as`.
-    fn word_as(&mut self) -> Result<(), ReadError>
+    fn word_as(&mut self) -> Result<(), Stop>
         ensures goes { Goes result (known self.old.roles self.old.count) (known self.new.roles self.new.count) (λ k. This (a_name_of (codes "as")) ∷ k) (λ x k. k) self.old.rest self.new.rest }
         ensures read { OnOk result (self.old.rest ≡ a_name (codes "as") self.new.rest) }
         ensures kept { (self.new.roles ≡ self.old.roles) × (self.new.recs.items ≡ self.old.recs.items) × (self.new.count ≡ self.old.count) }
         ensures shorter { length self.new.rest ≤ length self.old.rest }
     {
         let Some((bytes, after)) = self.rest.name() else {
-            return Err(ReadError::Refused(Fault::Token));
+            return Err(Stop::Refused(Fault::Token));
         };
         if !is(bytes, b"as") {
-            return Err(ReadError::Refused(Fault::Token));
+            return Err(Stop::Refused(Fault::Token));
         }
         self.rest = after;
         Ok(())
     }
 
     // Takes the alias of a declaration.
-    fn alias(&mut self, alloc: Global, aliases: &mut Aliases<'a>) -> Result<Name, ReadError>
+    fn alias(&mut self, alloc: Global, aliases: &mut Aliases<'a>) -> Result<Name, Stop>
         ensures goes { Goes result (known self.old.roles self.old.count) (known self.new.roles self.new.count) (λ k. Alias aliases.old ∷ k) (λ x k. This (Is Sign.Semicolon) ∷ declaring aliases.new ∷ k) self.old.rest self.new.rest }
         ensures read { IfOk result (λ n. self.old.rest ≡ a_name n self.new.rest) }
         ensures kept { (self.new.roles ≡ self.old.roles) × (self.new.recs.items ≡ self.old.recs.items) × (self.new.count ≡ self.old.count) }
         ensures shorter { length self.new.rest ≤ length self.old.rest }
     {
         let Some((bytes, after)) = self.rest.name() else {
-            return Err(ReadError::Refused(Fault::Token));
+            return Err(Stop::Refused(Fault::Token));
         };
         if aliases.holds(bytes) {
-            return Err(ReadError::Refused(Fault::Twice));
+            return Err(Stop::Refused(Fault::Twice));
         }
         aliases.push(bytes)?;
         let alias = Name::of(alloc, bytes)?;
@@ -134,7 +134,7 @@ impl<'a> Parser<'a> {
     }
 
     // Takes the word that begins a declaration.
-    fn decl_word(&mut self, alloc: Global, aliases: &Aliases<'a>) -> Result<Name, ReadError>
+    fn decl_word(&mut self, alloc: Global, aliases: &Aliases<'a>) -> Result<Name, Stop>
         requires { IsNotNext (Is Sign.Global) self.old.rest }
         ensures goes { Goes result (known self.old.roles self.old.count) (known self.new.roles self.new.count) (λ k. declaring aliases.now ∷ k) (λ x k. This (Is Sign.Less) ∷ AnyName ∷ This (Is Sign.Greater) ∷ AnyQuoted ∷ This (Is Sign.From) ∷ AnyQuoted ∷ This (a_name_of (codes "as")) ∷ Alias aliases.now ∷ k) self.old.rest self.new.rest }
         ensures read { IfOk result (λ n. (is_decl_word n ≡ true) × (self.old.rest ≡ a_name n self.new.rest)) }
@@ -143,10 +143,10 @@ impl<'a> Parser<'a> {
         ensures taken { OnOk result (length self.new.rest < length self.old.rest) }
     {
         let Some((bytes, after)) = self.rest.name() else {
-            return Err(ReadError::Refused(Fault::Token));
+            return Err(Stop::Refused(Fault::Token));
         };
         if !is_decl_word(bytes) {
-            return Err(ReadError::Refused(Fault::Token));
+            return Err(Stop::Refused(Fault::Token));
         }
         let word = Name::of(alloc, bytes)?;
         self.rest = after;
@@ -154,7 +154,7 @@ impl<'a> Parser<'a> {
     }
 
     // Takes a declaration.
-    fn decl(&mut self, alloc: Global, aliases: &mut Aliases<'a>) -> Result<Decl, ReadError>
+    fn decl(&mut self, alloc: Global, aliases: &mut Aliases<'a>) -> Result<Decl, Stop>
         requires { IsNotNext (Is Sign.Global) self.old.rest }
         ensures goes { Goes result (known self.old.roles self.old.count) (known self.new.roles self.new.count) (λ k. declaring aliases.old ∷ k) (λ x k. declaring aliases.new ∷ k) self.old.rest self.new.rest }
         ensures read { IfOk result (λ d. IsDecl d self.old.rest self.new.rest) }
@@ -182,7 +182,7 @@ impl<'a> Parser<'a> {
     }
 
     /// Takes the declarations, and the word `global` behind them.
-    pub fn decls(&mut self, alloc: Global) -> Result<Decls, ReadError>
+    pub fn decls(&mut self, alloc: Global) -> Result<Decls, Stop>
         ensures goes { Goes result (known self.old.roles self.old.count) (known self.new.roles self.new.count) (λ k. declaring [] ∷ k) (λ x k. k) self.old.rest self.new.rest }
         ensures read { IfOk result (λ ds. AreSuch (declarations ds) self.old.rest (Is Sign.Global ∷ self.new.rest)) }
         ensures kept { (self.new.roles ≡ self.old.roles) × (self.new.recs.items ≡ self.old.recs.items) × (self.new.count ≡ self.old.count) }

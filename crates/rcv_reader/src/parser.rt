@@ -9,7 +9,7 @@ ghost use Rattle.rcv_reader.specs.Machine.{place_of, holds, is_listed, is_open, 
 ghost use Rattle.rcv_reader.specs.Descent.{a_name, is_unguarded, MayBegin, IsReceived, AreReceived, Adds, AddsSome, Halts, known, place_at, Goes, IsNotNext, IsRoleName, messages, AreStmts, AreSomeStmts, IsBlock, AreBranches};
 
 use crate::ahead::Ahead;
-use crate::fault::{Fault, ReadError};
+use crate::fault::{Fault, Stop};
 use crate::sign::Sign;
 use rcv_tree::name::{Name, Names};
 use rcv_tree::point::Point;
@@ -66,9 +66,9 @@ fn is_listed(role: RoleId, before: &[RoleId]) -> bool
 }
 
 /// The same names once more.
-pub fn copy_of(alloc: Global, names: &Names) -> Result<Names, ReadError>
+pub fn copy_of(alloc: Global, names: &Names) -> Result<Names, Stop>
     ensures ok { IfOk result (λ copy. copy ≡ names.now) }
-    ensures err { IfErr result (λ e. e ≡ ReadError.Memory) }
+    ensures err { IfErr result (λ e. e ≡ Stop.Memory) }
 {
     let mut copy = Names::new(alloc);
     for name in names.as_slice() {
@@ -79,14 +79,14 @@ pub fn copy_of(alloc: Global, names: &Names) -> Result<Names, ReadError>
 
 impl<'a> Parser<'a> {
     /// Takes this word or mark.
-    pub fn expect(&mut self, sign: Sign) -> Result<(), ReadError>
+    pub fn expect(&mut self, sign: Sign) -> Result<(), Stop>
         ensures goes { Goes result (known self.old.roles self.old.count) (known self.new.roles self.new.count) (λ k. This (Is sign) ∷ k) (λ x k. k) self.old.rest self.new.rest }
         ensures read { OnOk result (self.old.rest ≡ Is sign ∷ self.new.rest) }
         ensures kept { (self.new.roles ≡ self.old.roles) × (self.new.recs.items ≡ self.old.recs.items) × (self.new.count ≡ self.old.count) }
         ensures shorter { length self.new.rest ≤ length self.old.rest }
     {
         let Some(after) = self.rest.sign(sign) else {
-            return Err(ReadError::Refused(Fault::Token));
+            return Err(Stop::Refused(Fault::Token));
         };
         self.rest = after;
         Ok(())
@@ -108,14 +108,14 @@ impl<'a> Parser<'a> {
     }
 
     /// Takes any name.
-    pub fn name(&mut self, alloc: Global) -> Result<Name, ReadError>
+    pub fn name(&mut self, alloc: Global) -> Result<Name, Stop>
         ensures goes { Goes result (known self.old.roles self.old.count) (known self.new.roles self.new.count) (λ k. AnyName ∷ k) (λ x k. k) self.old.rest self.new.rest }
         ensures read { IfOk result (λ n. self.old.rest ≡ a_name n self.new.rest) }
         ensures kept { (self.new.roles ≡ self.old.roles) × (self.new.recs.items ≡ self.old.recs.items) × (self.new.count ≡ self.old.count) }
         ensures shorter { length self.new.rest ≤ length self.old.rest }
     {
         let Some((bytes, after)) = self.rest.name() else {
-            return Err(ReadError::Refused(Fault::Token));
+            return Err(Stop::Refused(Fault::Token));
         };
         let name = Name::of(alloc, bytes)?;
         self.rest = after;
@@ -123,7 +123,7 @@ impl<'a> Parser<'a> {
     }
 
     // Takes the name of a role: the subject of a choice, or a sender.
-    fn role(&mut self) -> Result<RoleId, ReadError>
+    fn role(&mut self) -> Result<RoleId, Stop>
         requires few { length self.old.roles ≤ 8 }
         ensures subject { Goes result (known self.old.roles self.old.count) (known self.new.roles self.new.count) (λ k. Subject ∷ k) (λ r k. k) self.old.rest self.new.rest }
         ensures sender { Goes result (known self.old.roles self.old.count) (known self.new.roles self.new.count) (λ k. Sender ∷ k) (λ r k. This (Is Sign.To) ∷ Receiver r [] ∷ k) self.old.rest self.new.rest }
@@ -132,17 +132,17 @@ impl<'a> Parser<'a> {
         ensures shorter { length self.new.rest ≤ length self.old.rest }
     {
         let Some((bytes, after)) = self.rest.name() else {
-            return Err(ReadError::Refused(Fault::Token));
+            return Err(Stop::Refused(Fault::Token));
         };
         let Some(place) = place_of(self.roles.as_slice(), bytes) else {
-            return Err(ReadError::Refused(Fault::NoName));
+            return Err(Stop::Refused(Fault::NoName));
         };
         self.rest = after;
         Ok(RoleId(place as u8))
     }
 
     // Takes sorts, and the parenthesis behind them.
-    fn sorts(&mut self, alloc: Global) -> Result<Names, ReadError>
+    fn sorts(&mut self, alloc: Global) -> Result<Names, Stop>
         ensures goes { Goes result (known self.old.roles self.old.count) (known self.new.roles self.new.count) (λ k. Sorts ∷ k) (λ x k. k) self.old.rest self.new.rest }
         ensures read { IfOk result (λ sorts. self.old.rest ≡ sort_list sorts (Is Sign.Right ∷ self.new.rest)) }
         ensures kept { (self.new.roles ≡ self.old.roles) × (self.new.recs.items ≡ self.old.recs.items) × (self.new.count ≡ self.old.count) }
@@ -169,7 +169,7 @@ impl<'a> Parser<'a> {
         heading: &Heading,
         before: &mut Roles,
         block: &mut Block,
-    ) -> Result<(), ReadError>
+    ) -> Result<(), Stop>
         requires few { length self.old.roles ≤ 8 }
         requires count { self.old.count ≤ 256 }
         ensures goes { Goes result (known self.old.roles self.old.count) (known self.new.roles self.new.count) (λ k. Receiver heading.now.sender before.old ∷ k) (λ x k. MoreReceivers heading.now.sender before.new ∷ k) self.old.rest self.new.rest }
@@ -179,20 +179,20 @@ impl<'a> Parser<'a> {
         ensures shorter { length self.new.rest ≤ length self.old.rest }
     {
         let Some((bytes, after)) = self.rest.name() else {
-            return Err(ReadError::Refused(Fault::Token));
+            return Err(Stop::Refused(Fault::Token));
         };
         let Some(place) = place_of(self.roles.as_slice(), bytes) else {
-            return Err(ReadError::Refused(Fault::NoName));
+            return Err(Stop::Refused(Fault::NoName));
         };
         let receiver = RoleId(place as u8);
         if is_listed(receiver, before.as_slice()) {
-            return Err(ReadError::Refused(Fault::Twice));
+            return Err(Stop::Refused(Fault::Twice));
         }
         if receiver == heading.sender {
-            return Err(ReadError::Refused(Fault::SelfMessage));
+            return Err(Stop::Refused(Fault::SelfMessage));
         }
         if self.count >= 256 {
-            return Err(ReadError::Refused(Fault::TooMany));
+            return Err(Stop::Refused(Fault::TooMany));
         }
         before.push(receiver)?;
         block.push(Stmt::Message {
@@ -208,12 +208,7 @@ impl<'a> Parser<'a> {
     }
 
     // Takes all receivers of a message, and the mark behind them.
-    fn receivers(
-        &mut self,
-        alloc: Global,
-        heading: &Heading,
-        block: &mut Block,
-    ) -> Result<(), ReadError>
+    fn receivers(&mut self, alloc: Global, heading: &Heading, block: &mut Block) -> Result<(), Stop>
         requires few { length self.old.roles ≤ 8 }
         requires count { self.old.count ≤ 256 }
         ensures goes { Goes result (known self.old.roles self.old.count) (known self.new.roles self.new.count) (λ k. Receiver heading.now.sender [] ∷ k) (λ x k. k) self.old.rest self.new.rest }
@@ -230,7 +225,7 @@ impl<'a> Parser<'a> {
     }
 
     // Takes a message.
-    fn message(&mut self, alloc: Global, block: &mut Block) -> Result<(), ReadError>
+    fn message(&mut self, alloc: Global, block: &mut Block) -> Result<(), Stop>
         requires few { length self.old.roles ≤ 8 }
         requires count { self.old.count ≤ 256 }
         ensures goes { Goes result (known self.old.roles self.old.count) (known self.new.roles self.new.count) (λ k. AnyName ∷ This (Is Sign.Left) ∷ Sorts ∷ This (Is Sign.From) ∷ Sender ∷ k) (λ x k. k) self.old.rest self.new.rest }
@@ -254,7 +249,7 @@ impl<'a> Parser<'a> {
     }
 
     // Takes the name behind `continue`, which is that of an enclosing recursion, and the mark behind it.
-    fn again(&mut self, alloc: Global, spot: Spot, block: &mut Block) -> Result<(), ReadError>
+    fn again(&mut self, alloc: Global, spot: Spot, block: &mut Block) -> Result<(), Stop>
         requires count { self.old.count ≤ 256 }
         ensures goes { let p = place_at self.old.recs.items spot.depth spot.comes spot.ended in
             Goes result (known self.old.roles self.old.count) (known self.new.roles self.new.count) (λ k. AgainName p ∷ k) (λ x k. k) self.old.rest self.new.rest }
@@ -263,10 +258,10 @@ impl<'a> Parser<'a> {
         ensures shorter { length self.new.rest ≤ length self.old.rest }
     {
         let Some((bytes, after)) = self.rest.name() else {
-            return Err(ReadError::Refused(Fault::Token));
+            return Err(Stop::Refused(Fault::Token));
         };
         if !holds(bytes, self.recs.as_slice()) {
-            return Err(ReadError::Refused(Fault::NoName));
+            return Err(Stop::Refused(Fault::NoName));
         }
         let name = Name::of(alloc, bytes)?;
         self.rest = after;
@@ -276,7 +271,7 @@ impl<'a> Parser<'a> {
     }
 
     // Takes the brace that begins a block.
-    fn open(&mut self, spot: Spot) -> Result<(), ReadError>
+    fn open(&mut self, spot: Spot) -> Result<(), Stop>
         ensures goes { let p = place_at self.old.recs.items spot.depth spot.comes spot.ended in
             Goes result (known self.old.roles self.old.count) (known self.new.roles self.new.count) (λ k. Opening p ∷ k) (λ x k. First (inside p) ∷ k) self.old.rest self.new.rest }
         ensures read { OnOk result (self.old.rest ≡ Is Sign.Open ∷ self.new.rest) }
@@ -285,10 +280,10 @@ impl<'a> Parser<'a> {
         ensures taken { OnOk result ((length self.new.rest < length self.old.rest) × (spot.depth < 32)) }
     {
         let Some(after) = self.rest.sign(Sign::Open) else {
-            return Err(ReadError::Refused(Fault::Token));
+            return Err(Stop::Refused(Fault::Token));
         };
         if spot.depth >= 32 {
-            return Err(ReadError::Refused(Fault::Deep));
+            return Err(Stop::Refused(Fault::Deep));
         }
         self.rest = after;
         Ok(())
@@ -310,30 +305,30 @@ impl<'a> Parser<'a> {
     }
 
     // Nothing but the grammar may speak against a statement here.
-    fn may_begin(&self, spot: Spot) -> Result<(), ReadError>
+    fn may_begin(&self, spot: Spot) -> Result<(), Stop>
         requires { spot.comes ≤ length self.now.recs.items }
         ensures may { OnOk result (MayBegin (place_at self.now.recs.items spot.depth spot.comes spot.ended) self.now.rest) }
         ensures err { let p = place_at self.now.recs.items spot.depth spot.comes spot.ended in
             IfErr result (λ e. Halts e (known self.now.roles self.now.count) (λ k. First p ∷ k) self.now.rest self.now.rest) }
     {
         if spot.ended && self.rest.starts() {
-            return Err(ReadError::Refused(Fault::AfterContinue));
+            return Err(Stop::Refused(Fault::AfterContinue));
         }
         if spot.ended {
-            return Err(ReadError::Refused(Fault::Token));
+            return Err(Stop::Refused(Fault::Token));
         }
         if self.rest.waits() {
-            return Err(ReadError::Refused(Fault::NotYet));
+            return Err(Stop::Refused(Fault::NotYet));
         }
         if self.is_unguarded(spot) {
-            return Err(ReadError::Refused(Fault::Unguarded));
+            return Err(Stop::Refused(Fault::Unguarded));
         }
         Ok(())
     }
 
     // Takes a recursion, of which the word is taken.
     #[cycle(descent)]
-    fn recursion(&mut self, alloc: Global, spot: Spot, block: &mut Block) -> Result<(), ReadError>
+    fn recursion(&mut self, alloc: Global, spot: Spot, block: &mut Block) -> Result<(), Stop>
         requires few { length self.old.roles ≤ 8 }
         requires count { self.old.count ≤ 256 }
         requires comes { spot.comes ≤ length self.old.recs.items }
@@ -344,7 +339,7 @@ impl<'a> Parser<'a> {
         ensures shorter { length self.new.rest ≤ length self.old.rest }
     {
         let Some((bytes, after)) = self.rest.name() else {
-            return Err(ReadError::Refused(Fault::Token));
+            return Err(Stop::Refused(Fault::Token));
         };
         let name = Name::of(alloc, bytes)?;
         self.recs.push(Name::of(alloc, bytes)?)?;
@@ -362,7 +357,7 @@ impl<'a> Parser<'a> {
 
     // Takes a choice, of which the word is taken.
     #[cycle(descent)]
-    fn choice(&mut self, alloc: Global, spot: Spot, block: &mut Block) -> Result<(), ReadError>
+    fn choice(&mut self, alloc: Global, spot: Spot, block: &mut Block) -> Result<(), Stop>
         requires few { length self.old.roles ≤ 8 }
         requires count { self.old.count ≤ 256 }
         requires comes { spot.comes ≤ length self.old.recs.items }
@@ -381,7 +376,7 @@ impl<'a> Parser<'a> {
 
     // Takes the blocks of a choice.
     #[cycle(descent)]
-    fn branches(&mut self, alloc: Global, spot: Spot) -> Result<Blocks, ReadError>
+    fn branches(&mut self, alloc: Global, spot: Spot) -> Result<Blocks, Stop>
         requires few { length self.old.roles ≤ 8 }
         requires count { self.old.count ≤ 256 }
         requires comes { spot.comes ≤ length self.old.recs.items }
@@ -403,7 +398,7 @@ impl<'a> Parser<'a> {
 
     // Takes a block of at least one statement, with its braces.
     #[cycle(descent)]
-    fn block(&mut self, alloc: Global, spot: Spot) -> Result<Block, ReadError>
+    fn block(&mut self, alloc: Global, spot: Spot) -> Result<Block, Stop>
         requires few { length self.old.roles ≤ 8 }
         requires count { self.old.count ≤ 256 }
         requires comes { spot.comes ≤ length self.old.recs.items }
@@ -432,7 +427,7 @@ impl<'a> Parser<'a> {
 
     /// Takes the other statements of a block, and its last brace.
     #[cycle(descent)]
-    pub fn stmts(&mut self, alloc: Global, spot: Spot, block: &mut Block) -> Result<(), ReadError>
+    pub fn stmts(&mut self, alloc: Global, spot: Spot, block: &mut Block) -> Result<(), Stop>
         requires few { length self.old.roles ≤ 8 }
         requires count { self.old.count ≤ 256 }
         requires comes { spot.comes ≤ length self.old.recs.items }
@@ -456,7 +451,7 @@ impl<'a> Parser<'a> {
 
     // Takes a statement. Answers whether it ends its block.
     #[cycle(descent)]
-    fn stmt(&mut self, alloc: Global, spot: Spot, block: &mut Block) -> Result<bool, ReadError>
+    fn stmt(&mut self, alloc: Global, spot: Spot, block: &mut Block) -> Result<bool, Stop>
         requires few { length self.old.roles ≤ 8 }
         requires count { self.old.count ≤ 256 }
         requires comes { spot.comes ≤ length self.old.recs.items }

@@ -12,7 +12,7 @@ ghost use Rattle.rcv_reader.specs.Descent.{declaring, known, Goes, Ends, EndFail
 ghost use Rattle.rcv_reader.specs.Refusals.{IsRead, IsRefused, line_before};
 
 use crate::ahead::Ahead;
-use crate::fault::{Fault, ReadError};
+use crate::fault::{Fault, Stop};
 use crate::parser::{Parser, Spot, copy_of};
 use crate::sign::Sign;
 use rcv_lexer::token::{TextError, Token};
@@ -32,7 +32,7 @@ struct Head {
 
 impl<'a> Parser<'a> {
     // Takes what stands before the body, with its first brace.
-    fn head(&mut self, alloc: Global) -> Result<Head, ReadError>
+    fn head(&mut self, alloc: Global) -> Result<Head, Stop>
         requires none { self.old.roles ≡ [] }
         ensures goes { Goes result (known self.old.roles self.old.count) (known self.new.roles self.new.count)
             (λ k. This (Is Sign.Module) ∷ AnyName ∷ MoreModules ∷ declaring [] ∷ This (Is Sign.Protocol) ∷ AnyName ∷ This (Is Sign.Left) ∷ This (Is Sign.Role) ∷ RoleName ∷ This (Is Sign.Open) ∷ k)
@@ -58,7 +58,7 @@ impl<'a> Parser<'a> {
     }
 
     // Nothing may stand behind the protocol.
-    fn end(&self) -> Result<(), ReadError>
+    fn end(&self) -> Result<(), Stop>
         ensures done { OnOk result (self.now.rest ≡ []) }
         ensures err { IfErr result (λ e. EndFails e (known self.now.roles self.now.count) self.now.rest) }
     {
@@ -66,13 +66,13 @@ impl<'a> Parser<'a> {
             return Ok(());
         }
         let Some(_behind) = self.rest.sign(Sign::Global) else {
-            return Err(ReadError::Refused(Fault::Token));
+            return Err(Stop::Refused(Fault::Token));
         };
-        Err(ReadError::Refused(Fault::NotYet))
+        Err(Stop::Refused(Fault::NotYet))
     }
 
     // Takes a whole protocol.
-    fn protocol(&mut self, alloc: Global) -> Result<Protocol, ReadError>
+    fn protocol(&mut self, alloc: Global) -> Result<Protocol, Stop>
         requires none { self.old.roles ≡ [] }
         requires outside { self.old.recs.items ≡ [] }
         requires fresh { self.old.count ≡ 0 }
@@ -113,7 +113,7 @@ fn line_before(list: &[Token], last: u32, left: usize) -> u32
 
 /// The protocol that the tokens of a part of the bundle spell. `last` is the line of the part's end.
 ///
-/// Refused at the first token at which a code holds, or at the part's end, with the least code at it and its line:
+/// Refused where the step machine of the grammar stops, with its code and the line of the token or of the part's end:
 /// 11 where the grammar doesn't have the token or the end there, 12 at the brace of the 33rd nested block, 13 at a role
 /// that isn't declared or the name of no enclosing recursion, 14 at a role, an alias or a receiver that stands before,
 /// 15 at a receiver that is the sender, 16 at a statement behind a `continue`, 17 at a `continue` to which a walk comes
@@ -137,8 +137,8 @@ pub fn read_protocol(
     };
     match parser.protocol(alloc) {
         Ok(protocol) => Ok(protocol),
-        Err(ReadError::Memory) => Err(TextError::Memory),
-        Err(ReadError::Refused(fault)) => Err(TextError::Refused(Refusal::Text {
+        Err(Stop::Memory) => Err(TextError::Memory),
+        Err(Stop::Refused(fault)) => Err(TextError::Refused(Refusal::Text {
             code: fault.code(),
             line: line_before(list, last, parser.rest.len()),
         })),

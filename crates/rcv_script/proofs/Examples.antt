@@ -1,24 +1,32 @@
 -- Worked cases of scripts: A sends big, which has sorts, and ping, which has none; B sends low to A.
-use Rattle.std.proofs.Common.{◌≡◌, ℕ, Bool, true, false, List, [], ◌∷◌, ◌++◌, codes, refl}
-use Rattle.std.specs.Prelude.{replicate, negsuc, Some, None}
-use Rattle.rcv_model.specs.Script.{Literal, TheValue, TheAttempt, Variable, Negated, Plus, Minus, Times, More, VarLine, SendLine, PickLine, OnLine}
-use Rattle.rcv_points.specs.Follow.{PointView, PointsView}
+use Rattle.std.proofs.Common.{◌≡◌, ℕ, Bool, true, false, List, [], ◌∷◌, ◌++◌, length, map, codes, refl, sym, ◌∙◌, ap, arith}
+use Rattle.std.specs.Prelude.{replicate, negsuc, Some, None, slice_index_or}
+use Rattle.rcv_tree.specs.declared.protocol.Protocol.{Protocol}
+use Rattle.rcv_model.specs.Text.{Body, End, Single, body_of}
+use Rattle.rcv_model.specs.Places.{singles}
+use Rattle.rcv_model.specs.Script.{Literal, TheValue, TheAttempt, Variable, Negated, Plus, Minus, Times, More, VarLine, SendLine, PickLine, OnLine, Line}
+use Rattle.rcv_points.specs.Follow.{PointView, message_of, no_message}
 use Rattle.rcv_script.specs.declared.sign.Sign.TheVariants as signs
 use Rattle.rcv_script.specs.declared.fault.Fault.TheVariants as faults
 use Rattle.rcv_script.specs.Symbols.{Symbol, Is, Word, Number}
+use Rattle.rcv_script.specs.Scripts.{ScriptsView, AreScriptsFor}
 use Rattle.rcv_script.specs.Machine.{Answer, Taken, Refuses, reading}
+use Rattle.rcv_script.specs.Grammar.{WrittenScript, scripts_text, Say}
+use Rattle.rcv_script.proofs.Reading.{written_are_read}
+use Rattle.rcv_script.proofs.Writing.{read_are_written}
+use Rattle.rcv_script.proofs.Final.{refusals_final}
 
 abbrev message : List ℕ → ℕ → ℕ → Bool → PointView
 message label sender receiver payload = record { label = label; sender = sender; receiver = receiver; payload = payload }
 
-abbrev points : PointsView
-points = record { places = []; messages = message (codes "big") 0 1 true ∷ message (codes "low") 1 0 true ∷ message (codes "ping") 0 1 false ∷ []; choices = [] }
+abbrev messages : List PointView
+messages = message (codes "big") 0 1 true ∷ message (codes "low") 1 0 true ∷ message (codes "ping") 0 1 false ∷ []
 
 abbrev roles : List (List ℕ)
 roles = codes "A" ∷ codes "B" ∷ []
 
 abbrev answers : List Symbol → Answer
-answers symbols = reading roles points symbols
+answers symbols = reading roles messages symbols
 
 -- role A { .. }
 abbrev of_a : List Symbol → List Symbol
@@ -83,3 +91,42 @@ deepest = refl
 
 too_deep : answers (signed 33) ≡ Refuses faults.TooMany (Is signs.Minus ∷ Number 1 ∷ [])
 too_deep = refl
+
+-- Scripts without lines of a protocol with this one message fit it, and don't fit one in which B sends it.
+abbrev one_message : Body
+one_message = Single (codes "big") (codes "Int" ∷ []) 0 1 1 End
+
+abbrev sent_by_a : ScriptsView
+sent_by_a = record { lines = [] ∷ [] ∷ []; messages = message (codes "big") 0 1 true ∷ [] }
+
+abbrev sent_by_b : ScriptsView
+sent_by_b = record { lines = [] ∷ [] ∷ []; messages = message (codes "big") 1 0 true ∷ [] }
+
+fit : (p : Protocol) → length p.roles ≡ 2 → body_of p.body ≡ one_message → AreScriptsFor p sent_by_a
+fit p two is = record { roles = sym two; messages = ap (λ b. map message_of (singles b)) (sym is) }
+
+unfit : (p : Protocol) → body_of p.body ≡ one_message → AreScriptsFor p sent_by_b → ⊥
+unfit p is are =
+    let e : 1 ≡ 0 = ap (λ (ms : List PointView). (slice_index_or ms 0 no_message).sender) (are.messages ∙ ap (λ b. map message_of (singles b)) is) in
+    absurd (omega (arith, e))
+
+-- What is read is written by the grammar, and that is read as the same.
+abbrev sends_two : List Symbol
+sends_two = of_a (Word (codes "send") ∷ Word (codes "big") ∷ Is signs.Equals ∷ Number 2 ∷ ended)
+
+abbrev of_both : List (List Line)
+of_both = (SendLine (codes "big") (Literal 2) ∷ []) ∷ [] ∷ []
+
+is_read : answers sends_two ≡ Taken of_both
+is_read = refl
+
+is_written : (ws : List WrittenScript) × (sends_two ≡ scripts_text ws) × Say roles messages ws of_both
+is_written = read_are_written roles messages sends_two of_both is_read
+
+read_again : answers (scripts_text is_written.0) ≡ Taken of_both
+read_again = written_are_read roles messages is_written.0 of_both is_written.2
+
+-- No scripts begin with a send line of ping, which has no sorts.
+never : (more : List Symbol) (ws : List WrittenScript) (ss : List (List Line))
+    → scripts_text ws ≡ of_a (Word (codes "send") ∷ []) ++ Word (codes "ping") ∷ more → Say roles messages ws ss → ⊥
+never = refusals_final roles messages (of_a (Word (codes "send") ∷ [])) (Word (codes "ping")) [] faults.NoPayload bare

@@ -47,9 +47,9 @@ refused_again item (x ∷ front) t us vs f h = go (λ next g. refused_again next
         absurd (omega (arith, e, l))
 
 pub refusals_final : RefusalsAreFinal
-refusals_final roles points front t left f h more ws ss is says =
-    let read = written_are_read roles points ws ss says in
-    let refused = refused_again (awaited roles points) front t left more f h in
-    let taken : reading roles points (front ++ t ∷ more) ≡ Taken ss = subst (λ (x : List Symbol). reading roles points x ≡ Taken ss) is read in
+refusals_final roles messages front t left f h more ws ss is says =
+    let read = written_are_read roles messages ws ss says in
+    let refused = refused_again (awaited roles messages) front t left more f h in
+    let taken : reading roles messages (front ++ t ∷ more) ≡ Taken ss = subst (λ (x : List Symbol). reading roles messages x ≡ Taken ss) is read in
     let both = sym taken ∙ refused in
     cc

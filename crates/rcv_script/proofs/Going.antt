@@ -4,8 +4,8 @@ use Rattle.rcv_model.specs.Script.{Expr, Times}
 use Rattle.rcv_script.specs.declared.expression.Atom.{Atom}
 use Rattle.rcv_script.specs.declared.expression.Term.{Term}
 use Rattle.rcv_script.specs.declared.sign.Sign.TheVariants as signs
-use Rattle.rcv_script.specs.declared.fault.ReadError.{ReadError}
-use Rattle.rcv_script.specs.declared.fault.ReadError.TheVariants as errors
+use Rattle.rcv_script.specs.declared.fault.ScriptError.{ScriptError}
+use Rattle.rcv_script.specs.declared.fault.ScriptError.TheVariants as errors
 use Rattle.rcv_script.specs.declared.fault.Fault.{Fault}
 use Rattle.rcv_script.specs.declared.fault.Fault.TheVariants as faults
 use Rattle.rcv_script.specs.Symbols.{Symbol, Is, Word, Number}
@@ -18,7 +18,7 @@ use Rattle.rcv_script.specs.Descent.{IsNotNext, NoWord, NoNumber, Halts, Stops, 
 use Rattle.rcv_script.proofs.Stops.{not_first}
 
 -- what stops what is awaited behind stops what is awaited in front
-pub halts_behind : (Y Z : Type 0) (e : ReadError) (front : (Y → Item) → Item) (mid : (Z → Item) → Item) (to : (Y → Item) → (Z → Item)) (start between new : List Symbol)
+pub halts_behind : (Y Z : Type 0) (e : ScriptError) (front : (Y → Item) → Item) (mid : (Z → Item) → Item) (to : (Y → Item) → (Z → Item)) (start between new : List Symbol)
     → ((k : Y → Item) → answer (front k) start ≡ answer (mid (to k)) between) → Halts e mid between new → Halts e front start new
 halts_behind Y Z errors.Memory front mid to start between new goes h = tt
 halts_behind Y Z (errors.Refused fault) front mid to start between new goes h = λ k. goes k ∙ h (to k)
@@ -101,7 +101,7 @@ product_next p atoms atoms' a start now mid new so_far is pushed goes shorter le
       shorter = let s = so_far.shorter in omega (arith, s, shorter, less);
     }
 
-pub product_fails : (e : ReadError) (p : Place) (atoms : List Atom) (start now mid new : List Symbol) → ProductSoFar p atoms start now → now ≡ Is signs.Times ∷ mid
+pub product_fails : (e : ScriptError) (p : Place) (atoms : List Atom) (start now mid new : List Symbol) → ProductSoFar p atoms start now → now ≡ Is signs.Times ∷ mid
     → Halts e (λ (k : Expr → Item). AnAtom p k) mid new → Halts e (λ (k : Expr → Item). a_product p k) start new
 product_fails e p atoms start now mid new so_far is h =
     halts_behind Expr Expr e (λ k. a_product p k) (λ k. AnAtom p k) (λ k f. Factors p (Times (product_of (map atom_expr atoms)) f) k) start mid new (product_to_next p atoms start now mid so_far is) h
@@ -164,7 +164,7 @@ sum_next p ts ts' t minus e start now mid new so_far is pushed said goes shorter
       shorter = let s = so_far.shorter in omega (arith, s, shorter, less);
     }
 
-pub sum_fails : (e : ReadError) (p : Place) (ts : List Term) (minus : Bool) (start now mid new : List Symbol) → SumSoFar p ts start now → now ≡ Is (term_sign minus) ∷ mid
+pub sum_fails : (e : ScriptError) (p : Place) (ts : List Term) (minus : Bool) (start now mid new : List Symbol) → SumSoFar p ts start now → now ≡ Is (term_sign minus) ∷ mid
     → Halts e (λ (k : Expr → Item). a_product p k) mid new → Halts e (λ (k : Expr → Item). a_sum p k) start new
 sum_fails e p ts minus start now mid new so_far is h =
     halts_behind Expr Expr e (λ k. a_sum p k) (λ k. a_product p k) (λ k f. Terms p (plus_or_minus minus (sum_of (map term_expr ts)) f) k) start mid new (sum_to_next p ts minus start now mid so_far is) h
@@ -176,7 +176,7 @@ sum_end p x start now new so_far none_next k =
     so_far.goes k ∙ terms_end p e now none_next.1 none_next.2 k ∙ ap (answer (k e)) (sym none_next.0) ∙ ap (λ y. answer (k y) new) (sym (sum_is x))
 
 -- the same behind what says nothing
-pub stops_behind : (Y : Type 0) (e : ReadError) (front : (Y → Item) → Item) (mid : Item → Item) (to : (Y → Item) → Item) (start between new : List Symbol)
+pub stops_behind : (Y : Type 0) (e : ScriptError) (front : (Y → Item) → Item) (mid : Item → Item) (to : (Y → Item) → Item) (start between new : List Symbol)
     → ((k : Y → Item) → answer (front k) start ≡ answer (mid (to k)) between) → Stops e mid between new → Halts e front start new
 stops_behind Y errors.Memory front mid to start between new goes h = tt
 stops_behind Y (errors.Refused fault) front mid to start between new goes h = λ k. goes k ∙ h (to k)

@@ -104,19 +104,19 @@ line_read s (VarText name below n) x next l k =
 line_read s (SendText label t) x next l k =
     let set = Is signs.Equals ∷ sum_text t (Is signs.Semicolon ∷ next) in
     line_begins s (codes "send") kinds.Send (Word label ∷ set) refl l.0 k
-    ∙ word_read (send_fault s.points s.role s.lines) label set l.1 (λ w. with_expr (deciding s.names) (λ e. k (s.names, SendLine w e)))
+    ∙ word_read (send_fault s.messages s.role s.lines) label set l.1 (λ w. with_expr (deciding s.names) (λ e. k (s.names, SendLine w e)))
     ∙ set_read (deciding s.names) t l.2 next l.3 (λ e. k (s.names, SendLine label e))
     ∙ ap (λ y. answer (k y) next) (sym l.4)
 line_read s (PickText label) x next l k =
     line_begins s (codes "pick") kinds.Pick (Word label ∷ Is signs.Semicolon ∷ next) refl l.0 k
-    ∙ word_read (pick_fault s.points s.role) label (Is signs.Semicolon ∷ next) l.1 (λ w. rest_of_pick (deciding s.names) (λ when. k (s.names, PickLine w when)))
+    ∙ word_read (pick_fault s.messages s.role) label (Is signs.Semicolon ∷ next) l.1 (λ w. rest_of_pick (deciding s.names) (λ when. k (s.names, PickLine w when)))
     ∙ ap (λ y. answer (k y) next) (sym l.2)
 line_read s (WhenText label left test right) x next l k =
     let p = deciding s.names in
     let end = Is signs.Semicolon ∷ next in
     let compare = Is (test_mark test) ∷ sum_text right end in
     line_begins s (codes "pick") kinds.Pick (Word label ∷ Word (codes "when") ∷ sum_text left compare) refl l.0 k
-    ∙ word_read (pick_fault s.points s.role) label (Word (codes "when") ∷ sum_text left compare) l.1 (λ w. rest_of_pick p (λ when. k (s.names, PickLine w when)))
+    ∙ word_read (pick_fault s.messages s.role) label (Word (codes "when") ∷ sum_text left compare) l.1 (λ w. rest_of_pick p (λ when. k (s.names, PickLine w when)))
     ∙ sum_read p left l.2 compare l.4 (no_times test (sum_text right end)) (λ a. ATest (λ t. a_sum p (λ b. This (Is signs.Semicolon) (k (s.names, PickLine label (Some (record { left = a; test = t; right = b })))))))
     ∙ compared p test l.2 (sum_text right end) (λ a t. a_sum p (λ b. This (Is signs.Semicolon) (k (s.names, PickLine label (Some (record { left = a; test = t; right = b }))))))
     ∙ sum_read p right l.3 end l.5 (λ us u. absurd cc) (λ b. This (Is signs.Semicolon) (k (s.names, PickLine label (Some (record { left = l.2; test = test; right = b })))))
@@ -124,7 +124,7 @@ line_read s (WhenText label left test right) x next l k =
 line_read s (OnText label name t) x next l k =
     let set = Is signs.Equals ∷ sum_text t (Is signs.Semicolon ∷ next) in
     line_begins s (codes "on") kinds.On (Word label ∷ Word (codes "set") ∷ Word name ∷ set) refl l.0 k
-    ∙ word_read (on_fault s.points s.role) label (Word (codes "set") ∷ Word name ∷ set) l.1 (λ w. This (Word (codes "set")) (AWord (set_fault s.names) (λ n. with_expr (remembering s w) (λ e. k (s.names, OnLine w (place_in s.names n) e)))))
+    ∙ word_read (on_fault s.messages s.role) label (Word (codes "set") ∷ Word name ∷ set) l.1 (λ w. This (Word (codes "set")) (AWord (set_fault s.names) (λ n. with_expr (remembering s w) (λ e. k (s.names, OnLine w (place_in s.names n) e)))))
     ∙ word_read (set_fault s.names) name set l.2 (λ n. with_expr (remembering s label) (λ e. k (s.names, OnLine label (place_in s.names n) e)))
     ∙ set_read (remembering s label) t l.3 next l.4 (λ e. k (s.names, OnLine label (place_in s.names name) e))
     ∙ ap (λ y. answer (k y) next) (sym l.5)
@@ -148,9 +148,9 @@ scripts_read known [] ss l = ap Taken (sym l)
 scripts_read known (w ∷ ws) ss l =
     let r = place_in known.roles w.role in
     word_read (role_fault known.roles known.given) w.role (Is signs.Open ∷ lines_text w.lines (scripts_text ws)) l.0
-    (λ n. This (Is signs.Open) (Lines (begun known.points (place_in known.roles n)) (λ ls. Scripts (with_script known (place_in known.roles n) ls))))
-    ∙ lines_read (begun known.points r) w.lines l.1 (scripts_text ws) l.2 (λ ls. Scripts (with_script known r ls))
+    (λ n. This (Is signs.Open) (Lines (begun known.messages (place_in known.roles n)) (λ ls. Scripts (with_script known (place_in known.roles n) ls))))
+    ∙ lines_read (begun known.messages r) w.lines l.1 (scripts_text ws) l.2 (λ ls. Scripts (with_script known r ls))
     ∙ scripts_read (with_script known r l.1) ws ss l.3
 
 pub written_are_read : WrittenScriptsAreRead
-written_are_read roles points ws ss l = scripts_read (record { roles = roles; points = points; scripts = no_lines roles; given = [] }) ws ss l
+written_are_read roles messages ws ss l = scripts_read (record { roles = roles; messages = messages; scripts = no_lines roles; given = [] }) ws ss l

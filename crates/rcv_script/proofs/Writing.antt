@@ -94,7 +94,7 @@ var_taken s k ts ss room h =
 
 send_taken : (s : Writing) (k : List (List ℕ) × Line → Item) (ts : List Symbol) (ss : List (List Line)) → BehindTaken s kinds.Send k ts ss
 send_taken s k ts ss room h =
-    let a = word_taken (send_fault s.points s.role s.lines) (λ l. with_expr (deciding s.names) (λ e. k (s.names, SendLine l e))) ts ss h in
+    let a = word_taken (send_fault s.messages s.role s.lines) (λ l. with_expr (deciding s.names) (λ e. k (s.names, SendLine l e))) ts ss h in
     let r = set_taken (deciding s.names) (λ e. k (s.names, SendLine a.0 e)) a.1 ss a.4 in
     let la : length ts ≡ suc (length a.1) = ap length a.2 in
     let lr = r.shorter in
@@ -110,7 +110,7 @@ send_taken s k ts ss room h =
 
 on_taken : (s : Writing) (k : List (List ℕ) × Line → Item) (ts : List Symbol) (ss : List (List Line)) → BehindTaken s kinds.On k ts ss
 on_taken s k ts ss room h =
-    let a = word_taken (on_fault s.points s.role) (λ l. This (Word (codes "set")) (AWord (set_fault s.names) (λ n. with_expr (remembering s l) (λ e. k (s.names, OnLine l (place_in s.names n) e))))) ts ss h in
+    let a = word_taken (on_fault s.messages s.role) (λ l. This (Word (codes "set")) (AWord (set_fault s.names) (λ n. with_expr (remembering s l) (λ e. k (s.names, OnLine l (place_in s.names n) e))))) ts ss h in
     let b = this_taken (Word (codes "set")) (AWord (set_fault s.names) (λ n. with_expr (remembering s a.0) (λ e. k (s.names, OnLine a.0 (place_in s.names n) e)))) a.1 ss a.4 in
     let c = word_taken (set_fault s.names) (λ n. with_expr (remembering s a.0) (λ e. k (s.names, OnLine a.0 (place_in s.names n) e))) b.0 ss b.2 in
     let r = set_taken (remembering s a.0) (λ e. k (s.names, OnLine a.0 (place_in s.names c.0) e)) c.1 ss c.4 in
@@ -134,7 +134,7 @@ pub record PickTaken (s : Writing) (l : List ℕ) (k : List (List ℕ) × Line �
   pub x : List (List ℕ) × Line
   pub us : List Symbol
   pub spelled : Word (codes "pick") ∷ Word l ∷ ts ≡ line_text w us
-  pub says : line_fault s.names s.lines kinds.Pick ≡ None → pick_fault s.points s.role l ≡ None → LineSays s w x
+  pub says : line_fault s.names s.lines kinds.Pick ≡ None → pick_fault s.messages s.role l ≡ None → LineSays s w x
   pub goes : answer (k x) us ≡ Taken ss
   pub shorter : length us < length ts
 
@@ -176,7 +176,7 @@ end_taken s l k (_ ∷ us) ss h = absurd cc
 
 pick_taken : (s : Writing) (k : List (List ℕ) × Line → Item) (ts : List Symbol) (ss : List (List Line)) → BehindTaken s kinds.Pick k ts ss
 pick_taken s k ts ss room h =
-    let a = word_taken (pick_fault s.points s.role) (λ l. rest_of_pick (deciding s.names) (λ when. k (s.names, PickLine l when))) ts ss h in
+    let a = word_taken (pick_fault s.messages s.role) (λ l. rest_of_pick (deciding s.names) (λ when. k (s.names, PickLine l when))) ts ss h in
     let r = end_taken s a.0 k a.1 ss a.4 in
     let la : length ts ≡ suc (length a.1) = ap length a.2 in
     let lr = r.shorter in
@@ -244,12 +244,12 @@ scripts_taken (suc n) known (Word w ∷ ts) ss b h = go (λ known' us l g. scrip
     go : ((known' : Known) (us : List Symbol) → length us ≤ n → answer (Scripts known') us ≡ Taken ss → ScriptsTaken known' us ss)
         → (c : Bool) → bytes_eq w (codes "role") ≡ c → after (cond c (On (script_of known)) (Wrong faults.Token)) (Word w ∷ ts) (λ next. answer next ts) ≡ Taken ss → ScriptsTaken known (Word w ∷ ts) ss
     go again true e g =
-        let a = word_taken (role_fault known.roles known.given) (λ m. This (Is signs.Open) (Lines (begun known.points (place_in known.roles m)) (λ ls. Scripts (with_script known (place_in known.roles m) ls)))) ts ss g in
+        let a = word_taken (role_fault known.roles known.given) (λ m. This (Is signs.Open) (Lines (begun known.messages (place_in known.roles m)) (λ ls. Scripts (with_script known (place_in known.roles m) ls)))) ts ss g in
         let r = place_in known.roles a.0 in
-        let d = this_taken (Is signs.Open) (Lines (begun known.points r) (λ ls. Scripts (with_script known r ls))) a.1 ss a.4 in
+        let d = this_taken (Is signs.Open) (Lines (begun known.messages r) (λ ls. Scripts (with_script known r ls))) a.1 ss a.4 in
         let la : length ts ≡ suc (length a.1) = ap length a.2 in
         let ld : length a.1 ≡ suc (length d.0) = ap length d.1 in
-        let l = lines_taken (length d.0) (begun known.points r) (λ ls. Scripts (with_script known r ls)) d.0 ss (omega (arith)) d.2 in
+        let l = lines_taken (length d.0) (begun known.messages r) (λ ls. Scripts (with_script known r ls)) d.0 ss (omega (arith)) d.2 in
         let ll = l.shorter in
         let more = again (with_script known r l.ls) l.us (omega (arith, b, la, ld, ll)) l.goes in (
           record { role = a.0; lines = l.ws } ∷ more.0,
@@ -261,4 +261,4 @@ scripts_taken (suc n) known (Word w ∷ ts) ss b h = go (λ known' us l g. scrip
 scripts_taken (suc n) known (_ ∷ ts) ss b h = absurd cc
 
 pub read_are_written : ReadScriptsAreWritten
-read_are_written roles points symbols ss h = scripts_taken (length symbols) (record { roles = roles; points = points; scripts = no_lines roles; given = [] }) symbols ss (omega (arith)) h
+read_are_written roles messages symbols ss h = scripts_taken (length symbols) (record { roles = roles; messages = messages; scripts = no_lines roles; given = [] }) symbols ss (omega (arith)) h

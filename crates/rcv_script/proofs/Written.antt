@@ -2,12 +2,12 @@
 use Rattle.std.proofs.Common.{◌≡◌, ℕ, ◌≤◌, ◌<◌, List, [], ◌∷◌, ◌++◌, length, map, refl, sym, ap, subst, ◌∙◌, arith, codes}
 use Rattle.std.specs.Prelude.{Option, Some, None}
 use Rattle.rcv_model.specs.Script as script
-use Rattle.rcv_points.specs.Follow.{PointsView}
+use Rattle.rcv_points.specs.Follow.{PointView}
 use Rattle.rcv_script.specs.declared.sign.Sign.TheVariants as signs
 use Rattle.rcv_script.specs.declared.line.Line.{Line}
 use Rattle.rcv_script.specs.declared.fault.Fault.{Fault}
 use Rattle.rcv_script.specs.declared.fault.Fault.TheVariants as faults
-use Rattle.rcv_script.specs.declared.fault.ReadError.{ReadError}
+use Rattle.rcv_script.specs.declared.fault.ScriptError.{ScriptError}
 use Rattle.rcv_script.specs.Lines.{line_of}
 use Rattle.rcv_script.specs.Symbols.{Symbol, Is, Word, Number, Other}
 use Rattle.rcv_script.specs.Machine.{Item, Lines, ALine, This, AWord, AnEnd, Writing, Place, Wrong, with_line, lines, line, end_or_when, condition, rest_of_pick, on_line, with_expr, remembering, set_fault, on_fault, fault_if, takes_bare, place_in, step, Refuses, answer}
@@ -28,43 +28,43 @@ map_append [] l = refl
 map_append (x ∷ ls) l = ap (λ zs. line_of x ∷ zs) (map_append ls l)
 
 -- these variables and lines were read
-pub record LinesSoFar (points : PointsView) (role : ℕ) (names : List (List ℕ)) (ls : List Line) (start now : List Symbol) : Type 0 where
-  pub goes : (k : List script.Line → Item) → answer (Lines (writing points role [] []) k) start ≡ answer (Lines (writing points role names ls) k) now
+pub record LinesSoFar (messages : List PointView) (role : ℕ) (names : List (List ℕ)) (ls : List Line) (start now : List Symbol) : Type 0 where
+  pub goes : (k : List script.Line → Item) → answer (Lines (writing messages role [] []) k) start ≡ answer (Lines (writing messages role names ls) k) now
   pub shorter : length now ≤ length start
 
-pub no_lines_yet : (points : PointsView) (role : ℕ) (start : List Symbol) → LinesSoFar points role [] [] start start
-no_lines_yet points role start = record { goes = λ k. refl; shorter = omega (arith) }
+pub no_lines_yet : (messages : List PointView) (role : ℕ) (start : List Symbol) → LinesSoFar messages role [] [] start start
+no_lines_yet messages role start = record { goes = λ k. refl; shorter = omega (arith) }
 
-lines_to_next : (points : PointsView) (role : ℕ) (names : List (List ℕ)) (ls : List Line) (start now mid : List Symbol) → LinesSoFar points role names ls start now → (mid ≡ now) × IsNotNext (Is signs.Close) now
-    → (k : List script.Line → Item) → answer (Lines (writing points role [] []) k) start ≡ answer (ALine (writing points role names ls) (λ x. Lines (with_line (writing points role names ls) x) k)) mid
-lines_to_next points role names ls start now mid so_far none_next k =
-    so_far.goes k ∙ lines_to_line (writing points role names ls) now none_next.1 k
-    ∙ ap (answer (ALine (writing points role names ls) (λ x. Lines (with_line (writing points role names ls) x) k))) (sym none_next.0)
+lines_to_next : (messages : List PointView) (role : ℕ) (names : List (List ℕ)) (ls : List Line) (start now mid : List Symbol) → LinesSoFar messages role names ls start now → (mid ≡ now) × IsNotNext (Is signs.Close) now
+    → (k : List script.Line → Item) → answer (Lines (writing messages role [] []) k) start ≡ answer (ALine (writing messages role names ls) (λ x. Lines (with_line (writing messages role names ls) x) k)) mid
+lines_to_next messages role names ls start now mid so_far none_next k =
+    so_far.goes k ∙ lines_to_line (writing messages role names ls) now none_next.1 k
+    ∙ ap (answer (ALine (writing messages role names ls) (λ x. Lines (with_line (writing messages role names ls) x) k))) (sym none_next.0)
 
-pub lines_next : (points : PointsView) (role : ℕ) (names names' : List (List ℕ)) (ls seen ls' : List Line) (l : Line) (start now mid new : List Symbol) → seen ≡ ls → LinesSoFar points role names ls start now → (mid ≡ now) × IsNotNext (Is signs.Close) now
-    → ((k : List (List ℕ) × script.Line → Item) → answer (ALine (writing points role names seen) k) mid ≡ answer (k (names', line_of l)) new) → length new < length mid → ls' ≡ ls ++ l ∷ [] → LinesSoFar points role names' ls' start new
-lines_next points role names names' ls seen ls' l start now mid new same so_far none_next goes shorter pushed =
-    subst (λ (x : List Line). LinesSoFar points role names' x start new) (sym pushed) record {
-      goes = λ k. lines_to_next points role names ls start now mid so_far none_next k
-          ∙ ap (λ (x : List Line). answer (ALine (writing points role names x) (λ y. Lines (with_line (writing points role names ls) y) k)) mid) (sym same)
-          ∙ goes (λ x. Lines (with_line (writing points role names ls) x) k)
-          ∙ ap (λ x. answer (Lines (record { points = points; role = role; names = names'; lines = x }) k) new) (sym (map_append ls l));
+pub lines_next : (messages : List PointView) (role : ℕ) (names names' : List (List ℕ)) (ls seen ls' : List Line) (l : Line) (start now mid new : List Symbol) → seen ≡ ls → LinesSoFar messages role names ls start now → (mid ≡ now) × IsNotNext (Is signs.Close) now
+    → ((k : List (List ℕ) × script.Line → Item) → answer (ALine (writing messages role names seen) k) mid ≡ answer (k (names', line_of l)) new) → length new < length mid → ls' ≡ ls ++ l ∷ [] → LinesSoFar messages role names' ls' start new
+lines_next messages role names names' ls seen ls' l start now mid new same so_far none_next goes shorter pushed =
+    subst (λ (x : List Line). LinesSoFar messages role names' x start new) (sym pushed) record {
+      goes = λ k. lines_to_next messages role names ls start now mid so_far none_next k
+          ∙ ap (λ (x : List Line). answer (ALine (writing messages role names x) (λ y. Lines (with_line (writing messages role names ls) y) k)) mid) (sym same)
+          ∙ goes (λ x. Lines (with_line (writing messages role names ls) x) k)
+          ∙ ap (λ x. answer (Lines (record { messages = messages; role = role; names = names'; lines = x }) k) new) (sym (map_append ls l));
       shorter =
           let s = so_far.shorter in
           let e : length mid ≡ length now = ap length none_next.0 in
           omega (arith, s, e, shorter);
     }
 
-pub lines_fail : (e : ReadError) (points : PointsView) (role : ℕ) (names : List (List ℕ)) (ls seen : List Line) (start now mid new : List Symbol) → seen ≡ ls → LinesSoFar points role names ls start now → (mid ≡ now) × IsNotNext (Is signs.Close) now
-    → Halts e (λ (k : List (List ℕ) × script.Line → Item). ALine (writing points role names seen) k) mid new → Halts e (λ (k : List script.Line → Item). Lines (writing points role [] []) k) start new
-lines_fail e points role names ls seen start now mid new same so_far none_next h =
-    halts_behind (List script.Line) (List (List ℕ) × script.Line) e (λ k. Lines (writing points role [] []) k) (λ k. ALine (writing points role names ls) k)
-    (λ k x. Lines (with_line (writing points role names ls) x) k) start mid new (lines_to_next points role names ls start now mid so_far none_next)
-    (subst (λ (x : List Line). Halts e (λ (k : List (List ℕ) × script.Line → Item). ALine (writing points role names x) k) mid new) same h)
+pub lines_fail : (e : ScriptError) (messages : List PointView) (role : ℕ) (names : List (List ℕ)) (ls seen : List Line) (start now mid new : List Symbol) → seen ≡ ls → LinesSoFar messages role names ls start now → (mid ≡ now) × IsNotNext (Is signs.Close) now
+    → Halts e (λ (k : List (List ℕ) × script.Line → Item). ALine (writing messages role names seen) k) mid new → Halts e (λ (k : List script.Line → Item). Lines (writing messages role [] []) k) start new
+lines_fail e messages role names ls seen start now mid new same so_far none_next h =
+    halts_behind (List script.Line) (List (List ℕ) × script.Line) e (λ k. Lines (writing messages role [] []) k) (λ k. ALine (writing messages role names ls) k)
+    (λ k x. Lines (with_line (writing messages role names ls) x) k) start mid new (lines_to_next messages role names ls start now mid so_far none_next)
+    (subst (λ (x : List Line). Halts e (λ (k : List (List ℕ) × script.Line → Item). ALine (writing messages role names x) k) mid new) same h)
 
-pub lines_end : (points : PointsView) (role : ℕ) (names : List (List ℕ)) (ls : List Line) (start now new : List Symbol) → LinesSoFar points role names ls start now → now ≡ Is signs.Close ∷ new
-    → (k : List script.Line → Item) → answer (Lines (writing points role [] []) k) start ≡ answer (k (map line_of ls)) new
-lines_end points role names ls start now new so_far is k = so_far.goes k ∙ ap (answer (Lines (writing points role names ls) k)) is
+pub lines_end : (messages : List PointView) (role : ℕ) (names : List (List ℕ)) (ls : List Line) (start now new : List Symbol) → LinesSoFar messages role names ls start now → now ≡ Is signs.Close ∷ new
+    → (k : List script.Line → Item) → answer (Lines (writing messages role [] []) k) start ≡ answer (k (map line_of ls)) new
+lines_end messages role names ls start now new so_far is k = so_far.goes k ∙ ap (answer (Lines (writing messages role names ls) k)) is
 
 -- ---- the first word of a line, and the end of a pick line
 
@@ -103,10 +103,10 @@ abbrev pub behind_set : Writing → List ℕ → (List (List ℕ) × script.Line
 behind_set s l k = AWord (set_fault s.names) (λ n. with_expr (remembering s l) (λ e. k (s.names, script.OnLine l (place_in s.names n) e)))
 
 pub on_to_number : (s : Writing) (l : List ℕ) (place : ℕ) (value attempt : Option Fault) (t0 t1 t2 t3 : List Symbol)
-    → ((k : List ℕ → Item) → answer (AWord (on_fault s.points s.role) k) t0 ≡ answer (k l) t1)
+    → ((k : List ℕ → Item) → answer (AWord (on_fault s.messages s.role) k) t0 ≡ answer (k l) t1)
     → ((k : Item) → answer (This (Word (codes "set")) k) t1 ≡ answer k t2)
     → ((k : ℕ → Item) → answer (AWord (set_fault s.names) (λ n. k (place_in s.names n))) t2 ≡ answer (k place) t3)
-    → value ≡ fault_if (takes_bare s.points s.role l) faults.NoPayload → attempt ≡ Some faults.AttemptInState
+    → value ≡ fault_if (takes_bare s.messages s.role l) faults.NoPayload → attempt ≡ Some faults.AttemptInState
     → (k : List (List ℕ) × script.Line → Item) → answer (on_line s k) t0 ≡ answer (with_expr (place_at s.names value attempt 0) (λ e. k (s.names, script.OnLine l place e))) t3
 on_to_number s l place value attempt t0 t1 t2 t3 label set variable is-value is-attempt k =
     label (λ x. This (Word (codes "set")) (behind_set s x k))
@@ -116,7 +116,7 @@ on_to_number s l place value attempt t0 t1 t2 t3 label set variable is-value is-
     ∙ ap (λ (x : Option Fault). answer (with_expr (place_at s.names value x 0) (λ e. k (s.names, script.OnLine l place e))) t3) (sym is-attempt)
 
 pub on_to_place : (s : Writing) (l : List ℕ) (t0 t1 t2 : List Symbol)
-    → ((k : List ℕ → Item) → answer (AWord (on_fault s.points s.role) k) t0 ≡ answer (k l) t1)
+    → ((k : List ℕ → Item) → answer (AWord (on_fault s.messages s.role) k) t0 ≡ answer (k l) t1)
     → ((k : Item) → answer (This (Word (codes "set")) k) t1 ≡ answer k t2)
     → (k : List (List ℕ) × script.Line → Item) → answer (on_line s k) t0 ≡ answer (behind_set s l k) t2
 on_to_place s l t0 t1 t2 label set k = label (λ x. This (Word (codes "set")) (behind_set s x k)) ∙ set (behind_set s l k)

@@ -1,10 +1,10 @@
 -- What the functions of the descent say: how the machine goes on with what was read, or stops.
 use Rattle.std.specs.Prelude.{◌≡◌, ℕ, Bool, true, false, List, ◌∷◌, map, Option, Result, Ok, Err}
 use Rattle.rcv_model.specs.Script as script
-use Rattle.rcv_points.specs.Follow.{PointsView}
+use Rattle.rcv_points.specs.Follow.{PointView}
 use Rattle.rcv_script.specs.declared.fault.Fault.{Fault}
-use Rattle.rcv_script.specs.declared.fault.ReadError.{ReadError}
-use Rattle.rcv_script.specs.declared.fault.ReadError.TheVariants as errors
+use Rattle.rcv_script.specs.declared.fault.ScriptError.{ScriptError}
+use Rattle.rcv_script.specs.declared.fault.ScriptError.TheVariants as errors
 use Rattle.rcv_script.specs.declared.line.Line.{Line}
 use Rattle.rcv_script.specs.declared.line.Condition.{Condition}
 use Rattle.rcv_script.specs.declared.expression.Atom.{Atom}
@@ -16,12 +16,13 @@ use Rattle.rcv_script.specs.Symbols.{Symbol, Word, Number}
 use Rattle.rcv_script.specs.Machine.{Item, Place, Writing, Refuses, On, Wrong, word_atom, answer}
 
 -- The machine stops at what is left, whatever is awaited behind.
-abbrev pub Halts : {Y : Type 0} → ReadError → ((Y → Item) → Item) → List Symbol → List Symbol → Type 0
+abbrev pub Halts : {Y : Type 0} → ScriptError → ((Y → Item) → Item) → List Symbol → List Symbol → Type 0
 Halts errors.Memory front old new = Unit {0}
 Halts {Y} (errors.Refused fault) front old new = (k : Y → Item) → answer (front k) old ≡ Refuses fault new
 
 -- It comes to what is awaited behind, for what was read, or stops.
-abbrev pub Goes : {X Y : Type 0} → Result X ReadError → ((Y → Item) → Item) → (X → Y) → List Symbol → List Symbol → Type 0
+abbrev pub Goes :
+    {X Y : Type 0} → Result X ScriptError → ((Y → Item) → Item) → (X → Y) → List Symbol → List Symbol → Type 0
 Goes {X} {Y} (Ok x) front said old new = (k : Y → Item) → answer (front k) old ≡ answer (k (said x)) new
 Goes {X} {Y} (Err e) front said old new = Halts e front old new
 
@@ -42,16 +43,16 @@ abbrev pub place_at : List (List ℕ) → Option Fault → Option Fault → ℕ 
 place_at names value attempt depth = record { names = names; value = value; attempt = attempt; depth = depth }
 
 -- behind these lines of a role
-abbrev pub writing : PointsView → ℕ → List (List ℕ) → List Line → Writing
-writing points role names lines = record { points = points; role = role; names = names; lines = map line_of lines }
+abbrev pub writing : List PointView → ℕ → List (List ℕ) → List Line → Writing
+writing messages role names lines = record { messages = messages; role = role; names = names; lines = map line_of lines }
 
 -- the same for what says nothing
-abbrev pub Stops : ReadError → (Item → Item) → List Symbol → List Symbol → Type 0
+abbrev pub Stops : ScriptError → (Item → Item) → List Symbol → List Symbol → Type 0
 Stops errors.Memory front old new = Unit {0}
 Stops (errors.Refused fault) front old new = (k : Item) → answer (front k) old ≡ Refuses fault new
 
 -- it comes to what is awaited behind, or stops
-abbrev pub Passes : {X : Type 0} → Result X ReadError → (Item → Item) → List Symbol → List Symbol → Type 0
+abbrev pub Passes : {X : Type 0} → Result X ScriptError → (Item → Item) → List Symbol → List Symbol → Type 0
 Passes (Ok x) front old new = (k : Item) → answer (front k) old ≡ answer k new
 Passes (Err e) front old new = Stops e front old new
 

@@ -1,7 +1,7 @@
 -- Scripts as they are written, each in front of what follows, and what they say where no code holds.
 use Rattle.std.specs.Prelude.{◌≡◌, ◌≢◌, ◌⊎◌, ℕ, ◌<◌, Bool, true, false, codes, List, [], ◌∷◌, ◌++◌, Some, None, ℤ, pos, neg_ℤ}
 use Rattle.rcv_model.specs.Script.{Expr, Literal, TheValue, TheAttempt, Variable, Negated, Plus, Minus, Times, Test, Less, AtMost, Same, Differ, More, AtLeast, Line, VarLine, SendLine, PickLine, OnLine}
-use Rattle.rcv_points.specs.Follow.{PointsView}
+use Rattle.rcv_points.specs.Follow.{PointView}
 use Rattle.rcv_script.specs.declared.sign.Sign.{Sign}
 use Rattle.rcv_script.specs.declared.sign.Sign.TheVariants as signs
 use Rattle.rcv_script.specs.declared.words.LineKind.TheVariants as kinds
@@ -77,11 +77,13 @@ number_text true n next = Is signs.Minus ∷ Number n ∷ next
 
 -- a line
 abbrev pub line_text : WrittenLine → List Symbol → List Symbol
-line_text (VarText name below n) next = Word (codes "var") ∷ Word name ∷ Is signs.Equals ∷ number_text below n (Is signs.Semicolon ∷ next)
+line_text (VarText name below n) next =
+    Word (codes "var") ∷ Word name ∷ Is signs.Equals ∷ number_text below n (Is signs.Semicolon ∷ next)
 line_text (SendText label s) next = Word (codes "send") ∷ Word label ∷ Is signs.Equals ∷ sum_text s (Is signs.Semicolon ∷ next)
 line_text (PickText label) next = Word (codes "pick") ∷ Word label ∷ Is signs.Semicolon ∷ next
 line_text (WhenText label left test right) next =
-    Word (codes "pick") ∷ Word label ∷ Word (codes "when") ∷ sum_text left (Is (test_mark test) ∷ sum_text right (Is signs.Semicolon ∷ next))
+    Word (codes "pick") ∷ Word label ∷ Word (codes "when")
+    ∷ sum_text left (Is (test_mark test) ∷ sum_text right (Is signs.Semicolon ∷ next))
 line_text (OnText label name s) next =
     Word (codes "on") ∷ Word label ∷ Word (codes "set") ∷ Word name ∷ Is signs.Equals ∷ sum_text s (Is signs.Semicolon ∷ next)
 
@@ -131,15 +133,22 @@ signed_number true n = neg_ℤ (pos n)
 
 -- a line behind others of the role, with the variables behind it
 abbrev pub LineSays : Writing → WrittenLine → List (List ℕ) × Line → Type 0
-LineSays s (VarText name below n) x = (line_fault s.names s.lines kinds.Var ≡ None) × (var_fault s.names name ≡ None) × (x ≡ (s.names ++ name ∷ [], VarLine (signed_number below n)))
+LineSays s (VarText name below n) x =
+    (line_fault s.names s.lines kinds.Var ≡ None) × (var_fault s.names name ≡ None)
+    × (x ≡ (s.names ++ name ∷ [], VarLine (signed_number below n)))
 LineSays s (SendText label t) x =
-    (line_fault s.names s.lines kinds.Send ≡ None) × (send_fault s.points s.role s.lines label ≡ None) × (e : Expr) × SumSays (deciding s.names) t e × (x ≡ (s.names, SendLine label e))
-LineSays s (PickText label) x = (line_fault s.names s.lines kinds.Pick ≡ None) × (pick_fault s.points s.role label ≡ None) × (x ≡ (s.names, PickLine label None))
+    (line_fault s.names s.lines kinds.Send ≡ None) × (send_fault s.messages s.role s.lines label ≡ None)
+    × (e : Expr) × SumSays (deciding s.names) t e × (x ≡ (s.names, SendLine label e))
+LineSays s (PickText label) x =
+    (line_fault s.names s.lines kinds.Pick ≡ None) × (pick_fault s.messages s.role label ≡ None)
+    × (x ≡ (s.names, PickLine label None))
 LineSays s (WhenText label left test right) x =
-    (line_fault s.names s.lines kinds.Pick ≡ None) × (pick_fault s.points s.role label ≡ None) × (a : Expr) × (b : Expr) × SumSays (deciding s.names) left a × SumSays (deciding s.names) right b
+    (line_fault s.names s.lines kinds.Pick ≡ None) × (pick_fault s.messages s.role label ≡ None)
+    × (a : Expr) × (b : Expr) × SumSays (deciding s.names) left a × SumSays (deciding s.names) right b
     × (x ≡ (s.names, PickLine label (Some (record { left = a; test = test; right = b }))))
 LineSays s (OnText label name t) x =
-    (line_fault s.names s.lines kinds.On ≡ None) × (on_fault s.points s.role label ≡ None) × (set_fault s.names name ≡ None) × (e : Expr) × SumSays (remembering s label) t e
+    (line_fault s.names s.lines kinds.On ≡ None) × (on_fault s.messages s.role label ≡ None) × (set_fault s.names name ≡ None)
+    × (e : Expr) × SumSays (remembering s label) t e
     × (x ≡ (s.names, OnLine label (place_in s.names name) e))
 
 -- lines behind others of the role
@@ -151,9 +160,10 @@ LinesSay s (w ∷ ws) ls = (x : List (List ℕ) × Line) × LineSays s w x × Li
 abbrev pub ScriptsSay : Known → List WrittenScript → List (List Line) → Type 0
 ScriptsSay known [] ss = ss ≡ known.scripts
 ScriptsSay known (w ∷ ws) ss =
-    (role_fault known.roles known.given w.role ≡ None) × (ls : List Line) × LinesSay (begun known.points (place_in known.roles w.role)) w.lines ls
+    (role_fault known.roles known.given w.role ≡ None)
+    × (ls : List Line) × LinesSay (begun known.messages (place_in known.roles w.role)) w.lines ls
     × ScriptsSay (with_script known (place_in known.roles w.role) ls) ws ss
 
--- Written scripts of a protocol with these roles and points say these lines, role by role.
-abbrev pub Say : List (List ℕ) → PointsView → List WrittenScript → List (List Line) → Type 0
-Say roles points ws ss = ScriptsSay (record { roles = roles; points = points; scripts = no_lines roles; given = [] }) ws ss
+-- Written scripts of a protocol with these roles and messages say these lines, role by role.
+abbrev pub Say : List (List ℕ) → List PointView → List WrittenScript → List (List Line) → Type 0
+Say roles messages ws ss = ScriptsSay (record { roles = roles; messages = messages; scripts = no_lines roles; given = [] }) ws ss

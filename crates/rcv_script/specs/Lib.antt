@@ -8,3 +8,4 @@ pub mod Descent
 pub mod Refusals
 pub mod Grammar
 pub mod Laws
+pub mod Scripts

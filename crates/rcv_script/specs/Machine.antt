@@ -3,7 +3,7 @@ use Rattle.std.specs.Prelude.{ℕ, ◌+◌, ◌==◌, ◌&&◌, ◌||◌, not, n
 use Rattle.std.specs.List.{list_any}
 use Rattle.std.specs.Str.{bytes_eq}
 use Rattle.rcv_model.specs.Script.{Condition, Expr, Literal, TheValue, TheAttempt, Variable, Negated, Plus, Minus, Times, Test, Less, AtMost, Same, Differ, More, AtLeast, Line, VarLine, SendLine, PickLine, OnLine}
-use Rattle.rcv_points.specs.Follow.{PointView, PointsView}
+use Rattle.rcv_points.specs.Follow.{PointView}
 use Rattle.rcv_script.specs.declared.sign.Sign.{Sign}
 use Rattle.rcv_script.specs.declared.sign.Sign.TheVariants as signs
 use Rattle.rcv_script.specs.declared.fault.Fault.{Fault}
@@ -32,19 +32,17 @@ pub record Place : Type 0 where
   pub attempt : Option Fault
   pub depth : ℕ
 
--- In a script: the protocol's points, the role, its variables and its lines so far.
+-- In a script: the protocol's messages, the role, its variables and its lines so far.
 pub record Writing : Type 0 where
-  pub points : PointsView
+  pub messages : List PointView
   pub role : ℕ
   pub names : List (List ℕ)
-  -- a line, or the brace behind the last one
   pub lines : List Line
 
--- Between scripts: the protocol's roles and points, the lines of each role, and the roles that have a script.
+-- Between scripts: the protocol's roles and messages, the lines of each role, and the roles that have a script.
 pub record Known : Type 0 where
   pub roles : List (List ℕ)
-  pub points : PointsView
-  -- the word role
+  pub messages : List PointView
   pub scripts : List (List Line)
   pub given : List ℕ
 
@@ -126,20 +124,20 @@ abbrev pub is_part : ℕ → List ℕ → PointView → Bool
 is_part role label m = (m.sender == role || m.receiver == role) && bytes_eq m.label label
 
 -- the role sends a message with this label
-abbrev pub sends : PointsView → ℕ → List ℕ → Bool
-sends points role label = list_any (is_sent role label) points.messages
+abbrev pub sends : List PointView → ℕ → List ℕ → Bool
+sends messages role label = list_any (is_sent role label) messages
 
 -- it sends or receives one
-abbrev pub takes_part : PointsView → ℕ → List ℕ → Bool
-takes_part points role label = list_any (is_part role label) points.messages
+abbrev pub takes_part : List PointView → ℕ → List ℕ → Bool
+takes_part messages role label = list_any (is_part role label) messages
 
 -- one of them has no sorts
-abbrev pub sends_bare : PointsView → ℕ → List ℕ → Bool
-sends_bare points role label = list_any (λ m. is_sent role label m && not m.payload) points.messages
+abbrev pub sends_bare : List PointView → ℕ → List ℕ → Bool
+sends_bare messages role label = list_any (λ m. is_sent role label m && not m.payload) messages
 
 -- one that it sends or receives has no sorts
-abbrev pub takes_bare : PointsView → ℕ → List ℕ → Bool
-takes_bare points role label = list_any (λ m. is_part role label m && not m.payload) points.messages
+abbrev pub takes_bare : List PointView → ℕ → List ℕ → Bool
+takes_bare messages role label = list_any (λ m. is_part role label m && not m.payload) messages
 
 -- a send line with this label
 abbrev pub is_send_of : List ℕ → Line → Bool
@@ -152,19 +150,19 @@ is_send_of label (OnLine other place expr) = false
 abbrev pub has_send : List ℕ → List Line → Bool
 has_send label lines = list_any (is_send_of label) lines
 
--- what speaks against the label of a send line behind these lines, of a pick line and of an on line
-abbrev pub send_fault : PointsView → ℕ → List Line → List ℕ → Option Fault
-send_fault points role before label =
-    or_fault (fault_if (not (sends points role label)) faults.Label)
-    (or_fault (fault_if (has_send label before) faults.Label) (fault_if (sends_bare points role label) faults.NoPayload))
+-- what speaks against the label of a send line behind these lines
+abbrev pub send_fault : List PointView → ℕ → List Line → List ℕ → Option Fault
+send_fault messages role before label =
+    or_fault (fault_if (not (sends messages role label)) faults.Label)
+    (or_fault (fault_if (has_send label before) faults.Label) (fault_if (sends_bare messages role label) faults.NoPayload))
 
--- of a pick line
-abbrev pub pick_fault : PointsView → ℕ → List ℕ → Option Fault
-pick_fault points role label = fault_if (not (sends points role label)) faults.Label
+-- of one of a pick line
+abbrev pub pick_fault : List PointView → ℕ → List ℕ → Option Fault
+pick_fault messages role label = fault_if (not (sends messages role label)) faults.Label
 
--- of an on line
-abbrev pub on_fault : PointsView → ℕ → List ℕ → Option Fault
-on_fault points role label = fault_if (not (takes_part points role label)) faults.Label
+-- of one of an on line
+abbrev pub on_fault : List PointView → ℕ → List ℕ → Option Fault
+on_fault messages role label = fault_if (not (takes_part messages role label)) faults.Label
 
 -- a variable is declared once, and isn't called as what expressions read otherwise
 abbrev pub var_fault : List (List ℕ) → List ℕ → Option Fault
@@ -178,14 +176,19 @@ set_fault names name = fault_if (not (is_some (place_of names name))) faults.Var
 
 -- ---- expressions
 
--- where a send or pick line computes, and where an on line does
+-- where a send or pick line computes
 abbrev pub deciding : List (List ℕ) → Place
 deciding names = record { names = names; value = Some faults.Variable; attempt = None; depth = 0 }
 
 -- where an on line computes
 abbrev pub remembering : Writing → List ℕ → Place
 remembering s label =
-    record { names = s.names; value = fault_if (takes_bare s.points s.role label) faults.NoPayload; attempt = Some faults.AttemptInState; depth = 0 }
+    record {
+      names = s.names;
+      value = fault_if (takes_bare s.messages s.role label) faults.NoPayload;
+      attempt = Some faults.AttemptInState;
+      depth = 0;
+    }
 
 -- inside one more parenthesis or sign
 abbrev pub deeper : Place → Place
@@ -242,7 +245,7 @@ var_line names k =
 
 -- what is awaited behind the word send
 abbrev pub send_line : Writing → (List (List ℕ) × Line → Item) → Item
-send_line s k = AWord (send_fault s.points s.role s.lines) (λ l. with_expr (deciding s.names) (λ e. k (s.names, SendLine l e)))
+send_line s k = AWord (send_fault s.messages s.role s.lines) (λ l. with_expr (deciding s.names) (λ e. k (s.names, SendLine l e)))
 
 -- expr, a mark that compares, expr ";"
 abbrev pub condition : Place → (Expr × Test × Expr → Item) → Item
@@ -254,12 +257,12 @@ rest_of_pick p k = AnEnd (k None) (condition p (λ c. k (Some (record { left = c
 
 -- what is awaited behind the word pick
 abbrev pub pick_line : Writing → (List (List ℕ) × Line → Item) → Item
-pick_line s k = AWord (pick_fault s.points s.role) (λ l. rest_of_pick (deciding s.names) (λ when. k (s.names, PickLine l when)))
+pick_line s k = AWord (pick_fault s.messages s.role) (λ l. rest_of_pick (deciding s.names) (λ when. k (s.names, PickLine l when)))
 
 -- what is awaited behind the word on
 abbrev pub on_line : Writing → (List (List ℕ) × Line → Item) → Item
 on_line s k =
-    AWord (on_fault s.points s.role) (λ l. This (Word (codes "set")) (AWord (set_fault s.names) (λ n.
+    AWord (on_fault s.messages s.role) (λ l. This (Word (codes "set")) (AWord (set_fault s.names) (λ n.
     with_expr (remembering s l) (λ e. k (s.names, OnLine l (place_in s.names n) e)))))
 
 -- what a line does, by its first word
@@ -297,7 +300,7 @@ line s Other k = Wrong faults.Token
 
 -- one more line of the role, with the variables behind it
 abbrev pub with_line : Writing → List (List ℕ) × Line → Writing
-with_line s x = record { points = s.points; role = s.role; names = x.0; lines = s.lines ++ x.1 ∷ [] }
+with_line s x = record { messages = s.messages; role = s.role; names = x.0; lines = s.lines ++ x.1 ∷ [] }
 
 -- a line, or the brace behind the last one
 abbrev pub lines : Writing → Symbol → (List Line → Item) → Outcome
@@ -307,22 +310,22 @@ lines s t k = line s t (λ x. Lines (with_line s x) k)
 -- ---- scripts
 
 -- the script of a role begins
-abbrev pub begun : PointsView → ℕ → Writing
-begun points role = record { points = points; role = role; names = []; lines = [] }
+abbrev pub begun : List PointView → ℕ → Writing
+begun messages role = record { messages = messages; role = role; names = []; lines = [] }
 
 -- one more script
 abbrev pub with_script : Known → ℕ → List Line → Known
 with_script known role ls =
-    record { roles = known.roles; points = known.points; scripts = slice_set known.scripts role ls; given = known.given ++ role ∷ [] }
+    record { roles = known.roles; messages = known.messages; scripts = slice_set known.scripts role ls; given = known.given ++ role ∷ [] }
 
 -- what stands behind the word role, for the role and its lines
-abbrev pub script : List (List ℕ) → List ℕ → PointsView → (ℕ × List Line → Item) → Item
-script roles given points k =
-    AWord (role_fault roles given) (λ n. This (Is signs.Open) (Lines (begun points (place_in roles n)) (λ ls. k (place_in roles n, ls))))
+abbrev pub script : List (List ℕ) → List ℕ → List PointView → (ℕ × List Line → Item) → Item
+script roles given messages k =
+    AWord (role_fault roles given) (λ n. This (Is signs.Open) (Lines (begun messages (place_in roles n)) (λ ls. k (place_in roles n, ls))))
 
 -- a script, and the scripts behind it
 abbrev pub script_of : Known → Item
-script_of known = script known.roles known.given known.points (λ x. Scripts (with_script known x.0 x.1))
+script_of known = script known.roles known.given known.messages (λ x. Scripts (with_script known x.0 x.1))
 
 -- the word role
 abbrev pub scripts : Known → Symbol → Outcome
@@ -432,9 +435,9 @@ abbrev pub no_lines : List (List ℕ) → List (List Line)
 no_lines roles = map (λ name. []) roles
 
 -- what is awaited at first
-abbrev pub awaited : List (List ℕ) → PointsView → Item
-awaited roles points = Scripts (record { roles = roles; points = points; scripts = no_lines roles; given = [] })
+abbrev pub awaited : List (List ℕ) → List PointView → Item
+awaited roles messages = Scripts (record { roles = roles; messages = messages; scripts = no_lines roles; given = [] })
 
 -- the answer to all symbols
-abbrev pub reading : List (List ℕ) → PointsView → List Symbol → Answer
-reading roles points symbols = answer (awaited roles points) symbols
+abbrev pub reading : List (List ℕ) → List PointView → List Symbol → Answer
+reading roles messages symbols = answer (awaited roles messages) symbols

@@ -5,10 +5,10 @@ use Rattle.rcv_lexer.specs.declared.token.Token.{Token}
 use Rattle.rcv_lexer.specs.declared.token.TextError.{TextError}
 use Rattle.rcv_lexer.specs.declared.token.TextError.TheVariants as errors
 use Rattle.rcv_model.specs.Script.{Line}
-use Rattle.rcv_points.specs.Follow.{PointsView}
+use Rattle.rcv_points.specs.Follow.{PointView}
 use Rattle.rcv_script.specs.declared.fault.Fault.{Fault}
-use Rattle.rcv_script.specs.declared.fault.ReadError.{ReadError}
-use Rattle.rcv_script.specs.declared.fault.ReadError.TheVariants as causes
+use Rattle.rcv_script.specs.declared.fault.ScriptError.{ScriptError}
+use Rattle.rcv_script.specs.declared.fault.ScriptError.TheVariants as causes
 use Rattle.rcv_script.specs.Symbols.{Symbol, symbols_of}
 use Rattle.rcv_script.specs.Machine.{Taken, Refuses, reading, code_of}
 
@@ -21,18 +21,18 @@ line_of_first (t ∷ ts) last = t.line
 abbrev pub line_before : List Token → ℕ → ℕ → ℕ
 line_before tokens last n = line_of_first (drop (length tokens - n) tokens) last
 
--- no code holds in the symbols, and these are the lines that they say
-abbrev pub AreRead : List (List ℕ) → PointsView → List Symbol → List (List Line) → Type 0
-AreRead roles points symbols scripts = reading roles points symbols ≡ Taken scripts
+-- the reading comes to the end, and these are the lines that the symbols say
+abbrev pub AreRead : List (List ℕ) → List PointView → List Symbol → List (List Line) → Type 0
+AreRead roles messages symbols scripts = reading roles messages symbols ≡ Taken scripts
 
--- at the first symbol at which a code holds, the fault with the least of them
-abbrev pub Ends : List (List ℕ) → PointsView → ReadError → List Symbol → List Symbol → Type 0
-Ends roles points causes.Memory old new = Unit {0}
-Ends roles points (causes.Refused fault) old new = reading roles points old ≡ Refuses fault new
+-- the reading stops at this fault, with these symbols left
+abbrev pub Ends : List (List ℕ) → List PointView → ScriptError → List Symbol → List Symbol → Type 0
+Ends roles messages causes.Memory old new = Unit {0}
+Ends roles messages (causes.Refused fault) old new = reading roles messages old ≡ Refuses fault new
 
--- At the first token at which a code holds, or at the end, this is the least code that holds, with its line.
-abbrev pub IsRefused : List ℕ → List Token → ℕ → List (List ℕ) → PointsView → TextError → Type 0
-IsRefused bundle tokens last roles points errors.Memory = Unit {0}
-IsRefused bundle tokens last roles points (errors.Refused r) =
-    (fault : Fault) × (left : List Symbol) × (reading roles points (symbols_of bundle tokens) ≡ Refuses fault left)
+-- The reading stops at a fault: this is its code, with the line of the token at which it stops, or of the end.
+abbrev pub IsRefused : List ℕ → List Token → ℕ → List (List ℕ) → List PointView → TextError → Type 0
+IsRefused bundle tokens last roles messages errors.Memory = Unit {0}
+IsRefused bundle tokens last roles messages (errors.Refused r) =
+    (fault : Fault) × (left : List Symbol) × (reading roles messages (symbols_of bundle tokens) ≡ Refuses fault left)
     × (r ≡ refusals.Text (code_of fault) (line_before tokens last (length left)))

@@ -1,7 +1,7 @@
 // Why no scripts were read.
 
 ghost use Rattle.std.specs.Prelude.{◌≡◌};
-ghost use Rattle.rcv_script.specs.declared.fault.ReadError.TheVariants.{Memory};
+ghost use Rattle.rcv_script.specs.declared.fault.ScriptError.TheVariants.{Memory};
 ghost use Rattle.rcv_script.specs.Machine.{code_of};
 
 use std::alloc::{AllocError, AllocFailed};
@@ -44,24 +44,24 @@ impl Fault {
 
 /// Why the reader stopped.
 #[derive(Clone, Copy, Debug, PartialEq, Eq)]
-pub enum ReadError {
+pub enum ScriptError {
     /// The fault is at the token that is next, or at the end.
     Refused(Fault),
     Memory,
 }
 
-impl From<AllocError> for ReadError {
+impl From<AllocError> for ScriptError {
     ghost from_gives = { λ _ e. e ≡ Memory };
 
-    fn from(_e: AllocError) -> ReadError {
-        ReadError::Memory
+    fn from(_e: AllocError) -> ScriptError {
+        ScriptError::Memory
     }
 }
 
-impl<T: Drop> From<AllocFailed<T>> for ReadError {
+impl<T: Drop> From<AllocFailed<T>> for ScriptError {
     ghost from_gives = { λ _ e. e ≡ Memory };
 
-    fn from(_e: AllocFailed<T>) -> ReadError {
-        ReadError::Memory
+    fn from(_e: AllocFailed<T>) -> ScriptError {
+        ScriptError::Memory
     }
 }

@@ -10,7 +10,7 @@ ghost use Rattle.rcv_script.specs.Descent.{Goes, Passes, IsNotNext, IsWordAtom, 
 
 use crate::ahead::Ahead;
 use crate::expression::{Atom, Product, Sum, Term};
-use crate::fault::{Fault, ReadError};
+use crate::fault::{Fault, ScriptError};
 use crate::line::{Comparison, Condition, is};
 use crate::sign::Sign;
 use rcv_tree::name::{Name, Names};
@@ -55,27 +55,27 @@ fn word_atom(names: &Names, banned: Banned, word: &[u8]) -> Result<Atom, Fault>
 
 impl<'a> Ahead<'a> {
     /// Takes this mark.
-    pub fn expect(&mut self, sign: Sign) -> Result<(), ReadError>
+    pub fn expect(&mut self, sign: Sign) -> Result<(), ScriptError>
         ensures goes { Passes result (λ k. This (Is sign) k) self.old self.new }
         ensures shorter { length self.new ≤ length self.old }
     {
         let Some(after) = self.sign(sign) else {
-            return Err(ReadError::Refused(Fault::Token));
+            return Err(ScriptError::Refused(Fault::Token));
         };
         *self = after;
         Ok(())
     }
 
     /// Takes this word.
-    pub fn expect_word(&mut self, word: &[u8]) -> Result<(), ReadError>
+    pub fn expect_word(&mut self, word: &[u8]) -> Result<(), ScriptError>
         ensures goes { Passes result (λ k. This (Word word.now) k) self.old self.new }
         ensures shorter { length self.new ≤ length self.old }
     {
         let Some((found, after)) = self.word() else {
-            return Err(ReadError::Refused(Fault::Token));
+            return Err(ScriptError::Refused(Fault::Token));
         };
         if !is(found, word) {
-            return Err(ReadError::Refused(Fault::Token));
+            return Err(ScriptError::Refused(Fault::Token));
         }
         *self = after;
         Ok(())
@@ -121,7 +121,7 @@ impl<'a> Ahead<'a> {
         names: &Names,
         banned: Banned,
         depth: u32,
-    ) -> Result<Atom, ReadError>
+    ) -> Result<Atom, ScriptError>
         requires { depth ≤ 32 }
         ensures goes { Goes result (λ k. AnAtom (place_at names.now banned.value banned.attempt depth) k) atom_expr self.old self.new }
         ensures shorter { length self.new ≤ length self.old }
@@ -136,24 +136,24 @@ impl<'a> Ahead<'a> {
                     *self = after;
                     Ok(atom)
                 }
-                Err(fault) => Err(ReadError::Refused(fault)),
+                Err(fault) => Err(ScriptError::Refused(fault)),
             };
         }
         if let Some(after) = self.sign(Sign::Minus) {
             if depth >= 32 {
-                return Err(ReadError::Refused(Fault::TooMany));
+                return Err(ScriptError::Refused(Fault::TooMany));
             }
             *self = after;
             return self.negated(alloc, names, banned, depth + 1);
         }
         if let Some(after) = self.sign(Sign::Left) {
             if depth >= 32 {
-                return Err(ReadError::Refused(Fault::TooMany));
+                return Err(ScriptError::Refused(Fault::TooMany));
             }
             *self = after;
             return self.group(alloc, names, banned, depth + 1);
         }
-        Err(ReadError::Refused(Fault::Token))
+        Err(ScriptError::Refused(Fault::Token))
     }
 
     // Takes the atom behind a sign.
@@ -164,9 +164,10 @@ impl<'a> Ahead<'a> {
         names: &Names,
         banned: Banned,
         depth: u32,
-    ) -> Result<Atom, ReadError>
+    ) -> Result<Atom, ScriptError>
         requires { depth ≤ 32 }
-        ensures goes { Goes result (λ k. AnAtom (place_at names.now banned.value banned.attempt depth) (λ e. k (Negated e))) atom_expr self.old self.new }
+        ensures goes { Goes result (λ k. AnAtom (place_at names.now banned.value banned.attempt depth) (λ e. k (Negated e)))
+            atom_expr self.old self.new }
         ensures shorter { length self.new ≤ length self.old }
     {
         let atom = self.atom(alloc, names, banned, depth)?;
@@ -181,9 +182,10 @@ impl<'a> Ahead<'a> {
         names: &Names,
         banned: Banned,
         depth: u32,
-    ) -> Result<Atom, ReadError>
+    ) -> Result<Atom, ScriptError>
         requires { depth ≤ 32 }
-        ensures goes { Goes result (λ k. a_sum (place_at names.now banned.value banned.attempt depth) (λ e. This (Is Sign.Right) (k e))) atom_expr self.old self.new }
+        ensures goes { Goes result (λ k. a_sum (place_at names.now banned.value banned.attempt depth) (λ e. This (Is Sign.Right) (k e)))
+            atom_expr self.old self.new }
         ensures shorter { length self.new ≤ length self.old }
     {
         let sum = self.sum(alloc, names, banned, depth)?;
@@ -199,9 +201,10 @@ impl<'a> Ahead<'a> {
         names: &Names,
         banned: Banned,
         depth: u32,
-    ) -> Result<Product, ReadError>
+    ) -> Result<Product, ScriptError>
         requires { depth ≤ 32 }
-        ensures goes { Goes result (λ k. a_product (place_at names.now banned.value banned.attempt depth) k) product_expr self.old self.new }
+        ensures goes { Goes result (λ k. a_product (place_at names.now banned.value banned.attempt depth) k)
+            product_expr self.old self.new }
         ensures shorter { length self.new ≤ length self.old }
     {
         let mut product = Product::new(alloc);
@@ -220,7 +223,7 @@ impl<'a> Ahead<'a> {
         names: &Names,
         banned: Banned,
         depth: u32,
-    ) -> Result<Sum, ReadError>
+    ) -> Result<Sum, ScriptError>
         requires { depth ≤ 32 }
         ensures goes { Goes result (λ k. a_sum (place_at names.now banned.value banned.attempt depth) k) sum_expr self.old self.new }
         ensures shorter { length self.new ≤ length self.old }
@@ -244,7 +247,7 @@ impl<'a> Ahead<'a> {
         alloc: Global,
         names: &Names,
         banned: Banned,
-    ) -> Result<Sum, ReadError>
+    ) -> Result<Sum, ScriptError>
         ensures goes { Goes result (λ k. with_expr (place_at names.now banned.value banned.attempt 0) k) sum_expr self.old self.new }
         ensures shorter { length self.new ≤ length self.old }
     {
@@ -260,7 +263,7 @@ impl<'a> Ahead<'a> {
         alloc: Global,
         names: &Names,
         banned: Banned,
-    ) -> Result<Condition, ReadError>
+    ) -> Result<Condition, ScriptError>
         ensures goes { Goes result (λ k. condition (place_at names.now banned.value banned.attempt 0) k) parts_of self.old self.new }
         ensures shorter { length self.new ≤ length self.old }
     {
@@ -276,7 +279,7 @@ impl<'a> Ahead<'a> {
     }
 
     // Takes a mark that compares.
-    fn comparison(&mut self) -> Result<Comparison, ReadError>
+    fn comparison(&mut self) -> Result<Comparison, ScriptError>
         ensures goes { Goes result (λ k. ATest k) test_of self.old self.new }
         ensures shorter { length self.new ≤ length self.old }
     {
@@ -293,7 +296,7 @@ impl<'a> Ahead<'a> {
         } else if self.takes(Sign::AtLeast) {
             Ok(Comparison::AtLeast)
         } else {
-            Err(ReadError::Refused(Fault::Token))
+            Err(ScriptError::Refused(Fault::Token))
         }
     }
 }

@@ -12,7 +12,7 @@ use rcv_tree::point::Point;
 
 /// What speaks against the label of a `send` line behind these lines.
 pub fn send_fault(points: &Points, role: usize, lines: &[Line], label: &[u8]) -> Option<Fault>
-    ensures { result ≡ send_fault points.now role (map line_of lines.now) label.now }
+    ensures { result ≡ send_fault points.now.messages role (map line_of lines.now) label.now }
 {
     if !sends(points, role, label) {
         return Some(Fault::Label);
@@ -28,7 +28,7 @@ pub fn send_fault(points: &Points, role: usize, lines: &[Line], label: &[u8]) ->
 
 /// What speaks against the label of a `pick` line.
 pub fn pick_fault(points: &Points, role: usize, label: &[u8]) -> Option<Fault>
-    ensures { result ≡ pick_fault points.now role label.now }
+    ensures { result ≡ pick_fault points.now.messages role label.now }
 {
     if sends(points, role, label) {
         None
@@ -39,7 +39,7 @@ pub fn pick_fault(points: &Points, role: usize, label: &[u8]) -> Option<Fault>
 
 /// What speaks against the label of an `on` line.
 pub fn on_fault(points: &Points, role: usize, label: &[u8]) -> Option<Fault>
-    ensures { result ≡ on_fault points.now role label.now }
+    ensures { result ≡ on_fault points.now.messages role label.now }
 {
     if takes_part(points, role, label) {
         None
@@ -50,7 +50,7 @@ pub fn on_fault(points: &Points, role: usize, label: &[u8]) -> Option<Fault>
 
 /// Whether a message without sorts has this label and is sent or received by the role.
 pub fn takes_bare(points: &Points, role: usize, label: &[u8]) -> bool
-    ensures { result ≡ takes_bare points.now role label.now }
+    ensures { result ≡ takes_bare points.now.messages role label.now }
 {
     for number in 0..points.count() {
         let point = Point(number + 1);
@@ -62,7 +62,7 @@ pub fn takes_bare(points: &Points, role: usize, label: &[u8]) -> bool
 }
 
 fn takes_part(points: &Points, role: usize, label: &[u8]) -> bool
-    ensures { result ≡ takes_part points.now role label.now }
+    ensures { result ≡ takes_part points.now.messages role label.now }
 {
     for number in 0..points.count() {
         if is_part(points, Point(number + 1), role, label) {
@@ -73,7 +73,7 @@ fn takes_part(points: &Points, role: usize, label: &[u8]) -> bool
 }
 
 fn sends(points: &Points, role: usize, label: &[u8]) -> bool
-    ensures { result ≡ sends points.now role label.now }
+    ensures { result ≡ sends points.now.messages role label.now }
 {
     for number in 0..points.count() {
         if is_sent(points, Point(number + 1), role, label) {
@@ -84,7 +84,7 @@ fn sends(points: &Points, role: usize, label: &[u8]) -> bool
 }
 
 fn sends_bare(points: &Points, role: usize, label: &[u8]) -> bool
-    ensures { result ≡ sends_bare points.now role label.now }
+    ensures { result ≡ sends_bare points.now.messages role label.now }
 {
     for number in 0..points.count() {
         let point = Point(number + 1);

@@ -13,8 +13,6 @@ mod parser;
 mod read;
 pub mod scripts;
 mod sign;
-#[cfg(test)]
-mod tests;
 mod words;
 
 pub use fault::Fault;

@@ -8,7 +8,7 @@ ghost use Rattle.rcv_script.specs.Machine.{AWord, ASigned, ANumber, Lines, ALine
 ghost use Rattle.rcv_script.specs.Descent.{Goes, IsNotNext, writing, place_at};
 
 use crate::ahead::Ahead;
-use crate::fault::{Fault, ReadError};
+use crate::fault::{Fault, ScriptError};
 use crate::formula::{Banned, place_of};
 use crate::labels::{on_fault, pick_fault, send_fault, takes_bare};
 use crate::line::{Condition, Line, is};
@@ -44,15 +44,15 @@ fn line_fault(kind: LineKind, names: &Names, lines: &[Line]) -> Option<Fault>
 
 impl<'a> Ahead<'a> {
     // Takes the name of a new variable.
-    fn new_variable(&mut self, alloc: Global, names: &Names) -> Result<Name, ReadError>
+    fn new_variable(&mut self, alloc: Global, names: &Names) -> Result<Name, ScriptError>
         ensures goes { Goes result (λ k. AWord (var_fault names.now) k) (λ n. n) self.old self.new }
         ensures shorter { length self.new ≤ length self.old }
     {
         let Some((word, after)) = self.word() else {
-            return Err(ReadError::Refused(Fault::Token));
+            return Err(ScriptError::Refused(Fault::Token));
         };
         if let Some(fault) = var_fault(names, word) {
-            return Err(ReadError::Refused(fault));
+            return Err(ScriptError::Refused(fault));
         }
         let name = Name::of(alloc, word)?;
         *self = after;
@@ -60,22 +60,22 @@ impl<'a> Ahead<'a> {
     }
 
     // Takes the name of a variable: its place.
-    fn variable(&mut self, names: &Names) -> Result<usize, ReadError>
+    fn variable(&mut self, names: &Names) -> Result<usize, ScriptError>
         ensures goes { Goes result (λ k. AWord (set_fault names.now) (λ n. k (place_in names.now n))) (λ place. place) self.old self.new }
         ensures shorter { length self.new ≤ length self.old }
     {
         let Some((word, after)) = self.word() else {
-            return Err(ReadError::Refused(Fault::Token));
+            return Err(ScriptError::Refused(Fault::Token));
         };
         let Some(place) = place_of(names.as_slice(), word) else {
-            return Err(ReadError::Refused(Fault::Variable));
+            return Err(ScriptError::Refused(Fault::Variable));
         };
         *self = after;
         Ok(place)
     }
 
     // Takes a number that may be below 0.
-    fn signed(&mut self) -> Result<i64, ReadError>
+    fn signed(&mut self) -> Result<i64, ScriptError>
         ensures goes { Goes result (λ k. ASigned k) (λ z. z) self.old self.new }
         ensures shorter { length self.new ≤ length self.old }
     {
@@ -83,26 +83,26 @@ impl<'a> Ahead<'a> {
             return self.negative();
         }
         let Some((number, after)) = self.number() else {
-            return Err(ReadError::Refused(Fault::Token));
+            return Err(ScriptError::Refused(Fault::Token));
         };
         *self = after;
         Ok(number as i64)
     }
 
     // Takes the number behind a sign.
-    fn negative(&mut self) -> Result<i64, ReadError>
+    fn negative(&mut self) -> Result<i64, ScriptError>
         ensures goes { Goes result (λ k. ANumber (λ n. k (neg_ℤ (pos n)))) (λ z. z) self.old self.new }
         ensures shorter { length self.new ≤ length self.old }
     {
         let Some((number, after)) = self.number() else {
-            return Err(ReadError::Refused(Fault::Token));
+            return Err(ScriptError::Refused(Fault::Token));
         };
         *self = after;
         Ok(-(number as i64))
     }
 
     // Takes what stands behind the word `var`.
-    fn var_line(&mut self, alloc: Global, names: &mut Names) -> Result<Line, ReadError>
+    fn var_line(&mut self, alloc: Global, names: &mut Names) -> Result<Line, ScriptError>
         ensures goes { Goes result (λ k. var_line names.old k) (λ line. (names.new, line_of line)) self.old self.new }
         ensures shorter { length self.new ≤ length self.old }
     {
@@ -121,15 +121,15 @@ impl<'a> Ahead<'a> {
         points: &Points,
         role: usize,
         lines: &[Line],
-    ) -> Result<Name, ReadError>
-        ensures goes { Goes result (λ k. AWord (send_fault points.now role (map line_of lines.now)) k) (λ n. n) self.old self.new }
+    ) -> Result<Name, ScriptError>
+        ensures goes { Goes result (λ k. AWord (send_fault points.now.messages role (map line_of lines.now)) k) (λ n. n) self.old self.new }
         ensures shorter { length self.new ≤ length self.old }
     {
         let Some((word, after)) = self.word() else {
-            return Err(ReadError::Refused(Fault::Token));
+            return Err(ScriptError::Refused(Fault::Token));
         };
         if let Some(fault) = send_fault(points, role, lines, word) {
-            return Err(ReadError::Refused(fault));
+            return Err(ScriptError::Refused(fault));
         }
         let label = Name::of(alloc, word)?;
         *self = after;
@@ -137,15 +137,20 @@ impl<'a> Ahead<'a> {
     }
 
     // Takes the label of a `pick` line.
-    fn pick_label(&mut self, alloc: Global, points: &Points, role: usize) -> Result<Name, ReadError>
-        ensures goes { Goes result (λ k. AWord (pick_fault points.now role) k) (λ n. n) self.old self.new }
+    fn pick_label(
+        &mut self,
+        alloc: Global,
+        points: &Points,
+        role: usize,
+    ) -> Result<Name, ScriptError>
+        ensures goes { Goes result (λ k. AWord (pick_fault points.now.messages role) k) (λ n. n) self.old self.new }
         ensures shorter { length self.new ≤ length self.old }
     {
         let Some((word, after)) = self.word() else {
-            return Err(ReadError::Refused(Fault::Token));
+            return Err(ScriptError::Refused(Fault::Token));
         };
         if let Some(fault) = pick_fault(points, role, word) {
-            return Err(ReadError::Refused(fault));
+            return Err(ScriptError::Refused(fault));
         }
         let label = Name::of(alloc, word)?;
         *self = after;
@@ -153,15 +158,15 @@ impl<'a> Ahead<'a> {
     }
 
     // Takes the label of an `on` line.
-    fn on_label(&mut self, alloc: Global, points: &Points, role: usize) -> Result<Name, ReadError>
-        ensures goes { Goes result (λ k. AWord (on_fault points.now role) k) (λ n. n) self.old self.new }
+    fn on_label(&mut self, alloc: Global, points: &Points, role: usize) -> Result<Name, ScriptError>
+        ensures goes { Goes result (λ k. AWord (on_fault points.now.messages role) k) (λ n. n) self.old self.new }
         ensures shorter { length self.new ≤ length self.old }
     {
         let Some((word, after)) = self.word() else {
-            return Err(ReadError::Refused(Fault::Token));
+            return Err(ScriptError::Refused(Fault::Token));
         };
         if let Some(fault) = on_fault(points, role, word) {
-            return Err(ReadError::Refused(fault));
+            return Err(ScriptError::Refused(fault));
         }
         let label = Name::of(alloc, word)?;
         *self = after;
@@ -176,8 +181,9 @@ impl<'a> Ahead<'a> {
         role: usize,
         names: &Names,
         lines: &[Line],
-    ) -> Result<Line, ReadError>
-        ensures goes { Goes result (λ k. send_line (writing points.now role names.now lines.now) k) (λ line. (names.now, line_of line)) self.old self.new }
+    ) -> Result<Line, ScriptError>
+        ensures goes { Goes result (λ k. send_line (writing points.now.messages role names.now lines.now) k)
+            (λ line. (names.now, line_of line)) self.old self.new }
         ensures shorter { length self.new ≤ length self.old }
     {
         let label = self.send_label(alloc, points, role, lines)?;
@@ -193,8 +199,9 @@ impl<'a> Ahead<'a> {
         role: usize,
         names: &Names,
         lines: &[Line],
-    ) -> Result<Line, ReadError>
-        ensures goes { Goes result (λ k. pick_line (writing points.now role names.now lines.now) k) (λ line. (names.now, line_of line)) self.old self.new }
+    ) -> Result<Line, ScriptError>
+        ensures goes { Goes result (λ k. pick_line (writing points.now.messages role names.now lines.now) k)
+            (λ line. (names.now, line_of line)) self.old self.new }
         ensures shorter { length self.new ≤ length self.old }
     {
         let label = self.pick_label(alloc, points, role)?;
@@ -203,7 +210,7 @@ impl<'a> Ahead<'a> {
     }
 
     // Takes what stands behind the label of a `pick` line.
-    fn when(&mut self, alloc: Global, names: &Names) -> Result<Option<Condition>, ReadError>
+    fn when(&mut self, alloc: Global, names: &Names) -> Result<Option<Condition>, ScriptError>
         ensures goes { Goes result (λ k. rest_of_pick (place_at names.now (Some Fault.Variable) None 0) k) when_of self.old self.new }
         ensures shorter { length self.new ≤ length self.old }
     {
@@ -222,8 +229,9 @@ impl<'a> Ahead<'a> {
         role: usize,
         names: &Names,
         lines: &[Line],
-    ) -> Result<Line, ReadError>
-        ensures goes { Goes result (λ k. on_line (writing points.now role names.now lines.now) k) (λ line. (names.now, line_of line)) self.old self.new }
+    ) -> Result<Line, ScriptError>
+        ensures goes { Goes result (λ k. on_line (writing points.now.messages role names.now lines.now) k)
+            (λ line. (names.now, line_of line)) self.old self.new }
         ensures shorter { length self.new ≤ length self.old }
     {
         let label = self.on_label(alloc, points, role)?;
@@ -247,8 +255,9 @@ impl<'a> Ahead<'a> {
         role: usize,
         names: &mut Names,
         lines: &[Line],
-    ) -> Result<Line, ReadError>
-        ensures goes { Goes result (λ k. line_behind (writing points.now role names.old lines.now) kind k) (λ line. (names.new, line_of line)) self.old self.new }
+    ) -> Result<Line, ScriptError>
+        ensures goes { Goes result (λ k. line_behind (writing points.now.messages role names.old lines.now) kind k)
+            (λ line. (names.new, line_of line)) self.old self.new }
         ensures shorter { length self.new ≤ length self.old }
     {
         match kind {
@@ -267,19 +276,20 @@ impl<'a> Ahead<'a> {
         role: usize,
         names: &mut Names,
         lines: &[Line],
-    ) -> Result<Line, ReadError>
-        ensures goes { Goes result (λ k. ALine (writing points.now role names.old lines.now) k) (λ line. (names.new, line_of line)) self.old self.new }
+    ) -> Result<Line, ScriptError>
+        ensures goes { Goes result (λ k. ALine (writing points.now.messages role names.old lines.now) k)
+            (λ line. (names.new, line_of line)) self.old self.new }
         ensures taken { IfOk result (λ line. length self.new < length self.old) }
         ensures shorter { length self.new ≤ length self.old }
     {
         let Some((word, after)) = self.word() else {
-            return Err(ReadError::Refused(Fault::Token));
+            return Err(ScriptError::Refused(Fault::Token));
         };
         let Some(kind) = kind_of(word) else {
-            return Err(ReadError::Refused(Fault::Token));
+            return Err(ScriptError::Refused(Fault::Token));
         };
         if let Some(fault) = line_fault(kind, names, lines) {
-            return Err(ReadError::Refused(fault));
+            return Err(ScriptError::Refused(fault));
         }
         *self = after;
         self.line_behind(alloc, kind, points, role, names, lines)
@@ -291,8 +301,9 @@ impl<'a> Ahead<'a> {
         alloc: Global,
         points: &Points,
         role: usize,
-    ) -> Result<Vec<Line>, ReadError>
-        ensures goes { Goes result (λ k. Lines (writing points.now role [] []) k) (λ lines. map line_of lines.items) self.old self.new }
+    ) -> Result<Vec<Line>, ScriptError>
+        ensures goes { Goes result (λ k. Lines (writing points.now.messages role [] []) k)
+            (λ lines. map line_of lines.items) self.old self.new }
         ensures shorter { length self.new ≤ length self.old }
     {
         let mut names = Names::new(alloc);
@@ -313,7 +324,7 @@ const DECIDING: Banned = Banned {
 
 // What an `on` line of this label may not read.
 fn remembering(points: &Points, role: usize, label: &[u8]) -> Banned
-    ensures value { result.value ≡ fault_if (takes_bare points.now role label.now) Fault.NoPayload }
+    ensures value { result.value ≡ fault_if (takes_bare points.now.messages role label.now) Fault.NoPayload }
     ensures attempt { result.attempt ≡ Some Fault.AttemptInState }
 {
     let bare = takes_bare(points, role, label);

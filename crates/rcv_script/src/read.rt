@@ -7,14 +7,16 @@ ghost use Rattle.rcv_script.specs.Symbols.{Word, symbols_of};
 ghost use Rattle.rcv_script.specs.Lines.{line_of};
 ghost use Rattle.rcv_script.specs.Machine.{AWord, is_listed, role_fault, script, place_in, no_lines};
 ghost use Rattle.rcv_script.specs.Descent.{Goes, IsNotNext};
-ghost use Rattle.rcv_script.specs.Refusals.{AreRead, Ends, IsRefused, line_before};
+ghost use Rattle.rcv_script.specs.Refusals.{AreRead, Ends, line_before};
+ghost use Rattle.rcv_script.specs.Scripts.{AreScriptsOf, AreRefusedFor};
 
 use crate::ahead::Ahead;
-use crate::fault::{Fault, ReadError};
+use crate::fault::{Fault, ScriptError};
 use crate::formula::place_of;
 use crate::line::is;
 use crate::scripts::{Script, Scripts};
 use crate::sign::Sign;
+use rcv_accept::accepted::Accepted;
 use rcv_lexer::token::{TextError, Token};
 use rcv_points::points::Points;
 use rcv_tree::name::Names;
@@ -47,19 +49,20 @@ impl<'a> Ahead<'a> {
     }
 
     // Takes the name of a role that has no script yet: its place.
-    fn role(&mut self, roles: &Names, given: &[usize]) -> Result<usize, ReadError>
-        ensures goes { Goes result (λ k. AWord (role_fault roles.now given.now) (λ n. k (place_in roles.now n))) (λ role. role) self.old self.new }
+    fn role(&mut self, roles: &Names, given: &[usize]) -> Result<usize, ScriptError>
+        ensures goes { Goes result (λ k. AWord (role_fault roles.now given.now) (λ n. k (place_in roles.now n)))
+            (λ role. role) self.old self.new }
         ensures declared { IfOk result (λ role. role < length roles.now) }
         ensures shorter { length self.new ≤ length self.old }
     {
         let Some((word, after)) = self.word() else {
-            return Err(ReadError::Refused(Fault::Token));
+            return Err(ScriptError::Refused(Fault::Token));
         };
         let Some(role) = place_of(roles.as_slice(), word) else {
-            return Err(ReadError::Refused(Fault::Role));
+            return Err(ScriptError::Refused(Fault::Role));
         };
         if is_listed(role, given) {
-            return Err(ReadError::Refused(Fault::Role));
+            return Err(ScriptError::Refused(Fault::Role));
         }
         *self = after;
         Ok(role)
@@ -72,8 +75,8 @@ impl<'a> Ahead<'a> {
         roles: &Names,
         points: &Points,
         given: &[usize],
-    ) -> Result<Given, ReadError>
-        ensures goes { Goes result (λ k. script roles.now given.now points.now k) (λ x. (x.role, x.script)) self.old self.new }
+    ) -> Result<Given, ScriptError>
+        ensures goes { Goes result (λ k. script roles.now given.now points.now.messages k) (λ x. (x.role, x.script)) self.old self.new }
         ensures declared { IfOk result (λ x. x.role < length roles.now) }
         ensures shorter { length self.new ≤ length self.old }
     {
@@ -92,9 +95,10 @@ impl<'a> Ahead<'a> {
         alloc: Global,
         roles: &Names,
         points: &Points,
-    ) -> Result<Scripts, ReadError>
-        ensures ok { IfOk result (λ scripts. AreRead roles.now points.now self.old scripts) }
-        ensures err { IfErr result (λ e. Ends roles.now points.now e self.old self.new) }
+    ) -> Result<Vec<Script>, ScriptError>
+        ensures ok { IfOk result (λ scripts. AreRead roles.now points.now.messages self.old scripts.items) }
+        ensures all { IfOk result (λ scripts. length scripts.items ≡ length roles.now) }
+        ensures err { IfErr result (λ e. Ends roles.now points.now.messages e self.old self.new) }
     {
         let mut scripts = no_lines(alloc, roles)?;
         let mut given = Vec::new(alloc);
@@ -104,9 +108,9 @@ impl<'a> Ahead<'a> {
             scripts[next.role] = next.script;
         }
         if self.is_empty() {
-            Ok(Scripts::of(scripts))
+            Ok(scripts)
         } else {
-            Err(ReadError::Refused(Fault::Token))
+            Err(ScriptError::Refused(Fault::Token))
         }
     }
 }
@@ -119,9 +123,9 @@ fn is_listed(role: usize, given: &[usize]) -> bool
 }
 
 // A script without lines for each role.
-fn no_lines(alloc: Global, roles: &Names) -> Result<Vec<Script>, ReadError>
+fn no_lines(alloc: Global, roles: &Names) -> Result<Vec<Script>, ScriptError>
     ensures ok { IfOk result (λ scripts. scripts.items ≡ no_lines roles.now) }
-    ensures err { IfErr result (λ e. e ≡ ReadError.Memory) }
+    ensures err { IfErr result (λ e. e ≡ ScriptError.Memory) }
 {
     let mut scripts = Vec::new(alloc);
     for _name in roles.as_slice() {
@@ -141,10 +145,10 @@ fn line_before(list: &[Token], last: u32, left: usize) -> u32
     }
 }
 
-/// The scripts that the tokens of a part of the bundle say, for the protocol with these roles and points. `last` is the
-/// line of the part's end. A part without tokens gives each role a script without lines.
+/// The scripts that the tokens of a part of the bundle say, for an accepted protocol. `last` is the line of the part's
+/// end. A part without tokens gives each role a script without lines.
 ///
-/// Refused at the first token at which a code holds, or at the part's end, with the least code at it and its line:
+/// Refused where the step machine of the grammar stops, with its code and the line of the token or of the part's end:
 /// 30 where the grammar doesn't have the token or the end there, and at a number above 9223372036854775807; 31 at a role
 /// that isn't declared or has a script before; 32 at a label of `send` or `pick` that the role never sends, one of `on`
 /// that it neither sends nor receives, and that of a second `send` line; 33 at a variable that isn't declared before,
@@ -157,17 +161,19 @@ pub fn read_scripts(
     bundle: &[u8],
     list: &[Token],
     last: u32,
-    roles: &Names,
-    points: &Points,
+    accepted: &Accepted,
 ) -> Result<Scripts, TextError>
     requires inside { All (λ t. LiesIn bundle.now t.span) list.now }
-    ensures { MatchResult result (AreRead roles.now points.now (symbols_of bundle.now list.now)) (IsRefused bundle.now list.now last roles.now points.now) }
+    ensures { MatchResult result (AreScriptsOf accepted.now.protocol (symbols_of bundle.now list.now))
+        (AreRefusedFor bundle.now list.now last accepted.now.protocol) }
 {
+    let roles = &accepted.protocol().roles;
+    let points = accepted.points();
     let mut ahead = Ahead::new(bundle, list);
     match ahead.scripts(alloc, roles, points) {
-        Ok(scripts) => Ok(scripts),
-        Err(ReadError::Memory) => Err(TextError::Memory),
-        Err(ReadError::Refused(fault)) => Err(TextError::Refused(Refusal::Text {
+        Ok(scripts) => Ok(Scripts::of(alloc, scripts, points)?),
+        Err(ScriptError::Memory) => Err(TextError::Memory),
+        Err(ScriptError::Refused(fault)) => Err(TextError::Refused(Refusal::Text {
             code: fault.code(),
             line: line_before(list, last, ahead.len()),
         })),

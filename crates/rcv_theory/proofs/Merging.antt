@@ -1,5 +1,5 @@
 -- A merge of a round's logs is legal behind the journal.
-use Rattle.std.proofs.Common.{◌≡◌, ℕ, ◌<◌, Bool, true, false, cond, Some, List, [], ◌∷◌, ◌++◌, length, refl, sym, ◌∙◌, ap, subst, ◌⊎◌, inl, inr, ⊎_elim, append_assoc, append-nil, arith, length-append, eq-eqb, ne_eqb}
+use Rattle.std.proofs.Common.{◌≡◌, ℕ, ◌<◌, Bool, true, false, cond, Option, Some, None, List, [], ◌∷◌, ◌++◌, length, refl, sym, ◌∙◌, ap, subst, ◌⊎◌, inl, inr, ⊎_elim, append_assoc, append-nil, arith, length-append, eq-eqb, ne_eqb}
 use Rattle.std.specs.Prelude.{◌==◌, slice_get}
 use Rattle.std.specs.List.{cons_option}
 use Rattle.std.proofs.lemmas.Bool.{cases_eq}
@@ -21,30 +21,31 @@ use Rattle.rcv_model.proofs.Queues.{get_here, from_of, put_by_true}
 use Rattle.rcv_model.proofs.Steps.{expected}
 use Rattle.rcv_model.proofs.Legal.{run_after, sends_keep_accepted, accepted_runs}
 use Rattle.rcv_model.proofs.StableLines.{reading_join}
-use Rattle.rcv_theory.specs.Round.{Timed, role_of, event_of, entries, events_in, of_role, IsLocalRecv, IsLocal, IsLog, IsRound, IsMerge}
+use Rattle.rcv_theory.specs.Round.{role_of, event_of, entries, events_in, of_role, IsLocalRecv, IsLocal, IsLog, IsRound, IsMerge}
+use Rattle.rcv_tree.specs.declared.entry.Timed.{Timed}
 use Rattle.rcv_theory.proofs.Agreeing.{Agrees, agrees_self, local_same, own_both, own_else}
 
 -- what lists of entries say, one more at the end
 pub events_join : (xs ys : List Timed) → events_in (xs ++ ys) ≡ events_in xs ++ events_in ys
-events_join xs ys = filter_map-append (λ x. event_of x.entry) xs ys
+events_join xs ys = filter_map-append (λ x. event_of x.step) xs ys
 
 pub of_role_join : (r : ℕ) (xs ys : List Timed) → of_role r (xs ++ ys) ≡ of_role r xs ++ of_role r ys
-of_role_join r xs ys = filter-append (λ x. role_of x.entry == r) xs ys
+of_role_join r xs ys = filter-append (λ x. role_of x.step == r) xs ys
 
 entries_join : (xs ys : List Timed) → entries (xs ++ ys) ≡ entries xs ++ entries ys
 entries_join [] ys = refl
-entries_join (x ∷ xs) ys = ap (λ l. x.entry ∷ l) (entries_join xs ys)
+entries_join (x ∷ xs) ys = ap (λ l. x.step ∷ l) (entries_join xs ys)
 
-pub of_role_own : (r : ℕ) (x : Timed) (xs : List Timed) → role_of x.entry ≡ r → of_role r (x ∷ xs) ≡ x ∷ of_role r xs
-of_role_own r x xs e = ap (λ b. cond b (x ∷ of_role r xs) (of_role r xs)) (eq-eqb (role_of x.entry) r e)
+pub of_role_own : (r : ℕ) (x : Timed) (xs : List Timed) → role_of x.step ≡ r → of_role r (x ∷ xs) ≡ x ∷ of_role r xs
+of_role_own r x xs e = ap (λ b. cond b (x ∷ of_role r xs) (of_role r xs)) (eq-eqb (role_of x.step) r e)
 
-of_role_else : (r : ℕ) (x : Timed) (xs : List Timed) → (role_of x.entry ≡ r → ⊥) → of_role r (x ∷ xs) ≡ of_role r xs
-of_role_else r x xs n = ap (λ b. cond b (x ∷ of_role r xs) (of_role r xs)) (ne_eqb (role_of x.entry) r n)
+of_role_else : (r : ℕ) (x : Timed) (xs : List Timed) → (role_of x.step ≡ r → ⊥) → of_role r (x ∷ xs) ≡ of_role r xs
+of_role_else r x xs n = ap (λ b. cond b (x ∷ of_role r xs) (of_role r xs)) (ne_eqb (role_of x.step) r n)
 
 -- the events of a role are those of its entries
 pub events_of_role : (r : ℕ) (xs : List Timed) → by_role r (events_in xs) ≡ by_role r (events_in (of_role r xs))
 events_of_role r [] = refl
-events_of_role r (x ∷ xs) = go x.entry (events_of_role r xs) (cases_eq (role_of x.entry) r)
+events_of_role r (x ∷ xs) = go x.step (events_of_role r xs) (cases_eq (role_of x.step) r)
   where
     same : (e : Event) → by_role r (events_in xs) ≡ by_role r (events_in (of_role r xs)) → by_role r (e ∷ events_in xs) ≡ by_role r (e ∷ events_in (of_role r xs))
     same e ih = go' (e.role == r) ih
@@ -65,20 +66,33 @@ events_of_role r (x ∷ xs) = go x.entry (events_of_role r xs) (cases_eq (role_o
     both (Crash p) ih = ih
     both (Recover p c k u) ih = ih
 
-    go : (y : Entry) → by_role r (events_in xs) ≡ by_role r (events_in (of_role r xs)) → (role_of x.entry ≡ r) ⊎ (role_of x.entry ≡ r → ⊥) → by_role r (events_in (x ∷ xs)) ≡ by_role r (events_in (of_role r (x ∷ xs)))
-    go y ih (inl e) = both x.entry ih ∙ ap (λ l. by_role r (events_in l)) (sym (of_role_own r x xs e))
-    go y ih (inr n) = alone x.entry n ∙ ih ∙ ap (λ l. by_role r (events_in l)) (sym (of_role_else r x xs n))
+    go : (y : Entry) → by_role r (events_in xs) ≡ by_role r (events_in (of_role r xs)) → (role_of x.step ≡ r) ⊎ (role_of x.step ≡ r → ⊥) → by_role r (events_in (x ∷ xs)) ≡ by_role r (events_in (of_role r (x ∷ xs)))
+    go y ih (inl e) = both x.step ih ∙ ap (λ l. by_role r (events_in l)) (sym (of_role_own r x xs e))
+    go y ih (inr n) = alone x.step n ∙ ih ∙ ap (λ l. by_role r (events_in l)) (sym (of_role_else r x xs n))
 
 -- a log at one of its entries
-local_at : (rules : Rules) (r : ℕ) (s : State) (front back : List Timed) (x : Timed) → IsLog rules r s (front ++ x ∷ back) → IsLocal rules (reading_from rules s (entries front)) x.time x.entry
+local_at : (rules : Rules) (r : ℕ) (s : State) (front back : List Timed) (x : Timed) → IsLog rules r s (front ++ x ∷ back) → IsLocal rules (reading_from rules s (entries front)) x.stamp x.step
 local_at rules r s [] back x log = log.1
-local_at rules r s (y ∷ front) back x log = local_at rules r (after rules s y.entry) front back x log.2
+local_at rules r s (y ∷ front) back x log = local_at rules r (after rules s y.step) front back x log.2
 
 kept_more : (rules : Rules) (t v : State) (time : ℕ) (x : Entry) → IsLocal rules v time x → (after rules t x).kept ≡ t.kept ++ cons_option (event_of x) []
 kept_more rules t v time (Send e) l = refl
 kept_more rules t v time (Recv e) l = refl
 kept_more rules t v time (Crash p) l = sym (append-nil t.kept)
 kept_more rules t v time (Recover p concerned kept undone) l = absurd l
+
+-- what a log keeps behind a state
+pub kept_log : (rules : Rules) (r : ℕ) (s : State) (log : List Timed) → IsLog rules r s log → (reading_from rules s (entries log)).kept ≡ s.kept ++ events_in log
+kept_log rules r s [] l = sym (append-nil s.kept)
+kept_log rules r s (x ∷ log) l =
+    kept_log rules r (after rules s x.step) log l.2
+    ∙ ap (λ k. k ++ events_in log) (kept_more rules s s x.stamp x.step l.1)
+    ∙ append_assoc s.kept (cons_option (event_of x.step) []) (events_in log)
+    ∙ ap (λ k. s.kept ++ k) (one (event_of x.step))
+  where
+    one : (o : Option Event) → cons_option o [] ++ events_in log ≡ cons_option o (events_in log)
+    one (Some e) = refl
+    one None = refl
 
 -- what was put on a channel goes to its end
 pub put_ends : (net : Net) (s r k : ℕ) (h : List Event) (m : Message) → slice_get (put net s r h) k ≡ Some m → net.receiver m.point ≡ r
@@ -115,13 +129,13 @@ module _ (rules : Rules) (s : State) (logs : ℕ → List Timed) (merged : List 
   whole t r = in_all rules s.kept logs merged round.match merge.order t r
 
   -- the entry is local where it stands
-  local_here : (front back : List Timed) (x : Timed) (t : State) → front ++ x ∷ back ≡ merged → Stands front t → IsLocal rules t x.time x.entry
+  local_here : (front back : List Timed) (x : Timed) (t : State) → front ++ x ∷ back ≡ merged → Stands front t → IsLocal rules t x.stamp x.step
   local_here front back x t f stands =
-      let r : ℕ = role_of x.entry in
-      let cut : logs (role_of x.entry) ≡ of_role (role_of x.entry) front ++ x ∷ of_role (role_of x.entry) back = sym (merge.order (role_of x.entry)) ∙ ap (of_role (role_of x.entry)) (sym f) ∙ of_role_join (role_of x.entry) front (x ∷ back) ∙ ap (λ l. of_role (role_of x.entry) front ++ l) (of_role_own (role_of x.entry) x back refl) in
-      local_same rules x.time x.entry t (reading_from rules s (entries (of_role (role_of x.entry) front))) (stands.agrees (role_of x.entry)) (local_at rules (role_of x.entry) s (of_role (role_of x.entry) front) (of_role (role_of x.entry) back) x (subst (IsLog rules (role_of x.entry) s) cut (round.local (role_of x.entry))))
+      let r : ℕ = role_of x.step in
+      let cut : logs (role_of x.step) ≡ of_role (role_of x.step) front ++ x ∷ of_role (role_of x.step) back = sym (merge.order (role_of x.step)) ∙ ap (of_role (role_of x.step)) (sym f) ∙ of_role_join (role_of x.step) front (x ∷ back) ∙ ap (λ l. of_role (role_of x.step) front ++ l) (of_role_own (role_of x.step) x back refl) in
+      local_same rules x.stamp x.step t (reading_from rules s (entries (of_role (role_of x.step) front))) (stands.agrees (role_of x.step)) (local_at rules (role_of x.step) s (of_role (role_of x.step) front) (of_role (role_of x.step) back) x (subst (IsLog rules (role_of x.step) s) cut (round.local (role_of x.step))))
 
-  may_recv : (front back : List Timed) (time : ℕ) (e : Event) (t : State) → front ++ record { time = time; entry = Recv e } ∷ back ≡ merged → Stands front t → IsLocalRecv rules t e → MayRecv rules t e
+  may_recv : (front back : List Timed) (time : ℕ) (e : Event) (t : State) → front ++ record { stamp = time; step = Recv e } ∷ back ≡ merged → Stands front t → IsLocalRecv rules t e → MayRecv rules t e
   may_recv front back time e t f stands local = record {
     free = local.free;
     offered = local.offered;
@@ -138,7 +152,7 @@ module _ (rules : Rules) (s : State) (logs : ℕ → List Timed) (merged : List 
       takes = own_takes rules.net local.from e local.is_recv local.sender
 
       all : t.kept ++ e ∷ events_in back ≡ s.kept ++ events_in merged
-      all = ap (λ l. l ++ e ∷ events_in back) stands.kept ∙ append_assoc s.kept (events_in front) (e ∷ events_in back) ∙ ap (λ l. s.kept ++ l) (sym (events_join front (record { time = time; entry = Recv e } ∷ back)) ∙ ap events_in f)
+      all = ap (λ l. l ++ e ∷ events_in back) stands.kept ∙ append_assoc s.kept (events_in front) (e ∷ events_in back) ∙ ap (λ l. s.kept ++ l) (sym (events_join front (record { stamp = time; step = Recv e } ∷ back)) ∙ ap events_in f)
 
       taken_all : IsPrefix (taken rules.net local.from e.role t.kept ++ message_of e ∷ []) (put rules.net local.from e.role (s.kept ++ events_in merged))
       taken_all = subst (λ l. IsPrefix l (put rules.net local.from e.role (s.kept ++ events_in merged))) (taken_some rules.net local.from e.role t.kept e takes) (prefix_trans _ _ _ (prefix_map (taken_by rules.net local.from e.role) (t.kept ++ e ∷ []) (s.kept ++ events_in merged) (events_in back, append_assoc t.kept (e ∷ []) (events_in back) ∙ all)) (whole local.from e.role))
@@ -163,36 +177,50 @@ module _ (rules : Rules) (s : State) (logs : ℕ → List Timed) (merged : List 
           let to = put_ends rules.net local.from e.role (length (taken rules.net local.from e.role t.kept)) t.kept (message_of e) (subst (λ l. slice_get l (length (taken rules.net local.from e.role t.kept)) ≡ Some (message_of e)) (sym split) (get_here (taken rules.net local.from e.role t.kept) fits.0 (message_of e))) in
           proper.two_ends e.point (local.sender ∙ g ∙ sym to)
 
-  may_here : (front back : List Timed) (time : ℕ) (x : Entry) (t : State) → front ++ record { time = time; entry = x } ∷ back ≡ merged → Stands front t → IsLocal rules t time x → May rules t x
+  may_here : (front back : List Timed) (time : ℕ) (x : Entry) (t : State) → front ++ record { stamp = time; step = x } ∷ back ≡ merged → Stands front t → IsLocal rules t time x → May rules t x
   may_here front back time (Send e) t f stands local = local.1
   may_here front back time (Recv e) t f stands local = may_recv front back time e t f stands local.1
   may_here front back time (Crash p) t f stands local = (local.1, local.2)
   may_here front back time (Recover p concerned kept undone) t f stands local = absurd local
 
-  stands_more : (front : List Timed) (x : Timed) (t : State) → Stands front t → IsLocal rules t x.time x.entry → May rules t x.entry → Stands (front ++ x ∷ []) (after rules t x.entry)
+  stands_more : (front : List Timed) (x : Timed) (t : State) → Stands front t → IsLocal rules t x.stamp x.step → May rules t x.step → Stands (front ++ x ∷ []) (after rules t x.step)
   stands_more front x t stands local may = record {
-    kept = kept_more rules t t x.time x.entry local ∙ ap (λ l. l ++ cons_option (event_of x.entry) []) stands.kept ∙ append_assoc s.kept (events_in front) (cons_option (event_of x.entry) []) ∙ ap (λ l. s.kept ++ l) (sym (events_join front (x ∷ [])));
-    agrees = λ r. ⊎_elim (own r) (other r) (cases_eq (role_of x.entry) r);
-    run = run_after rules t x.entry proper.two_ends (sends_keep_accepted rules proper accepted) may stands.run;
+    kept = kept_more rules t t x.stamp x.step local ∙ ap (λ l. l ++ cons_option (event_of x.step) []) stands.kept ∙ append_assoc s.kept (events_in front) (cons_option (event_of x.step) []) ∙ ap (λ l. s.kept ++ l) (sym (events_join front (x ∷ [])));
+    agrees = λ r. ⊎_elim (own r) (other r) (cases_eq (role_of x.step) r);
+    run = run_after rules t x.step proper.two_ends (sends_keep_accepted rules proper accepted) may stands.run;
   }
     where
-      own : (r : ℕ) → role_of x.entry ≡ r → Agrees r (after rules t x.entry) (reading_from rules s (entries (of_role r (front ++ x ∷ []))))
+      own : (r : ℕ) → role_of x.step ≡ r → Agrees r (after rules t x.step) (reading_from rules s (entries (of_role r (front ++ x ∷ []))))
       own r e =
           let l : of_role r (front ++ x ∷ []) ≡ of_role r front ++ x ∷ [] = of_role_join r front (x ∷ []) ∙ ap (λ l. of_role r front ++ l) (of_role_own r x [] e) in
-          let g : reading_from rules s (entries (of_role r (front ++ x ∷ []))) ≡ after rules (reading_from rules s (entries (of_role r front))) x.entry = ap (λ l. reading_from rules s (entries l)) l ∙ ap (reading_from rules s) (entries_join (of_role r front) (x ∷ [])) ∙ reading_join rules s (entries (of_role r front)) (x.entry ∷ []) in
-          subst (Agrees r (after rules t x.entry)) (sym g) (subst (λ q. Agrees q (after rules t x.entry) (after rules (reading_from rules s (entries (of_role r front))) x.entry)) e (own_both rules x.time x.entry t (reading_from rules s (entries (of_role r front))) t local (subst (λ q. Agrees q t (reading_from rules s (entries (of_role r front)))) (sym e) (stands.agrees r))))
+          let g : reading_from rules s (entries (of_role r (front ++ x ∷ []))) ≡ after rules (reading_from rules s (entries (of_role r front))) x.step = ap (λ l. reading_from rules s (entries l)) l ∙ ap (reading_from rules s) (entries_join (of_role r front) (x ∷ [])) ∙ reading_join rules s (entries (of_role r front)) (x.step ∷ []) in
+          subst (Agrees r (after rules t x.step)) (sym g) (subst (λ q. Agrees q (after rules t x.step) (after rules (reading_from rules s (entries (of_role r front))) x.step)) e (own_both rules x.stamp x.step t (reading_from rules s (entries (of_role r front))) t local (subst (λ q. Agrees q t (reading_from rules s (entries (of_role r front)))) (sym e) (stands.agrees r))))
 
-      other : (r : ℕ) → (role_of x.entry ≡ r → ⊥) → Agrees r (after rules t x.entry) (reading_from rules s (entries (of_role r (front ++ x ∷ []))))
+      other : (r : ℕ) → (role_of x.step ≡ r → ⊥) → Agrees r (after rules t x.step) (reading_from rules s (entries (of_role r (front ++ x ∷ []))))
       other r n =
           let l : of_role r (front ++ x ∷ []) ≡ of_role r front = of_role_join r front (x ∷ []) ∙ ap (λ l. of_role r front ++ l) (of_role_else r x [] n) ∙ append-nil (of_role r front) in
-          subst (λ k. Agrees r (after rules t x.entry) (reading_from rules s (entries k))) (sym l) (own_else rules x.time x.entry r t (reading_from rules s (entries (of_role r front))) t local n (stands.agrees r))
+          subst (λ k. Agrees r (after rules t x.step) (reading_from rules s (entries k))) (sym l) (own_else rules x.stamp x.step r t (reading_from rules s (entries (of_role r front))) t local n (stands.agrees r))
 
   legal_on : (front back : List Timed) (t : State) → front ++ back ≡ merged → Stands front t → IsLegalFrom rules t (entries back)
   legal_on front [] t f stands = tt
   legal_on front (x ∷ back) t f stands =
       let local = local_here front back x t f stands in
-      let may = may_here front back x.time x.entry t f stands local in
-      (may, legal_on (front ++ x ∷ []) back (after rules t x.entry) (append_assoc front (x ∷ []) back ∙ f) (stands_more front x t stands local may))
+      let may = may_here front back x.stamp x.step t f stands local in
+      (may, legal_on (front ++ x ∷ []) back (after rules t x.step) (append_assoc front (x ∷ []) back ∙ f) (stands_more front x t stands local may))
+
+  stands_on : (front back : List Timed) (t : State) → front ++ back ≡ merged → Stands front t → Stands merged (reading_from rules t (entries back))
+  stands_on front [] t f stands = subst (λ l. Stands l t) (sym (append-nil front) ∙ f) stands
+  stands_on front (x ∷ back) t f stands =
+      let local = local_here front back x t f stands in
+      let may = may_here front back x.stamp x.step t f stands local in
+      stands_on (front ++ x ∷ []) back (after rules t x.step) (append_assoc front (x ∷ []) back ∙ f) (stands_more front x t stands local may)
+
+  at_end : IsRun rules.net s.kept → Stands merged (reading_from rules s (entries merged))
+  at_end run = stands_on [] merged s refl (record { kept = sym (append-nil s.kept); agrees = λ r. agrees_self r s; run = run })
+
+  -- behind the merge each role has what its log alone leaves it
+  pub agree_merge : IsRun rules.net s.kept → (r : ℕ) → Agrees r (reading_from rules s (entries merged)) (reading_from rules s (entries (logs r)))
+  agree_merge run r = subst (λ l. Agrees r (reading_from rules s (entries merged)) (reading_from rules s (entries l))) (merge.order r) ((at_end run).agrees r)
 
   pub legal_merge : IsRun rules.net s.kept → IsLegalFrom rules s (entries merged)
   legal_merge run = legal_on [] merged s refl (record { kept = sym (append-nil s.kept); agrees = λ r. agrees_self r s; run = run })

@@ -1,29 +1,28 @@
 -- The worked case of several workers is a merged round, and each law has something to speak of.
-use Rattle.std.proofs.Common.{cond, ◌≡◌, ℕ, zero, suc, ◌+◌, ◌<◌, max, true, false, Some, List, [], ◌∷◌, ◌++◌, length, take, drop, refl, sym, ◌∙◌, ap, subst, ◌⊎◌, inl, inr, ⊎_elim, ne_eqb, arith}
-use Rattle.std.specs.Prelude.{◌↔◌, if◌then◌else◌, replicate, slice_get, slice_index}
-use Rattle.std.proofs.lemmas.Bool.{cases_eq}
+use Rattle.std.proofs.Common.{cond, ◌≡◌, ℕ, zero, suc, ◌+◌, ◌<◌, max, true, false, Some, List, [], ◌∷◌, ◌++◌, take, drop, refl, sym, ap, subst, ◌⊎◌, inl, inr, ⊎_elim, ne_eqb, arith}
+use Rattle.std.specs.Prelude.{replicate, slice_get, slice_index}
 use Rattle.std.proofs.lemmas.Bool.Decides.{nat_tests}
 use Rattle.rcv_tree.specs.declared.event.Event.{Event}
-use Rattle.rcv_tree.specs.declared.event.Dir.TheVariants.{Got}
 use Rattle.rcv_tree.specs.declared.entry.Entry.TheVariants.{Recv, Crash}
-use Rattle.rcv_model.specs.Net.{Net, IsIn, IsPrefix}
+use Rattle.rcv_model.specs.Net.{Net, IsPrefix}
 use Rattle.rcv_model.specs.Places.{net_of}
-use Rattle.rcv_model.specs.Run.{acts, put, taken, IsRun}
-use Rattle.rcv_model.specs.Undo.{keep, keep_within}
+use Rattle.rcv_model.specs.Run.{put, taken, IsRun}
+use Rattle.rcv_model.specs.Undo.{keep_within}
 use Rattle.rcv_model.specs.Next.{AreNext}
-use Rattle.rcv_model.specs.Table.{mark, marks, IsConcerned}
-use Rattle.rcv_model.specs.Journal.{State, after, reading, durable, is_among, place, IsDue, IsConcernedIn, MaySend, MayRecover, IsLegal}
+use Rattle.rcv_tree.specs.Bits.{has_bit}
+use Rattle.rcv_model.specs.Journal.{State, after, reading, place, IsDue, MaySend, IsLegal}
 use Rattle.rcv_model.specs.Final.{IsCrashed, CanAct, AreDone, HasOneAtLimit, ChoosesOffered}
 use Rattle.rcv_model.proofs.Keeping.{by_role, taken_same, queued_now}
 use Rattle.rcv_model.proofs.Undoing.{put_same}
 use Rattle.rcv_model.proofs.Finals.{no_stuck}
-use Rattle.rcv_model.proofs.Cases.{ping, by_hundred_and_two, workers, four_roles, sent, got, send, recv, recover, several_all}
+use Rattle.rcv_model.proofs.Cases.{ping, by_hundred_and_two, workers, sent, got, send, recv, recover, several_all}
 use Rattle.rcv_model.proofs.Ping.{Place, begin, middle, are_next, next_at, next_is, may_send, ping_proper, ping_accepted}
-use Rattle.rcv_model.proofs.Journals.{below_8, s0, s7, m0, m7, several_runs, several_legal}
-use Rattle.rcv_theory.specs.Beside.{KeepsAll}
+use Rattle.rcv_model.proofs.Journals.{s0, s7, m0, m7, several_runs, several_legal}
+use Rattle.rcv_theory.specs.Bystander.{KeepsAll}
 use Rattle.rcv_theory.specs.Counts.{capped, Lowers, IsLowered, unlowered, lower}
 use Rattle.rcv_theory.specs.Expected.{IsExpected}
-use Rattle.rcv_theory.specs.Round.{Timed, Placed, entries, events_in, of_role, IsLocalRecv, IsLog, IsRound, IsMerge, IsAscending, IsByStamp, in_order}
+use Rattle.rcv_theory.specs.Round.{Placed, entries, events_in, of_role, IsLocalRecv, IsLog, IsRound, IsMerge, IsAscending, IsByStamp, in_order}
+use Rattle.rcv_tree.specs.declared.entry.Timed.{Timed}
 use Rattle.rcv_theory.proofs.Counting.{at_role, one_lower}
 use Rattle.rcv_theory.proofs.Expecting.{unexpected}
 use Rattle.rcv_theory.proofs.Besides.{keeps}
@@ -63,10 +62,10 @@ b_lowered = lower unlowered b_lowers
 
 -- the logs of the two roles in the first round of the twelve entries
 abbrev timed_a : List Timed
-timed_a = record { time = 1; entry = send 0 1 1 } ∷ record { time = 4; entry = recv 0 2 4 3 } ∷ record { time = 4; entry = Crash 0 } ∷ []
+timed_a = record { stamp = 1; step = send 0 1 1 } ∷ record { stamp = 4; step = recv 0 2 4 3 } ∷ record { stamp = 4; step = Crash 0 } ∷ []
 
 abbrev timed_b : List Timed
-timed_b = record { time = 2; entry = recv 1 1 2 1 } ∷ record { time = 3; entry = send 1 2 3 } ∷ record { time = 3; entry = Crash 1 } ∷ []
+timed_b = record { stamp = 2; step = recv 1 1 2 1 } ∷ record { stamp = 3; step = send 1 2 3 } ∷ record { stamp = 3; step = Crash 1 } ∷ []
 
 abbrev logs : ℕ → List Timed
 logs zero = timed_a
@@ -75,7 +74,7 @@ logs (suc (suc r)) = []
 
 local_recv : (s : State) (r k stamp from by : ℕ) → r < 2 → Place k → (k ≡ 2 → ⊥) → slice_get s.crashed r ≡ Some false → (IsDue workers s r → ⊥) → slice_index s.raw r < 10000 → place s r ≡ k → net.receiver (suc k) ≡ r → net.sender (suc k) ≡ from → stamp ≡ max (slice_index s.clocks r) by + 1 → IsLocalRecv workers s (got r (suc k) stamp by)
 local_recv s r k stamp from by lt at n running due below stands own other clock =
-    record { free = record { declared = lt; running = running; not_due = due; below_limit = below }; offered = suc k ∷ []; from = from; next = subst (λ x. AreNext net r x (suc k ∷ [])) (sym stands) (are_next r k lt at n); receives = λ z i. ⊎_elim (λ e. subst (λ x. (net.receiver x ≡ r) × (net.sender x ≡ from)) (sym e) (own, other)) (λ j. absurd j) i; is_recv = refl; sender = other; stamp = clock }
+    record { free = record { declared = lt; running = running; not_due = due; below_limit = below }; offered = suc k ∷ []; some = λ e. cc; from = from; next = subst (λ x. AreNext net r x (suc k ∷ [])) (sym stands) (are_next r k lt at n); receives = λ z i. ⊎_elim (λ e. subst (λ x. (net.receiver x ≡ r) × (net.sender x ≡ from)) (sym e) (own, other)) (λ j. absurd j) i; is_recv = refl; sender = other; stamp = clock }
 
 abbrev a1 : State
 a1 = after workers s0 (send 0 1 1)
@@ -115,12 +114,12 @@ each_log (suc (suc r)) = tt
 pub round : IsRound workers (reading workers []) logs
 round = record { local = each_log; match = logs_match }
 
--- by stamp, then role, then place: B's crash at its clock 3 stands behind its Send with that stamp
+-- by stamp, then role, then position: B's crash at its clock 3 stands behind its Send with that stamp
 abbrev at : ℕ → ℕ → Timed → Placed
-at role place timed = record { role = role; place = place; timed = timed }
+at role position timed = record { role = role; position = position; timed = timed }
 
 abbrev placed : List Placed
-placed = at 0 0 (record { time = 1; entry = send 0 1 1 }) ∷ at 1 0 (record { time = 2; entry = recv 1 1 2 1 }) ∷ at 1 1 (record { time = 3; entry = send 1 2 3 }) ∷ at 1 2 (record { time = 3; entry = Crash 1 }) ∷ at 0 1 (record { time = 4; entry = recv 0 2 4 3 }) ∷ at 0 2 (record { time = 4; entry = Crash 0 }) ∷ []
+placed = at 0 0 (record { stamp = 1; step = send 0 1 1 }) ∷ at 1 0 (record { stamp = 2; step = recv 1 1 2 1 }) ∷ at 1 1 (record { stamp = 3; step = send 1 2 3 }) ∷ at 1 2 (record { stamp = 3; step = Crash 1 }) ∷ at 0 1 (record { stamp = 4; step = recv 0 2 4 3 }) ∷ at 0 2 (record { stamp = 4; step = Crash 0 }) ∷ []
 
 ascending : IsAscending placed
 ascending = (
@@ -134,13 +133,13 @@ ascending = (
   ),
 )
 
-sound : (i : ℕ) (a : Placed) → slice_get placed i ≡ Some a → slice_get (logs a.role) a.place ≡ Some a.timed
-sound zero a e = let f : at 0 0 (record { time = 1; entry = send 0 1 1 }) ≡ a = cc in subst (λ (z : Placed). slice_get (logs z.role) z.place ≡ Some z.timed) f refl
-sound (suc zero) a e = let f : at 1 0 (record { time = 2; entry = recv 1 1 2 1 }) ≡ a = cc in subst (λ (z : Placed). slice_get (logs z.role) z.place ≡ Some z.timed) f refl
-sound (suc (suc zero)) a e = let f : at 1 1 (record { time = 3; entry = send 1 2 3 }) ≡ a = cc in subst (λ (z : Placed). slice_get (logs z.role) z.place ≡ Some z.timed) f refl
-sound (suc (suc (suc zero))) a e = let f : at 1 2 (record { time = 3; entry = Crash 1 }) ≡ a = cc in subst (λ (z : Placed). slice_get (logs z.role) z.place ≡ Some z.timed) f refl
-sound (suc (suc (suc (suc zero)))) a e = let f : at 0 1 (record { time = 4; entry = recv 0 2 4 3 }) ≡ a = cc in subst (λ (z : Placed). slice_get (logs z.role) z.place ≡ Some z.timed) f refl
-sound (suc (suc (suc (suc (suc zero))))) a e = let f : at 0 2 (record { time = 4; entry = Crash 0 }) ≡ a = cc in subst (λ (z : Placed). slice_get (logs z.role) z.place ≡ Some z.timed) f refl
+sound : (i : ℕ) (a : Placed) → slice_get placed i ≡ Some a → slice_get (logs a.role) a.position ≡ Some a.timed
+sound zero a e = let f : at 0 0 (record { stamp = 1; step = send 0 1 1 }) ≡ a = cc in subst (λ (z : Placed). slice_get (logs z.role) z.position ≡ Some z.timed) f refl
+sound (suc zero) a e = let f : at 1 0 (record { stamp = 2; step = recv 1 1 2 1 }) ≡ a = cc in subst (λ (z : Placed). slice_get (logs z.role) z.position ≡ Some z.timed) f refl
+sound (suc (suc zero)) a e = let f : at 1 1 (record { stamp = 3; step = send 1 2 3 }) ≡ a = cc in subst (λ (z : Placed). slice_get (logs z.role) z.position ≡ Some z.timed) f refl
+sound (suc (suc (suc zero))) a e = let f : at 1 2 (record { stamp = 3; step = Crash 1 }) ≡ a = cc in subst (λ (z : Placed). slice_get (logs z.role) z.position ≡ Some z.timed) f refl
+sound (suc (suc (suc (suc zero)))) a e = let f : at 0 1 (record { stamp = 4; step = recv 0 2 4 3 }) ≡ a = cc in subst (λ (z : Placed). slice_get (logs z.role) z.position ≡ Some z.timed) f refl
+sound (suc (suc (suc (suc (suc zero))))) a e = let f : at 0 2 (record { stamp = 4; step = Crash 0 }) ≡ a = cc in subst (λ (z : Placed). slice_get (logs z.role) z.position ≡ Some z.timed) f refl
 sound (suc (suc (suc (suc (suc (suc i)))))) a e = absurd (cc)
 
 complete : (r k : ℕ) (x : Timed) → slice_get (logs r) k ≡ Some x → (i : ℕ) × (slice_get placed i ≡ Some (at r k x))
@@ -169,11 +168,11 @@ six_legal = merged_round workers [] logs (in_order placed) ping_proper ping_acce
 
 -- B's second recovery doesn't concern A, which keeps all
 a_keeps : KeepsAll net s7 (after workers s7 (recover 1 2 (replicate 8 0) 0)) 0
-a_keeps = keeps workers s7 1 0 (record { 0 = 2 }) (replicate 8 0) 0 ping_proper.two_ends (several_runs (take 7 several_all) (drop 7 several_all) refl) m7 (omega arith) (λ e. cc)
+a_keeps = keeps workers s7 1 0 (record { 0 = 2 }) (replicate 8 0) 0 ping_proper (several_runs (take 7 several_all) (drop 7 several_all) refl) m7 (omega arith) (λ e. cc)
 
 -- and while B recovers A goes on: its Send may come behind the Recover
 abbrev goes_on : ℕ → List Timed
-goes_on zero = record { time = 6; entry = send 0 1 6 } ∷ []
+goes_on zero = record { stamp = 6; step = send 0 1 6 } ∷ []
 goes_on (suc r) = []
 
 a_sends : MaySend workers s7 (sent 0 1 6)
@@ -190,19 +189,19 @@ nothing_taken t (suc r) = refl
 beside_round : IsRound workers (reading workers (take 7 several_all)) goes_on
 beside_round = record { local = beside_logs; match = λ t r. subst (λ l. IsPrefix l (put net t r (events_in (goes_on t)))) (sym (nothing_taken t r)) (put net t r (events_in (goes_on t)), refl) }
 
-no_recv : (front back : List Timed) (time : ℕ) (e : Event) → front ++ record { time = time; entry = Recv e } ∷ back ≡ goes_on 0 → ⊥
-no_recv [] back time e f = let g : record { time = time; entry = Recv e } ≡ record { time = 6; entry = send 0 1 6 } = cc in let k : Recv e ≡ send 0 1 6 = ap (λ (x : Timed). x.entry) g in cc
+no_recv : (front back : List Timed) (time : ℕ) (e : Event) → front ++ record { stamp = time; step = Recv e } ∷ back ≡ goes_on 0 → ⊥
+no_recv [] back time e f = let g : record { stamp = time; step = Recv e } ≡ record { stamp = 6; step = send 0 1 6 } = cc in let k : Recv e ≡ send 0 1 6 = ap (λ (x : Timed). x.step) g in cc
 no_recv (x ∷ []) back time e f = cc
 no_recv (x ∷ y ∷ front) back time e f = cc
 
 beside_order : (r : ℕ) → of_role r (goes_on 0) ≡ goes_on r
 beside_order zero = refl
-beside_order (suc r) = ap (λ b. cond b (record { time = 6; entry = send 0 1 6 } ∷ []) []) (ne_eqb 0 (suc r) (λ e. omega arith))
+beside_order (suc r) = ap (λ b. cond b (record { stamp = 6; step = send 0 1 6 } ∷ []) []) (ne_eqb 0 (suc r) (λ e. omega arith))
 
 beside_legal : IsLegal workers (take 7 several_all ++ recover 1 2 (replicate 8 0) 0 ∷ send 0 1 6 ∷ [])
 beside_legal = beside_recovery workers (take 7 several_all) 1 (record { 0 = 2 }) (replicate 8 0) 0 goes_on (goes_on 0) (omega arith) ping_proper ping_accepted (legal_front workers s0 (take 8 several_all) (drop 8 several_all) several_legal) beside_round free (record { order = beside_order; behind = λ front back time e f. absurd (no_recv front back time e f) })
   where
-    free : (r : ℕ) → is_among 2 r ≡ true → goes_on r ≡ []
+    free : (r : ℕ) → has_bit 2 r ≡ true → goes_on r ≡ []
     free zero t = absurd (cc)
     free (suc r) t = refl
 
@@ -230,46 +229,3 @@ none_due (suc (suc r)) lt d = omega arith
 
 start_not_stuck : AreDone workers (reading workers []) ⊎ (((r : ℕ) × (r < 2) × CanAct workers (reading workers []) r) ⊎ HasOneAtLimit workers (reading workers []))
 start_not_stuck = no_stuck workers [] ping_proper ping_accepted chooses_first (omega arith) tt none_crashed none_due
-
--- four roles: the recovery of B, which loses the message that it got from A, concerns B alone
-abbrev before_four : State
-before_four = reading four_roles (send 0 2 1 ∷ recv 1 2 2 1 ∷ send 2 1 1 ∷ recv 3 1 2 1 ∷ Crash 3 ∷ [])
-
-not_by_three : (x : ℕ) → four_roles.net.sender x ≡ 3 → ⊥
-not_by_three x f = ⊎_elim (λ e. one (subst (λ y. four_roles.net.sender y ≡ 3) e f)) (λ n. ⊎_elim (λ e. two (subst (λ y. four_roles.net.sender y ≡ 3) e f)) (λ m. grind (arith, nat_tests)) (cases_eq x 2)) (cases_eq x 1)
-  where
-    one : four_roles.net.sender 1 ≡ 3 → ⊥
-    one e = omega arith
-
-    two : four_roles.net.sender 2 ≡ 3 → ⊥
-    two e = omega arith
-
-marks_three : (w : List ℕ) → marks four_roles.net (3 ∷ []) w ≡ 3 ∷ []
-marks_three [] = refl
-marks_three (p ∷ w) = ap (λ l. marks four_roles.net l w) (one p) ∙ marks_three w
-  where
-    one : (p : ℕ) → mark four_roles.net (3 ∷ []) p ≡ 3 ∷ []
-    one p = let a = ne_eqb 3 (four_roles.net.sender p) (λ e. not_by_three p (sym e)) in grind (arith, nat_tests)
-
-only_three : (n q : ℕ) → IsConcerned four_roles.net 3 n q → q ≡ 3
-only_three n q c = ⊎_elim (λ a. a.0) (λ a. single (subst (IsIn q) (marks_three (a.1.before ++ c.0 ∷ [])) a.1.now)) c.1
-  where
-    single : IsIn q (3 ∷ []) → q ≡ 3
-    single (inl e) = e
-    single (inr i) = absurd i
-
-abbrev Told : ℕ → Type 0
-Told q = (is_among 8 q ≡ true) ↔ IsConcernedIn four_roles before_four 3 (keep four_roles.net 3 (durable four_roles before_four 3) before_four.kept) q
-
-not_told : (q : ℕ) → (q ≡ 3 → ⊥) → is_among 8 q ≡ false → Told q
-not_told q n f = (λ t. absurd (cc), λ c. absurd (n (⊎_elim (λ a. a.1) (λ a. only_three a.1.0.point q a.1.2) c)))
-
-four_recovers : MayRecover four_roles before_four 3 8 (replicate 8 0) 1
-four_recovers = record {
-  crashed = refl;
-  byte = omega arith;
-  concerned = below_8 (λ q. Told q) (not_told 0 (λ e. omega arith) refl) (not_told 1 (λ e. omega arith) refl) (not_told 2 (λ e. omega arith) refl) (λ t. inr (omega arith, (record { dir = Got; point = 1 }, refl, (1, inl (refl, refl)))), λ c. refl) (not_told 4 (λ e. omega arith) refl) (not_told 5 (λ e. omega arith) refl) (not_told 6 (λ e. omega arith) refl) (not_told 7 (λ e. omega arith) refl);
-  eight = refl;
-  counts = below_8 (λ q. slice_index (replicate 8 0) q ≡ (if is_among 8 q then length (acts q (keep four_roles.net 3 (durable four_roles before_four 3) before_four.kept)) else 0)) refl refl refl refl refl refl refl refl;
-  undone = refl;
-}

@@ -2,9 +2,7 @@
 use Rattle.std.proofs.Common.{◌≡◌, ℕ, ◌-◌, ◌≤◌, codes, List, [], ◌∷◌, length, take, drop, None, refl, sym, ap, subst, arith}
 use Rattle.std.specs.Prelude.{not, position, slice_range}
 use Rattle.rcv_tree.specs.declared.protocol.Protocol.{Protocol}
-use Rattle.rcv_model.specs.Text.{body_of}
-use Rattle.rcv_model.specs.Script.{Line}
-use Rattle.rcv_points.specs.Follow.{PointsView, ArePointsOf}
+use Rattle.rcv_session.specs.Session.{SessionView}
 use Rattle.rcv_accept.specs.Accepted.{IsAcceptedProtocol}
 use Rattle.rcv_script.specs.Machine.{no_lines}
 use Rattle.rcv_lexer.specs.declared.parts.Parts.{Parts}
@@ -17,8 +15,8 @@ use Rattle.rcv_printer.proofs.ReadBack.{reads_back}
 use Rattle.rcv_input.specs.Input.{IsBlankPart, IsTaken}
 use Rattle.rcv_top.specs.declared.status.Status.{Status}
 use Rattle.rcv_top.specs.declared.status.Status.TheVariants as statuses
-use Rattle.rcv_top.specs.Commands.{Run, Check, Project}
-use Rattle.rcv_top.specs.Outcome.{most_bytes, IsOutcome, usage, too_long, refused, checked, projected, no_role, completed, limited}
+use Rattle.rcv_top.specs.Commands.{CommandView, Check}
+use Rattle.rcv_top.specs.Outcome.{most_bytes, Makes, IsOutcome, usage, too_long, refused, made}
 use Rattle.rcv_top.specs.Laws.{ChecksStay}
 use Rattle.rcv_top.proofs.Answering.{one_command}
 
@@ -29,17 +27,22 @@ nothing_there text n = let none : n - n ≡ 0 = omega arith in ap (λ (k : ℕ).
 blank_there : (text : List ℕ) (n : ℕ) → IsBlankPart text (span n n)
 blank_there text n = subst (λ (bytes : List ℕ). position (λ b. not (is_blank b)) bytes ≡ None) (sym (nothing_there text n)) refl
 
-taken_again : (text : List ℕ) (p : Protocol) (points : PointsView) → IsReadAs text p → ArePointsOf (body_of p.body) points → IsAcceptedProtocol p → IsTaken text p (no_lines p.roles)
-taken_again text p points back are lawful = record {
+-- the session of a protocol without scripts
+abbrev bare : Protocol → SessionView
+bare p = record { protocol = p; scripts = no_lines p.roles }
+
+taken_again : (text : List ℕ) (p : Protocol) → IsReadAs text p → IsAcceptedProtocol p → IsTaken text (bare p)
+taken_again text p back lawful = record {
   protocol = record { text = record { tokens = back.tokens; cut = subst (λ (parts : Parts). AreTokens text parts.protocol back.tokens) (sym back.one_part) back.are_tokens; read = back.read }; accepted = lawful };
-  are_scripts = record { tokens = []; cut = subst (λ (parts : Parts). AreTokens text parts.scripts []) (sym back.one_part) ([], nothing_there text (length text), refl); points = points; are_points = are; read = refl };
+  are_scripts = record { tokens = []; cut = subst (λ (parts : Parts). AreTokens text parts.scripts []) (sym back.one_part) ([], nothing_there text (length text), refl); read = refl };
   no_plan = subst (λ (parts : Parts). IsBlankPart text parts.plan) (sym back.one_part) (blank_there text (length text));
 }
 
-again : (input : List ℕ) (p : Protocol) (lines : List (List Line)) → IsTaken input p lines → IsTaken (canonical p) p (no_lines p.roles)
-again input p lines taken =
+again : (input : List ℕ) (session : SessionView) → IsTaken input session → IsTaken (canonical session.protocol) (bare session.protocol)
+again input session taken =
     let text = taken.protocol.text in
-    taken_again (canonical p) p taken.are_scripts.points (reads_back input (parts_of input).protocol text.tokens p text.cut text.read) taken.are_scripts.are_points taken.protocol.accepted
+    let p = session.protocol in
+    taken_again (canonical p) p (reads_back input (parts_of input).protocol text.tokens p text.cut text.read) taken.protocol.accepted
 
 pub checks_stay : ChecksStay
 checks_stay input bytes outcome short = go statuses.Completed bytes refl outcome short
@@ -48,8 +51,7 @@ checks_stay input bytes outcome short = go statuses.Completed bytes refl outcome
     go s b is (usage none) few = absurd cc
     go s b is (too_long command many) few = absurd cc
     go s b is (refused command refusal asked first) few = absurd cc
-    go s b is (checked p lines asked taken) few = checked p (no_lines p.roles) (record { words_are = refl; short = few }) (again input p lines taken)
-    go s b is (projected p lines name role asked taken named text) few = absurd (let other = one_command (codes "check" ∷ []) (Project name) Check asked.words_are refl in cc)
-    go s b is (no_role p lines name asked taken named) few = absurd cc
-    go s b is (completed session journal asked held done) few = absurd (let other = one_command (codes "check" ∷ []) Run Check asked.words_are refl in cc)
-    go s b is (limited session journal asked held end) few = absurd cc
+    go s b is (made command session asked taken makes) few =
+        let checks = subst (λ (c : CommandView). Makes session c s b) (one_command (codes "check" ∷ []) command Check asked.words_are refl) makes in
+        let text = again input session taken in
+        made Check (bare session.protocol) (record { words_are = refl; short = few }) (subst (λ (t : List ℕ). IsTaken t (bare session.protocol)) (sym checks.1) text) (refl, checks.1)

@@ -1,6 +1,6 @@
 -- What the top call says, from what it read and wrote.
 use Rattle.std.proofs.Common.{◌≡◌, ℕ, codes, Some, None, Option, List, [], ◌∷◌, ◌++◌, length, refl, sym, ◌∙◌, ap, subst, ◌⊎◌, inl, inr, ⊎_elim, append-nil, arith}
-use Rattle.std.specs.Prelude.{◌≤◌, Result, Ok, Err, Vec}
+use Rattle.std.specs.Prelude.{◌<◌, ◌≤◌, Result, Ok, Err, Vec}
 use Rattle.std.proofs.lemmas.Bool.{cases_lt}
 use Rattle.std.specs.declared.alloc.Global.{Global}
 use Rattle.std.specs.Io.KnownBytes.{append_known, IsAtEnd}
@@ -13,103 +13,186 @@ use Rattle.rcv_tree.specs.declared.entry.Entry.TheVariants.{Recover}
 use Rattle.rcv_tree.specs.declared.role.RoleSet.{RoleSet}
 use Rattle.rcv_model.specs.Run.{IsRun}
 use Rattle.rcv_model.specs.Text.{body_of}
-use Rattle.rcv_model.specs.Undo.{only}
-use Rattle.rcv_model.specs.Journal.{start, durable, reading, IsLegal}
-use Rattle.rcv_model.specs.Final.{IsOneThread}
-use Rattle.rcv_model.specs.Laws.{OneJournal}
-use Rattle.rcv_model.proofs.OneThread.{one_journal}
+use Rattle.rcv_model.specs.Undo.{bound_of}
+use Rattle.rcv_model.specs.Journal.{Rules, State, start, durable, group_of, reading, IsLegal}
+use Rattle.rcv_model.specs.Final.{IsFinal}
 use Rattle.rcv_model.proofs.Cuts.{undo_exactly}
 use Rattle.rcv_model.proofs.Forms.{proper}
 use Rattle.rcv_model.proofs.Legal.{accepted_runs}
 use Rattle.rcv_model.proofs.Reached.{reach}
 use Rattle.rcv_model.proofs.StableLines.{reading_join}
 use Rattle.rcv_accept.specs.Accepted.{IsAcceptedProtocol}
-use Rattle.rcv_core.specs.Setup.{SetupView, rules_of}
+use Rattle.rcv_session.specs.Session.{SessionView, rules_of}
 use Rattle.rcv_top.specs.declared.status.Status.{Status}
 use Rattle.rcv_top.specs.declared.status.Status.TheVariants as statuses
-use Rattle.rcv_top.specs.Commands.{CommandView, Run, Check, Project, words_of, IsCommand, IsSomeCommand, IsNoCommand}
-use Rattle.rcv_top.specs.Outcome.{usage_line, most_bytes, IsSession, IsOutcome, usage, too_long, refused, checked, projected, no_role, completed, limited}
+use Rattle.rcv_top.specs.Commands.{CommandView, Run, Check, Table, Project, words_of, IsCommand, IsSomeCommand, IsNoCommand}
+use Rattle.rcv_input.specs.Input.{IsTaken}
+use Rattle.rcv_top.specs.Running.{EndsAs, all_done, at_limit, IsOneThreadRun}
+use Rattle.rcv_top.specs.Outcome.{usage_line, most_bytes, Makes, IsOutcome, usage, too_long, refused, made}
+use Rattle.rcv_top.specs.Laws.{SessionsAreLegal}
 use Rattle.rcv_top.specs.Headline.{IsExactRecovery, IsHeadline}
-use Rattle.rcv_top.specs.Calls.{Around, ReadNothing, WroteNothing, IsInput, TakesTooMuch, WantsMemory, FailsToRead, Says, Wrote, WritesLegalJournal}
+use Rattle.rcv_top.specs.Calls.{Around, Answers, TellsFault, ReadNothing, WroteNothing, IsInput, TakesTooMuch, WantsMemory, FailsToRead, Says, Wrote, WritesLegalJournal}
 
 nothing_more : (o : Option (List ℕ)) → append_known o [] ≡ o
 nothing_more None = refl
 nothing_more (Some xs) = ap (λ l. Some l) (append-nil xs)
 
--- an outcome that was written whole
-said : (words : List (List ℕ)) (call : Around) (input bytes : List ℕ) (status : Status) → IsInput words call input → length input ≤ most_bytes → IsOutcome words input status bytes → call.written_after ≡ append_known call.written_before bytes → Says words call status
-said words call input bytes status is short (usage none) wrote = record { input = input; bytes = _; is_input = is; outcome = usage none; writes = wrote }
-said words call input bytes status is short (too_long command many) wrote = absurd (omega (arith, short, many))
-said words call input bytes status is short (refused command refusal asked first) wrote = record { input = input; bytes = _; is_input = is; outcome = refused command refusal asked first; writes = wrote }
-said words call input bytes status is short (checked p lines asked taken) wrote = record { input = input; bytes = _; is_input = is; outcome = checked p lines asked taken; writes = wrote }
-said words call input bytes status is short (projected p lines name role asked taken named text) wrote = record { input = input; bytes = _; is_input = is; outcome = projected p lines name role asked taken named text; writes = wrote }
-said words call input bytes status is short (no_role p lines name asked taken named) wrote = record { input = input; bytes = _; is_input = is; outcome = no_role p lines name asked taken named; writes = wrote }
-said words call input bytes status is short (completed session journal asked held done) wrote = record { input = input; bytes = _; is_input = is; outcome = completed session journal asked held done; writes = wrote }
-said words call input bytes status is short (limited session journal asked held end) wrote = record { input = input; bytes = _; is_input = is; outcome = limited session journal asked held end; writes = wrote }
+-- ---- an outcome that was written
+
+-- the statuses of answers that were written whole
+abbrev IsAnswer : Status → Type 0
+IsAnswer statuses.Completed = Unit {0}
+IsAnswer statuses.Usage = Unit {0}
+IsAnswer statuses.Refused = Unit {0}
+IsAnswer statuses.Limited = Unit {0}
+IsAnswer statuses.ReadFault = ⊥
+IsAnswer statuses.WriteFault = ⊥
+IsAnswer statuses.Memory = ⊥
+IsAnswer statuses.TooLong = ⊥
+
+run_answers : (rules : Rules) (s : State) (status : Status) → EndsAs rules s status → IsAnswer status
+run_answers rules s status (all_done done) = tt
+run_answers rules s status (at_limit at) = tt
+
+command_answers : (session : SessionView) (command : CommandView) (status : Status) (bytes : List ℕ) → Makes session command status bytes → IsAnswer status
+command_answers session Run status bytes makes = run_answers (rules_of session) (reading (rules_of session) makes.journal) status makes.is_journal.ends
+command_answers session Check status bytes makes = subst IsAnswer (sym makes.0) tt
+command_answers session Table status bytes makes = subst IsAnswer (sym makes.0) tt
+command_answers session (Project name) status bytes (inl makes) = subst IsAnswer (sym makes.2) tt
+command_answers session (Project name) status bytes (inr makes) = subst IsAnswer (sym makes.1) tt
+
+answers : (words : List (List ℕ)) (input : List ℕ) (status : Status) (bytes : List ℕ) → length input ≤ most_bytes → IsOutcome words input status bytes → IsAnswer status
+answers words input status bytes short (usage none) = tt
+answers words input status bytes short (too_long command many) = absurd (omega (arith, short, many))
+answers words input status bytes short (refused command refusal asked first) = tt
+answers words input status bytes short (made command session asked taken makes) = command_answers session command status bytes makes
+
+says : (words : List (List ℕ)) (call : Around) (status : Status) → IsAnswer status → Answers words call status → Says words call status
+says words call statuses.Completed is said = said
+says words call statuses.Usage is said = said
+says words call statuses.Refused is said = said
+says words call statuses.Limited is said = said
+says words call statuses.ReadFault is said = absurd is
+says words call statuses.WriteFault is said = absurd is
+says words call statuses.Memory is said = absurd is
+says words call statuses.TooLong is said = absurd is
 
 pub answered : (words : List (List ℕ)) (call : Around) (input bytes : List ℕ) (status result : Status) → IsInput words call input → length input ≤ most_bytes → IsOutcome words input status bytes → Wrote call.written_before call.written_after call.write_faults_before call.write_faults_after bytes status result → Says words call result
-answered words call input bytes status result is short outcome (inl w) = subst (Says words call) (sym w.0) (said words call input bytes status is short outcome w.1)
+answered words call input bytes status result is short outcome (inl w) =
+    subst (Says words call) (sym w.0) (says words call status (answers words input status bytes short outcome) (record { input = input; bytes = bytes; is_input = is; outcome = outcome; writes = w.1 }))
 answered words call input bytes status result is short outcome (inr w) = subst (Says words call) (sym w.0) (record { rose = w.1; input = input; status = status; bytes = bytes; is_input = is; outcome = outcome; writes = w.2 })
 
--- the one-thread journal of an accepted protocol is what the headline says
-pub headline_of : (session : SetupView) (journal : List Entry) → IsAcceptedProtocol session.protocol → IsOneThread (rules_of session) journal → IsHeadline (rules_of session) journal
-headline_of session journal lawful alone = record {
-  legal = law.legal alone;
-  reaches = λ front back e. reach (rules_of session) (body_of session.protocol.body) front back refl lawful.form lawful.accepted (subst (IsLegal (rules_of session)) (sym e) (law.legal alone));
+-- ---- counts of faults
+
+no_fault : (fault status : Status) → IsAnswer status → (fault ≡ statuses.ReadFault) ⊎ (fault ≡ statuses.WriteFault) → status ≡ fault → ⊥
+no_fault fault status is which same = ⊎_elim (λ e. subst IsAnswer (same ∙ e) is) (λ e. subst IsAnswer (same ∙ e) is) which
+
+-- another status, and the count stays
+pub stays : (before now : ℕ) (fault result : Status) → now ≡ before → (result ≡ fault → ⊥) → TellsFault before now fault result
+stays before now fault result same other = record { later = omega (arith, same); only = λ e. absurd (other e); always = λ more. absurd (omega (arith, same, more)) }
+
+-- the count of the sink, where this status was to be written
+pub sink_tells : (before after : Option (List ℕ)) (f g : ℕ) (bytes : List ℕ) (status result : Status) → (status ≡ statuses.WriteFault → ⊥) → f ≤ g → Wrote before after f g bytes status result → TellsFault f g statuses.WriteFault result
+sink_tells before after f g bytes status result other later (inl w) = stays f g statuses.WriteFault result w.2 (λ e. other (sym w.0 ∙ e))
+sink_tells before after f g bytes status result other later (inr w) = record { later = later; only = λ e. w.1; always = λ more. w.0 }
+
+-- that of the source, which was left, where this status was to be written
+pub source_tells : (before after : Option (List ℕ)) (f g before_count now_count : ℕ) (bytes : List ℕ) (status result : Status) → (status ≡ statuses.ReadFault → ⊥) → now_count ≡ before_count → Wrote before after f g bytes status result
+    → TellsFault before_count now_count statuses.ReadFault result
+source_tells before after f g m n bytes status result other same (inl w) = stays m n statuses.ReadFault result same (λ e. other (sym w.0 ∙ e))
+source_tells before after f g m n bytes status result other same (inr w) = stays m n statuses.ReadFault result same (λ e. let f = w.0 in cc)
+
+-- the status of an outcome is none of a fault
+pub not_read_fault : (words : List (List ℕ)) (input : List ℕ) (status : Status) (bytes : List ℕ) → length input ≤ most_bytes → IsOutcome words input status bytes → status ≡ statuses.ReadFault → ⊥
+not_read_fault words input status bytes short outcome = no_fault statuses.ReadFault status (answers words input status bytes short outcome) (inl refl)
+
+pub not_write_fault : (words : List (List ℕ)) (input : List ℕ) (status : Status) (bytes : List ℕ) → length input ≤ most_bytes → IsOutcome words input status bytes → status ≡ statuses.WriteFault → ⊥
+not_write_fault words input status bytes short outcome = no_fault statuses.WriteFault status (answers words input status bytes short outcome) (inr refl)
+
+-- reading ended without a fault, and the count stays
+pub no_read_fault : (m n : ℕ) → m ≤ n → (m < n → ⊥) → n ≡ m
+no_read_fault m n later same = ⊎_elim (λ more. absurd (same more)) (λ few. omega (arith, later, few)) (cases_lt m n)
+
+-- ---- the headline
+
+-- a final legal journal of an accepted protocol is what the headline says
+pub headline_of : (session : SessionView) (journal : List Entry) → IsAcceptedProtocol session.protocol → IsLegal (rules_of session) journal → IsFinal (rules_of session) (reading (rules_of session) journal) → IsHeadline (rules_of session) journal
+headline_of session journal lawful legal final = record {
+  legal = legal;
+  runs = λ front back e. run front back e;
+  reaches = λ front back e. reach (rules_of session) (body_of session.protocol.body) front back refl lawful.form lawful.accepted (subst (IsLegal (rules_of session)) (sym e) legal);
   undoes = λ front back p concerned kept undone e. exact front (Recover p concerned kept undone ∷ back) p concerned kept undone e;
-  final = law.final alone;
+  final = final;
 }
   where
-    law : OneJournal (rules_of session) journal journal
-    law = one_journal (rules_of session) journal journal
-
     run : (front back : List Entry) → front ++ back ≡ journal → IsRun (rules_of session).net (reading (rules_of session) front).kept
-    run front back e = accepted_runs (rules_of session) journal (proper (body_of session.protocol.body) (length session.protocol.roles) lawful.form) lawful.accepted (law.legal alone) front back e
+    run front back e = accepted_runs (rules_of session) journal (proper (body_of session.protocol.body) (length session.protocol.roles) lawful.form) lawful.accepted legal front back e
 
     exact : (front rest : List Entry) (p : ℕ) (concerned : RoleSet) (kept : List ℕ) (undone : ℕ) → front ++ rest ≡ journal → IsExactRecovery (rules_of session) (reading (rules_of session) front) (reading (rules_of session) (front ++ Recover p concerned kept undone ∷ [])) p
     exact front rest p concerned kept undone e =
         let before = reading (rules_of session) front in
-        let sets = undo_exactly (rules_of session).net (only p (durable (rules_of session) before p) before.kept) before.kept (run front rest e).1.queued in
+        let sets = undo_exactly (rules_of session).net (bound_of (group_of (rules_of session) p) (durable (rules_of session) before) before.kept) before.kept (run front rest e).1.queued in
         record { has = sets.0; exact = sets.1; left = ap (λ s. s.kept) (reading_join (rules_of session) (start (length session.protocol.roles)) front (Recover p concerned kept undone ∷ [])) }
 
-pub session_headline : (input : List ℕ) (session : SetupView) (journal : List Entry) (bytes : List ℕ) → IsSession input session journal bytes → IsHeadline (rules_of session) journal
-session_headline input session journal bytes held = headline_of session journal held.taken.protocol.accepted held.alone
+pub session_headline : SessionsAreLegal
+session_headline input session journal status bytes taken held = headline_of session journal taken.protocol.accepted held.legal held.final
 
--- the words are one command
+-- ---- the words are one command
+
 same_word : (a b : List ℕ) → a ∷ [] ≡ b ∷ [] → a ≡ b
 same_word a b e = cc
 
+abbrev first : List ℕ → ℕ
+first [] = 0
+first (b ∷ bs) = b
+
 pub one_command : (words : List (List ℕ)) (c d : CommandView) → IsCommand words c → IsCommand words d → c ≡ d
 one_command words Run Run x y = refl
-one_command words Run Check x y = let e = same_word (codes "run") (codes "check") (sym x ∙ y) in absurd (omega (arith, ap length e))
+one_command words Run Check x y = let e = ap first (same_word (codes "run") (codes "check") (sym x ∙ y)) in absurd (omega (arith, e))
+one_command words Run Table x y = let e = ap first (same_word (codes "run") (codes "table") (sym x ∙ y)) in absurd (omega (arith, e))
 one_command words Run (Project name) x y = let e : words_of Run ≡ words_of (Project name) = sym x ∙ y in absurd (omega (arith, ap length e))
-one_command words Check Run x y = let e = same_word (codes "check") (codes "run") (sym x ∙ y) in absurd (omega (arith, ap length e))
+one_command words Check Run x y = let e = ap first (same_word (codes "check") (codes "run") (sym x ∙ y)) in absurd (omega (arith, e))
 one_command words Check Check x y = refl
+one_command words Check Table x y = let e = ap first (same_word (codes "check") (codes "table") (sym x ∙ y)) in absurd (omega (arith, e))
 one_command words Check (Project name) x y = let e : words_of Check ≡ words_of (Project name) = sym x ∙ y in absurd (omega (arith, ap length e))
+one_command words Table Run x y = let e = ap first (same_word (codes "table") (codes "run") (sym x ∙ y)) in absurd (omega (arith, e))
+one_command words Table Check x y = let e = ap first (same_word (codes "table") (codes "check") (sym x ∙ y)) in absurd (omega (arith, e))
+one_command words Table Table x y = refl
+one_command words Table (Project name) x y = let e : words_of Table ≡ words_of (Project name) = sym x ∙ y in absurd (omega (arith, ap length e))
 one_command words (Project name) Run x y = let e : words_of (Project name) ≡ words_of Run = sym x ∙ y in absurd (omega (arith, ap length e))
 one_command words (Project name) Check x y = let e : words_of (Project name) ≡ words_of Check = sym x ∙ y in absurd (omega (arith, ap length e))
+one_command words (Project name) Table x y = let e : words_of (Project name) ≡ words_of Table = sym x ∙ y in absurd (omega (arith, ap length e))
 one_command words (Project name) (Project other) x y =
     let e : codes "project" ∷ codes "--role" ∷ name ∷ [] ≡ codes "project" ∷ codes "--role" ∷ other ∷ [] = sym x ∙ y in
     let same : name ≡ other = cc in
     ap (λ (n : List ℕ). Project n) same
 
--- the same for what the call wrote
-pub wrote_headline : (words : List (List ℕ)) (call : Around) (input bytes : List ℕ) (status result : Status) → IsInput words call input → IsCommand words Run → IsOutcome words input status bytes → Wrote call.written_before call.written_after call.write_faults_before call.write_faults_after bytes status result → (result ≡ statuses.Completed) ⊎ (result ≡ statuses.Limited) → WritesLegalJournal call
+-- the headline of what the call wrote
+pub wrote_headline : (words : List (List ℕ)) (call : Around) (input bytes : List ℕ) (status result : Status) → IsInput words call input → IsCommand words Run → IsOutcome words input status bytes → Wrote call.written_before call.written_after call.write_faults_before call.write_faults_after bytes status result → (result ≡ statuses.Completed) ⊎ (result ≡ statuses.Limited) → WritesLegalJournal call result
 wrote_headline words call input bytes status result is command outcome (inr w) ended = absurd (⊎_elim (λ e. let f = w.0 in cc) (λ e. let f = w.0 in cc) ended)
-wrote_headline words call input bytes status result is command outcome (inl w) ended = go status bytes refl outcome (⊎_elim (λ e. inl (sym w.0 ∙ e)) (λ e. inr (sym w.0 ∙ e)) ended)
+wrote_headline words call input bytes status result is command outcome (inl w) ended = subst (WritesLegalJournal call) (sym w.0) (go status bytes refl outcome (⊎_elim (λ e. inl (sym w.0 ∙ e)) (λ e. inr (sym w.0 ∙ e)) ended))
   where
-    journal_of : (session : SetupView) (journal : List Entry) → IsSession input session journal bytes → WritesLegalJournal call
-    journal_of session journal held = record { input = input; takes = is.takes; whole = is.whole (Run, command); session = session; journal = journal; bytes = bytes; is_session = held; writes = w.1; headline = session_headline input session journal bytes held }
+    run_of : (s : Status) (session : SessionView) → IsTaken input session → IsOneThreadRun session s bytes → WritesLegalJournal call s
+    run_of s session taken held = record {
+      input = input;
+      takes = is.takes;
+      whole = is.whole (Run, command);
+      session = session;
+      taken = taken;
+      journal = held.journal;
+      bytes = bytes;
+      is_journal = held.is_journal;
+      writes = w.1;
+      headline = session_headline input session held.journal s bytes taken held.is_journal;
+    }
 
-    go : (s : Status) (b : List ℕ) → b ≡ bytes → IsOutcome words input s b → (s ≡ statuses.Completed) ⊎ (s ≡ statuses.Limited) → WritesLegalJournal call
+    go : (s : Status) (b : List ℕ) → b ≡ bytes → IsOutcome words input s b → (s ≡ statuses.Completed) ⊎ (s ≡ statuses.Limited) → WritesLegalJournal call s
     go s b same (usage none) e = absurd (⊎_elim (λ f. cc) (λ f. cc) e)
     go s b same (too_long c many) e = absurd (⊎_elim (λ f. cc) (λ f. cc) e)
     go s b same (refused other refusal asked first) e = absurd (⊎_elim (λ f. cc) (λ f. cc) e)
-    go s b same (checked p lines asked taken) e = absurd (let other = one_command words Run Check command asked.words_are in cc)
-    go s b same (projected p lines name role asked taken named text) e = absurd (let other = one_command words Run (Project name) command asked.words_are in cc)
-    go s b same (no_role p lines name asked taken named) e = absurd (⊎_elim (λ f. cc) (λ f. cc) e)
-    go s b same (completed session journal asked held done) e = journal_of session journal (subst (IsSession input session journal) same held)
-    go s b same (limited session journal asked held end) e = journal_of session journal (subst (IsSession input session journal) same held)
+    go s b same (made other session asked taken makes) e =
+        let runs = subst (λ (c : CommandView). Makes session c s b) (one_command words other Run asked.words_are command) makes in
+        run_of s session taken (subst (λ (l : List ℕ). IsOneThreadRun session s l) same runs)
 
 -- nothing was taken
 nothing_taken : (o : Option (List ℕ)) (given : ℕ) → Took o o given given []

@@ -1,5 +1,5 @@
 -- The session of what is taken comes to its end, and each role's line is known there.
-use Rattle.std.proofs.Common.{◌≡◌, ℕ, codes, zero, suc, ◌+◌, Some, List, [], ◌∷◌, length, refl, ◌∙◌, ap, subst, inl, inr, ⊎_elim, ◌⊎◌, arith}
+use Rattle.std.proofs.Common.{◌≡◌, ℕ, zero, suc, ◌+◌, Some, List, [], ◌∷◌, length, refl, ◌∙◌, ap, subst, inl, inr, ⊎_elim, ◌⊎◌, arith}
 use Rattle.std.specs.Prelude.{slice_get, slice_index}
 use Rattle.std.proofs.lemmas.Bool.{cases_eq}
 use Rattle.rcv_tree.specs.declared.entry.Entry.{Entry}
@@ -8,24 +8,24 @@ use Rattle.rcv_model.specs.Next.{IsProper, AreNext}
 use Rattle.rcv_model.specs.Run.{acts, place_of}
 use Rattle.rcv_model.specs.Act.{IsDone}
 use Rattle.rcv_model.specs.Journal.{Rules, State, reading}
-use Rattle.rcv_model.specs.Final.{IsFinal, AreDone, HasOneAtLimit, IsOneThread, ChoosesOffered}
-use Rattle.rcv_model.specs.Laws.{OneJournal}
+use Rattle.rcv_model.specs.Final.{IsFinal, IsOneThread, ChoosesOffered}
+use Rattle.rcv_model.specs.ThreadLaws.{OneJournal}
 use Rattle.rcv_model.proofs.Forms.{proper}
 use Rattle.rcv_model.proofs.NextLists.{lists_exist}
 use Rattle.rcv_model.proofs.Choosing.{chosen_in}
 use Rattle.rcv_model.proofs.OneThread.{one_journal}
 use Rattle.rcv_model.proofs.Threads.{one_thread}
 use Rattle.rcv_model.proofs.Finals.{done_or_limited}
-use Rattle.rcv_core.specs.Setup.{net_for, lines_of, rules_of}
+use Rattle.rcv_session.specs.Session.{net_for, lines_of, rules_of}
 use Rattle.rcv_journal.specs.declared.line.RoleLine.{RoleLine}
 use Rattle.rcv_journal.specs.declared.line.RoleWord.{RoleWord}
 use Rattle.rcv_journal.specs.declared.line.RoleWord.TheVariants.{Done, Limit, Waits}
 use Rattle.rcv_journal.specs.JournalText.{journal_text}
 use Rattle.rcv_journal.specs.Lines.{IsWordOf, IsLineOf, AreLinesOf}
-use Rattle.rcv_top.specs.Commands.{Run}
 use Rattle.rcv_top.specs.declared.status.Status.TheVariants.{Completed, Limited}
-use Rattle.rcv_top.specs.Outcome.{IsSession, IsAsked, IsOutcome, completed, limited}
-use Rattle.rcv_top.specs.Laws.{IsAtLimit, SessionsEnd}
+use Rattle.rcv_top.specs.declared.status.Status.{Status}
+use Rattle.rcv_top.specs.Running.{EndsAs, all_done, at_limit, IsOneThreadRun}
+use Rattle.rcv_top.specs.Laws.{SessionsEnd}
 
 -- ---- the word of a role
 
@@ -73,7 +73,8 @@ are_lines rules s lawful = record {
 -- ---- the law
 
 pub sessions_end : SessionsEnd
-sessions_end input session short taken = record { journal = one.0; bytes = journal_text session one.0 lines; is_session = held; ends = ⊎_elim complete limit (done_or_limited rules one.0 lawful taken.protocol.accepted.accepted chooses (omega arith) (law.legal one.1) final) }
+sessions_end input session taken = ⊎_elim (λ done. (Completed, text, run Completed (all_done done))) (λ at. (Limited, text, run Limited (at_limit at)))
+    (done_or_limited rules one.0 lawful taken.protocol.accepted.accepted chooses (omega arith) (law.legal one.1) final)
   where
     rules : Rules
     rules = rules_of session
@@ -93,17 +94,15 @@ sessions_end input session short taken = record { journal = one.0; bytes = journ
     lines : List RoleLine
     lines = lines_from rules (reading rules one.0) lawful 0 rules.roles
 
-    held : IsSession input session one.0 (journal_text session one.0 lines)
-    held = record { taken = taken; alone = one.1; text = record { lines = lines; are_lines = are_lines rules (reading rules one.0) lawful; is_text = refl } }
+    text : List ℕ
+    text = journal_text session one.0 lines
+
+    run : (status : Status) → EndsAs rules (reading rules one.0) status → IsOneThreadRun session status text
+    run status ends = record {
+      journal = one.0;
+      is_journal = record { legal = law.legal one.1; final = final; ends = ends; text = record { lines = lines; are_lines = are_lines rules (reading rules one.0) lawful; is_text = refl } };
+      alone = one.1;
+    }
 
     chooses : ChoosesOffered rules
     chooses r events attempt zs some = chosen_in (net_for session) (lines_of session) r events attempt zs some
-
-    asked : IsAsked (codes "run" ∷ []) Run input
-    asked = record { words_are = refl; short = short }
-
-    complete : AreDone rules (reading rules one.0) → IsOutcome (codes "run" ∷ []) input Completed (journal_text session one.0 lines) ⊎ (IsOutcome (codes "run" ∷ []) input Limited (journal_text session one.0 lines) × IsAtLimit session one.0)
-    complete done = inl (completed session one.0 asked held (final, done))
-
-    limit : HasOneAtLimit rules (reading rules one.0) → IsOutcome (codes "run" ∷ []) input Completed (journal_text session one.0 lines) ⊎ (IsOutcome (codes "run" ∷ []) input Limited (journal_text session one.0 lines) × IsAtLimit session one.0)
-    limit at = inr (limited session one.0 asked held (final, λ done. at.2 (done at.0 at.1)), at)

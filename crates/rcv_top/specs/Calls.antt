@@ -1,5 +1,5 @@
 -- What a call of the program took from its source and wrote to its sink, for each status.
-use Rattle.std.specs.Prelude.{◌≡◌, ℕ, ◌≤◌, ◌⊎◌, List, [], length, map}
+use Rattle.std.specs.Prelude.{◌≡◌, ℕ, ◌<◌, ◌≤◌, ◌⊎◌, List, [], length, map}
 use Rattle.std.specs.String.{string_bytes}
 use Rattle.std.specs.declared.option.Option.{Option}
 use Rattle.std.specs.declared.string.String.{String}
@@ -9,11 +9,13 @@ use Rattle.rcv_tree.specs.declared.entry.Entry.{Entry}
 use Rattle.rcv_io.specs.Causes.{Rose}
 use Rattle.rcv_io.specs.Source.{Took}
 use Rattle.rcv_io.specs.Sink.{WroteBeginning}
-use Rattle.rcv_core.specs.Setup.{SetupView, rules_of}
+use Rattle.rcv_session.specs.Session.{SessionView, rules_of}
 use Rattle.rcv_top.specs.declared.status.Status.{Status}
 use Rattle.rcv_top.specs.declared.status.Status.TheVariants.{Completed, Usage, Refused, Limited, ReadFault, WriteFault, Memory, TooLong}
 use Rattle.rcv_top.specs.Commands.{IsSomeCommand, IsNoCommand}
-use Rattle.rcv_top.specs.Outcome.{most_bytes, IsSession, IsOutcome}
+use Rattle.rcv_input.specs.Input.{IsTaken}
+use Rattle.rcv_top.specs.Running.{IsJournalOf}
+use Rattle.rcv_top.specs.Outcome.{most_bytes, IsOutcome}
 use Rattle.rcv_top.specs.Headline.{IsHeadline}
 
 -- Words as their bytes.
@@ -123,20 +125,28 @@ Says words call WriteFault = FailsToWrite words call
 Says words call Memory = WantsMemory words call
 Says words call TooLong = TakesTooMuch words call
 
--- The input is taken as a session, and what was written is the text of a journal of it as the headline says.
-pub record WritesLegalJournal (call : Around) : Type 0 where
+-- The count of faults didn't fall. The call ends with this status only where it rose, and always where it is greater than
+-- before.
+pub record TellsFault (before now : ℕ) (fault result : Status) : Type 0 where
+  pub later : before ≤ now
+  pub only : result ≡ fault → Rose before now
+  pub always : before < now → result ≡ fault
+
+-- The whole input is taken as a session, and what was written is the text of a journal of it as the headline says.
+pub record WritesLegalJournal (call : Around) (status : Status) : Type 0 where
   pub input : List ℕ
   pub takes : Takes call input
   pub whole : IsAtEnd call.rest_after
-  pub session : SetupView
+  pub session : SessionView
+  pub taken : IsTaken input session
   pub journal : List Entry
   pub bytes : List ℕ
-  pub is_session : IsSession input session journal bytes
+  pub is_journal : IsJournalOf session journal status bytes
   pub writes : call.written_after ≡ append_known call.written_before bytes
   pub headline : IsHeadline (rules_of session) journal
 
--- These bytes were written with this status; or the sink failed.
+-- These bytes were written with this status, and no call of the sink failed; or the sink failed.
 abbrev pub Wrote : Option (List ℕ) → Option (List ℕ) → ℕ → ℕ → List ℕ → Status → Status → Type 0
 Wrote before after faults_before faults_after bytes status result =
-    ((result ≡ status) × (after ≡ append_known before bytes))
+    ((result ≡ status) × (after ≡ append_known before bytes) × (faults_after ≡ faults_before))
     ⊎ ((result ≡ WriteFault) × Rose faults_before faults_after × WroteBeginning before after bytes)

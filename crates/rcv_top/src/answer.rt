@@ -1,13 +1,17 @@
 // What the commands answer, from the bytes of an input to those of an output.
 
-ghost use Rattle.std.specs.Prelude.{◌≡◌, ◌≤◌, ◌∷◌, [], codes, length, IfOk};
+ghost use Rattle.std.specs.Prelude.{◌≡◌, ◌≤◌, length, IfOk};
 ghost use Rattle.rcv_input.specs.declared.refused.Refused as refusals;
-ghost use Rattle.rcv_input.specs.Input.{IsTaken};
 ghost use Rattle.rcv_input.specs.Line.{refusal_line};
+ghost use Rattle.rcv_session.specs.Session.{SessionView};
 ghost use Rattle.rcv_printer.specs.CanonicalText.{canonical};
+ghost use Rattle.rcv_script.specs.Scripts.{AreScriptsFor};
+ghost use Rattle.rcv_accept.specs.Accepted.{IsAcceptedProtocol};
 ghost use Rattle.rcv_top.specs.Commands.{view_of, words_of};
 ghost use Rattle.rcv_top.specs.Outcome.{IsOutcome};
 ghost use Rattle.rcv_top.specs.Projection.{IsProjection};
+ghost use Rattle.rcv_top.specs.Recovering.{IsTableText};
+ghost use Rattle.rcv_top.specs.Running.{IsOneThreadRun};
 
 use crate::command::Command;
 use crate::role::place_of;
@@ -19,8 +23,10 @@ use rcv_core::setup::Setup;
 use rcv_input::{Input, InputError, Refused, read_input, refusal_line};
 use rcv_journal::text::text_of;
 use rcv_printer::print_protocol;
-use rcv_project::local::project;
+use rcv_project::project;
 use rcv_project::text::print_local;
+use rcv_tables::making::table;
+use rcv_tables::text::print_table;
 use rcv_tree::protocol::Protocol;
 use rcv_tree::role::RoleId;
 use std::alloc::{AllocError, Global};
@@ -42,8 +48,9 @@ pub fn answer(alloc: Global, command: Command<'_>, input: &[u8]) -> Result<Outpu
 {
     match read_input(alloc, input) {
         Ok(taken) => match command {
-            Command::Run => run(alloc, input, taken),
+            Command::Run => run(alloc, taken),
             Command::Check => check(alloc, taken.accepted.protocol()),
+            Command::Table => write_tables(alloc, &taken.accepted),
             Command::Project { role } => project_role(alloc, &taken.accepted, role),
         },
         Err(error) => refuse(alloc, error),
@@ -51,12 +58,12 @@ pub fn answer(alloc: Global, command: Command<'_>, input: &[u8]) -> Result<Outpu
 }
 
 // Runs a session to its end, and writes its journal.
-fn run(alloc: Global, input: &[u8], taken: Input) -> Result<Output, AllocError>
-    requires short { length input.now ≤ 1048576 }
-    requires taken { IsTaken input.now taken.accepted.protocol taken.scripts }
-    ensures { IfOk result (λ output. IsOutcome (codes "run" ∷ []) input.now output.status output.bytes.items) }
+fn run(alloc: Global, taken: Input) -> Result<Output, AllocError>
+    requires { AreScriptsFor taken.accepted.protocol taken.scripts }
+    ensures { IfOk result (λ output.
+        IsOneThreadRun (record { protocol = taken.accepted.protocol; scripts = taken.scripts.lines }) output.status output.bytes.items) }
 {
-    let setup = Setup::of(taken.accepted, taken.scripts);
+    let setup = Setup::new(alloc, taken.accepted, taken.scripts)?;
     let mut book = Book::new(alloc, &setup)?;
     book.run_alone()?;
     let bytes = text_of(alloc, &book)?;
@@ -78,11 +85,22 @@ fn check(alloc: Global, protocol: &Protocol) -> Result<Output, AllocError>
     })
 }
 
+// Writes the recovery tables of a protocol.
+fn write_tables(alloc: Global, accepted: &Accepted) -> Result<Output, AllocError>
+    ensures { IfOk result (λ output. (output.status ≡ Status.Completed) × IsTableText accepted.now.protocol output.bytes.items) }
+{
+    let table = table(alloc, accepted)?;
+    Ok(Output {
+        status: Status::Completed,
+        bytes: print_table(alloc, &table, accepted)?,
+    })
+}
+
 // Writes what the role with this name does, if the protocol declares it.
 fn project_role(alloc: Global, accepted: &Accepted, name: &[u8]) -> Result<Output, AllocError>
     ensures { IfOk result (λ output. IsProjection accepted.now.protocol name.now output.status output.bytes.items) }
 {
-    // Tells the proof that there are at most eight roles.
+    // Tells the proof that the place of a role fits in a byte.
     let _count = accepted.roles();
     let Some(place) = place_of(&accepted.protocol().roles, name) else {
         return Ok(Output {
@@ -90,16 +108,17 @@ fn project_role(alloc: Global, accepted: &Accepted, name: &[u8]) -> Result<Outpu
             bytes: refusal_line(alloc, &Refused::NoRole)?,
         });
     };
-    let local = project(accepted, RoleId(place as u8));
+    let local = project(alloc, accepted, RoleId(place as u8))?;
     Ok(Output {
         status: Status::Completed,
-        bytes: print_local(alloc, &local)?,
+        bytes: print_local(alloc, &local, accepted)?,
     })
 }
 
 // Writes the line of a refusal.
 fn refuse(alloc: Global, error: InputError) -> Result<Output, AllocError>
-    ensures { IfOk result (λ output. (refusal : refusals.Refused) × (error ≡ InputError.Refused refusal) × (output.status ≡ Status.Refused) × (output.bytes.items ≡ refusal_line refusal)) }
+    ensures { IfOk result (λ output. (refusal : refusals.Refused) × (error ≡ InputError.Refused refusal)
+        × (output.status ≡ Status.Refused) × (output.bytes.items ≡ refusal_line refusal)) }
 {
     match error {
         InputError::Refused(refused) => Ok(Output {

@@ -2,7 +2,7 @@
 
 ghost use Rattle.std.specs.Prelude.{◌≡◌, ◌≤◌, ◌⊎◌};
 ghost use Rattle.rcv_top.specs.Commands.{Run, IsCommand};
-ghost use Rattle.rcv_top.specs.Calls.{bytes_of, around, Says, Wrote, WritesLegalJournal};
+ghost use Rattle.rcv_top.specs.Calls.{bytes_of, around, Says, TellsFault, Wrote, WritesLegalJournal};
 
 use crate::answer::answer;
 use crate::gate::Gate;
@@ -20,22 +20,25 @@ const USAGE: &[u8] =
 
 /// Does what the program does: reads the words, then the whole source, and writes the answer.
 ///
-/// `words` are those behind the program's name; they are a command exactly where they are the one word `run`, the one
-/// word `check`, or the words `project`, `--role` and any third one, which names a role. The output is made whole in
-/// memory before the first byte of it is written. The answer says how the call ended:
+/// `words` are those behind the program's name; they are a command exactly where they are one of the words `run`,
+/// `check` and `table`, or the words `project`, `--role` and any third one, which names a role. The answer says how the
+/// call ended:
 /// - `Completed`: under `run` the session of the input completed, and its journal was written; under `check` the input's
-///   protocol was written as its canonical text; under `project` what the role does was written.
-/// - `Limited`: a session was run, some role isn't done at the journal's end, as it came to the limit, and the journal was
-///   written.
+///   protocol was written as its canonical text; under `table` its recovery tables were written; under `project` what the
+///   role does was written.
+/// - `Limited`: under `run` the session's journal was written, and at its end some role that isn't done has come to the
+///   limit.
 /// - `Usage`: the words are no command; nothing was read, and the usage line was written.
 /// - `Refused`: the input is refused, and the line of its first refusal was written; or under `project` the protocol
 ///   doesn't declare the role, and the line for that was written.
-/// - `ReadFault`: the source's count of faults rose, and nothing was written.
-/// - `WriteFault`: the sink's count of faults rose, and a beginning of what should be written was, not all of it.
+/// - `ReadFault`: the source's count of faults rose, and nothing was written. It comes always where that count is greater
+///   than before.
+/// - `WriteFault`: the sink's count of faults rose, and a beginning of what should be written was, not all of it. It comes
+///   always where that count is greater than before.
 /// - `Memory`: memory was wanted, and nothing was written.
 /// - `TooLong`: more than 1,048,576 bytes were taken from the source, and nothing was written.
 ///
-/// One worker runs the session, so `gate` isn't called.
+/// One thread runs the session, and `gate` isn't called.
 pub fn recover<S: Source, K: Sink, G: Gate>(
     alloc: Global,
     words: &[String],
@@ -43,10 +46,12 @@ pub fn recover<S: Source, K: Sink, G: Gate>(
     sink: &mut K,
     _gate: &G,
 ) -> Status
-    ensures says { Says (bytes_of words.now) (around S.rest S.given S.faults source.old source.new K.written K.faults sink.old sink.new) result }
-    ensures headline { IsCommand (bytes_of words.now) Run → (result ≡ Status.Completed) ⊎ (result ≡ Status.Limited) → WritesLegalJournal (around S.rest S.given S.faults source.old source.new K.written K.faults sink.old sink.new) }
-    ensures source_later { S.faults source.old ≤ S.faults source.new }
-    ensures sink_later { K.faults sink.old ≤ K.faults sink.new }
+    ensures says { Says (bytes_of words.now)
+        (around S.rest S.given S.faults source.old source.new K.written K.faults sink.old sink.new) result }
+    ensures headline { IsCommand (bytes_of words.now) Run → (result ≡ Status.Completed) ⊎ (result ≡ Status.Limited)
+        → WritesLegalJournal (around S.rest S.given S.faults source.old source.new K.written K.faults sink.old sink.new) result }
+    ensures source_faults { TellsFault (S.faults source.old) (S.faults source.new) Status.ReadFault result }
+    ensures sink_faults { TellsFault (K.faults sink.old) (K.faults sink.new) Status.WriteFault result }
 {
     let Some(command) = command_of(words) else {
         return write(sink, USAGE, Status::Usage);

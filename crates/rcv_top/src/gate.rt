@@ -2,8 +2,8 @@
 
 use rcv_tree::role::RoleId;
 
-/// Is told of each step that a role attempts, and may hold it up. Sessions of several workers call it; one worker
-/// doesn't.
+/// Is to be told of each step that a role attempts, and may hold it up, in sessions of several workers.
+/// They aren't built yet, and nothing calls it today.
 pub trait Gate: Sync {
     /// Comes before the step of this role, where it has made so many events in all, undone ones included.
     fn enter(&self, role: RoleId, count: u32);

@@ -1,7 +1,7 @@
 // The whole program as one call: from words and an input to a status and bytes.
 #![tactic(auto)]
 
-ghost use Rattle.rcv_top.specs.Laws.{ChecksStay, OneOutcome, SessionsAreLegal, SessionsEnd};
+ghost use Rattle.rcv_top.specs.Laws.{ChecksStay, OneOutcome, OutcomesExist, SessionsAreLegal, SessionsEnd};
 
 mod answer;
 mod call;
@@ -9,17 +9,20 @@ mod command;
 mod gate;
 mod role;
 mod status;
-#[cfg(test)]
-mod tests;
 mod words;
 
 pub use call::recover;
 pub use gate::{Gate, NoGate};
 pub use status::Status;
 
-/// With one worker, status and bytes are a function of the words and the input.
+/// Status and bytes are a function of the words and the input.
 pub fn one_outcome()
     ensures { OneOutcome }
+{}
+
+/// All words and inputs have an outcome.
+pub fn outcomes_exist()
+    ensures { OutcomesExist }
 {}
 
 /// The journal of each session is what the headline says.
@@ -27,12 +30,12 @@ pub fn sessions_are_legal()
     ensures { SessionsAreLegal }
 {}
 
-/// The session of each input that is taken, and that isn't too long, completes, or it is limited by a role at the limit.
+/// The session of each input that is taken completes, or it is limited by a role at the limit.
 pub fn sessions_end()
     ensures { SessionsEnd }
 {}
 
-/// What `check` wrote, given to `check` again, is written as it is.
+/// What `check` wrote, where it has at most 1,048,576 bytes, is written as it is when it is given to `check` again.
 pub fn checks_stay()
     ensures { ChecksStay }
 {}

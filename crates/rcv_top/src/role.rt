@@ -1,7 +1,7 @@
 // The role that a command names.
 
 ghost use Rattle.std.specs.Prelude.{◌≡◌, ◌≤◌, length};
-ghost use Rattle.rcv_top.specs.Outcome.{place_of};
+ghost use Rattle.rcv_top.specs.Projection.{place_of};
 
 use rcv_tree::name::Names;
 

@@ -6,13 +6,13 @@ ghost use Rattle.rcv_top.specs.Outcome.{number_of};
 /// How a call ended.
 #[derive(Clone, Copy, Debug, PartialEq, Eq)]
 pub enum Status {
-    /// The session ran until all roles were done, and its journal was written; or the canonical text was written.
+    /// The session ran until all roles were done, and its journal was written; or the text of another command was written.
     Completed,
     /// The words are no command, and the usage line was written.
     Usage,
     /// The input is refused, and the refusal was written.
     Refused,
-    /// The session ran until no role could go on, some role isn't done, and the journal was written.
+    /// The session ran until no role could go on, some role that isn't done is at the limit, and the journal was written.
     Limited,
     /// The source failed, and nothing was written.
     ReadFault,
@@ -20,7 +20,7 @@ pub enum Status {
     WriteFault,
     /// No memory was left, and nothing was written.
     Memory,
-    /// The source had more than 1,048,576 bytes, and nothing was written.
+    /// More than 1,048,576 bytes were taken from the source, and nothing was written.
     TooLong,
 }
 

@@ -14,6 +14,7 @@ fn of_one(word: &str) -> Option<Command<'_>>
     match word {
         "run" => Some(Command::Run),
         "check" => Some(Command::Check),
+        "table" => Some(Command::Table),
         _ => None,
     }
 }
@@ -31,7 +32,7 @@ fn of_three<'a>(word: &str, option: &str, value: &'a str) -> Option<Command<'a>>
     }
 }
 
-/// The command that the words are, if they are one: `run`, `check`, or `project`, `--role` and any word.
+/// The command that the words are, if they are one: `run`, `check`, `table`, or `project`, `--role` and any word.
 pub fn command_of(words: &[String]) -> Option<Command<'_>>
     ensures some { IfSome result (λ command. IsCommand (bytes_of words.now) (view_of command)) }
     ensures none { IfNone result (IsNoCommand (bytes_of words.now)) }

@@ -1,4 +1,4 @@
-use Rattle.rcv_printer.proofs.Printables.{read_is_printable}
+use Rattle.rcv_grammar.proofs.Printables.{read_is_printable}
 use Rattle.rcv_printer.proofs.read_protocols_are_printable.Goals as goal
 
 pub returns : goal.returns

@@ -2,21 +2,23 @@
 use Rattle.std.proofs.Common.{List, subst}
 use Rattle.std.specs.Prelude.{MatchResult}
 use Rattle.std.proofs.lemmas.Result.{err_from_is_err_and}
-use Rattle.rcv_tree.specs.declared.protocol.Protocol.{Protocol}
 use Rattle.rcv_lexer.specs.declared.token.Token.{Token}
 use Rattle.rcv_lexer.specs.Tokens as lexer
 use Rattle.rcv_script.specs.Symbols.{symbols_of}
-use Rattle.rcv_script.specs.Refusals as script
-use Rattle.rcv_input.proofs.Reading.{by_script_letter, scripts_read}
+use Rattle.rcv_script.specs.Scripts.{AreScriptsOf, AreRefusedFor}
+use Rattle.rcv_input.proofs.Reading.{by_script_letter, scripts_read, scripts_belong}
 use Rattle.rcv_input.proofs.script.read_part.Goals as goal
 
-pub returns-in_err-list : goal.returns-in_err-list
-returns-in_err-list c =
+pub returns-in_err-list-clause-read : goal.returns-in_err-list-clause-read
+returns-in_err-list-clause-read c =
     let p = err_from_is_err_and c.from_residual.result c.from_residual.ensures.1 in
     rw (p.1, p.2) (by_script_letter c.args.input.now c.args.accepted.now.protocol c.in_err-list.field-0.0 (subst (λ part. lexer.IsRefused c.args.input.now part c.in_err-list.field-0.0) c.requires.part c.in_err-list.ensures.tokens))
 
-pub returns : goal.returns
-returns c =
-    scripts_read c.args.input.now c.args.accepted.now.protocol c.points.result.now c.in_ok-list.list.items c.args.part c.line_at-last.result c.read_scripts.result c.requires.part c.line_at-last.ensures c.in_ok-list.ensures.tokens c.points.ensures
-    (subst (λ (q : Protocol). MatchResult c.read_scripts.result (script.AreRead q.roles c.points.result.now (symbols_of c.args.input.now c.in_ok-list.list.items)) (script.IsRefused c.args.input.now c.in_ok-list.list.items c.line_at-last.result q.roles c.points.result.now)) c.protocol.ensures.value
-    (subst (λ (ts : List Token). MatchResult c.read_scripts.result (script.AreRead c.protocol.result.now.roles c.points.result.now (symbols_of c.args.input.now ts)) (script.IsRefused c.args.input.now ts c.line_at-last.result c.protocol.result.now.roles c.points.result.now)) c.as_slice.ensures.value c.read_scripts.ensures))
+pub returns-clause-read : goal.returns-clause-read
+returns-clause-read c =
+    scripts_read c.args.input.now c.args.accepted.now.protocol c.in_ok-list.list.items c.args.part c.line_at-last.result c.read_scripts.result c.requires.part c.line_at-last.ensures c.in_ok-list.ensures.tokens
+    (subst (λ (ts : List Token). MatchResult c.read_scripts.result (AreScriptsOf c.args.accepted.now.protocol (symbols_of c.args.input.now ts)) (AreRefusedFor c.args.input.now ts c.line_at-last.result c.args.accepted.now.protocol)) c.as_slice.ensures.value c.read_scripts.ensures)
+
+pub returns-clause-belong : goal.returns-clause-belong
+returns-clause-belong c =
+    scripts_belong c.args.accepted.now.protocol (symbols_of c.args.input.now c.as_slice.result.now) (AreRefusedFor c.args.input.now c.as_slice.result.now c.line_at-last.result c.args.accepted.now.protocol) c.read_scripts.result c.read_scripts.ensures

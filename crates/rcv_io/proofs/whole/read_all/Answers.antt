@@ -8,7 +8,7 @@ pub loop-bytes-init : goal.loop-bytes-init
 loop-bytes-init g c = record {
   took = took_none _ _ _ c.new-bytes.ensures.items;
   short = omega arith;
-  later = omega arith;
+  fine = refl;
 }
 
 pub returns-then-count-most-clause-taken : goal.returns-then-count-most-clause-taken

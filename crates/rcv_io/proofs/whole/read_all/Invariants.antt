@@ -1,4 +1,4 @@
-use Rattle.std.proofs.Common.{◌≤◌, ◌-◌, vec_len}
+use Rattle.std.proofs.Common.{◌≡◌, ◌≤◌, ◌-◌, vec_len}
 use Rattle.rcv_io.specs.Source.{Took}
 use Rattle.rcv_io.proofs.whole.read_all.Given as goal
 
@@ -6,7 +6,7 @@ abbrev pub invariant-loop-bytes : goal.invariant-loop-bytes
 invariant-loop-bytes g l = record {
   took : Took (g.S.Source.rest l.initial.source) (g.S.Source.rest l.source) (g.S.Source.given l.initial.source) (g.S.Source.given l.source) l.bytes.items;
   short : vec_len l.bytes ≤ l.most;
-  later : g.S.Source.faults l.initial.source ≤ g.S.Source.faults l.source;
+  fine : g.S.Source.faults l.source ≡ g.S.Source.faults l.initial.source;
 }
 
 abbrev pub decreases-loop-bytes : goal.decreases-loop-bytes

@@ -1,4 +1,4 @@
-use Rattle.std.proofs.Common.{arith, rules}
+use Rattle.std.proofs.Common.{rules, ◌∙◌}
 use Rattle.std.proofs.lemmas.List.{take_rest}
 use Rattle.rcv_io.proofs.Writing.{wrote_more}
 use Rattle.rcv_io.proofs.whole.write_all_of.Goals as goal
@@ -9,5 +9,5 @@ loop-done-preserved g c =
     record {
       inside = search rules;
       front = wrote_more _ _ _ _ _ _ c.loop-done.invariant.front piece;
-      later = omega (arith, c.in_ok-done.ensures.cause.later);
+      fine = c.in_ok-done.ensures.fine ∙ c.loop-done.invariant.fine;
     }

@@ -6,7 +6,7 @@ abbrev pub invariant-loop-done : goal.invariant-loop-done
 invariant-loop-done g l = record {
   inside : l.done ≤ length l.bytes;
   front : g.K.Sink.written l.sink ≡ append_known (g.K.Sink.written l.initial.sink) (take l.done l.bytes);
-  later : g.K.Sink.faults l.initial.sink ≤ g.K.Sink.faults l.sink;
+  fine : g.K.Sink.faults l.sink ≡ g.K.Sink.faults l.initial.sink;
 }
 
 abbrev pub decreases-loop-done : goal.decreases-loop-done

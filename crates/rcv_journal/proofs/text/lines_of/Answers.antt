@@ -1,6 +1,6 @@
 -- One role more.
 use Rattle.std.proofs.Common.{◌+◌, ◌∷◌, [], length, length-append, sym, ◌∙◌, ap, subst}
-use Rattle.rcv_core.specs.Setup.{rules_of}
+use Rattle.rcv_session.specs.Session.{rules_of}
 use Rattle.rcv_core.specs.Book.{state_of}
 use Rattle.rcv_journal.proofs.RoleLines.{Each, one_more_line}
 use Rattle.rcv_journal.proofs.text.lines_of.Goals as goal

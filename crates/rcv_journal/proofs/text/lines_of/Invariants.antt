@@ -1,5 +1,5 @@
 use Rattle.std.proofs.Common.{◌≡◌, length}
-use Rattle.rcv_core.specs.Setup.{rules_of}
+use Rattle.rcv_session.specs.Session.{rules_of}
 use Rattle.rcv_core.specs.Book.{state_of}
 use Rattle.rcv_journal.proofs.RoleLines.{Each}
 use Rattle.rcv_journal.proofs.text.lines_of.Given as goal

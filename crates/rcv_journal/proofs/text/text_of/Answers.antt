@@ -2,7 +2,7 @@
 use Rattle.std.proofs.Common.{◌≡◌, sym, ◌∙◌, ap, subst}
 use Rattle.std.proofs.lemmas.Result.{IfOk-weaker}
 use Rattle.rcv_accept.specs.Accepted.{IsAcceptedProtocol}
-use Rattle.rcv_core.specs.Setup.{SetupView}
+use Rattle.rcv_session.specs.Session.{SessionView}
 use Rattle.rcv_core.specs.Book.{state_of}
 use Rattle.rcv_journal.specs.JournalText.{AreNamed, HaveRoles, journal_text}
 use Rattle.rcv_journal.proofs.Named.{legal_is_named}
@@ -11,7 +11,7 @@ use Rattle.rcv_journal.proofs.text.text_of.Goals as goal
 
 pub write_journal-requires-clause-entries : goal.write_journal-requires-clause-entries
 write_journal-requires-clause-entries c =
-    let plain : IsAcceptedProtocol c.args.book.now.setup.protocol = subst (λ (v : SetupView). IsAcceptedProtocol v.protocol) c.setup-setup.ensures c.protocol.ensures.accepted in
+    let plain : IsAcceptedProtocol c.args.book.now.setup.protocol = subst (λ (v : SessionView). IsAcceptedProtocol v.protocol) c.setup-setup.ensures c.protocol.ensures.accepted in
     let named : AreNamed c.args.book.now.setup c.args.book.now.entries = legal_is_named c.args.book.now.setup c.args.book.now.entries plain c.entries.ensures.legal in
     subst (λ v. AreNamed v c.entries.result.now) (sym c.setup-setup.ensures) (subst (AreNamed c.args.book.now.setup) (sym c.entries.ensures.value) named)
 

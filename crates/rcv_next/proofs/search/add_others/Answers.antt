@@ -5,6 +5,7 @@ use Rattle.rcv_points.specs.Follow.{net_in}
 use Rattle.rcv_next.specs.Found.{Adds}
 use Rattle.rcv_next.proofs.Finding.{no_flag_is_up}
 use Rattle.rcv_next.proofs.Adding.{Others, item_of, more_yes, more_no}
+use Rattle.rcv_next.proofs.Marking.{nothing_new}
 use Rattle.rcv_next.proofs.Within.{offered_is}
 use Rattle.rcv_next.proofs.search.add_others.Goals as goal
 use Rattle.rcv_next.proofs.search.add_others.Goals.{then-not-is_of, else-not-is_of}
@@ -25,3 +26,7 @@ loop-point-preserved c =
       | then-not-is_of w ↦ more_yes (λ p. IsOf (net_in c.args.points.now) c.args.role p → ⊥) c.offered-point-items.result.now c.loop-point.point-index c.point.inside.0 c.args.places.now c.loop-point.places c.if-not-is_of.places c.loop-point-test.true q (λ o. no_flag_is_up (w.if-not-is_of.ensures.1 o)) c.loop-point.invariant (subst (λ l. Adds (λ j. j ≡ c.point.inside.0) c.loop-point.places l) (sym w.places-is) w.add.ensures.adds)
       | else-not-is_of w ↦ subst (λ l. Adds (Others (net_in c.args.points.now) c.args.role (take (c.loop-point.point-index + 1) c.offered-point-items.result.now)) c.args.places.now l) (sym w.places-is) (more_no (λ p. IsOf (net_in c.args.points.now) c.args.role p → ⊥) c.offered-point-items.result.now c.loop-point.point-index c.point.inside.0 c.args.places.now c.loop-point.places c.loop-point-test.true q (λ n. n (w.if-not-is_of.ensures.0 refl)) c.loop-point.invariant)
     ]
+
+pub returns-then-is_empty : goal.returns-then-is_empty
+returns-then-is_empty c =
+    nothing_new (net_in c.args.points.now) c.args.role c.args.place c.args.places.now c.args.own.0 c.offered_set.result.0 c.difference-others.result.0 c.points.result.0 c.difference-fresh.result.0 c.offered_set.ensures c.requires.own c.difference-others.ensures c.points.ensures c.difference-fresh.ensures (c.is_empty.ensures.0 c.if-is_empty.true)

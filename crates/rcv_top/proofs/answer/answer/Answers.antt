@@ -1,22 +1,39 @@
--- The canonical text of what is taken, what a role does, or the line of the first refusal.
+-- What the command makes of the session that is taken, or the line of the first refusal.
 use Rattle.std.proofs.Common.{◌≡◌, IfOk, sym, subst}
 use Rattle.rcv_tree.specs.declared.protocol.Protocol.{Protocol}
+use Rattle.rcv_session.specs.Session.{SessionView}
 use Rattle.rcv_printer.specs.CanonicalText.{canonical}
 use Rattle.rcv_top.specs.declared.command.Command.{Command}
-use Rattle.rcv_top.specs.Commands.{view_of, words_of}
+use Rattle.rcv_top.specs.Commands.{Run, Check, Table, Project, view_of, words_of}
 use Rattle.rcv_top.specs.declared.status.Status.TheVariants as statuses
 use Rattle.rcv_top.specs.Outcome.{IsOutcome}
-use Rattle.rcv_top.proofs.Sessions.{answer_checked, answer_projected, answer_refused}
+use Rattle.rcv_top.proofs.Sessions.{made_of, refused_of}
 use Rattle.rcv_top.proofs.answer.answer.Goals as goal
+
+pub returns-in-Run : goal.returns-in-Run
+returns-in-Run c =
+    let session : SessionView = record { protocol = c.in-Ok.taken.accepted.protocol; scripts = c.in-Ok.taken.scripts.lines } in
+    subst (λ (d : Command). IfOk c.run.result (λ output. IsOutcome (words_of (view_of d)) c.args.input.now output.status output.bytes.items)) (sym c.in-Run.is)
+    (made_of c.args.input.now Run session c.run.result c.requires c.in-Ok.ensures.taken c.run.ensures)
 
 pub returns-in-Check : goal.returns-in-Check
 returns-in-Check c =
+    let session : SessionView = record { protocol = c.in-Ok.taken.accepted.protocol; scripts = c.in-Ok.taken.scripts.lines } in
     let written = subst (λ (p : Protocol). IfOk c.check.result (λ output. (output.status ≡ statuses.Completed) × (output.bytes.items ≡ canonical p))) c.protocol.ensures.value c.check.ensures in
-    subst (λ (d : Command). IfOk c.check.result (λ output. IsOutcome (words_of (view_of d)) c.args.input.now output.status output.bytes.items)) (sym c.in-Check.is) (answer_checked c.args.input.now c.in-Ok.taken.accepted.protocol c.in-Ok.taken.scripts c.check.result c.requires c.in-Ok.ensures written)
+    subst (λ (d : Command). IfOk c.check.result (λ output. IsOutcome (words_of (view_of d)) c.args.input.now output.status output.bytes.items)) (sym c.in-Check.is)
+    (made_of c.args.input.now Check session c.check.result c.requires c.in-Ok.ensures.taken written)
 
-pub returns-in-Err : goal.returns-in-Err
-returns-in-Err c = answer_refused c.args.input.now (view_of c.args.command) c.in-Err.error c.refuse.result c.requires c.in-Err.ensures c.refuse.ensures
+pub returns-in-Table : goal.returns-in-Table
+returns-in-Table c =
+    let session : SessionView = record { protocol = c.in-Ok.taken.accepted.protocol; scripts = c.in-Ok.taken.scripts.lines } in
+    subst (λ (d : Command). IfOk c.write_tables.result (λ output. IsOutcome (words_of (view_of d)) c.args.input.now output.status output.bytes.items)) (sym c.in-Table.is)
+    (made_of c.args.input.now Table session c.write_tables.result c.requires c.in-Ok.ensures.taken c.write_tables.ensures)
 
 pub returns-in-Project : goal.returns-in-Project
 returns-in-Project c =
-    subst (λ (d : Command). IfOk c.project_role.result (λ output. IsOutcome (words_of (view_of d)) c.args.input.now output.status output.bytes.items)) (sym c.in-Project.is) (answer_projected c.args.input.now c.in-Ok.taken.accepted.protocol c.in-Ok.taken.scripts c.in-Project.role.now c.project_role.result c.requires c.in-Ok.ensures c.project_role.ensures)
+    let session : SessionView = record { protocol = c.in-Ok.taken.accepted.protocol; scripts = c.in-Ok.taken.scripts.lines } in
+    subst (λ (d : Command). IfOk c.project_role.result (λ output. IsOutcome (words_of (view_of d)) c.args.input.now output.status output.bytes.items)) (sym c.in-Project.is)
+    (made_of c.args.input.now (Project c.in-Project.role.now) session c.project_role.result c.requires c.in-Ok.ensures.taken c.project_role.ensures)
+
+pub returns-in-Err : goal.returns-in-Err
+returns-in-Err c = refused_of c.args.input.now (view_of c.args.command) c.in-Err.error c.refuse.result c.requires c.in-Err.ensures.taken c.refuse.ensures

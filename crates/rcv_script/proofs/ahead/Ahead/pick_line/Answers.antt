@@ -11,7 +11,7 @@ pub returns-in_err-when-clause-goes : goal.returns-in_err-when-clause-goes
 returns-in_err-when-clause-goes c =
     let p = err_from_is_err_and c.from_residual-in_err-when.result c.from_residual-in_err-when.ensures.1 in
     let names = c.args.names.now in
-    rw (p.1, p.2) (halts_behind (List (List ℕ) × Line) (Option Condition) c.in_err-when.field-0.0 (λ k. pick_line (writing c.args.points.now c.args.role names c.args.lines.now) k) (λ k. rest_of_pick (deciding names) k)
+    rw (p.1, p.2) (halts_behind (List (List ℕ) × Line) (Option Condition) c.in_err-when.field-0.0 (λ k. pick_line (writing c.args.points.now.messages c.args.role names c.args.lines.now) k) (λ k. rest_of_pick (deciding names) k)
     (λ k when. k (names, PickLine c.in_ok-label.label when)) _ _ _ (λ k. c.in_ok-label.ensures.goes (λ l. rest_of_pick (deciding names) (λ when. k (names, PickLine l when)))) c.in_err-when.ensures.goes)
 
 pub returns-clause-goes : goal.returns-clause-goes

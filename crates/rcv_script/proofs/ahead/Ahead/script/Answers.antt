@@ -11,14 +11,14 @@ pub returns-in_err-role-clause-goes : goal.returns-in_err-role-clause-goes
 returns-in_err-role-clause-goes c =
     let p = err_from_is_err_and c.from_residual.result c.from_residual.ensures.1 in
     let roles = c.args.roles.now in
-    let points = c.args.points.now in
+    let points = c.args.points.now.messages in
     rw (p.1, p.2) (halts_behind (ℕ × List Line) ℕ c.in_err-role.field-0.0 (λ k. script roles c.args.given.now points k) (λ k. AWord (role_fault roles c.args.given.now) (λ n. k (place_in roles n)))
     (λ k r. This (Is Open) (Lines (begun points r) (λ ls. k (r, ls)))) _ _ _ (λ k. refl) c.in_err-role.ensures.goes)
 
 pub returns-in_err-expect-clause-goes : goal.returns-in_err-expect-clause-goes
 returns-in_err-expect-clause-goes c =
     let p = err_from_is_err_and c.from_residual-in_err-expect.result c.from_residual-in_err-expect.ensures.1 in
-    let points = c.args.points.now in
+    let points = c.args.points.now.messages in
     let r = c.in_ok-role.role in
     rw (p.1, p.2) (stops_behind (ℕ × List Line) c.in_err-expect.field-0.0 (λ k. script c.args.roles.now c.args.given.now points k) (λ k. This (Is Open) k)
     (λ k. Lines (begun points r) (λ ls. k (r, ls))) _ _ _ (λ k. c.in_ok-role.ensures.goes (λ x. This (Is Open) (Lines (begun points x) (λ ls. k (x, ls))))) c.in_err-expect.ensures.goes)
@@ -26,7 +26,7 @@ returns-in_err-expect-clause-goes c =
 pub returns-in_err-lines-clause-goes : goal.returns-in_err-lines-clause-goes
 returns-in_err-lines-clause-goes c =
     let p = err_from_is_err_and c.from_residual-in_err-lines.result c.from_residual-in_err-lines.ensures.1 in
-    let points = c.args.points.now in
+    let points = c.args.points.now.messages in
     let r = c.in_ok-role.role in
     rw (p.1, p.2) (halts_behind (ℕ × List Line) (List Line) c.in_err-lines.field-0.0 (λ k. script c.args.roles.now c.args.given.now points k) (λ k. Lines (begun points r) k)
     (λ k ls. k (r, ls)) _ _ _ (λ k. c.in_ok-role.ensures.goes (λ x. This (Is Open) (Lines (begun points x) (λ ls. k (x, ls))))
@@ -34,7 +34,7 @@ returns-in_err-lines-clause-goes c =
 
 pub returns-clause-goes : goal.returns-clause-goes
 returns-clause-goes c =
-    let points = c.args.points.now in
+    let points = c.args.points.now.messages in
     let r = c.in_ok-role.role in
     λ k. c.in_ok-role.ensures.goes (λ x. This (Is Open) (Lines (begun points x) (λ ls. k (x, ls))))
     ∙ c.in_ok-expect.ensures.goes (Lines (begun points r) (λ ls. k (r, ls)))

@@ -1,0 +1,11 @@
+// Stacks of a role's states: the state after each count of its events, for going back.
+#![tactic(auto)]
+
+mod rows;
+pub mod stack;
+pub mod state;
+#[cfg(test)]
+mod tests;
+
+/// Want of memory, which is the one error of the calls of this crate.
+pub use std::alloc::AllocError as Memory;

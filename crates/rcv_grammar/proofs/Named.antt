@@ -1,0 +1,72 @@
+-- Roles and messages of a protocol that was read have words for names, and roles differ.
+use Rattle.std.proofs.Common.{◌≡◌, ℕ, List, [], ◌∷◌, ◌++◌, subst, sym}
+use Rattle.std.specs.List.{All}
+use Rattle.std.proofs.lemmas.List.Elements.{All-append, All-cons, All-nil}
+use Rattle.rcv_tree.specs.Words.{IsWord}
+use Rattle.rcv_tree.specs.declared.protocol.Protocol.{Protocol}
+use Rattle.rcv_model.specs.Text.{Body, End, Single, Choose, Loop, Again, Parallel, Call, Bodies, NoMore, Or, body_of}
+use Rattle.rcv_model.specs.Places.{SingleMessage, singles, singles_of}
+use Rattle.rcv_model.specs.Names.{AreDifferent}
+use Rattle.rcv_reader.specs.declared.sign.Sign.TheVariants.{Close}
+use Rattle.rcv_reader.specs.Symbols.{Symbol, Is, symbols_of}
+use Rattle.rcv_reader.specs.Grammar.{stmts}
+use Rattle.rcv_reader.specs.Machine.{Taken, reading}
+use Rattle.rcv_reader.specs.Refusals.{IsRead}
+use Rattle.rcv_grammar.specs.Printable.{AreNames, IsPrintableBody, ArePrintableBlocks, SomeBlocks, TwoBlocks}
+use Rattle.rcv_grammar.specs.Laws.{ReadTextsHaveNames}
+use Rattle.rcv_grammar.proofs.Headings.{roles_differ}
+use Rattle.rcv_grammar.proofs.Printables.{are_names, read_is_printable}
+
+names_are_words : (names : List (List ℕ)) → AreNames names → All IsWord names
+names_are_words [] h = All-nil IsWord
+names_are_words (n ∷ names) h = All-cons IsWord n names h.0.0 (names_are_words names h.1)
+
+abbrev Messages : Type 0
+Messages = List (ℕ × SingleMessage)
+
+abbrev HaveLabels : Messages → Type 0
+HaveLabels messages = All (λ (m : ℕ × SingleMessage). IsWord m.1.label) messages
+
+both_labels : (xs ys : Messages) → HaveLabels xs → HaveLabels ys → HaveLabels (xs ++ ys)
+both_labels xs ys a b = All-append (λ (m : ℕ × SingleMessage). IsWord m.1.label) xs ys a b
+
+no_labels : HaveLabels []
+no_labels = All-nil (λ (m : ℕ × SingleMessage). IsWord m.1.label)
+
+mutual
+  labels : (roles : List (List ℕ)) (b : Body) → IsPrintableBody roles b → HaveLabels (singles b)
+  labels roles End h = no_labels
+  labels roles (Single label sorts s r p rest) h =
+      All-cons (λ (m : ℕ × SingleMessage). IsWord m.1.label) _ (singles rest) h.0.0 (labels roles rest h.4)
+  labels roles (Choose s bs rest) h = both_labels (singles_of bs) (singles rest) (some_labels roles bs h.1) (labels roles rest h.2)
+  labels roles (Loop name body rest) h = both_labels (singles body) (singles rest) (labels roles body h.1) (labels roles rest h.2)
+  labels roles (Again name rest) h = labels roles rest h.1
+  labels roles (Parallel bs rest) h = both_labels (singles_of bs) (singles rest) (two_labels roles bs h.0) (labels roles rest h.1)
+  labels roles (Call name places rest) h = labels roles rest h.2
+
+  labels_of : (roles : List (List ℕ)) (bs : Bodies) → ArePrintableBlocks roles bs → HaveLabels (singles_of bs)
+  labels_of roles NoMore h = no_labels
+  labels_of roles (Or b bs) h = both_labels (singles b) (singles_of bs) (labels roles b h.0) (labels_of roles bs h.1)
+
+  some_labels : (roles : List (List ℕ)) (bs : Bodies) → SomeBlocks roles bs → HaveLabels (singles_of bs)
+  some_labels roles NoMore h = absurd h
+  some_labels roles (Or b bs) h = both_labels (singles b) (singles_of bs) (labels roles b h.0) (labels_of roles bs h.1)
+
+  two_labels : (roles : List (List ℕ)) (bs : Bodies) → TwoBlocks roles bs → HaveLabels (singles_of bs)
+  two_labels roles NoMore h = absurd h
+  two_labels roles (Or b bs) h = both_labels (singles b) (singles_of bs) (labels roles b h.0) (some_labels roles bs h.1)
+
+differ : (symbols : List Symbol) (p : Protocol) → IsRead symbols p → AreDifferent p.roles
+differ symbols p (state, taken, r) =
+    let s = r.source in
+    subst AreDifferent (sym r.role_names)
+    (roles_differ s (stmts s.body (Is Close ∷ [])) state (subst (λ (x : List Symbol). reading x ≡ Taken state) r.spelled.2 taken))
+
+pub read_texts_have_names : ReadTextsHaveNames
+read_texts_have_names bundle part tokens p are read =
+    let printable = read_is_printable bundle part tokens p are read in
+    record {
+      role_words = names_are_words p.roles (are_names p.roles printable.role_names);
+      differ = differ (symbols_of bundle tokens) p read;
+      label_words = labels p.roles (body_of p.body) printable.body;
+    }

@@ -1,0 +1,5 @@
+use Rattle.rcv_grammar.proofs.Named.{read_texts_have_names}
+use Rattle.rcv_grammar.proofs.read_texts_have_names.Goals as goal
+
+pub returns : goal.returns
+returns c = read_texts_have_names

@@ -1,0 +1,78 @@
+-- An input is taken, or it has its first refusal.
+use Rattle.std.proofs.Common.{◌≡◌, ℕ, zero, suc, ◌+◌, ◌^◌, ◌<◌, Option, Some, None, List, [], ◌∷◌, length, refl, arith, ◌⊎◌, inl, inr, ⊎_elim}
+use Rattle.std.specs.Prelude.{not, position, slice_get}
+use Rattle.rcv_tree.specs.declared.protocol.Protocol.{Protocol}
+use Rattle.rcv_model.specs.Text.{body_of}
+use Rattle.rcv_session.specs.Session.{SessionView}
+use Rattle.rcv_model.specs.Form.{HasForm}
+use Rattle.rcv_model.specs.Accept.{IsRefusal}
+use Rattle.rcv_model.proofs.LeastRefusal.{accepted_or_refused}
+use Rattle.rcv_lexer.specs.declared.token.Token.{Token}
+use Rattle.rcv_lexer.specs.Pieces.{is_blank}
+use Rattle.rcv_lexer.specs.Parts.{parts_of}
+use Rattle.rcv_lexer.specs.Tokens.{line_at, text_of_part}
+use Rattle.rcv_reader.specs.Symbols as protocols
+use Rattle.rcv_script.specs.Scripts.{messages_of}
+use Rattle.rcv_script.specs.Symbols as scripts
+use Rattle.rcv_script.specs.Machine as scripting
+use Rattle.rcv_script.specs.Refusals as script
+use Rattle.rcv_grammar.specs.Laws.{IsReadPart, HasRefusal}
+use Rattle.rcv_grammar.proofs.Answered.{parts_have_one_answer}
+use Rattle.rcv_grammar.proofs.Filling.{read_texts_are_full}
+use Rattle.rcv_grammar.proofs.Named.{read_texts_have_names}
+use Rattle.rcv_lexer.proofs.Once.{one_reading}
+use Rattle.rcv_input.specs.declared.refused.Refused.TheVariants.{Line, Rule}
+use Rattle.rcv_input.specs.Input.{AreScriptTokens, IsProtocolOf, IsAcceptedOf, AreScriptsOf}
+use Rattle.rcv_input.specs.Refusals.{letter, unread, ruled_out, script_letter, unscripted, planned}
+use Rattle.rcv_input.specs.Laws.{HasAnswer}
+use Rattle.rcv_input.proofs.Declared.{refused_role_declared}
+use Rattle.rcv_input.proofs.Formed.{read_has_form}
+
+-- ---- the plan, the scripts, the protocol
+
+by_plan : (input : List ℕ) (s : SessionView) → IsAcceptedOf input s.protocol → AreScriptsOf input s.protocol s.scripts → HasAnswer input
+by_plan input s accepted are = go (position (λ b. not (is_blank b)) (text_of_part input (parts_of input).plan)) refl
+  where
+    go : (found : Option ℕ) → position (λ b. not (is_blank b)) (text_of_part input (parts_of input).plan) ≡ found → HasAnswer input
+    go None is = inl (s, record { protocol = accepted; are_scripts = are; no_plan = is })
+    go (Some n) is = inr (Line 19 (line_at input ((parts_of input).plan.start + n)), planned s.protocol s.scripts (line_at input ((parts_of input).plan.start + n)) accepted are (n, is, refl))
+
+by_script_tokens : (input : List ℕ) (p : Protocol) (tokens : List Token) → IsAcceptedOf input p → AreScriptTokens input tokens → HasAnswer input
+by_script_tokens input p tokens accepted cut = go (scripting.reading p.roles (messages_of p) (scripts.symbols_of input tokens)) refl
+  where
+    go : (answer : scripting.Answer) → scripting.reading p.roles (messages_of p) (scripts.symbols_of input tokens) ≡ answer → HasAnswer input
+    go (scripting.Taken lines) is = by_plan input (record { protocol = p; scripts = lines }) accepted (record { tokens = tokens; cut = cut; read = is })
+    go (scripting.Refuses fault left) is =
+        let line = script.line_before tokens (line_at input (parts_of input).scripts.end) (length left) in
+        inr (Line (scripting.code_of fault) line, unscripted p tokens (scripting.code_of fault) line accepted cut (fault, left, is, refl))
+
+by_scripts : (input : List ℕ) (p : Protocol) → IsAcceptedOf input p → HasAnswer input
+by_scripts input p accepted =
+    ⊎_elim (λ cut. by_script_tokens input p cut.0 accepted cut.1) (λ bad. inr (Line 10 bad.0, script_letter p bad.0 accepted bad.1)) (one_reading.some input (parts_of input).scripts)
+
+get_some : (names : List (List ℕ)) (r : ℕ) → r < length names → (name : List ℕ) × (slice_get names r ≡ Some name)
+get_some [] r below = absurd (omega (arith, below))
+get_some (name ∷ names) zero below = (name, refl)
+get_some (name ∷ names) (suc r) below = get_some names r (omega (arith, below))
+
+by_acceptance : (input : List ℕ) (p : Protocol) → IsProtocolOf input p → HasAnswer input
+by_acceptance input p text = ⊎_elim
+    (λ fine. by_scripts input p (record { text = text; accepted = record { form = form; full = read_texts_are_full (protocols.symbols_of input text.tokens) p text.read; accepted = fine.0; subjects = fine.1; names = read_texts_have_names input (parts_of input).protocol text.tokens p text.cut text.read } }))
+    (λ bad. by_rule bad.0 bad.1 bad.2 bad.3)
+    (accepted_or_refused (body_of p.body) (length p.roles) form)
+  where
+    form : HasForm (body_of p.body) (length p.roles)
+    form = read_has_form (protocols.symbols_of input text.tokens) p text.read
+
+    by_rule : (code role number : ℕ) → IsRefusal (body_of p.body) (length p.roles) code role number → HasAnswer input
+    by_rule code role number refusal =
+        let named = get_some p.roles role (refused_role_declared (body_of p.body) (length p.roles) code role number form refusal) in
+        inr (Rule code named.0 number, ruled_out p code role number named.0 text refusal named.1)
+
+by_part : (input : List ℕ) → IsReadPart input (parts_of input).protocol ⊎ HasRefusal input (parts_of input).protocol (line_at input (parts_of input).protocol.end) → HasAnswer input
+by_part input (inl h) = by_acceptance input h.1 (record { tokens = h.0; cut = h.2; read = h.3 })
+by_part input (inr (code, line, inl bad)) = inr (Line 10 line, letter line bad.1)
+by_part input (inr (code, line, inr bad)) = inr (Line code line, unread bad.0 code line bad.1 bad.2)
+
+pub answered : (input : List ℕ) → length input < 2 ^ 63 → HasAnswer input
+answered input short = by_part input (parts_have_one_answer.some input (parts_of input).protocol (line_at input (parts_of input).protocol.end) short)

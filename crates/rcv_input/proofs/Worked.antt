@@ -1,0 +1,213 @@
+-- An input of one message that is taken as a session: what the laws ask of inputs is met.
+use denote.RawPtr.{null_ptr}
+use Rattle.std.specs.Global.{Vec}
+use Rattle.std.proofs.Common.{◌≡◌, ℕ, map, Some, None, codes, List, [], ◌∷◌, length, refl, sym, ◌∙◌, ap, subst, arith}
+use Rattle.rcv_tree.specs.declared.statement.Stmt.{Stmt}
+use Rattle.rcv_tree.specs.declared.statement.Stmt.TheVariants as stmt
+use Rattle.rcv_tree.specs.declared.statement.Stmt.TheOpen.{Block-F}
+use Rattle.rcv_tree.specs.declared.statement.Stmt.TheViews.{roll-Block, out-roll-Block}
+use Rattle.rcv_tree.specs.declared.statement.Block.{Block}
+use Rattle.rcv_tree.specs.declared.statement.Blocks.{Blocks}
+use Rattle.rcv_tree.specs.declared.protocol.Decl.{Decl}
+use Rattle.rcv_tree.specs.declared.protocol.Protocol.{Protocol}
+use Rattle.rcv_model.specs.Text.{Body, End, Single, stmt_body, body_of, joined}
+use Rattle.rcv_model.proofs.Text.{body_of_lem, stmt_body-Message}
+use Rattle.rcv_model.specs.Plain.{IsPlain}
+use Rattle.rcv_model.specs.Places.{net_of}
+use Rattle.rcv_model.specs.Next.{IsAccepted}
+use Rattle.rcv_model.specs.Accept.{HasSubjects}
+use Rattle.rcv_model.specs.Form.{HasForm}
+use Rattle.rcv_model.proofs.PlainNets.{plain_accepted}
+use Rattle.rcv_session.specs.Session.{SessionView}
+use Rattle.rcv_lexer.specs.declared.piece.Piece.{Piece}
+use Rattle.rcv_lexer.specs.declared.token.Kind.TheVariants.{Word, Mark}
+use Rattle.rcv_lexer.specs.declared.token.Token.{Token}
+use Rattle.rcv_lexer.specs.Parts.{parts_of}
+use Rattle.rcv_lexer.specs.Tokens.{tokens_of}
+use Rattle.rcv_reader.specs.Symbols.{Symbol, symbols_of}
+use Rattle.rcv_reader.specs.Grammar.{NoStmt, AMessage, Source}
+use Rattle.rcv_reader.specs.Descent.{known}
+use Rattle.rcv_reader.specs.Refusals.{IsRead}
+use Rattle.rcv_grammar.proofs.Filling.{read_texts_are_full}
+use Rattle.rcv_grammar.proofs.Named.{read_texts_have_names}
+use Rattle.rcv_script.specs.Machine.{no_lines}
+use Rattle.rcv_input.specs.Input.{AreProtocolTokens, IsTaken}
+use Rattle.rcv_input.proofs.Formed.{read_has_form}
+
+abbrev pub input : List ℕ
+input = codes "module m;global protocol P(role A,role B){p()from A to B;}"
+
+abbrev word : ℕ → Piece
+word n = record { token = Some Word; len = n }
+
+abbrev sign : Piece
+sign = record { token = Some Mark; len = 1 }
+
+abbrev space : Piece
+space = record { token = None; len = 1 }
+
+abbrev pieces : List Piece
+pieces =
+    word 6 ∷ space ∷ word 1 ∷ sign ∷ word 6 ∷ space ∷ word 8 ∷ space ∷ word 1 ∷ sign
+    ∷ word 4 ∷ space ∷ word 1 ∷ sign ∷ word 4 ∷ space ∷ word 1 ∷ sign ∷ sign
+    ∷ word 1 ∷ sign ∷ sign ∷ word 4 ∷ space ∷ word 1 ∷ space ∷ word 2 ∷ space ∷ word 1 ∷ sign ∷ sign ∷ []
+
+abbrev pub tokens : List Token
+tokens = tokens_of input 0 pieces
+
+pub cut : AreProtocolTokens input tokens
+cut = (
+  pieces,
+  (
+    refl,
+    (
+      refl,
+      (
+        refl,
+        (
+          refl,
+          (
+            refl,
+            (
+              refl,
+              (
+                refl,
+                (
+                  refl,
+                  (
+                    refl,
+                    (
+                      refl,
+                      (
+                        refl,
+                        (
+                          refl,
+                          (
+                            refl,
+                            (
+                              refl,
+                              (
+                                refl,
+                                (
+                                  refl,
+                                  (
+                                    refl,
+                                    (
+                                      refl,
+                                      (
+                                        refl,
+                                        (
+                                          refl,
+                                          (refl, (refl, (refl, (refl, (refl, (refl, (refl, (refl, (refl, (refl, (refl, refl))))))))))),
+                                        ),
+                                      ),
+                                    ),
+                                  ),
+                                ),
+                              ),
+                            ),
+                          ),
+                        ),
+                      ),
+                    ),
+                  ),
+                ),
+              ),
+            ),
+          ),
+        ),
+      ),
+    ),
+  ),
+  refl,
+)
+
+abbrev pub symbols : List Symbol
+symbols = symbols_of input tokens
+
+abbrev pub both : List (List ℕ)
+both = codes "A" ∷ codes "B" ∷ []
+
+abbrev source : Source
+source = record {
+  module_name = codes "m";
+  module_more = [];
+  declared = [];
+  name = codes "P";
+  role = codes "A";
+  other_roles = codes "B" ∷ [];
+  body = AMessage (codes "p") [] (codes "A") (codes "B") [] NoStmt;
+}
+
+abbrev pub no_decl : Vec Decl
+no_decl = record { items = []; ptr = null_ptr; len = 0; cap = 0; alloc = record { memory = record { seal = tt } }; ok = (refl, omega arith); small = omega arith }
+
+abbrev pub one_stmt : Vec Stmt
+one_stmt = record {
+  items = stmt.Message (codes "p") [] 0 1 1 ∷ [];
+  ptr = null_ptr;
+  len = 1;
+  cap = 1;
+  alloc = record { memory = record { seal = tt } };
+  ok = (refl, omega arith);
+  small = omega arith;
+}
+
+abbrev pub protocol : Protocol
+protocol = record {
+  «module» = codes "m" ∷ [];
+  decls = record { items = no_decl };
+  name = codes "P";
+  roles = both;
+  body = roll-Block (record { items = one_stmt });
+}
+
+abbrev one : Body
+one = Single (codes "p") [] 0 1 1 End
+
+its_body : body_of protocol.body ≡ one
+its_body =
+    body_of_lem protocol.body
+    ∙ ap (λ (b : Block-F Stmt Block Blocks). joined (map stmt_body b.items.items)) (out-roll-Block (record { items = one_stmt }))
+    ∙ stmt_body-Message (codes "p") [] 0 1 1 End
+
+pub is_read : IsRead symbols protocol
+is_read = (
+  known both 1,
+  refl,
+  record {
+    source = source;
+    spelled = (tt, tt, refl);
+    modules = refl;
+    declared = refl;
+    named = refl;
+    role_names = refl;
+    fit = ((0, refl), ((1, refl), refl, refl, tt), tt);
+    tree = its_body;
+  },
+)
+
+form : HasForm (body_of protocol.body) (length protocol.roles)
+form = read_has_form symbols protocol is_read
+
+fine : IsAccepted (net_of (body_of protocol.body)) (length protocol.roles) × HasSubjects (body_of protocol.body)
+fine = plain_accepted (body_of protocol.body) (length protocol.roles) (subst IsPlain (sym its_body) tt) form
+
+abbrev pub session : SessionView
+session = record { protocol = protocol; scripts = no_lines protocol.roles }
+
+pub taken : IsTaken input session
+taken = record {
+  protocol = record {
+    text = record { tokens = tokens; cut = cut; read = is_read };
+    accepted = record {
+      form = form;
+      full = read_texts_are_full symbols protocol is_read;
+      names = read_texts_have_names input (parts_of input).protocol tokens protocol cut is_read;
+      accepted = fine.0;
+      subjects = fine.1;
+    };
+  };
+  are_scripts = record { tokens = []; cut = ([], refl, refl); read = refl };
+  no_plan = refl;
+}

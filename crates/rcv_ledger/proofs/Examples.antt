@@ -1,0 +1,86 @@
+-- A ledger of two roles: at its start, behind a Send, and cut back; and one that doesn't hold what it should.
+use Prim.Native.Nat.{zero, suc}
+use Rattle.std.proofs.Common.{◌≡◌, ℕ, ℤ, pos, ◌<◌, List, [], ◌∷◌, length, replicate, refl, ap, arith}
+use Rattle.std.specs.Prelude.{◌==◌, if◌then◌else◌, slice_index, slice_index_or}
+use Rattle.rcv_tree.specs.declared.event.Event.{Event}
+use Rattle.rcv_tree.specs.declared.event.Dir.TheVariants.{Sent}
+use Rattle.rcv_model.specs.Net.{Net}
+use Rattle.rcv_model.specs.Run.{IsQueued}
+use Rattle.rcv_model.proofs.Keeping.{queued_nil, queued_more, fits_else}
+use Rattle.rcv_theory.specs.Counts.{kept_counts}
+use Rattle.rcv_checkpoint.specs.declared.state.State.{State}
+use Rattle.rcv_ledger.specs.Channels.{ChannelView, empty}
+use Rattle.rcv_ledger.specs.Ledger.{LedgerView, stack_at, first_stack, with_send, with_event, IsStart, MayCut, Holds}
+use Rattle.rcv_ledger.specs.Laws.{IsMore}
+use Rattle.rcv_ledger.proofs.Holding.{starts_hold_nothing, sends_hold, kept_may_be_cut_to}
+
+-- The first point goes from 0 to 1, each other one back.
+abbrev there_and_back : Net
+there_and_back =
+    record { count = 2; offers = λ k. []; sender = λ p. if p == 1 then 0 else 1; receiver = λ p. if p == 1 then 1 else 0; label = λ p. [] }
+
+abbrev firsts : List (List ℤ)
+firsts = [] ∷ [] ∷ []
+
+abbrev everys : List ℕ
+everys = 1 ∷ 1 ∷ []
+
+abbrev vars : ℕ → List Event → List ℤ
+vars r events = []
+
+abbrev at_start : LedgerView
+at_start =
+    record {
+      logs = [] ∷ [] ∷ [];
+      channels = replicate 64 empty;
+      stacks = first_stack firsts everys 4 0 ∷ first_stack firsts everys 4 1 ∷ [];
+    }
+
+abbrev send : Event
+send = record { role = 0; dir = Sent; point = 1; value = pos 7; stamp = 1; sent = 1 }
+
+abbrev behind : State
+behind = record { k = 1; vars = [] }
+
+starts : IsStart firsts everys 4 at_start
+starts = record { logs = refl; channels = refl; all = refl; stacks = stacks }
+  where
+    stacks : (r : ℕ) → r < 2 → stack_at at_start.stacks r ≡ first_stack firsts everys 4 r
+    stacks zero lt = refl
+    stacks (suc zero) lt = refl
+    stacks (suc (suc r)) lt = absurd (omega (arith, lt))
+
+pub held_at_start : Holds there_and_back 2 vars [] at_start
+held_at_start = starts_hold_nothing there_and_back vars firsts everys 4 at_start (omega arith) (λ r lt. first r) starts
+  where
+    first : (r : ℕ) → [] ≡ slice_index_or firsts r []
+    first zero = refl
+    first (suc zero) = refl
+    first (suc (suc r)) = refl
+
+may_send : IsMore there_and_back 2 vars [] send behind
+may_send = record {
+  declared = omega arith;
+  sound = record { role = refl; first = omega arith; last = omega arith; sender = omega arith; receiver = omega arith };
+  behind = refl;
+}
+
+-- Behind a Send.
+pub held_behind_a_send : Holds there_and_back 2 vars (send ∷ []) (with_send at_start send 1 behind)
+held_behind_a_send = sends_hold there_and_back 2 vars [] send behind at_start held_at_start refl may_send
+
+queued : IsQueued there_and_back (send ∷ [])
+queued = queued_more there_and_back [] send (queued_nil there_and_back) (λ s r. fits_else there_and_back send [] s r (queued_nil there_and_back) refl)
+
+-- Where its role keeps nothing, the ledger can be cut to nothing.
+pub cut_to_nothing : MayCut there_and_back (with_send at_start send 1 behind) (0 ∷ 0 ∷ [])
+cut_to_nothing = kept_may_be_cut_to there_and_back 2 vars (send ∷ []) (λ r. 0) (0 ∷ 0 ∷ []) (with_send at_start send 1 behind) held_behind_a_send queued counts
+  where
+    counts : (r : ℕ) → r < 2 → slice_index (0 ∷ 0 ∷ []) r ≡ kept_counts there_and_back (λ r. 0) (send ∷ []) r
+    counts zero lt = refl
+    counts (suc zero) lt = refl
+    counts (suc (suc r)) lt = absurd (omega (arith, lt))
+
+-- A ledger whose channel lacks the message of its log doesn't hold the Send.
+pub lost_message : Holds there_and_back 2 vars (send ∷ []) (record { logs = with_event at_start.logs send; channels = at_start.channels; stacks = (with_send at_start send 1 behind).stacks }) → ⊥
+lost_message holds = let e = ap (λ (c : ChannelView). length c.put) (holds.carry.each 0 1 (omega arith) (omega arith)) in absurd (omega (arith, e))

@@ -1,0 +1,9 @@
+pub mod Lists
+pub mod RoleLogs
+pub mod Following
+pub mod Dropping
+pub mod Starting
+pub mod Shortening
+pub mod Cutting
+pub mod Holding
+pub mod Examples

@@ -1,0 +1,11 @@
+mod Rows
+mod Due
+mod Groups
+mod Found
+mod Fresh
+mod Telling
+mod Hosting
+mod Items
+mod Exactly
+mod Once
+mod Cases

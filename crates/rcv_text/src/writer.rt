@@ -1,0 +1,71 @@
+// A text that grows word by word.
+
+ghost use Rattle.std.specs.Prelude.{◌≡◌, [], ◌++◌, OnOk, decimal};
+ghost use Rattle.std.specs.Fmt.{signed_decimal};
+
+use itoa::Buffer;
+use std::alloc::{AllocError, Global};
+use std::marker::Model;
+
+/// The text so far, as contracts see it.
+#[derive(Drop)]
+pub struct Writer {
+    text: Vec<u8>,
+}
+
+impl Model for Writer {
+    ghost use Rattle.std.specs.Prelude.{List, ℕ};
+
+    ghost Value = { List ℕ };
+
+    ghost view = { λ a. a.text.items };
+}
+
+impl Writer {
+    /// The empty text. It takes no memory.
+    pub fn new(alloc: Global) -> Writer
+        ensures { result ≡ [] }
+    {
+        Writer {
+            text: Vec::new(alloc),
+        }
+    }
+
+    /// The text goes on with these bytes. Fails where memory runs out.
+    pub fn word(&mut self, word: &[u8]) -> Result<(), AllocError>
+        ensures { OnOk result (self.new ≡ self.old ++ word.now) }
+    {
+        self.text.extend_from_slice(word)
+    }
+
+    /// The text goes on with a number in decimal. Fails where memory runs out.
+    pub fn number(&mut self, number: u16) -> Result<(), AllocError>
+        ensures { OnOk result (self.new ≡ self.old ++ decimal number) }
+    {
+        let mut digits = Buffer::new();
+        self.word(digits.format(number).as_bytes())
+    }
+
+    /// The text goes on with a large number in decimal. Fails where memory runs out.
+    pub fn large_number(&mut self, number: u64) -> Result<(), AllocError>
+        ensures { OnOk result (self.new ≡ self.old ++ decimal number) }
+    {
+        let mut digits = Buffer::new();
+        self.word(digits.format(number).as_bytes())
+    }
+
+    /// The text goes on with a number in decimal, with a minus in front where it is below 0. Fails where memory runs out.
+    pub fn signed_number(&mut self, number: i64) -> Result<(), AllocError>
+        ensures { OnOk result (self.new ≡ self.old ++ signed_decimal number) }
+    {
+        let mut digits = Buffer::new();
+        self.word(digits.format(number).as_bytes())
+    }
+
+    /// The whole text. It takes no memory.
+    pub fn finish(self) -> Vec<u8>
+        ensures { result.items ≡ self }
+    {
+        self.text
+    }
+}

@@ -1,0 +1,99 @@
+-- Each law has something to speak of: applied to the input that rcv_input's worked case takes.
+use Rattle.std.proofs.Common.{◌≡◌, ℕ, codes, ◌<◌, List, [], ◌∷◌, length, refl, ap, arith}
+use Rattle.std.specs.Prelude.{◌↔◌}
+use Rattle.rcv_session.specs.Session.{rules_of}
+use Rattle.rcv_accept.specs.Accepted.{IsAcceptedProtocol, net_for}
+use Rattle.rcv_lexer.specs.Parts.{parts_of}
+use Rattle.rcv_reader.specs.Grammar.{spelling}
+use Rattle.rcv_reader.specs.Refusals.{IsRead}
+use Rattle.rcv_grammar.specs.Canonical.{source_of}
+use Rattle.rcv_grammar.specs.Laws.{SayTheSame}
+use Rattle.rcv_grammar.specs.Printable.{IsPrintable}
+use Rattle.rcv_grammar.proofs.Once.{texts_have_one_tree}
+use Rattle.rcv_grammar.proofs.Canonizing.{canonical_sources_are_read}
+use Rattle.rcv_grammar.proofs.Printables.{read_is_printable}
+use Rattle.rcv_printer.specs.CanonicalText.{canonical}
+use Rattle.rcv_printer.specs.Laws.{IsReadAs}
+use Rattle.rcv_printer.proofs.ReadBack.{reads_back, stays}
+use Rattle.rcv_model.specs.Journal.{reading}
+use Rattle.rcv_model.specs.Final.{AreDone}
+use Rattle.rcv_journal.specs.JournalText.{AreNamed, last_line}
+use Rattle.rcv_journal.proofs.Named.{legal_is_named}
+use Rattle.rcv_journal.proofs.OneText.{one_text, completed_is_written}
+use Rattle.rcv_project.specs.LocalText.{IsTextOf}
+use Rattle.rcv_project.proofs.OneText.{roles_have_one_text}
+use Rattle.rcv_tables.specs.TableText.{table_text}
+use Rattle.rcv_tables.proofs.OneText.{one_table_text}
+use Rattle.rcv_input.proofs.Worked.{input, symbols, tokens, cut, protocol, is_read, session, taken}
+use Rattle.rcv_top.specs.declared.status.Status.{Status}
+use Rattle.rcv_top.specs.declared.status.Status.TheVariants.{Completed}
+use Rattle.rcv_top.specs.Commands.{Check}
+use Rattle.rcv_top.specs.Running.{IsOneThreadRun}
+use Rattle.rcv_top.specs.Recovering.{IsTableText, accepted_as}
+use Rattle.rcv_top.specs.Headline.{IsHeadline}
+use Rattle.rcv_top.specs.Outcome.{IsOutcome, made}
+use Rattle.rcv_top.proofs.Answering.{session_headline}
+use Rattle.rcv_top.proofs.Ending.{sessions_end}
+use Rattle.rcv_top.proofs.Outcomes.{one_outcome}
+use Rattle.rcv_top.proofs.RoleTexts.{text_exists}
+use Rattle.rcv_top.proofs.TableTexts.{table_exists}
+
+lawful : IsAcceptedProtocol protocol
+lawful = taken.protocol.accepted
+
+-- it is read as one tree, as its canonical source is, and can be printed
+one_tree : SayTheSame protocol protocol
+one_tree = texts_have_one_tree symbols protocol protocol is_read is_read
+
+canonical_read : IsRead (spelling (source_of protocol)) protocol
+canonical_read = canonical_sources_are_read symbols protocol is_read
+
+printable : IsPrintable protocol
+printable = read_is_printable input (parts_of input).protocol tokens protocol cut is_read
+
+-- its session comes to an end, and its journal is what the headline says
+ended : (status : Status) × (bytes : List ℕ) × IsOneThreadRun session status bytes
+ended = sessions_end input session taken
+
+headline : IsHeadline (rules_of session) ended.2.journal
+headline = session_headline input session ended.2.journal ended.0 ended.1 taken ended.2.is_journal
+
+-- each role and point of the journal has a name, and its last line tells whether all roles are done
+named : AreNamed session ended.2.journal
+named = legal_is_named session ended.2.journal lawful ended.2.is_journal.legal
+
+last : (last_line session ended.2.is_journal.text.lines ≡ codes "completed\n") ↔ AreDone (rules_of session) (reading (rules_of session) ended.2.journal)
+last = completed_is_written session (reading (rules_of session) ended.2.journal) ended.2.is_journal.text.lines ended.2.is_journal.text.are_lines
+
+-- `check` writes its canonical text, and nothing else; that is read as the same protocol
+checked : IsOutcome (codes "check" ∷ []) input Completed (canonical protocol)
+checked = made Check session (record { words_are = refl; short = omega arith }) taken (refl, refl)
+
+no_other : (s : Status) (b : List ℕ) → IsOutcome (codes "check" ∷ []) input s b → (Completed ≡ s) × (canonical protocol ≡ b)
+no_other s b outcome = one_outcome (codes "check" ∷ []) input Completed s (canonical protocol) b checked outcome
+
+read_back : IsReadAs (canonical protocol) protocol
+read_back = reads_back input (parts_of input).protocol tokens protocol cut is_read
+
+text_stays : canonical protocol ≡ canonical protocol
+text_stays = stays input (parts_of input).protocol tokens protocol protocol cut is_read read_back
+
+-- it has tables
+tabled : (bytes : List ℕ) × IsTableText protocol bytes
+tabled = table_exists protocol lawful
+
+same_table : table_text (net_for (accepted_as protocol)) protocol.roles tabled.1.table ≡ table_text (net_for (accepted_as protocol)) protocol.roles tabled.1.table
+same_table = one_table_text (accepted_as protocol) tabled.1.table tabled.1.table lawful tabled.1.is_table tabled.1.is_table
+
+-- and its first role a text
+declared : 0 < length protocol.roles
+declared = omega arith
+
+acts : (bytes : List ℕ) × IsTextOf (accepted_as protocol) 0 bytes
+acts = text_exists protocol 0 lawful declared
+
+same_acts : acts.0 ≡ acts.0
+same_acts = roles_have_one_text (accepted_as protocol) 0 acts.0 acts.0 lawful acts.1 acts.1
+
+same_journal : ended.1 ≡ ended.1
+same_journal = one_text session ended.2.journal ended.1 ended.1 ended.2.is_journal.text ended.2.is_journal.text
