@@ -74,6 +74,13 @@ impl Stack {
         self.last
     }
 
+    /// The same state, which isn't copied.
+    pub fn top(&self) -> &State
+        ensures { slice_get self.now.states (held self.now) ≡ Some result.now }
+    {
+        &self.last
+    }
+
     /// Goes back to so many of the events that are held, at most all. It takes no memory.
     pub fn rewind(&mut self, count: u32)
         requires { count ≤ held self.old }

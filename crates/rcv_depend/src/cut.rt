@@ -22,6 +22,9 @@ pub type Logs = Vec<Vec<Event>>;
 /// It counts the Sends and Recvs of each point once, and then takes events off the ends of the logs: first what is lost,
 /// and then, for each point of which more is received than sent, the receiver's last events until that is even. So each
 /// undone event is looked at once, and after the counting no kept one.
+///
+/// This is the plain form, of the logs alone. A session's ledger has its counts at hand, and finds the same by rcv_ledger's
+/// `cut`, which looks at no kept event and takes no memory.
 pub fn cut_of(alloc: Global, logs: &Logs, keeps: &Keeps) -> Result<[u32; 8], AllocError>
     requires { AreLogs (lists_in logs.now.items) }
     ensures { IfOk result (λ counts. AreKept (lists_in logs.now.items) (bound_of keeps.now) counts) }

@@ -21,7 +21,7 @@ use Rattle.rcv_reader.specs.declared.sign.Sign.{Sign}
 use Rattle.rcv_reader.specs.declared.sign.Sign.TheVariants.{Global, Role, From, To, And, Open, Close, Left, Right, Semicolon}
 use Rattle.rcv_reader.specs.declared.sign.Sign.TheVariants as sign
 use Rattle.rcv_reader.specs.declared.fault.Fault.TheVariants.{Token as WrongToken}
-use Rattle.rcv_reader.specs.Symbols.{Symbol, Is, Name, symbols_of}
+use Rattle.rcv_reader.specs.Symbols.{Symbol, Is, Word, symbols_of}
 use Rattle.rcv_reader.specs.Grammar.{Written, NoStmt, AMessage, AChoice, ARec, AContinue, APar, ADo, Blocks as Blocks', NoBlock, ABlock, Source, Spells, spelling, stmts, blocks_behind, names_behind, sort_list, dotted, decls, roles_behind}
 use Rattle.rcv_reader.specs.Machine.{State, Answer, Taken, Refuses, outermost, reading}
 use Rattle.rcv_reader.specs.Trees.{role_at, roles_at, points, points_of, singles, tree_of, trees_of}
@@ -150,7 +150,7 @@ mutual
   longer roles n NoStmt next = omega arith
   longer roles n (AMessage label ss s r rs rest) next =
       let behind = Is Semicolon ∷ stmts rest next in
-      let a = sorts_long ss (Is Right ∷ Is From ∷ Name s ∷ Is To ∷ Name r ∷ names_behind rs behind) in
+      let a = sorts_long ss (Is Right ∷ Is From ∷ Word s ∷ Is To ∷ Word r ∷ names_behind rs behind) in
       let b = names_long rs behind in
       let c = longer roles (n + (1 + length rs)) rest next in
       let d = singles_long label ss (role_at roles s) (roles_at roles (r ∷ rs)) n (tree_of roles (n + (1 + length rs)) rest) in
@@ -204,9 +204,9 @@ source_long : (s : Source) → length s.declared + size (tree_of (roles_of s) 0 
 source_long s =
     let body = stmts s.body (Is Close ∷ []) in
     let roles = roles_behind s.other_roles (Is Right ∷ Is Open ∷ body) in
-    let declared = decls s.declared (Is Global ∷ Is sign.Protocol ∷ Name s.name ∷ Is Left ∷ Is Role ∷ Name s.role ∷ roles) in
+    let declared = decls s.declared (Is Global ∷ Is sign.Protocol ∷ Word s.name ∷ Is Left ∷ Is Role ∷ Word s.role ∷ roles) in
     let a = dots_long s.module_more (Is Semicolon ∷ declared) in
-    let b = decls_long s.declared (Is Global ∷ Is sign.Protocol ∷ Name s.name ∷ Is Left ∷ Is Role ∷ Name s.role ∷ roles) in
+    let b = decls_long s.declared (Is Global ∷ Is sign.Protocol ∷ Word s.name ∷ Is Left ∷ Is Role ∷ Word s.role ∷ roles) in
     let c = role_names_long s.other_roles (Is Right ∷ Is Open ∷ body) in
     let d = longer (roles_of s) 0 s.body (Is Close ∷ []) in
     omega (arith, a, b, c, d)

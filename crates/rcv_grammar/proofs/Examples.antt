@@ -5,7 +5,7 @@ use Rattle.rcv_lexer.specs.Parts.{parts_of}
 use Rattle.rcv_lexer.specs.Tokens.{line_at}
 use Rattle.rcv_reader.specs.declared.sign.Sign.TheVariants.{Module, Global, Protocol, Role, From, To, Choice, At, Rec, Continue, Par, And, Do, Open, Close, Left, Right, Comma, Semicolon, Less, Greater}
 use Rattle.rcv_reader.specs.declared.fault.Fault.TheVariants.{AfterContinue}
-use Rattle.rcv_reader.specs.Symbols.{Symbol, Is, Name, Quoted}
+use Rattle.rcv_reader.specs.Symbols.{Symbol, Is, Word, Text, line_before}
 use Rattle.rcv_model.specs.Text as trees
 use Rattle.rcv_tree.specs.declared.protocol.Decl.{Decl}
 use Rattle.rcv_tree.specs.declared.protocol.Protocol as tree
@@ -14,7 +14,6 @@ use Rattle.rcv_reader.specs.Refusals.{IsRead}
 use Rattle.rcv_grammar.proofs.Answered.{source_read}
 use Rattle.rcv_reader.specs.Machine.{Place, RoleName, Receiver, Rest, Wrong, step, Answer, Taken, Refuses, answer, code_of, reading}
 use Rattle.rcv_reader.specs.Descent.{known}
-use Rattle.rcv_reader.specs.Refusals.{line_before}
 use Rattle.rcv_reader.specs.Trees.{tree_of}
 use Rattle.rcv_grammar.specs.Canonical.{written_of}
 
@@ -28,19 +27,19 @@ refusal symbols = shown (reading symbols)
 
 -- names
 abbrev a : Symbol
-a = Name (codes "A")
+a = Word (codes "A")
 
 abbrev b : Symbol
-b = Name (codes "B")
+b = Word (codes "B")
 
 abbrev c : Symbol
-c = Name (codes "C")
+c = Word (codes "C")
 
 abbrev x : Symbol
-x = Name (codes "X")
+x = Word (codes "X")
 
 abbrev y : Symbol
-y = Name (codes "Y")
+y = Word (codes "Y")
 
 abbrev both : List (List ℕ)
 both = codes "A" ∷ codes "B" ∷ []
@@ -101,7 +100,7 @@ twice_received = refl
 
 -- type <X> "" from "" as A;
 abbrev alias_a : List Symbol → List Symbol
-alias_a next = Name (codes "type") ∷ Is Less ∷ x ∷ Is Greater ∷ Quoted [] ∷ Is From ∷ Quoted [] ∷ Name (codes "as") ∷ a ∷ Is Semicolon ∷ next
+alias_a next = Word (codes "type") ∷ Is Less ∷ x ∷ Is Greater ∷ Text [] ∷ Is From ∷ Text [] ∷ Word (codes "as") ∷ a ∷ Is Semicolon ∷ next
 
 twice_declared : refusal (Is Module ∷ x ∷ Is Semicolon ∷ alias_a (alias_a [])) ≡ Some (14, a ∷ Is Semicolon ∷ [])
 twice_declared = refl
@@ -123,7 +122,7 @@ unguarded_branch = refl
 abbrev more_roles : List (List ℕ)
 more_roles = codes "C" ∷ codes "D" ∷ codes "E" ∷ codes "F" ∷ codes "G" ∷ codes "H" ∷ []
 
-ninth_role : shown (answer (known (both ++ more_roles) 0) (RoleName ∷ []) (Name (codes "I") ∷ [])) ≡ Some (18, Name (codes "I") ∷ [])
+ninth_role : shown (answer (known (both ++ more_roles) 0) (RoleName ∷ []) (Word (codes "I") ∷ [])) ≡ Some (18, Word (codes "I") ∷ [])
 ninth_role = refl
 
 -- behind 255 points there is one more

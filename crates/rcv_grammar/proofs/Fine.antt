@@ -3,20 +3,20 @@ use Rattle.std.proofs.Common.{◌≡◌, ℕ, List, [], ◌∷◌, Option, Some,
 use Rattle.std.specs.List.{All}
 use Rattle.std.proofs.lemmas.List.Elements.{All-head, All-tail}
 use Rattle.rcv_lexer.specs.declared.token.Kind.{Kind}
-use Rattle.rcv_lexer.specs.declared.token.Kind.TheVariants.{Word, Number, Text, Mark}
+use Rattle.rcv_lexer.specs.declared.token.Kind.TheVariants as kinds
 use Rattle.rcv_lexer.specs.declared.token.Span.{Span}
 use Rattle.rcv_lexer.specs.declared.token.Token.{Token}
 use Rattle.rcv_lexer.specs.Tokens.{AreTokens, bytes_of, IsQuotable, IsOfKind}
 use Rattle.rcv_lexer.proofs.TokenBytes.{words_are_words}
 use Rattle.rcv_reader.specs.declared.sign.Sign.{Sign}
-use Rattle.rcv_reader.specs.Symbols.{Symbol, Is, Name, Quoted, Other, reserved, mark, sign_or, symbol_by, symbols_of}
+use Rattle.rcv_reader.specs.Symbols.{Symbol, Is, Word, Text, Number, reserved, sign_or, symbol_by, symbols_of}
 use Rattle.rcv_grammar.specs.Printable.{IsName}
 
 abbrev pub IsFine : Symbol → Type 0
 IsFine (Is sign) = Unit {0}
-IsFine (Name n) = IsName n
-IsFine (Quoted q) = IsQuotable q
-IsFine Other = Unit {0}
+IsFine (Word n) = IsName n
+IsFine (Text q) = IsQuotable q
+IsFine (Number n) = Unit {0}
 
 abbrev pub AreFine : List Symbol → Type 0
 AreFine [] = Unit {0}
@@ -27,10 +27,10 @@ sign_fine None symbol h = h refl
 sign_fine (Some sign) symbol h = tt
 
 symbol_fine : (kind : Kind) (bytes : List ℕ) → IsOfKind kind bytes → IsFine (symbol_by kind bytes)
-symbol_fine Word bytes h = sign_fine (reserved bytes) (Name bytes) (λ e. (h, e))
-symbol_fine Number bytes h = tt
-symbol_fine Text bytes h = h
-symbol_fine Mark bytes h = sign_fine (mark bytes) Other (λ e. tt)
+symbol_fine kinds.Word bytes h = sign_fine (reserved bytes) (Word bytes) (λ e. (h, e))
+symbol_fine kinds.Number bytes h = tt
+symbol_fine kinds.Text bytes h = h
+symbol_fine kinds.Mark bytes h = tt
 
 all_fine : (bundle : List ℕ) (tokens : List Token) → All (λ (t : Token). IsOfKind t.kind (bytes_of bundle t)) tokens
     → AreFine (symbols_of bundle tokens)

@@ -1,49 +1,57 @@
 -- An input is taken, or it has its first refusal.
-use Rattle.std.proofs.Common.{◌≡◌, ℕ, zero, suc, ◌+◌, ◌^◌, ◌<◌, Option, Some, None, List, [], ◌∷◌, length, refl, arith, ◌⊎◌, inl, inr, ⊎_elim}
-use Rattle.std.specs.Prelude.{not, position, slice_get}
+use Rattle.std.proofs.Common.{◌≡◌, ℕ, zero, suc, ◌^◌, ◌<◌, List, [], ◌∷◌, length, refl, arith, ◌⊎◌, inl, inr, ⊎_elim}
+use Rattle.std.specs.Prelude.{Some, slice_get}
 use Rattle.rcv_tree.specs.declared.protocol.Protocol.{Protocol}
 use Rattle.rcv_model.specs.Text.{body_of}
-use Rattle.rcv_session.specs.Session.{SessionView}
+use Rattle.rcv_model.specs.Script as model
 use Rattle.rcv_model.specs.Form.{HasForm}
 use Rattle.rcv_model.specs.Accept.{IsRefusal}
 use Rattle.rcv_model.proofs.LeastRefusal.{accepted_or_refused}
 use Rattle.rcv_lexer.specs.declared.token.Token.{Token}
-use Rattle.rcv_lexer.specs.Pieces.{is_blank}
 use Rattle.rcv_lexer.specs.Parts.{parts_of}
-use Rattle.rcv_lexer.specs.Tokens.{line_at, text_of_part}
+use Rattle.rcv_lexer.specs.Tokens.{line_at}
 use Rattle.rcv_reader.specs.Symbols as protocols
 use Rattle.rcv_script.specs.Scripts.{messages_of}
 use Rattle.rcv_script.specs.Symbols as scripts
 use Rattle.rcv_script.specs.Machine as scripting
-use Rattle.rcv_script.specs.Refusals as script
+use Rattle.rcv_plan.specs.Symbols as plans
+use Rattle.rcv_plan.specs.Refusing as planning
+use Rattle.rcv_plan.specs.Laws.{IsAnswered}
+use Rattle.rcv_plan.proofs.Once.{plans_have_one_answer}
 use Rattle.rcv_grammar.specs.Laws.{IsReadPart, HasRefusal}
 use Rattle.rcv_grammar.proofs.Answered.{parts_have_one_answer}
 use Rattle.rcv_grammar.proofs.Filling.{read_texts_are_full}
 use Rattle.rcv_grammar.proofs.Named.{read_texts_have_names}
 use Rattle.rcv_lexer.proofs.Once.{one_reading}
 use Rattle.rcv_input.specs.declared.refused.Refused.TheVariants.{Line, Rule}
-use Rattle.rcv_input.specs.Input.{AreScriptTokens, IsProtocolOf, IsAcceptedOf, AreScriptsOf}
-use Rattle.rcv_input.specs.Refusals.{letter, unread, ruled_out, script_letter, unscripted, planned}
+use Rattle.rcv_input.specs.Input.{AreScriptTokens, ArePlanTokens, IsProtocolOf, IsAcceptedOf, AreScriptsOf}
+use Rattle.rcv_input.specs.Refusals.{letter, unread, ruled_out, script_letter, unscripted, plan_letter, unplanned}
 use Rattle.rcv_input.specs.Laws.{HasAnswer}
 use Rattle.rcv_input.proofs.Declared.{refused_role_declared}
 use Rattle.rcv_input.proofs.Formed.{read_has_form}
 
 -- ---- the plan, the scripts, the protocol
 
-by_plan : (input : List ℕ) (s : SessionView) → IsAcceptedOf input s.protocol → AreScriptsOf input s.protocol s.scripts → HasAnswer input
-by_plan input s accepted are = go (position (λ b. not (is_blank b)) (text_of_part input (parts_of input).plan)) refl
+by_plan_tokens : (input : List ℕ) (p : Protocol) (lines : List (List model.Line)) (tokens : List Token) → IsAcceptedOf input p → AreScriptsOf input p lines → ArePlanTokens input tokens → HasAnswer input
+by_plan_tokens input p lines tokens accepted are cut = go (plans_have_one_answer.answered p.roles (plans.symbols_of input tokens))
   where
-    go : (found : Option ℕ) → position (λ b. not (is_blank b)) (text_of_part input (parts_of input).plan) ≡ found → HasAnswer input
-    go None is = inl (s, record { protocol = accepted; are_scripts = are; no_plan = is })
-    go (Some n) is = inr (Line 19 (line_at input ((parts_of input).plan.start + n)), planned s.protocol s.scripts (line_at input ((parts_of input).plan.start + n)) accepted are (n, is, refl))
+    go : IsAnswered p.roles (plans.symbols_of input tokens) → HasAnswer input
+    go (inl h) = inl (record { protocol = p; scripts = lines; plan = h.0 }, record { protocol = accepted; are_scripts = are; plan = record { tokens = tokens; cut = cut; read = h.1 } })
+    go (inr h) =
+        let line = plans.line_before tokens (line_at input (parts_of input).plan.end) (length h.1) in
+        inr (Line (planning.code_of h.0) line, unplanned p lines tokens (planning.code_of h.0) line accepted are cut (h.0, h.1, h.2, refl))
+
+by_plan : (input : List ℕ) (p : Protocol) (lines : List (List model.Line)) → IsAcceptedOf input p → AreScriptsOf input p lines → HasAnswer input
+by_plan input p lines accepted are =
+    ⊎_elim (λ cut. by_plan_tokens input p lines cut.0 accepted are cut.1) (λ bad. inr (Line 10 bad.0, plan_letter p lines bad.0 accepted are bad.1)) (one_reading.some input (parts_of input).plan)
 
 by_script_tokens : (input : List ℕ) (p : Protocol) (tokens : List Token) → IsAcceptedOf input p → AreScriptTokens input tokens → HasAnswer input
 by_script_tokens input p tokens accepted cut = go (scripting.reading p.roles (messages_of p) (scripts.symbols_of input tokens)) refl
   where
     go : (answer : scripting.Answer) → scripting.reading p.roles (messages_of p) (scripts.symbols_of input tokens) ≡ answer → HasAnswer input
-    go (scripting.Taken lines) is = by_plan input (record { protocol = p; scripts = lines }) accepted (record { tokens = tokens; cut = cut; read = is })
+    go (scripting.Taken lines) is = by_plan input p lines accepted (record { tokens = tokens; cut = cut; read = is })
     go (scripting.Refuses fault left) is =
-        let line = script.line_before tokens (line_at input (parts_of input).scripts.end) (length left) in
+        let line = scripts.line_before tokens (line_at input (parts_of input).scripts.end) (length left) in
         inr (Line (scripting.code_of fault) line, unscripted p tokens (scripting.code_of fault) line accepted cut (fault, left, is, refl))
 
 by_scripts : (input : List ℕ) (p : Protocol) → IsAcceptedOf input p → HasAnswer input

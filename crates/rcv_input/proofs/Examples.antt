@@ -3,10 +3,9 @@ use Rattle.std.proofs.Common.{◌≡◌, [], ◌∷◌, codes, Some, None, refl}
 use Rattle.std.specs.Fmt.{digits}
 use Rattle.rcv_lexer.specs.declared.token.Kind.TheVariants.{Word}
 use Rattle.rcv_lexer.specs.declared.token.Token.{Token}
-use Rattle.rcv_lexer.specs.Parts.{parts_of, span}
+use Rattle.rcv_lexer.specs.Parts.{span}
 use Rattle.rcv_reader.specs.declared.fault.Fault.TheVariants as faults
 use Rattle.rcv_input.specs.declared.refused.Refused.TheVariants.{Line, Rule, NoRole}
-use Rattle.rcv_input.specs.Input.{IsBlankPart, IsFirstOther}
 use Rattle.rcv_input.specs.Refusals.{IsFirstRefusal, letter, unread}
 use Rattle.rcv_input.specs.Line.{refusal_line}
 
@@ -14,7 +13,7 @@ token_line : refusal_line (Line 11 2) ≡ codes "refused 11 Token line 2\n"
 unfolding digits
 token_line = refl
 
-last_code : refusal_line (Line 36 131) ≡ codes "refused 36 TooMany line 131\n"
+last_code : refusal_line (Line 43 131) ≡ codes "refused 43 Range line 131\n"
 unfolding digits
 last_code = refl
 
@@ -35,10 +34,3 @@ word_module = record { kind = Word; span = span 0 6; line = 1 }
 
 cut_off : IsFirstRefusal (codes "module\n") (Line 11 2)
 cut_off = unread (word_module ∷ []) 11 2 (record { token = Some Word; len = 6 } ∷ record { token = None; len = 1 } ∷ [], (refl, (refl, refl)), refl) (faults.Token, [], refl, refl)
-
--- a plan that isn't blank, and one that is
-other_in_plan : IsFirstOther (codes "%% plan\n\n x") (parts_of (codes "%% plan\n\n x")).plan 3
-other_in_plan = (2, refl, refl)
-
-blank_plan : IsBlankPart (codes "%% plan\n\r\n\t") (parts_of (codes "%% plan\n\r\n\t")).plan
-blank_plan = refl

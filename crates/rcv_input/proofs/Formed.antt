@@ -8,7 +8,7 @@ use Rattle.rcv_model.specs.Form.{HasForm}
 use Rattle.rcv_reader.specs.declared.sign.Sign.TheVariants.{Global, Role, Open, Close, Left, Right}
 use Rattle.rcv_reader.specs.declared.sign.Sign.TheVariants as signs
 use Rattle.rcv_reader.specs.declared.fault.Fault.TheVariants.{Twice, TooMany}
-use Rattle.rcv_reader.specs.Symbols.{Symbol, Is, Name}
+use Rattle.rcv_reader.specs.Symbols.{Symbol, Is, Word}
 use Rattle.rcv_reader.specs.Grammar.{Written, NoStmt, AMessage, AChoice, ARec, AContinue, APar, ADo, Blocks, NoBlock, ABlock, Source, roles_behind, decls, stmts, spelling}
 use Rattle.rcv_reader.specs.Machine.{Place, Item, This, AnyName, Decls, RoleName, MoreRoles, Rest, State, On, holds, behind, inside, inside_rec, unless, Taken, answer, begin, outermost, reading}
 use Rattle.rcv_reader.specs.Descent.{known}
@@ -65,8 +65,8 @@ few_more : (before ns : List (List ℕ)) (k : List Item) (next : List Symbol) (s
 few_more before [] k next st few e = subst (λ (l : List (List ℕ)). length l ≤ 8) (sym (append-nil before)) few
 few_more before (n ∷ ns) k next st few e =
     let on = On (known (before ++ n ∷ []) 0) (MoreRoles ∷ k) in
-    let a = through (holds n before) Twice (unless (nat_le 8 (length before)) TooMany on) (Name n) (roles_behind ns (Is Right ∷ next)) st e in
-    let b = through (nat_le 8 (length before)) TooMany on (Name n) (roles_behind ns (Is Right ∷ next)) st a.1 in
+    let a = through (holds n before) Twice (unless (nat_le 8 (length before)) TooMany on) (Word n) (roles_behind ns (Is Right ∷ next)) st e in
+    let b = through (nat_le 8 (length before)) TooMany on (Word n) (roles_behind ns (Is Right ∷ next)) st a.1 in
     let below = less 8 (length before) b.0 in
     subst (λ (l : List (List ℕ)). length l ≤ 8) (append_assoc before (n ∷ []) ns) (few_more (before ++ n ∷ []) ns k next st (omega (arith, below, length-append before (n ∷ []))) b.1)
 
@@ -75,7 +75,7 @@ few_roles s st e =
     let k = Rest outermost ∷ [] in
     let on = This (Is signs.Protocol) ∷ AnyName ∷ This (Is Left) ∷ This (Is Role) ∷ RoleName ∷ This (Is Open) ∷ k in
     let next = stmts s.body (Is Close ∷ []) in
-    let named = Is signs.Protocol ∷ Name s.name ∷ Is Left ∷ Is Role ∷ Name s.role ∷ roles_behind s.other_roles (Is Right ∷ Is Open ∷ next) in
+    let named = Is signs.Protocol ∷ Word s.name ∷ Is Left ∷ Is Role ∷ Word s.role ∷ roles_behind s.other_roles (Is Right ∷ Is Open ∷ next) in
     let a = sym (modules_go begin s.module_more (Decls [] ∷ on) (decls s.declared (Is Global ∷ named))) ∙ e in
     let b = decls_follow begin [] s.declared on named st a in
     few_more (s.role ∷ []) s.other_roles (This (Is Open) ∷ k) (Is Open ∷ next) st (omega arith) b.0

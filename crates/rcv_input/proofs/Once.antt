@@ -1,13 +1,15 @@
 -- An input has one answer.
-use Rattle.std.proofs.Common.{◌≡◌, ℕ, zero, suc, ◌∷◌, refl, ◌+◌, List, [], length, map, sym, ap, subst, ◌∙◌}
+use Rattle.std.proofs.Common.{◌≡◌, ℕ, zero, suc, ◌∷◌, refl, List, [], length, map, ap, subst, ◌∙◌}
 use Rattle.std.specs.Prelude.{Some, slice_get}
 use Rattle.std.specs.List.{All}
 use Rattle.std.proofs.lemmas.List.Elements.{All-head, All-tail}
 use Rattle.rcv_tree.specs.Words.{IsWord}
 use Rattle.rcv_grammar.proofs.Named.{read_texts_have_names}
 use Rattle.rcv_tree.specs.declared.protocol.Protocol.{Protocol}
+use Rattle.rcv_tree.specs.declared.refusal.Refusal.TheVariants as refusals
 use Rattle.rcv_model.specs.Text.{Body, body_of}
 use Rattle.rcv_model.specs.Script as model
+use Rattle.rcv_model.specs.Plan.{PlanLine}
 use Rattle.rcv_session.specs.Session.{SessionView}
 use Rattle.rcv_model.specs.Places.{singles}
 use Rattle.rcv_model.specs.Accept.{IsRefusal}
@@ -15,6 +17,7 @@ use Rattle.rcv_model.proofs.Accepting.{one_refusal}
 use Rattle.rcv_model.proofs.Decided.{faultless}
 use Rattle.rcv_lexer.specs.declared.token.Span.{Span}
 use Rattle.rcv_lexer.specs.declared.token.Token.{Token}
+use Rattle.rcv_lexer.specs.declared.token.TextError.TheVariants as errors
 use Rattle.rcv_lexer.specs.Parts.{parts_of}
 use Rattle.rcv_lexer.specs.Tokens.{AreTokens, IsLetter, line_at}
 use Rattle.rcv_lexer.proofs.Once.{one_reading}
@@ -26,10 +29,13 @@ use Rattle.rcv_grammar.proofs.Once.{texts_have_one_tree}
 use Rattle.rcv_points.specs.Follow.{message_of}
 use Rattle.rcv_script.specs.Symbols as scripts
 use Rattle.rcv_script.specs.Machine as scripting
+use Rattle.rcv_plan.specs.Symbols as plans
+use Rattle.rcv_plan.specs.Refusing as planning
+use Rattle.rcv_plan.proofs.Once.{plans_have_one_answer}
 use Rattle.rcv_input.specs.declared.refused.Refused.{Refused}
 use Rattle.rcv_input.specs.declared.refused.Refused.TheVariants.{Line, Rule}
-use Rattle.rcv_input.specs.Input.{AreProtocolTokens, AreScriptTokens, IsProtocolOf, IsAcceptedOf, AreScriptsOf, IsBlankPart, IsFirstOther, IsTaken}
-use Rattle.rcv_input.specs.Refusals.{IsRefusedText, AreRefusedScripts, IsFirstRefusal, letter, unread, ruled_out, script_letter, unscripted, planned}
+use Rattle.rcv_input.specs.Input.{AreProtocolTokens, AreScriptTokens, ArePlanTokens, IsProtocolOf, IsAcceptedOf, AreScriptsOf, IsPlanOf, IsTaken}
+use Rattle.rcv_input.specs.Refusals.{IsRefusedText, AreRefusedScripts, IsRefusedPlan, IsFirstRefusal, letter, unread, ruled_out, script_letter, unscripted, plan_letter, unplanned}
 use Rattle.rcv_input.proofs.Answered.{answered}
 use Rattle.rcv_input.specs.Laws.{AreSame, InputsHaveOneAnswer}
 
@@ -142,69 +148,112 @@ same_unscripted input p q ts us code line other_code other_line say cut other x 
 
 -- ---- the plan
 
-is_blank_there : (input : List ℕ) (part : Span) (line : ℕ) → IsBlankPart input part → IsFirstOther input part line → ⊥
-is_blank_there input part line none found = let other = found.1 in cc
+-- the plan is refused with this code and line, for these roles
+abbrev RefusedPlan : List ℕ → ℕ → ℕ → List (List ℕ) → List Token → Type 0
+RefusedPlan input code line roles ts = planning.IsRefused input ts (line_at input (parts_of input).plan.end) roles (errors.Refused (refusals.Text code line))
 
-same_other : (input : List ℕ) (part : Span) (m n : ℕ) → IsFirstOther input part m → IsFirstOther input part n → Line 19 m ≡ Line 19 n
-same_other input part m n a b =
-    let a1 = a.1 in
-    let b1 = b.1 in
-    let place : a.0 ≡ b.0 = cc in
-    ap (λ (l : ℕ). Line 19 l) (a.2 ∙ ap (λ (i : ℕ). line_at input (part.start + i)) place ∙ sym b.2)
+-- what a reader says of the plan of one reading holds of the other's
+same_plan_part : (input : List ℕ) (p q : Protocol) (ts us : List Token) (P : List (List ℕ) → List Token → Type 0) → SayTheSame p q → ArePlanTokens input ts → ArePlanTokens input us → P p.roles ts → P q.roles us
+same_plan_part input p q ts us P say cut other h = subst (P q.roles) (one_reading.tokens input (parts_of input).plan ts us cut other) (subst (λ (rs : List (List ℕ)). P rs ts) say.role_names h)
+
+is_plan : (input : List ℕ) (p q : Protocol) (lines : List PlanLine) (us : List Token) (code line : ℕ) → SayTheSame p q → IsPlanOf input p lines → ArePlanTokens input us
+    → IsRefusedPlan input q us code line → ⊥
+is_plan input p q lines us code line say s cut h =
+    plans_have_one_answer.either q.roles (plans.symbols_of input us) lines h.0 h.1
+    (same_plan_part input p q s.tokens us (λ rs ts. planning.IsRead rs (plans.symbols_of input ts) lines) say s.cut cut s.read) h.2
+
+same_plan : (input : List ℕ) (p q : Protocol) (l m : List PlanLine) → SayTheSame p q → IsPlanOf input p l → IsPlanOf input q m → l ≡ m
+same_plan input p q l m say s t =
+    plans_have_one_answer.lines q.roles (plans.symbols_of input t.tokens) l m
+    (same_plan_part input p q s.tokens t.tokens (λ rs ts. planning.IsRead rs (plans.symbols_of input ts) l) say s.cut t.cut s.read) t.read
+
+same_unplanned : (input : List ℕ) (p q : Protocol) (ts us : List Token) (code line other_code other_line : ℕ) → SayTheSame p q → ArePlanTokens input ts
+    → ArePlanTokens input us → IsRefusedPlan input p ts code line → IsRefusedPlan input q us other_code other_line → Line code line ≡ Line other_code other_line
+same_unplanned input p q ts us code line other_code other_line say cut other x y = go (same_plan_part input p q ts us (RefusedPlan input code line) say cut other x)
+  where
+    go : RefusedPlan input code line q.roles us → Line code line ≡ Line other_code other_line
+    go z =
+        let first = plans_have_one_answer.first q.roles (plans.symbols_of input us) z.0 y.0 z.1 y.1 z.2 y.2 in
+        let faults : z.0 ≡ y.0 = first.0 in
+        let left : z.1 ≡ y.1 = first.1 in
+        let z3 = z.3 in
+        let y3 = y.3 in
+        let codes : code ≡ other_code = cc in
+        let lines : line ≡ other_line = cc in
+        same_line code line other_code other_line codes lines
 
 -- ---- the law
 
 one_first : (input : List ℕ) (r s : Refused) → IsFirstRefusal input r → IsFirstRefusal input s → r ≡ s
 one_first input r s (letter l1 x1) (letter l2 x2) = same_letter input (parts_of input).protocol l1 l2 x1 x2
 one_first input r s (letter l1 x1) (unread ts2 c2 l2 cut2 x2) = absurd (no_letter input (parts_of input).protocol ts2 l1 cut2 x1)
-one_first input r s (letter l1 x1) (ruled_out p2 c2 r2 n2 name2 text2 x2 at2) = absurd (no_letter input (parts_of input).protocol (text2).tokens l1 (text2).cut x1)
-one_first input r s (letter l1 x1) (script_letter p2 l2 acc2 x2) = absurd (no_letter input (parts_of input).protocol (acc2.text).tokens l1 (acc2.text).cut x1)
-one_first input r s (letter l1 x1) (unscripted p2 ts2 c2 l2 acc2 cut2 x2) = absurd (no_letter input (parts_of input).protocol (acc2.text).tokens l1 (acc2.text).cut x1)
-one_first input r s (letter l1 x1) (planned p2 lines2 l2 acc2 are2 x2) = absurd (no_letter input (parts_of input).protocol (acc2.text).tokens l1 (acc2.text).cut x1)
+one_first input r s (letter l1 x1) (ruled_out p2 c2 r2 n2 name2 text2 x2 at2) = absurd (no_letter input (parts_of input).protocol text2.tokens l1 text2.cut x1)
+one_first input r s (letter l1 x1) (script_letter p2 l2 acc2 x2) = absurd (no_letter input (parts_of input).protocol acc2.text.tokens l1 acc2.text.cut x1)
+one_first input r s (letter l1 x1) (unscripted p2 ts2 c2 l2 acc2 cut2 x2) = absurd (no_letter input (parts_of input).protocol acc2.text.tokens l1 acc2.text.cut x1)
+one_first input r s (letter l1 x1) (plan_letter p2 lines2 l2 acc2 are2 x2) = absurd (no_letter input (parts_of input).protocol acc2.text.tokens l1 acc2.text.cut x1)
+one_first input r s (letter l1 x1) (unplanned p2 lines2 ts2 c2 l2 acc2 are2 cut2 x2) = absurd (no_letter input (parts_of input).protocol acc2.text.tokens l1 acc2.text.cut x1)
 one_first input r s (unread ts1 c1 l1 cut1 x1) (letter l2 x2) = absurd (no_letter input (parts_of input).protocol ts1 l2 cut1 x2)
 one_first input r s (unread ts1 c1 l1 cut1 x1) (unread ts2 c2 l2 cut2 x2) = same_unread input ts1 ts2 c1 l1 c2 l2 cut1 cut2 x1 x2
 one_first input r s (unread ts1 c1 l1 cut1 x1) (ruled_out p2 c2 r2 n2 name2 text2 x2 at2) = absurd (is_read input p2 text2 ts1 c1 l1 cut1 x1)
 one_first input r s (unread ts1 c1 l1 cut1 x1) (script_letter p2 l2 acc2 x2) = absurd (is_read input p2 acc2.text ts1 c1 l1 cut1 x1)
 one_first input r s (unread ts1 c1 l1 cut1 x1) (unscripted p2 ts2 c2 l2 acc2 cut2 x2) = absurd (is_read input p2 acc2.text ts1 c1 l1 cut1 x1)
-one_first input r s (unread ts1 c1 l1 cut1 x1) (planned p2 lines2 l2 acc2 are2 x2) = absurd (is_read input p2 acc2.text ts1 c1 l1 cut1 x1)
-one_first input r s (ruled_out p1 c1 r1 n1 name1 text1 x1 at1) (letter l2 x2) = absurd (no_letter input (parts_of input).protocol (text1).tokens l2 (text1).cut x2)
+one_first input r s (unread ts1 c1 l1 cut1 x1) (plan_letter p2 lines2 l2 acc2 are2 x2) = absurd (is_read input p2 acc2.text ts1 c1 l1 cut1 x1)
+one_first input r s (unread ts1 c1 l1 cut1 x1) (unplanned p2 lines2 ts2 c2 l2 acc2 are2 cut2 x2) = absurd (is_read input p2 acc2.text ts1 c1 l1 cut1 x1)
+one_first input r s (ruled_out p1 c1 r1 n1 name1 text1 x1 at1) (letter l2 x2) = absurd (no_letter input (parts_of input).protocol text1.tokens l2 text1.cut x2)
 one_first input r s (ruled_out p1 c1 r1 n1 name1 text1 x1 at1) (unread ts2 c2 l2 cut2 x2) = absurd (is_read input p1 text1 ts2 c2 l2 cut2 x2)
 one_first input r s (ruled_out p1 c1 r1 n1 name1 text1 x1 at1) (ruled_out p2 c2 r2 n2 name2 text2 x2 at2) = same_rule input p1 p2 c1 r1 n1 name1 c2 r2 n2 name2 text1 text2 x1 x2 at1 at2
 one_first input r s (ruled_out p1 c1 r1 n1 name1 text1 x1 at1) (script_letter p2 l2 acc2 x2) = absurd (is_accepted input p2 p1 c1 r1 n1 acc2 text1 x1)
 one_first input r s (ruled_out p1 c1 r1 n1 name1 text1 x1 at1) (unscripted p2 ts2 c2 l2 acc2 cut2 x2) = absurd (is_accepted input p2 p1 c1 r1 n1 acc2 text1 x1)
-one_first input r s (ruled_out p1 c1 r1 n1 name1 text1 x1 at1) (planned p2 lines2 l2 acc2 are2 x2) = absurd (is_accepted input p2 p1 c1 r1 n1 acc2 text1 x1)
-one_first input r s (script_letter p1 l1 acc1 x1) (letter l2 x2) = absurd (no_letter input (parts_of input).protocol (acc1.text).tokens l2 (acc1.text).cut x2)
+one_first input r s (ruled_out p1 c1 r1 n1 name1 text1 x1 at1) (plan_letter p2 lines2 l2 acc2 are2 x2) = absurd (is_accepted input p2 p1 c1 r1 n1 acc2 text1 x1)
+one_first input r s (ruled_out p1 c1 r1 n1 name1 text1 x1 at1) (unplanned p2 lines2 ts2 c2 l2 acc2 are2 cut2 x2) = absurd (is_accepted input p2 p1 c1 r1 n1 acc2 text1 x1)
+one_first input r s (script_letter p1 l1 acc1 x1) (letter l2 x2) = absurd (no_letter input (parts_of input).protocol acc1.text.tokens l2 acc1.text.cut x2)
 one_first input r s (script_letter p1 l1 acc1 x1) (unread ts2 c2 l2 cut2 x2) = absurd (is_read input p1 acc1.text ts2 c2 l2 cut2 x2)
 one_first input r s (script_letter p1 l1 acc1 x1) (ruled_out p2 c2 r2 n2 name2 text2 x2 at2) = absurd (is_accepted input p1 p2 c2 r2 n2 acc1 text2 x2)
 one_first input r s (script_letter p1 l1 acc1 x1) (script_letter p2 l2 acc2 x2) = same_letter input (parts_of input).scripts l1 l2 x1 x2
 one_first input r s (script_letter p1 l1 acc1 x1) (unscripted p2 ts2 c2 l2 acc2 cut2 x2) = absurd (no_letter input (parts_of input).scripts ts2 l1 cut2 x1)
-one_first input r s (script_letter p1 l1 acc1 x1) (planned p2 lines2 l2 acc2 are2 x2) = absurd (no_letter input (parts_of input).scripts are2.tokens l1 are2.cut x1)
-one_first input r s (unscripted p1 ts1 c1 l1 acc1 cut1 x1) (letter l2 x2) = absurd (no_letter input (parts_of input).protocol (acc1.text).tokens l2 (acc1.text).cut x2)
+one_first input r s (script_letter p1 l1 acc1 x1) (plan_letter p2 lines2 l2 acc2 are2 x2) = absurd (no_letter input (parts_of input).scripts are2.tokens l1 are2.cut x1)
+one_first input r s (script_letter p1 l1 acc1 x1) (unplanned p2 lines2 ts2 c2 l2 acc2 are2 cut2 x2) = absurd (no_letter input (parts_of input).scripts are2.tokens l1 are2.cut x1)
+one_first input r s (unscripted p1 ts1 c1 l1 acc1 cut1 x1) (letter l2 x2) = absurd (no_letter input (parts_of input).protocol acc1.text.tokens l2 acc1.text.cut x2)
 one_first input r s (unscripted p1 ts1 c1 l1 acc1 cut1 x1) (unread ts2 c2 l2 cut2 x2) = absurd (is_read input p1 acc1.text ts2 c2 l2 cut2 x2)
 one_first input r s (unscripted p1 ts1 c1 l1 acc1 cut1 x1) (ruled_out p2 c2 r2 n2 name2 text2 x2 at2) = absurd (is_accepted input p1 p2 c2 r2 n2 acc1 text2 x2)
 one_first input r s (unscripted p1 ts1 c1 l1 acc1 cut1 x1) (script_letter p2 l2 acc2 x2) = absurd (no_letter input (parts_of input).scripts ts1 l2 cut1 x2)
 one_first input r s (unscripted p1 ts1 c1 l1 acc1 cut1 x1) (unscripted p2 ts2 c2 l2 acc2 cut2 x2) = same_unscripted input p1 p2 ts1 ts2 c1 l1 c2 l2 (same_text input p1 p2 acc1.text acc2.text) cut1 cut2 x1 x2
-one_first input r s (unscripted p1 ts1 c1 l1 acc1 cut1 x1) (planned p2 lines2 l2 acc2 are2 x2) = absurd (are_scripts input p2 p1 lines2 ts1 c1 l1 (same_text input p2 p1 acc2.text acc1.text) are2 cut1 x1)
-one_first input r s (planned p1 lines1 l1 acc1 are1 x1) (letter l2 x2) = absurd (no_letter input (parts_of input).protocol (acc1.text).tokens l2 (acc1.text).cut x2)
-one_first input r s (planned p1 lines1 l1 acc1 are1 x1) (unread ts2 c2 l2 cut2 x2) = absurd (is_read input p1 acc1.text ts2 c2 l2 cut2 x2)
-one_first input r s (planned p1 lines1 l1 acc1 are1 x1) (ruled_out p2 c2 r2 n2 name2 text2 x2 at2) = absurd (is_accepted input p1 p2 c2 r2 n2 acc1 text2 x2)
-one_first input r s (planned p1 lines1 l1 acc1 are1 x1) (script_letter p2 l2 acc2 x2) = absurd (no_letter input (parts_of input).scripts are1.tokens l2 are1.cut x2)
-one_first input r s (planned p1 lines1 l1 acc1 are1 x1) (unscripted p2 ts2 c2 l2 acc2 cut2 x2) = absurd (are_scripts input p1 p2 lines1 ts2 c2 l2 (same_text input p1 p2 acc1.text acc2.text) are1 cut2 x2)
-one_first input r s (planned p1 lines1 l1 acc1 are1 x1) (planned p2 lines2 l2 acc2 are2 x2) = same_other input (parts_of input).plan l1 l2 x1 x2
+one_first input r s (unscripted p1 ts1 c1 l1 acc1 cut1 x1) (plan_letter p2 lines2 l2 acc2 are2 x2) = absurd (are_scripts input p2 p1 lines2 ts1 c1 l1 (same_text input p2 p1 acc2.text acc1.text) are2 cut1 x1)
+one_first input r s (unscripted p1 ts1 c1 l1 acc1 cut1 x1) (unplanned p2 lines2 ts2 c2 l2 acc2 are2 cut2 x2) = absurd (are_scripts input p2 p1 lines2 ts1 c1 l1 (same_text input p2 p1 acc2.text acc1.text) are2 cut1 x1)
+one_first input r s (plan_letter p1 lines1 l1 acc1 are1 x1) (letter l2 x2) = absurd (no_letter input (parts_of input).protocol acc1.text.tokens l2 acc1.text.cut x2)
+one_first input r s (plan_letter p1 lines1 l1 acc1 are1 x1) (unread ts2 c2 l2 cut2 x2) = absurd (is_read input p1 acc1.text ts2 c2 l2 cut2 x2)
+one_first input r s (plan_letter p1 lines1 l1 acc1 are1 x1) (ruled_out p2 c2 r2 n2 name2 text2 x2 at2) = absurd (is_accepted input p1 p2 c2 r2 n2 acc1 text2 x2)
+one_first input r s (plan_letter p1 lines1 l1 acc1 are1 x1) (script_letter p2 l2 acc2 x2) = absurd (no_letter input (parts_of input).scripts are1.tokens l2 are1.cut x2)
+one_first input r s (plan_letter p1 lines1 l1 acc1 are1 x1) (unscripted p2 ts2 c2 l2 acc2 cut2 x2) = absurd (are_scripts input p1 p2 lines1 ts2 c2 l2 (same_text input p1 p2 acc1.text acc2.text) are1 cut2 x2)
+one_first input r s (plan_letter p1 lines1 l1 acc1 are1 x1) (plan_letter p2 lines2 l2 acc2 are2 x2) = same_letter input (parts_of input).plan l1 l2 x1 x2
+one_first input r s (plan_letter p1 lines1 l1 acc1 are1 x1) (unplanned p2 lines2 ts2 c2 l2 acc2 are2 cut2 x2) = absurd (no_letter input (parts_of input).plan ts2 l1 cut2 x1)
+one_first input r s (unplanned p1 lines1 ts1 c1 l1 acc1 are1 cut1 x1) (letter l2 x2) = absurd (no_letter input (parts_of input).protocol acc1.text.tokens l2 acc1.text.cut x2)
+one_first input r s (unplanned p1 lines1 ts1 c1 l1 acc1 are1 cut1 x1) (unread ts2 c2 l2 cut2 x2) = absurd (is_read input p1 acc1.text ts2 c2 l2 cut2 x2)
+one_first input r s (unplanned p1 lines1 ts1 c1 l1 acc1 are1 cut1 x1) (ruled_out p2 c2 r2 n2 name2 text2 x2 at2) = absurd (is_accepted input p1 p2 c2 r2 n2 acc1 text2 x2)
+one_first input r s (unplanned p1 lines1 ts1 c1 l1 acc1 are1 cut1 x1) (script_letter p2 l2 acc2 x2) = absurd (no_letter input (parts_of input).scripts are1.tokens l2 are1.cut x2)
+one_first input r s (unplanned p1 lines1 ts1 c1 l1 acc1 are1 cut1 x1) (unscripted p2 ts2 c2 l2 acc2 cut2 x2) = absurd (are_scripts input p1 p2 lines1 ts2 c2 l2 (same_text input p1 p2 acc1.text acc2.text) are1 cut2 x2)
+one_first input r s (unplanned p1 lines1 ts1 c1 l1 acc1 are1 cut1 x1) (plan_letter p2 lines2 l2 acc2 are2 x2) = absurd (no_letter input (parts_of input).plan ts1 l2 cut1 x2)
+one_first input r s (unplanned p1 lines1 ts1 c1 l1 acc1 are1 cut1 x1) (unplanned p2 lines2 ts2 c2 l2 acc2 are2 cut2 x2) = same_unplanned input p1 p2 ts1 ts2 c1 l1 c2 l2 (same_text input p1 p2 acc1.text acc2.text) cut1 cut2 x1 x2
 
 not_both : (input : List ℕ) (s : SessionView) (r : Refused) → IsTaken input s → IsFirstRefusal input r → ⊥
-not_both input s r taken (letter l1 x1) = no_letter input (parts_of input).protocol (taken.protocol.text).tokens l1 (taken.protocol.text).cut x1
+not_both input s r taken (letter l1 x1) = no_letter input (parts_of input).protocol taken.protocol.text.tokens l1 taken.protocol.text.cut x1
 not_both input s r taken (unread ts1 c1 l1 cut1 x1) = is_read input s.protocol taken.protocol.text ts1 c1 l1 cut1 x1
 not_both input s r taken (ruled_out p1 c1 r1 n1 name1 text1 x1 at1) = is_accepted input s.protocol p1 c1 r1 n1 taken.protocol text1 x1
 not_both input s r taken (script_letter p1 l1 acc1 x1) = no_letter input (parts_of input).scripts taken.are_scripts.tokens l1 taken.are_scripts.cut x1
 not_both input s r taken (unscripted p1 ts1 c1 l1 acc1 cut1 x1) =
     are_scripts input s.protocol p1 s.scripts ts1 c1 l1 (same_text input s.protocol p1 taken.protocol.text acc1.text) taken.are_scripts cut1 x1
-not_both input s r taken (planned p1 lines1 l1 acc1 are1 x1) = is_blank_there input (parts_of input).plan l1 taken.no_plan x1
+not_both input s r taken (plan_letter p1 lines1 l1 acc1 are1 x1) = no_letter input (parts_of input).plan taken.plan.tokens l1 taken.plan.cut x1
+not_both input s r taken (unplanned p1 lines1 ts1 c1 l1 acc1 are1 cut1 x1) =
+    is_plan input s.protocol p1 s.plan ts1 c1 l1 (same_text input s.protocol p1 taken.protocol.text acc1.text) taken.plan cut1 x1
 
 one_content : (input : List ℕ) (s t : SessionView) → IsTaken input s → IsTaken input t → AreSame s t
 one_content input s t a b =
     let say = same_text input s.protocol t.protocol a.protocol.text b.protocol.text in
-    record { protocols = say; scripts = same_lines input s.protocol t.protocol s.scripts t.scripts say a.are_scripts b.are_scripts }
+    record {
+      protocols = say;
+      scripts = same_lines input s.protocol t.protocol s.scripts t.scripts say a.are_scripts b.are_scripts;
+      plans = same_plan input s.protocol t.protocol s.plan t.plan say a.plan b.plan;
+    }
 
 -- ---- the name of a role
 
@@ -222,7 +271,8 @@ named input r code name number is (ruled_out p c role n other text x at) =
     subst IsWord same (is_word p.roles role other names.role_words at)
 named input r code name number is (script_letter p l acc x) = absurd cc
 named input r code name number is (unscripted p ts c l acc cut x) = absurd cc
-named input r code name number is (planned p lines l acc are x) = absurd cc
+named input r code name number is (plan_letter p lines l acc are x) = absurd cc
+named input r code name number is (unplanned p lines ts c l acc are cut x) = absurd cc
 
 pub one_answer : InputsHaveOneAnswer
 one_answer = record {

@@ -11,21 +11,22 @@ use Rattle.rcv_lexer.specs.declared.token.TextError.TheVariants as errors
 use Rattle.rcv_lexer.specs.Parts.{parts_of}
 use Rattle.rcv_lexer.specs.Tokens as lexer
 use Rattle.rcv_lexer.specs.Tokens.{AreTokens, line_at}
-use Rattle.rcv_model.specs.Script.{Line}
+use Rattle.rcv_model.specs.Plan.{PlanLine}
 use Rattle.rcv_reader.specs.Symbols as protocols
 use Rattle.rcv_reader.specs.Machine as reading
 use Rattle.rcv_reader.specs.Refusals as reader
 use Rattle.rcv_script.specs.Symbols as scripts
 use Rattle.rcv_script.specs.Machine as scripting
-use Rattle.rcv_script.specs.Refusals as script
 use Rattle.rcv_script.specs.Scripts as own
 use Rattle.rcv_script.specs.Scripts.{ScriptsView}
-use Rattle.rcv_input.specs.Input.{IsProtocolOf, IsAcceptedOf, AreScriptsOf, IsFirstOther}
+use Rattle.rcv_plan.specs.Symbols as plans
+use Rattle.rcv_plan.specs.Refusing as planning
+use Rattle.rcv_input.specs.Input.{IsProtocolOf, AreScriptsOf, IsPlanOf}
 use Rattle.rcv_input.specs.declared.refused.Refused.TheVariants as refused
 use Rattle.rcv_input.specs.declared.refused.Refused.TheVariants.{Rule, NoRole}
 use Rattle.rcv_input.specs.declared.refused.InputError.{InputError}
 use Rattle.rcv_input.specs.declared.refused.InputError.TheVariants as causes
-use Rattle.rcv_input.specs.Refusals.{letter, unread, ruled_out, script_letter, unscripted, planned, IsRefused, IsUnread, IsUnscripted, IsRule, IsRuledOut}
+use Rattle.rcv_input.specs.Refusals.{letter, unread, ruled_out, script_letter, unscripted, plan_letter, unplanned, IsRefused, IsUnread, IsUnscripted, IsUnplanned, IsRule, IsRuledOut}
 use Rattle.rcv_tree.specs.declared.refusal.Refusal.{Refusal}
 use Rattle.rcv_model.specs.Form.{HasForm}
 use Rattle.rcv_accept.specs.Accepted.{IsRefusedBy}
@@ -38,10 +39,10 @@ by_letter input (errors.Refused r) h = (10, h.0, h.1, letter h.0 h.2)
 pub by_reader : (input : List ℕ) (tokens : List Token) (e : TextError) (part : Span) (last : ℕ) → part ≡ (parts_of input).protocol → last ≡ line_at input part.end → AreTokens input part tokens
     → reader.IsRefused input tokens last e → IsUnread input e
 by_reader input tokens errors.Memory part last is end cut h = tt
-by_reader input tokens (errors.Refused r) part last is end cut h = (reading.code_of h.0, line, h.3, unread tokens (reading.code_of h.0) line (subst (λ (p : Span). AreTokens input p tokens) is cut) (h.0, h.1, h.2, ap (λ (n : ℕ). refusals.Text (reading.code_of h.0) (reader.line_before tokens n (length h.1))) (end ∙ ap (λ (p : Span). line_at input p.end) is)))
+by_reader input tokens (errors.Refused r) part last is end cut h = (reading.code_of h.0, line, h.3, unread tokens (reading.code_of h.0) line (subst (λ (p : Span). AreTokens input p tokens) is cut) (h.0, h.1, h.2, ap (λ (n : ℕ). refusals.Text (reading.code_of h.0) (protocols.line_before tokens n (length h.1))) (end ∙ ap (λ (p : Span). line_at input p.end) is)))
   where
     line : ℕ
-    line = reader.line_before tokens last (length h.1)
+    line = protocols.line_before tokens last (length h.1)
 
 pub by_script_letter : (input : List ℕ) (p : Protocol) (e : TextError) → lexer.IsRefused input (parts_of input).scripts e → IsUnscripted input p e
 by_script_letter input p errors.Memory h = tt
@@ -50,10 +51,22 @@ by_script_letter input p (errors.Refused r) h = (10, h.0, h.1, λ accepted. scri
 pub by_scripts : (input : List ℕ) (p : Protocol) (tokens : List Token) (e : TextError) (part : Span) (last : ℕ) → part ≡ (parts_of input).scripts → last ≡ line_at input part.end → AreTokens input part tokens
     → own.AreRefusedFor input tokens last p e → IsUnscripted input p e
 by_scripts input p tokens errors.Memory part last is end cut h = tt
-by_scripts input p tokens (errors.Refused r) part last is end cut h = (scripting.code_of h.0, line, h.3, λ accepted. unscripted p tokens (scripting.code_of h.0) line accepted (subst (λ (s : Span). AreTokens input s tokens) is cut) (h.0, h.1, h.2, ap (λ (n : ℕ). refusals.Text (scripting.code_of h.0) (script.line_before tokens n (length h.1))) (end ∙ ap (λ (s : Span). line_at input s.end) is)))
+by_scripts input p tokens (errors.Refused r) part last is end cut h = (scripting.code_of h.0, line, h.3, λ accepted. unscripted p tokens (scripting.code_of h.0) line accepted (subst (λ (s : Span). AreTokens input s tokens) is cut) (h.0, h.1, h.2, ap (λ (n : ℕ). refusals.Text (scripting.code_of h.0) (scripts.line_before tokens n (length h.1))) (end ∙ ap (λ (s : Span). line_at input s.end) is)))
   where
     line : ℕ
-    line = script.line_before tokens last (length h.1)
+    line = scripts.line_before tokens last (length h.1)
+
+pub by_plan_letter : (input : List ℕ) (p : Protocol) (e : TextError) → lexer.IsRefused input (parts_of input).plan e → IsUnplanned input p e
+by_plan_letter input p errors.Memory h = tt
+by_plan_letter input p (errors.Refused r) h = (10, h.0, h.1, λ lines accepted are. plan_letter p lines h.0 accepted are h.2)
+
+pub by_plan : (input : List ℕ) (p : Protocol) (tokens : List Token) (e : TextError) (part : Span) (last : ℕ) → part ≡ (parts_of input).plan → last ≡ line_at input part.end → AreTokens input part tokens
+    → planning.IsRefused input tokens last p.roles e → IsUnplanned input p e
+by_plan input p tokens errors.Memory part last is end cut h = tt
+by_plan input p tokens (errors.Refused r) part last is end cut h = (planning.code_of h.0, line, h.3, λ lines accepted are. unplanned p lines tokens (planning.code_of h.0) line accepted are (subst (λ (s : Span). AreTokens input s tokens) is cut) (h.0, h.1, h.2, ap (λ (n : ℕ). refusals.Text (planning.code_of h.0) (plans.line_before tokens n (length h.1))) (end ∙ ap (λ (s : Span). line_at input s.end) is)))
+  where
+    line : ℕ
+    line = plans.line_before tokens last (length h.1)
 
 -- what the readers answer
 pub text_read : (input : List ℕ) (tokens : List Token) (part : Span) (last : ℕ) (result : Result Protocol TextError) → part ≡ (parts_of input).protocol → last ≡ line_at input part.end → AreTokens input part tokens
@@ -70,16 +83,18 @@ pub scripts_belong : (p : Protocol) (symbols : List scripts.Symbol) (P : TextErr
 scripts_belong p symbols P (Ok s) h = h.for
 scripts_belong p symbols P (Err e) h = tt
 
--- ---- the steps behind the text
+pub plan_read : (input : List ℕ) (p : Protocol) (tokens : List Token) (part : Span) (last : ℕ) (result : Result (List PlanLine) TextError) → part ≡ (parts_of input).plan → last ≡ line_at input part.end → AreTokens input part tokens
+    → MatchResult result (planning.IsRead p.roles (plans.symbols_of input tokens)) (planning.IsRefused input tokens last p.roles) → MatchResult result (IsPlanOf input p) (IsUnplanned input p)
+plan_read input p tokens part last (Ok lines) is end cut h = record { tokens = tokens; cut = subst (λ (s : Span). AreTokens input s tokens) is cut; read = h }
+plan_read input p tokens part last (Err e) is end cut h = by_plan input p tokens e part last is end cut h
+
+-- ---- acceptance
 
 pub by_rule : (input : List ℕ) (p : Protocol) (e : InputError) → IsProtocolOf input p → IsRuledOut p e → IsRefused input e
 by_rule input p causes.Memory text h = tt
 by_rule input p (causes.Refused (Rule code name number)) text h = ruled_out p code h.0 number name text h.2 h.1
 by_rule input p (causes.Refused (refused.Line code line)) text h = absurd h
 by_rule input p (causes.Refused NoRole) text h = absurd h
-
-pub by_plan : (input : List ℕ) (p : Protocol) (lines : List (List Line)) (e : InputError) (line : ℕ) → IsAcceptedOf input p → AreScriptsOf input p lines → e ≡ causes.Refused (refused.Line 19 line) → IsFirstOther input (parts_of input).plan line → IsRefused input e
-by_plan input p lines e line accepted are is found = subst (IsRefused input) (sym is) (planned p lines line accepted are found)
 
 -- a refusal by a rule is at a declared role
 pub is_rule : (names : List (List ℕ)) (p : Protocol) (r : Refusal) → names ≡ p.roles → HasForm (body_of p.body) (length p.roles) → IsRefusedBy (body_of p.body) (length p.roles) (errors.Refused r) → IsRule names r

@@ -1,4 +1,4 @@
--- An input of one message that is taken as a session: what the laws ask of inputs is met.
+-- An input of one message that is taken as a session without a plan: what the laws ask of inputs is met.
 use denote.RawPtr.{null_ptr}
 use Rattle.std.specs.Global.{Vec}
 use Rattle.std.proofs.Common.{◌≡◌, ℕ, map, Some, None, codes, List, [], ◌∷◌, length, refl, sym, ◌∙◌, ap, subst, arith}
@@ -31,22 +31,24 @@ use Rattle.rcv_reader.specs.Refusals.{IsRead}
 use Rattle.rcv_grammar.proofs.Filling.{read_texts_are_full}
 use Rattle.rcv_grammar.proofs.Named.{read_texts_have_names}
 use Rattle.rcv_script.specs.Machine.{no_lines}
+use Rattle.rcv_plan.proofs.Answered.{none_read}
 use Rattle.rcv_input.specs.Input.{AreProtocolTokens, IsTaken}
+use Rattle.rcv_input.proofs.Cutting.{cuts}
 use Rattle.rcv_input.proofs.Formed.{read_has_form}
 
 abbrev pub input : List ℕ
 input = codes "module m;global protocol P(role A,role B){p()from A to B;}"
 
-abbrev word : ℕ → Piece
+abbrev pub word : ℕ → Piece
 word n = record { token = Some Word; len = n }
 
-abbrev sign : Piece
+abbrev pub sign : Piece
 sign = record { token = Some Mark; len = 1 }
 
-abbrev space : Piece
+abbrev pub space : Piece
 space = record { token = None; len = 1 }
 
-abbrev pieces : List Piece
+abbrev pub pieces : List Piece
 pieces =
     word 6 ∷ space ∷ word 1 ∷ sign ∷ word 6 ∷ space ∷ word 8 ∷ space ∷ word 1 ∷ sign
     ∷ word 4 ∷ space ∷ word 1 ∷ sign ∷ word 4 ∷ space ∷ word 1 ∷ sign ∷ sign
@@ -56,71 +58,7 @@ abbrev pub tokens : List Token
 tokens = tokens_of input 0 pieces
 
 pub cut : AreProtocolTokens input tokens
-cut = (
-  pieces,
-  (
-    refl,
-    (
-      refl,
-      (
-        refl,
-        (
-          refl,
-          (
-            refl,
-            (
-              refl,
-              (
-                refl,
-                (
-                  refl,
-                  (
-                    refl,
-                    (
-                      refl,
-                      (
-                        refl,
-                        (
-                          refl,
-                          (
-                            refl,
-                            (
-                              refl,
-                              (
-                                refl,
-                                (
-                                  refl,
-                                  (
-                                    refl,
-                                    (
-                                      refl,
-                                      (
-                                        refl,
-                                        (
-                                          refl,
-                                          (refl, (refl, (refl, (refl, (refl, (refl, (refl, (refl, (refl, (refl, (refl, refl))))))))))),
-                                        ),
-                                      ),
-                                    ),
-                                  ),
-                                ),
-                              ),
-                            ),
-                          ),
-                        ),
-                      ),
-                    ),
-                  ),
-                ),
-              ),
-            ),
-          ),
-        ),
-      ),
-    ),
-  ),
-  refl,
-)
+cut = (pieces, cuts 40 input pieces refl, refl)
 
 abbrev pub symbols : List Symbol
 symbols = symbols_of input tokens
@@ -162,10 +100,10 @@ protocol = record {
   body = roll-Block (record { items = one_stmt });
 }
 
-abbrev one : Body
+abbrev pub one : Body
 one = Single (codes "p") [] 0 1 1 End
 
-its_body : body_of protocol.body ≡ one
+pub its_body : body_of protocol.body ≡ one
 its_body =
     body_of_lem protocol.body
     ∙ ap (λ (b : Block-F Stmt Block Blocks). joined (map stmt_body b.items.items)) (out-roll-Block (record { items = one_stmt }))
@@ -194,7 +132,7 @@ fine : IsAccepted (net_of (body_of protocol.body)) (length protocol.roles) × Ha
 fine = plain_accepted (body_of protocol.body) (length protocol.roles) (subst IsPlain (sym its_body) tt) form
 
 abbrev pub session : SessionView
-session = record { protocol = protocol; scripts = no_lines protocol.roles }
+session = record { protocol = protocol; scripts = no_lines protocol.roles; plan = [] }
 
 pub taken : IsTaken input session
 taken = record {
@@ -209,5 +147,5 @@ taken = record {
     };
   };
   are_scripts = record { tokens = []; cut = ([], refl, refl); read = refl };
-  no_plan = refl;
+  plan = record { tokens = []; cut = ([], refl, refl); read = none_read both };
 }

@@ -16,6 +16,7 @@ HasAnswer input = ((session : SessionView) × IsTaken input session) ⊎ ((refus
 pub record AreSame (s t : SessionView) : Type 0 where
   pub protocols : SayTheSame s.protocol t.protocol
   pub scripts : s.scripts ≡ t.scripts
+  pub plans : s.plan ≡ t.plan
 
 -- An input of fewer than 2^63 bytes is taken or refused. None is both; what it is taken as says one thing, and its
 -- refusal is one. A refusal by a rule has a word for the name of the role.

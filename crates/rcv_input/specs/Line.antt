@@ -3,7 +3,7 @@ use Rattle.std.specs.Prelude.{ℕ, ◌==◌, codes, decimal, List, [], ◌∷◌
 use Rattle.rcv_input.specs.declared.refused.Refused.{Refused}
 use Rattle.rcv_input.specs.declared.refused.Refused.TheVariants.{Line, Rule, NoRole}
 
--- The codes with their names: of a text, of a protocol, of a command, of scripts.
+-- The codes with their names: of a text, of a protocol, of a command, of scripts, of a plan.
 abbrev pub code_names : List (ℕ × List ℕ)
 code_names =
     (10, codes "Letter") ∷ (11, codes "Token") ∷ (12, codes "Deep") ∷ (13, codes "Name") ∷ (14, codes "Twice") ∷ (15, codes "SelfMessage")
@@ -13,7 +13,8 @@ code_names =
     ∷ (26, codes "Unreachable") ∷ (27, codes "NoRole")
     ∷ (30, codes "Token") ∷ (31, codes "Role") ∷ (32, codes "Label")
     ∷ (33, codes "Variable") ∷ (34, codes "AttemptInState") ∷ (35, codes "NoPayload")
-    ∷ (36, codes "TooMany") ∷ []
+    ∷ (36, codes "TooMany")
+    ∷ (40, codes "Token") ∷ (41, codes "Role") ∷ (42, codes "Twice") ∷ (43, codes "Range") ∷ []
 
 -- The name that stands beside a code in the list; none where the code isn't in it.
 abbrev pub name_in : List (ℕ × List ℕ) → ℕ → List ℕ

@@ -13,11 +13,12 @@ use Rattle.rcv_lexer.specs.Parts.{parts_of}
 use Rattle.rcv_lexer.specs.Tokens.{IsLetter, line_at}
 use Rattle.rcv_reader.specs.Refusals as reader
 use Rattle.rcv_script.specs.Scripts.{AreRefusedFor}
+use Rattle.rcv_plan.specs.Refusing as planning
 use Rattle.rcv_input.specs.declared.refused.Refused.{Refused}
 use Rattle.rcv_input.specs.declared.refused.Refused.TheVariants.{Line, Rule, NoRole}
 use Rattle.rcv_input.specs.declared.refused.InputError.{InputError}
 use Rattle.rcv_input.specs.declared.refused.InputError.TheVariants as causes
-use Rattle.rcv_input.specs.Input.{AreProtocolTokens, AreScriptTokens, IsProtocolOf, IsAcceptedOf, AreScriptsOf, IsFirstOther}
+use Rattle.rcv_input.specs.Input.{AreProtocolTokens, AreScriptTokens, ArePlanTokens, IsProtocolOf, IsAcceptedOf, AreScriptsOf}
 
 -- The tokens of the protocol part are refused by the reader with this code and this line.
 abbrev pub IsRefusedText : List ℕ → List Token → ℕ → ℕ → Type 0
@@ -28,6 +29,11 @@ IsRefusedText input tokens code line =
 abbrev pub AreRefusedScripts : List ℕ → Protocol → List Token → ℕ → ℕ → Type 0
 AreRefusedScripts input p tokens code line =
     AreRefusedFor input tokens (line_at input (parts_of input).scripts.end) p (errors.Refused (refusals.Text code line))
+
+-- Those of the plan part are, for the roles of this protocol.
+abbrev pub IsRefusedPlan : List ℕ → Protocol → List Token → ℕ → ℕ → Type 0
+IsRefusedPlan input p tokens code line =
+    planning.IsRefused input tokens (line_at input (parts_of input).plan.end) p.roles (errors.Refused (refusals.Text code line))
 
 -- This is the first refusal of the input.
 pub data IsFirstRefusal (input : List ℕ) : Refused → Type 0 where
@@ -50,10 +56,15 @@ pub data IsFirstRefusal (input : List ℕ) : Refused → Type 0 where
   unscripted :
       (p : Protocol) (tokens : List Token) (code line : ℕ) → IsAcceptedOf input p → AreScriptTokens input tokens
       → AreRefusedScripts input p tokens code line → IsFirstRefusal input (Line code line)
-  -- they are scripts, but there is a plan
-  planned :
+  -- they are scripts, but the plan part has a bad letter
+  plan_letter :
       (p : Protocol) (lines : List (List model.Line)) (line : ℕ) → IsAcceptedOf input p → AreScriptsOf input p lines
-      → IsFirstOther input (parts_of input).plan line → IsFirstRefusal input (Line 19 line)
+      → IsLetter input (parts_of input).plan line → IsFirstRefusal input (Line 10 line)
+  -- that has tokens too, which are refused as a plan
+  unplanned :
+      (p : Protocol) (lines : List (List model.Line)) (tokens : List Token) (code line : ℕ) → IsAcceptedOf input p
+      → AreScriptsOf input p lines → ArePlanTokens input tokens → IsRefusedPlan input p tokens code line
+      → IsFirstRefusal input (Line code line)
 
 -- What an error says: the input's first refusal, or no memory was left.
 abbrev pub IsRefused : List ℕ → InputError → Type 0
@@ -67,7 +78,7 @@ abbrev pub IsTextError : TextError → Type 0
 IsTextError errors.Memory = Unit {0}
 IsTextError (errors.Refused r) = (code : ℕ) × (line : ℕ) × (r ≡ refusals.Text code line)
 
--- The first refusal is one of the protocol part, at a line; or it is one of the scripts part.
+-- The first refusal is one of the protocol part, at a line; or of the scripts part; or of the plan part.
 abbrev pub IsUnread : List ℕ → TextError → Type 0
 IsUnread input errors.Memory = Unit {0}
 IsUnread input (errors.Refused r) = (code : ℕ) × (line : ℕ) × (r ≡ refusals.Text code line) × IsFirstRefusal input (Line code line)
@@ -76,6 +87,12 @@ abbrev pub IsUnscripted : List ℕ → Protocol → TextError → Type 0
 IsUnscripted input p errors.Memory = Unit {0}
 IsUnscripted input p (errors.Refused r) =
     (code : ℕ) × (line : ℕ) × (r ≡ refusals.Text code line) × (IsAcceptedOf input p → IsFirstRefusal input (Line code line))
+
+abbrev pub IsUnplanned : List ℕ → Protocol → TextError → Type 0
+IsUnplanned input p errors.Memory = Unit {0}
+IsUnplanned input p (errors.Refused r) =
+    (code : ℕ) × (line : ℕ) × (r ≡ refusals.Text code line)
+    × ((lines : List (List model.Line)) → IsAcceptedOf input p → AreScriptsOf input p lines → IsFirstRefusal input (Line code line))
 
 -- The refusal is by a rule, at a role that these names have; and this says it, with the name of the role.
 abbrev pub IsRule : List (List ℕ) → Refusal → Type 0

@@ -1,11 +1,12 @@
-// Turns an input into an accepted protocol with its scripts, or into its first refusal.
+// Turns an input into an accepted protocol with its scripts and its plan, or into its first refusal.
 #![tactic(auto)]
 
 ghost use Rattle.rcv_input.specs.Laws.{InputsHaveOneAnswer};
 
-mod blank;
 mod input;
 mod line;
+mod place;
+mod plan;
 mod protocol;
 mod refused;
 mod script;

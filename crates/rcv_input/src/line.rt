@@ -37,6 +37,10 @@ fn name_of(code: u8) -> &'static [u8]
         34 => b"AttemptInState",
         35 => b"NoPayload",
         36 => b"TooMany",
+        40 => b"Token",
+        41 => b"Role",
+        42 => b"Twice",
+        43 => b"Range",
         _ => b"",
     }
 }

@@ -9,7 +9,7 @@ ghost use Rattle.rcv_lexer.specs.Parts.{LiesIn, parts_of};
 ghost use Rattle.rcv_input.specs.Input.{IsProtocolOf};
 ghost use Rattle.rcv_input.specs.Refusals.{IsUnread, IsRule, SaysRule, IsRuledOut};
 
-use crate::blank::line_at;
+use crate::place::line_at;
 use crate::refused::{InputError, Refused};
 use rcv_accept::accept;
 use rcv_accept::accepted::Accepted;

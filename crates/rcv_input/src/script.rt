@@ -6,7 +6,7 @@ ghost use Rattle.rcv_lexer.specs.Parts.{LiesIn, parts_of};
 ghost use Rattle.rcv_input.specs.Input.{AreScriptsOf};
 ghost use Rattle.rcv_input.specs.Refusals.{IsUnscripted};
 
-use crate::blank::line_at;
+use crate::place::line_at;
 use rcv_accept::accepted::Accepted;
 use rcv_lexer::token::{Span, TextError};
 use rcv_lexer::tokens;

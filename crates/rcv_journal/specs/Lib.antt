@@ -1,3 +1,4 @@
+pub mod Heads
 pub mod JournalText
 pub mod Laws
 pub mod Lines

@@ -11,6 +11,9 @@ use rcv_text::writer::Writer;
 use rcv_tree::entry::Entry;
 use std::alloc::{AllocError, Global};
 
+// The line of an entry has about so many bytes at most, where names are short.
+const LINE: usize = 48;
+
 /// The text of a journal: a line for each entry, then a line for each role, and a last one that says how the session
 /// ended. The roles and points that they name are declared. It fails where memory runs out.
 pub fn write_journal(
@@ -23,8 +26,8 @@ pub fn write_journal(
     requires lines { HaveRoles setup.now lines.now }
     ensures { IfOk result (λ text. text.items ≡ journal_text setup.now entries.now lines.now) }
 {
-    let mut text = Writer::new(alloc);
-    write_entries(&mut text, setup, entries)?;
+    let mut text = Writer::with_room(alloc, entries.len().saturating_mul(LINE))?;
+    write_entries(alloc, &mut text, setup, entries)?;
     write_roles(&mut text, setup, lines)?;
     write_last(&mut text, setup, lines)?;
     Ok(text.finish())

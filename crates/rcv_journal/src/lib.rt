@@ -4,6 +4,7 @@
 ghost use Rattle.rcv_journal.specs.Laws.{LegalJournalsAreNamed, JournalsHaveOneText, CompletedIsWritten};
 
 mod entries;
+mod head;
 pub mod journal;
 pub mod line;
 mod name;

@@ -21,6 +21,7 @@ pub record IsCutBelow (net : Net) (old now : LedgerView) (counts : List ℕ) (r 
   pub open_log : (q : ℕ) → r ≤ q → log_at now.logs q ≡ log_at old.logs q
   pub cut_stack : (q : ℕ) → q < r → stack_at now.stacks q ≡ stack_cut old.stacks counts q
   pub open_stack : (q : ℕ) → r ≤ q → stack_at now.stacks q ≡ stack_at old.stacks q
+  pub room : now.room ≡ old.room
 
 pub none_cut : (net : Net) (old : LedgerView) (counts : List ℕ) → AreCarried net old.logs old.channels → length old.stacks ≡ length old.logs → IsCutBelow net old old counts 0
 none_cut net old counts carried same = record {
@@ -32,10 +33,11 @@ none_cut net old counts carried same = record {
   open_log = λ q le. refl;
   cut_stack = λ q lt. absurd (omega (arith, lt));
   open_stack = λ q le. refl;
+  room = refl;
 }
 
-pub one_cut : (net : Net) (old now new : LedgerView) (counts : List ℕ) (r : ℕ) → IsCutBelow net old now counts r → r < length old.logs → AreCarried net new.logs new.channels → new.logs ≡ log_to now.logs r (slice_index counts r) → new.stacks ≡ stack_to now.stacks r (slice_index counts r) → IsCutBelow net old new counts (r + 1)
-one_cut net old now new counts r is lt carried logs stacks = record {
+pub one_cut : (net : Net) (old now new : LedgerView) (counts : List ℕ) (r : ℕ) → IsCutBelow net old now counts r → r < length old.logs → AreCarried net new.logs new.channels → new.logs ≡ log_to now.logs r (slice_index counts r) → new.stacks ≡ stack_to now.stacks r (slice_index counts r) → new.room ≡ now.room → IsCutBelow net old new counts (r + 1)
+one_cut net old now new counts r is lt carried logs stacks room = record {
   carried = carried;
   same = is.same;
   as_many_logs = ap length logs ∙ length-set now.logs r (take (slice_index counts r) (log_at now.logs r)) ∙ is.as_many_logs;
@@ -50,6 +52,7 @@ one_cut net old now new counts r is lt carried logs stacks = record {
       (λ here. own_stack q (omega (arith, low, here)))
       (cases_lt q r);
   open_stack = λ q le. other_stack q (omega (arith, le)) ∙ is.open_stack q (omega (arith, le));
+  room = room ∙ is.room;
 }
   where
     other_log : (q : ℕ) → (q ≡ r → ⊥) → log_at new.logs q ≡ log_at now.logs q
@@ -79,4 +82,5 @@ all_cut net old now counts r is le = record {
   as_many_stacks = is.as_many_stacks;
   log = λ q lt. is.cut_log q (omega (arith, lt, le));
   stack = λ q lt. is.cut_stack q (omega (arith, lt, le));
+  room = is.room;
 }

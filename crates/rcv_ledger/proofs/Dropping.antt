@@ -182,8 +182,8 @@ drops net logs channels r e carried lt some at = subst (λ q. q < length logs �
     }
 
 -- The same where the ledger's view is what contracts see.
-pub drops_in : (net : Net) (logs : List (List Event)) (channels : List ChannelView) (stacks : List StackView) (seen : LedgerView) (r : ℕ) (e : Event) → record { logs = logs; channels = channels; stacks = stacks } ≡ seen → AreCarried net seen.logs seen.channels → r < length seen.logs → 0 < length (log_at seen.logs r) → slice_get (log_at logs r) (length (log_at logs r) - 1) ≡ Some e → Drops net logs channels r e
-drops_in net logs channels stacks seen r e view carried lt some at =
+pub drops_in : (net : Net) (logs : List (List Event)) (channels : List ChannelView) (stacks : List StackView) (room : ℕ) (seen : LedgerView) (r : ℕ) (e : Event) → record { logs = logs; channels = channels; stacks = stacks; room = room } ≡ seen → AreCarried net seen.logs seen.channels → r < length seen.logs → 0 < length (log_at seen.logs r) → slice_get (log_at logs r) (length (log_at logs r) - 1) ≡ Some e → Drops net logs channels r e
+drops_in net logs channels stacks room seen r e view carried lt some at =
     drops net logs channels r e
     (subst (λ (l : LedgerView). AreCarried net l.logs l.channels) (sym view) carried)
     (subst (λ (l : LedgerView). r < length l.logs) (sym view) lt)

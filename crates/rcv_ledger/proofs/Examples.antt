@@ -10,7 +10,7 @@ use Rattle.rcv_model.proofs.Keeping.{queued_nil, queued_more, fits_else}
 use Rattle.rcv_theory.specs.Counts.{kept_counts}
 use Rattle.rcv_checkpoint.specs.declared.state.State.{State}
 use Rattle.rcv_ledger.specs.Channels.{ChannelView, empty}
-use Rattle.rcv_ledger.specs.Ledger.{LedgerView, stack_at, first_stack, with_send, with_event, IsStart, MayCut, Holds}
+use Rattle.rcv_ledger.specs.Ledger.{LedgerView, stack_at, first_stack, with_send, with_event, IsStart, HasRoomToSend, MayCut, Holds}
 use Rattle.rcv_ledger.specs.Laws.{IsMore}
 use Rattle.rcv_ledger.proofs.Holding.{starts_hold_nothing, sends_hold, kept_may_be_cut_to}
 
@@ -34,6 +34,7 @@ at_start =
       logs = [] ∷ [] ∷ [];
       channels = replicate 64 empty;
       stacks = first_stack firsts everys 4 0 ∷ first_stack firsts everys 4 1 ∷ [];
+      room = 4;
     }
 
 abbrev send : Event
@@ -43,7 +44,7 @@ abbrev behind : State
 behind = record { k = 1; vars = [] }
 
 starts : IsStart firsts everys 4 at_start
-starts = record { logs = refl; channels = refl; all = refl; stacks = stacks }
+starts = record { logs = refl; channels = refl; all = refl; stacks = stacks; room = refl }
   where
     stacks : (r : ℕ) → r < 2 → stack_at at_start.stacks r ≡ first_stack firsts everys 4 r
     stacks zero lt = refl
@@ -65,6 +66,17 @@ may_send = record {
   behind = refl;
 }
 
+-- At the start there is room for a Send to the other role, and none is promised for one to the role itself.
+pub room_to_send : HasRoomToSend at_start 0 1
+room_to_send = record {
+  event = record { log = omega arith; stack = omega arith };
+  reserved = record { sender = omega arith; receiver = omega arith; apart = λ same. absurd (omega (arith, same)) };
+  message = omega arith;
+}
+
+pub no_room_to_itself : HasRoomToSend at_start 0 0 → ⊥
+no_room_to_itself has = has.reserved.apart refl
+
 -- Behind a Send.
 pub held_behind_a_send : Holds there_and_back 2 vars (send ∷ []) (with_send at_start send 1 behind)
 held_behind_a_send = sends_hold there_and_back 2 vars [] send behind at_start held_at_start refl may_send
@@ -82,5 +94,5 @@ cut_to_nothing = kept_may_be_cut_to there_and_back 2 vars (send ∷ []) (λ r. 0
     counts (suc (suc r)) lt = absurd (omega (arith, lt))
 
 -- A ledger whose channel lacks the message of its log doesn't hold the Send.
-pub lost_message : Holds there_and_back 2 vars (send ∷ []) (record { logs = with_event at_start.logs send; channels = at_start.channels; stacks = (with_send at_start send 1 behind).stacks }) → ⊥
+pub lost_message : Holds there_and_back 2 vars (send ∷ []) (record { logs = with_event at_start.logs send; channels = at_start.channels; stacks = (with_send at_start send 1 behind).stacks; room = 4 }) → ⊥
 lost_message holds = let e = ap (λ (c : ChannelView). length c.put) (holds.carry.each 0 1 (omega arith) (omega arith)) in absurd (omega (arith, e))

@@ -1,9 +1,14 @@
 pub mod Lists
 pub mod RoleLogs
+pub mod Rooms
+pub mod Reserving
 pub mod Following
 pub mod Dropping
 pub mod Starting
 pub mod Shortening
 pub mod Cutting
+pub mod Lowering
+pub mod Keeping
+pub mod Filling
 pub mod Holding
 pub mod Examples

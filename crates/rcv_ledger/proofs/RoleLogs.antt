@@ -9,7 +9,7 @@ use Rattle.std.proofs.lemmas.List.{map-set, get_or-map, length-map, length-take,
 use Rattle.rcv_tree.specs.declared.event.Event.{Event}
 use Rattle.std.proofs.lemmas.Bool.{cases_lt}
 use Rattle.rcv_tree.specs.declared.event.Message.{Message}
-use Rattle.rcv_ledger.specs.Channels.{ChannelView, empty, between, channel_at, put_more, put_less, with_put, without_put}
+use Rattle.rcv_ledger.specs.Channels.{ChannelView, ChannelsView, empty, between, channel_at, put_more, put_less, with_put, without_put, with_list}
 use Rattle.rcv_ledger.proofs.Lists.{front_is, take_left, take_whole}
 use Rattle.rcv_ledger.specs.Ledger.{lists_in, log_at, with_event, log_to}
 
@@ -86,5 +86,5 @@ put_back channels from to m =
     (λ le. set_over channels (between from to) (put_less (channel_at (with_put channels from to m) from to)) le)
     (cases_lt (between from to) (length channels))
 
-pub put_undone : (channels now after : List ChannelView) (from to : ℕ) (m : Message) → now ≡ with_put channels from to m → after ≡ without_put now from to → after ≡ channels
-put_undone channels now after from to m e f = f ∙ ap (λ l. without_put l from to) e ∙ put_back channels from to m
+pub put_undone : (before now after : ChannelsView) (from to : ℕ) (m : Message) → now ≡ with_list before (with_put before.list from to m) → after ≡ with_list now (without_put now.list from to) → after ≡ before
+put_undone before now after from to m e f = f ∙ ap (λ (c : ChannelsView). with_list c (without_put c.list from to)) e ∙ ap (with_list before) (put_back before.list from to m)

@@ -13,9 +13,10 @@ pub record IsBetween (net : Net) (old now : LedgerView) (r count : ℕ) : Type 0
   pub logs : now.logs ≡ log_to old.logs r (length (log_at now.logs r))
   pub least : count ≤ length (log_at now.logs r)
   pub most : length (log_at now.logs r) ≤ length (log_at old.logs r)
+  pub room : now.room ≡ old.room
 
 pub start : (net : Net) (old : LedgerView) (r count : ℕ) → AreCarried net old.logs old.channels → count ≤ length (log_at old.logs r) → IsBetween net old old r count
-start net old r count carried le = record { carried = carried; stacks = refl; logs = to_whole old.logs r; least = le; most = omega arith }
+start net old r count carried le = record { carried = carried; stacks = refl; logs = to_whole old.logs r; least = le; most = omega arith; room = refl }
 
 pub in_logs : (net : Net) (old now : LedgerView) (r count : ℕ) → IsBetween net old now r count → r < length old.logs → r < length now.logs
 in_logs net old now r count is lt = let n = ap length is.logs ∙ length-set old.logs r (take (length (log_at now.logs r)) (log_at old.logs r)) in omega (arith, n, lt)
@@ -23,8 +24,8 @@ in_logs net old now r count is lt = let n = ap length is.logs ∙ length-set old
 pub fewer : (net : Net) (old now new : LedgerView) (r count : ℕ) → IsBetween net old now r count → r < length old.logs → count < length (log_at now.logs r) → new.logs ≡ log_to now.logs r (length (log_at now.logs r) - 1) → length (log_at new.logs r) ≡ length (log_at now.logs r) - 1
 fewer net old now new r count is lt more logs = ap (λ l. length (log_at l r)) logs ∙ to_count now.logs r (length (log_at now.logs r) - 1) (in_logs net old now r count is lt) (omega arith)
 
-pub less : (net : Net) (old now new : LedgerView) (r count : ℕ) → IsBetween net old now r count → r < length old.logs → count < length (log_at now.logs r) → AreCarried net new.logs new.channels → new.logs ≡ log_to now.logs r (length (log_at now.logs r) - 1) → new.stacks ≡ now.stacks → IsBetween net old new r count
-less net old now new r count is lt more carried logs stacks =
+pub less : (net : Net) (old now new : LedgerView) (r count : ℕ) → IsBetween net old now r count → r < length old.logs → count < length (log_at now.logs r) → AreCarried net new.logs new.channels → new.logs ≡ log_to now.logs r (length (log_at now.logs r) - 1) → new.stacks ≡ now.stacks → new.room ≡ now.room → IsBetween net old new r count
+less net old now new r count is lt more carried logs stacks room =
     let size = fewer net old now new r count is lt more logs in
     record {
       carried = carried;
@@ -36,6 +37,7 @@ less net old now new r count is lt more carried logs stacks =
           ∙ ap (log_to old.logs r) (sym size);
       least = omega (arith, size, more);
       most = let m = is.most in omega (arith, size, m);
+      room = room ∙ is.room;
     }
 
 pub at_end : (net : Net) (old now : LedgerView) (r count : ℕ) → IsBetween net old now r count → length (log_at now.logs r) ≤ count → now.logs ≡ log_to old.logs r count

@@ -1,10 +1,11 @@
 -- What contracts see of channels: what was put on each, and how much of that was taken.
-use Rattle.std.specs.Prelude.{◌≡◌, ℕ, ◌+◌, ◌-◌, ◌*◌, ◌<◌, ◌≤◌, Option, Some, MatchOption, List, [], ◌∷◌, ◌++◌, length, take}
-use Rattle.std.specs.Prelude.{slice_get, slice_index_or, slice_set}
+use Rattle.std.specs.Prelude.{◌≡◌, ◌≢◌, ℕ, ◌+◌, ◌-◌, ◌*◌, ◌<◌, ◌≤◌, Option, Some, MatchOption, List, [], ◌∷◌, ◌++◌, length, map, take}
+use Rattle.std.specs.Prelude.{slice_get, slice_index, slice_index_or, slice_set, vec_capacity}
 use Rattle.rcv_tree.specs.declared.event.Event.{Event}
 use Rattle.rcv_tree.specs.declared.event.Message.{Message}
 use Rattle.rcv_model.specs.Net.{Net}
 use Rattle.rcv_model.specs.Run.{put, taken}
+use Rattle.rcv_ledger.specs.declared.channel.Channel.{Channel}
 
 -- A channel: what was put on it, and how much of that was taken.
 pub record ChannelView : Type 0 where
@@ -61,6 +62,38 @@ without_put channels from to = with_channel channels from to (put_less (channel_
 
 abbrev pub without_taken : List ChannelView → ℕ → ℕ → List ChannelView
 without_taken channels from to = with_channel channels from to (take_less (channel_at channels from to))
+
+-- A channel of the code, and those of a list.
+abbrev pub view_of : Channel → ChannelView
+view_of channel = record { put = channel.put.items; taken = channel.taken }
+
+abbrev pub views_in : List Channel → List ChannelView
+views_in channels = map view_of channels
+
+-- For how many messages each of them has room.
+abbrev pub channel_rooms : List Channel → List ℕ
+channel_rooms channels = map (λ channel. vec_capacity channel.put) channels
+
+-- The channels among eight roles; and that between two different ones of the first so many there is room for so many messages.
+pub record ChannelsView : Type 0 where
+  pub list : List ChannelView
+  pub roles : ℕ
+  pub room : ℕ
+
+-- The channels with this list.
+abbrev pub with_list : ChannelsView → List ChannelView → ChannelsView
+with_list channels list = record { list = list; roles = channels.roles; room = channels.room }
+
+-- Room is reserved on the channel from role a to role b: they are two different ones of the first so many.
+pub record IsReserved (roles a b : ℕ) : Type 0 where
+  pub sender : a < roles
+  pub receiver : b < roles
+  pub apart : a ≢ b
+
+-- There is one for each ordered pair of eight roles, and those on which room is reserved have it.
+pub record AreChannels (channels : List Channel) (roles room : ℕ) : Type 0 where
+  pub all : length channels ≡ 64
+  pub reserved : (a b : ℕ) → IsReserved roles a b → room ≤ slice_index (channel_rooms channels) (between a b)
 
 -- Each channel among eight roles holds what these kept events put on it, and as much was taken as they took.
 pub record Carry (net : Net) (h : List Event) (channels : List ChannelView) : Type 0 where

@@ -1,6 +1,6 @@
 -- What contracts see of a ledger, and when it holds the kept events of a session.
 use Rattle.std.specs.Prelude.{◌≡◌, ℕ, ℤ, ◌+◌, ◌<◌, ◌≤◌, List, [], ◌∷◌, ◌++◌, length, map, take, replicate, Some}
-use Rattle.std.specs.Prelude.{slice_get, slice_index, slice_index_or, slice_set}
+use Rattle.std.specs.Prelude.{slice_get, slice_index, slice_index_or, slice_set, vec_capacity}
 use Rattle.std.specs.declared.alloc.Global.{Global}
 use Rattle.std.specs.declared.vec.Vec.{Vec}
 use Rattle.rcv_tree.specs.declared.event.Event.{Event}
@@ -9,18 +9,27 @@ use Rattle.rcv_model.specs.Run.{acts, place_of, put, taken}
 use Rattle.rcv_model.specs.Journal.{events_of}
 use Rattle.rcv_checkpoint.specs.declared.state.State.{State}
 use Rattle.rcv_checkpoint.specs.Stack.{StackView, held, with_states}
-use Rattle.rcv_ledger.specs.Channels.{ChannelView, empty, channel_at, with_put, with_taken, Carry}
+use Rattle.rcv_ledger.specs.Channels.{ChannelView, ChannelsView, empty, channel_at, with_put, with_taken, IsReserved, Carry}
 
--- The kept events of each role, in order; the channels among eight roles; and the states of each role after 0, 1, 2 and so on
--- of its kept events.
+-- The kept events of each role, in order; the channels among eight roles; the states of each role after 0, 1, 2 and so on of
+-- its kept events; and for how many events of each role, and messages from each to each other one, there is room.
 pub record LedgerView : Type 0 where
   pub logs : List (List Event)
   pub channels : List ChannelView
   pub stacks : List StackView
+  pub room : ℕ
 
 -- The lists that the logs hold.
 abbrev pub lists_in : List (Vec Event Global) → List (List Event)
 lists_in logs = map (λ log. log.items) logs
+
+-- For how many events each of them has room.
+abbrev pub log_rooms : List (Vec Event Global) → List ℕ
+log_rooms logs = map vec_capacity logs
+
+-- What contracts see of these logs, channels and stacks.
+abbrev pub ledger_of : List (Vec Event Global) → ChannelsView → List StackView → LedgerView
+ledger_of logs channels stacks = record { logs = lists_in logs; channels = channels.list; stacks = stacks; room = channels.room }
 
 -- The log of a role; a role without one did nothing.
 abbrev pub log_at : List (List Event) → ℕ → List Event
@@ -30,22 +39,25 @@ log_at logs r = slice_index_or logs r []
 abbrev pub stack_at : List StackView → ℕ → StackView
 stack_at stacks r = slice_index_or stacks r (record { states = []; every = 1; room = 0 })
 
--- There are at most eight roles, and a stack for each.
-pub record IsLedger (logs stacks : ℕ) : Type 0 where
-  pub few : logs ≤ 8
-  pub same : stacks ≡ logs
+-- There are at most eight roles, and a stack for each; the logs have as much room as the channels among their roles.
+pub record IsLedger (logs : List (Vec Event Global)) (channels : ChannelsView) (stacks : ℕ) : Type 0 where
+  pub few : length logs ≤ 8
+  pub same : stacks ≡ length logs
+  pub joined : channels.roles ≡ length logs
+  pub reserved : (r : ℕ) → r < length logs → channels.room ≤ slice_index (log_rooms logs) r
 
 -- The states of a role before its first event.
 abbrev pub first_stack : List (List ℤ) → List ℕ → ℕ → ℕ → StackView
 first_stack firsts everys room r =
     record { states = record { k = 0; vars = slice_index_or firsts r [] } ∷ []; every = slice_index everys r; room = room }
 
--- No event yet: each role with its first variables and its number of events between durable states.
-pub record IsStart (firsts : List (List ℤ)) (everys : List ℕ) (room : ℕ) (ledger : LedgerView) : Type 0 where
+-- No event yet: each role with its first variables and its number of events between durable states, and room for so many.
+pub record IsStart (firsts : List (List ℤ)) (everys : List ℕ) (asked : ℕ) (ledger : LedgerView) : Type 0 where
   pub logs : ledger.logs ≡ replicate (length firsts) []
   pub channels : ledger.channels ≡ replicate 64 empty
   pub all : length ledger.stacks ≡ length firsts
-  pub stacks : (r : ℕ) → r < length firsts → stack_at ledger.stacks r ≡ first_stack firsts everys room r
+  pub stacks : (r : ℕ) → r < length firsts → stack_at ledger.stacks r ≡ first_stack firsts everys asked r
+  pub room : ledger.room ≡ asked
 
 -- A log with one event more, and a stack with one state more.
 abbrev pub with_event : List (List Event) → Event → List (List Event)
@@ -61,6 +73,7 @@ with_send ledger e receiver state =
       logs = with_event ledger.logs e;
       channels = with_put ledger.channels e.role receiver (record { point = e.point; value = e.value; stamp = e.stamp });
       stacks = with_state ledger.stacks e.role state;
+      room = ledger.room;
     }
 
 abbrev pub with_recv : LedgerView → Event → ℕ → State → LedgerView
@@ -69,7 +82,18 @@ with_recv ledger e sender state =
       logs = with_event ledger.logs e;
       channels = with_taken ledger.channels sender e.role;
       stacks = with_state ledger.stacks e.role state;
+      room = ledger.room;
     }
+
+-- There is room for one event more of role r, and if it is a Send to this receiver, for its message.
+pub record HasRoom (ledger : LedgerView) (r : ℕ) : Type 0 where
+  pub log : length (log_at ledger.logs r) < ledger.room
+  pub stack : held (stack_at ledger.stacks r) < (stack_at ledger.stacks r).room
+
+pub record HasRoomToSend (ledger : LedgerView) (r receiver : ℕ) : Type 0 where
+  pub event : HasRoom ledger r
+  pub reserved : IsReserved (length ledger.logs) r receiver
+  pub message : length (channel_at ledger.channels r receiver).put < ledger.room
 
 -- The event is one of role r at a point of the net, whose ends are among eight roles.
 pub record IsSound (net : Net) (r : ℕ) (e : Event) : Type 0 where
@@ -111,6 +135,7 @@ pub record IsCutTo (net : Net) (old new : LedgerView) (counts : List ℕ) : Type
   pub log : (r : ℕ) → r < length old.logs → log_at new.logs r ≡ take (slice_index counts r) (log_at old.logs r)
   pub stack : (r : ℕ) → r < length old.logs
       → stack_at new.stacks r ≡ with_states (stack_at old.stacks r) (take (slice_index counts r + 1) (stack_at old.stacks r).states)
+  pub room : new.room ≡ old.room
 
 -- The state of role r behind these events of it, where its script's variables are these.
 abbrev pub state_behind : (ℕ → List Event → List ℤ) → ℕ → List Event → State

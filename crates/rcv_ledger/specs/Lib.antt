@@ -1,3 +1,4 @@
 pub mod Channels
 pub mod Ledger
+pub mod Cut
 pub mod Laws

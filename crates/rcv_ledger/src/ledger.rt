@@ -1,11 +1,11 @@
 // The ledger of a session: what is kept of each role and on each channel, and the states to go back to.
 
-ghost use Rattle.std.specs.Prelude.{◌≡◌, ◌+◌, ◌-◌, ◌^◌, ◌<◌, ◌≤◌, ℕ, Some, length, slice_get, slice_index, IfOk, OnOk, OnErr};
+ghost use Rattle.std.specs.Prelude.{◌≡◌, ◌+◌, ◌-◌, ◌^◌, ◌<◌, ◌≤◌, ℕ, Some, length, slice_get, slice_index, IfOk, IsOk, OnOk, OnErr};
 ghost use Rattle.rcv_points.specs.Follow.{net_in};
 ghost use Rattle.rcv_checkpoint.specs.Stack.{held, IsDurable};
 ghost use Rattle.rcv_ledger.specs.Channels.{channel_at, IsFront, HasFront};
 ghost use Rattle.rcv_ledger.specs.Ledger.{LedgerView, lists_in, log_at, stack_at, IsStart, with_event, with_state, with_send, with_recv};
-ghost use Rattle.rcv_ledger.specs.Ledger.{AreCarried, log_to, stack_to, MayCut, IsCutTo};
+ghost use Rattle.rcv_ledger.specs.Ledger.{log_rooms, HasRoom, HasRoomToSend, AreCarried, log_to, stack_to, MayCut, IsCutTo};
 
 use crate::channel::Channels;
 use crate::logs::{Logs, add, last, made, shorten};
@@ -19,9 +19,11 @@ use std::alloc::{AllocError, Global};
 use std::marker::Model;
 
 /// The kept events of at most eight roles, so that no step goes over all of them and a recovery costs what it undoes.
+/// For so many events of each role, and messages from each to each other one, room is reserved at its start.
 #[derive(Drop)]
 pub struct Ledger {
     logs: Logs,
+    // What they have room for, each log has too.
     channels: Channels,
     // For each role its states after 0, 1, 2 and so on of its kept events.
     stacks: Vec<Stack>,
@@ -29,20 +31,19 @@ pub struct Ledger {
 
 impl Model for Ledger {
     ghost use Rattle.std.specs.Prelude.{length};
-    ghost use Rattle.rcv_ledger.specs.Ledger.{LedgerView, lists_in, IsLedger};
+    ghost use Rattle.rcv_ledger.specs.Ledger.{LedgerView, ledger_of, IsLedger};
 
     ghost Value = { LedgerView };
 
-    ghost view = { λ a. record { logs = lists_in a.logs.items; channels = a.channels; stacks = a.stacks.items } };
+    ghost view = { λ a. ledger_of a.logs.items a.channels a.stacks.items };
 
-    ghost invariant = { λ a. IsLedger (length a.logs.items) (length a.stacks.items) };
+    ghost invariant = { λ a. IsLedger a.logs.items a.channels (length a.stacks.items) };
 }
 
 impl Ledger {
     /// No events: for each of at most eight roles the first variables of its script, and how many events there are between
-    /// durable states, at least 1. Reserves logs and stacks for so many events of each role. The channels' lists grow as
-    /// messages are put: a session uses few of the 56 pairs, and each list would need room for all that its sender may send.
-    /// Fails where memory runs out.
+    /// durable states, at least 1. Reserves a log and a stack of each role for so many events, and a list from each role to
+    /// each other one, at most 56, for so many messages; none of it is written before it is used. Fails where memory runs out.
     pub fn new(
         alloc: Global,
         firsts: &[Vars],
@@ -66,13 +67,13 @@ impl Ledger {
         }
         Ok(Ledger {
             logs,
-            channels: Channels::new(alloc)?,
+            channels: Channels::new(alloc, firsts.len(), room)?,
             stacks,
         })
     }
 
-    /// Adds a Send to this receiver, of a role with a log, behind which the role has this state. Fails where memory runs
-    /// out; then the ledger is as before.
+    /// Adds a Send to this receiver, of a role with a log, behind which the role has this state. Within the ledger's room it
+    /// takes no memory and succeeds. Else it fails where memory runs out; then the ledger is as before.
     pub fn add_send(
         &mut self,
         event: Event,
@@ -84,6 +85,7 @@ impl Ledger {
         requires few { held (stack_at self.old.stacks event.role) + 1 < 2 ^ 32 }
         ensures ok { OnOk result (self.new ≡ with_send self.old event receiver state) }
         ensures err { OnErr result (self.new ≡ self.old) }
+        ensures room { HasRoomToSend self.old event.role receiver → IsOk result }
     {
         let role = event.role;
         let message = Message {
@@ -92,15 +94,15 @@ impl Ledger {
             stamp: event.stamp,
         };
         self.channels.put(role, receiver, message)?;
-        let added = add_event(&mut self.logs, &mut self.stacks, event, state);
+        let added = add_event(&mut self.logs, &mut self.stacks, &event, &state);
         if added.is_err() {
             self.channels.unput(role, receiver);
         }
         added
     }
 
-    /// Adds a Recv of the front message from this sender, of a role with a log, behind which the role has this state. Fails
-    /// where memory runs out; then the ledger is as before.
+    /// Adds a Recv of the front message from this sender, of a role with a log, behind which the role has this state. Within
+    /// the ledger's room it takes no memory and succeeds. Else it fails where memory runs out; then the ledger is as before.
     pub fn add_recv(&mut self, event: Event, sender: RoleId, state: State) -> Result<(), AllocError>
         requires role { event.role < length self.old.logs }
         requires sender { sender < 8 }
@@ -108,9 +110,10 @@ impl Ledger {
         requires few { held (stack_at self.old.stacks event.role) + 1 < 2 ^ 32 }
         ensures ok { OnOk result (self.new ≡ with_recv self.old event sender state) }
         ensures err { OnErr result (self.new ≡ self.old) }
+        ensures room { HasRoom self.old event.role → IsOk result }
     {
         let role = event.role;
-        add_event(&mut self.logs, &mut self.stacks, event, state)?;
+        add_event(&mut self.logs, &mut self.stacks, &event, &state)?;
         self.channels.take(sender, role);
         Ok(())
     }
@@ -155,6 +158,14 @@ impl Ledger {
         self.stacks[role.0 as usize].last()
     }
 
+    /// The same state, which isn't copied.
+    pub fn top(&self, role: RoleId) -> &State
+        requires { role < length self.now.logs }
+        ensures { slice_get (stack_at self.now.stacks role).states (held (stack_at self.now.stacks role)) ≡ Some result.now }
+    {
+        self.stacks[role.0 as usize].top()
+    }
+
     /// How many events of a role with a log survive its crash. It takes no memory.
     pub fn durable(&self, role: RoleId) -> u32
         requires { role < length self.now.logs }
@@ -183,6 +194,7 @@ impl Ledger {
         ensures carried { AreCarried (net_in points.now) self.new.logs self.new.channels }
         ensures logs { self.new.logs ≡ log_to self.old.logs role count }
         ensures stacks { self.new.stacks ≡ stack_to self.old.stacks role count }
+        ensures room { self.new.room ≡ self.old.room }
     {
         while made(&self.logs, role) > count as usize {
             self.drop_last(points, role);
@@ -198,6 +210,7 @@ impl Ledger {
         ensures carried { AreCarried (net_in points.now) self.new.logs self.new.channels }
         ensures logs { self.new.logs ≡ log_to self.old.logs role (length (log_at self.old.logs role) - 1) }
         ensures stacks { self.new.stacks ≡ self.old.stacks }
+        ensures room { self.new.room ≡ self.old.room }
     {
         let event = last(&self.logs, role);
         match event.dir {
@@ -211,26 +224,30 @@ impl Ledger {
     }
 }
 
-// Adds an event to the log of its role, and the state behind it to its stack. Fails where memory runs out; then both are as
-// before.
+// Adds an event to the log of its role, and the state behind it to its stack. Within the room of both it succeeds. Else it
+// fails where memory runs out; then both are as before.
 fn add_event(
     logs: &mut Logs,
     stacks: &mut Vec<Stack>,
-    event: Event,
-    state: State,
+    event: &Event,
+    state: &State,
 ) -> Result<(), AllocError>
-    requires role { event.role < length logs.old.items }
+    requires role { event.now.role < length logs.old.items }
     requires same { length stacks.old.items ≡ length logs.old.items }
-    requires few { held (stack_at stacks.old.items event.role) + 1 < 2 ^ 32 }
-    ensures logs { OnOk result (lists_in logs.new.items ≡ with_event (lists_in logs.old.items) event) }
-    ensures stacks { OnOk result (stacks.new.items ≡ with_state stacks.old.items event.role state) }
+    requires few { held (stack_at stacks.old.items event.now.role) + 1 < 2 ^ 32 }
+    ensures logs { OnOk result (lists_in logs.new.items ≡ with_event (lists_in logs.old.items) event.now) }
+    ensures stacks { OnOk result (stacks.new.items ≡ with_state stacks.old.items event.now.role state.now) }
     ensures same_logs { OnErr result (lists_in logs.new.items ≡ lists_in logs.old.items) }
     ensures same_stacks { OnErr result (stacks.new.items ≡ stacks.old.items) }
+    ensures room { length (log_at (lists_in logs.old.items) event.now.role) < slice_index (log_rooms logs.old.items) event.now.role
+        → held (stack_at stacks.old.items event.now.role) < (stack_at stacks.old.items event.now.role).room
+        → IsOk result }
+    ensures rooms { (r : ℕ) → slice_index (log_rooms logs.old.items) r ≤ slice_index (log_rooms logs.new.items) r }
 {
     let role = event.role.0 as usize;
     let before = made(logs, role);
-    add(logs, event)?;
-    let saved = stacks[role].save(state);
+    add(logs, *event)?;
+    let saved = stacks[role].save(*state);
     if saved.is_err() {
         shorten(logs, role, before);
     }

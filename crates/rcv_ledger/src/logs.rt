@@ -1,7 +1,7 @@
 // The logs of the roles: for each role its kept events, in order.
 
-ghost use Rattle.std.specs.Prelude.{◌≡◌, ◌-◌, ◌<◌, [], ◌∷◌, ◌++◌, length, take, slice_get, Some, OnOk, OnErr};
-ghost use Rattle.rcv_ledger.specs.Ledger.{lists_in, log_at, with_event, log_to};
+ghost use Rattle.std.specs.Prelude.{◌≡◌, ◌-◌, ◌<◌, ◌≤◌, ℕ, [], ◌∷◌, ◌++◌, length, take, slice_get, slice_index, Some, IsOk, OnOk, OnErr};
+ghost use Rattle.rcv_ledger.specs.Ledger.{lists_in, log_rooms, log_at, with_event, log_to};
 
 use rcv_tree::event::Event;
 use std::alloc::AllocError;
@@ -17,11 +17,14 @@ pub fn made(logs: &Logs, role: usize) -> usize
     logs[role].len()
 }
 
-/// Adds an event to the log of its role, which has one. Fails where memory runs out; then the logs are as before.
+/// Adds an event to the log of its role, which has one. Within the log's room it takes no memory and succeeds. Else it fails
+/// where memory runs out; then the logs are as before. No log's room gets less.
 pub fn add(logs: &mut Logs, event: Event) -> Result<(), AllocError>
     requires { event.role < length logs.old.items }
     ensures ok { OnOk result (lists_in logs.new.items ≡ with_event (lists_in logs.old.items) event) }
     ensures err { OnErr result (lists_in logs.new.items ≡ lists_in logs.old.items) }
+    ensures room { length (log_at (lists_in logs.old.items) event.role) < slice_index (log_rooms logs.old.items) event.role → IsOk result }
+    ensures rooms { (r : ℕ) → slice_index (log_rooms logs.old.items) r ≤ slice_index (log_rooms logs.new.items) r }
 {
     logs[event.role.0 as usize].push(event)?;
     Ok(())
@@ -36,10 +39,11 @@ pub fn last(logs: &Logs, role: usize) -> Event
     logs[role][logs[role].len() - 1]
 }
 
-/// Keeps so many of the first events of a role. It takes no memory.
+/// Keeps so many of the first events of a role, and its log's room. It takes no memory.
 pub fn shorten(logs: &mut Logs, role: usize, count: usize)
     requires { role < length logs.old.items }
-    ensures { lists_in logs.new.items ≡ log_to (lists_in logs.old.items) role count }
+    ensures lists { lists_in logs.new.items ≡ log_to (lists_in logs.old.items) role count }
+    ensures rooms { log_rooms logs.new.items ≡ log_rooms logs.old.items }
 {
     logs[role].truncate(count);
 }

@@ -9,7 +9,7 @@ mod scan;
 pub mod token;
 
 pub use parts::{Parts, split};
-pub use scan::tokens;
+pub use scan::{line_feeds, tokens};
 
 /// A part has one list of tokens or one first bad letter: one of both, and never both.
 pub fn part_has_one_reading()

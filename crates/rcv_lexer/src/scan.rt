@@ -10,11 +10,22 @@ use crate::token::{Span, TextError, Token};
 use rcv_tree::refusal::Refusal;
 use std::alloc::Global;
 
-fn line_feeds(bytes: &[u8]) -> u32
+// For how many tokens a list has room at once, at the most.
+const ROOM: usize = 2048;
+
+/// How many line feeds stand among the bytes.
+pub fn line_feeds(bytes: &[u8]) -> u32
     requires { length bytes.now < 2 ^ 32 }
     ensures { result ≡ count_by (λ b. b == 10) bytes.now }
 {
-    bytes.iter().filter(|byte| **byte == b'\n').count() as u32
+    // A plain loop, which the compiler turns into one over many bytes at once.
+    let mut count = 0;
+    for byte in bytes {
+        if *byte == b'\n' {
+            count += 1;
+        }
+    }
+    count
 }
 
 // Adds the token of a piece that begins at a place and on a line. Separators and comments have none.
@@ -44,7 +55,9 @@ pub fn tokens(alloc: Global, bundle: &[u8], part: Span) -> Result<Vec<Token>, Te
     ensures tokens { MatchResult result (λ v. AreTokens bundle.now part v.items) (IsRefused bundle.now part) }
     ensures within { IfOk result (λ v. All (λ t. LiesIn bundle.now t.span) v.items) }
 {
-    let mut list = Vec::new(alloc);
+    // Room at once for what a text of some pages has; the list of a longer one grows.
+    let room = ((part.end - part.start) / 4).min(ROOM);
+    let mut list = Vec::with_capacity(alloc, room)?;
     let mut place = part.start;
     let mut line = 1 + line_feeds(&bundle[..place]);
     while place < part.end {

@@ -3,7 +3,7 @@
 ghost use Rattle.std.specs.Prelude.{◌≡◌, ◌≤◌, ◌↔◌, ℕ, IsTrue, IfOk, length};
 ghost use Rattle.rcv_tree.specs.Bits.{members};
 ghost use Rattle.rcv_model.specs.Net.{IsIn};
-ghost use Rattle.rcv_points.specs.Follow.{net_in};
+ghost use Rattle.rcv_points.specs.Follow.{IsSetOfRole, net_in};
 ghost use Rattle.rcv_next.specs.Ahead.{IsAhead};
 ghost use Rattle.rcv_next.specs.Found.{IsOfferedBy, HasEnd};
 
@@ -34,9 +34,24 @@ pub fn look_ahead(
     requires { place ≤ length points.now.messages }
     ensures { IfOk result (λ a. IsAhead (net_in points.now) role place a.next.items a.may_end) }
 {
+    look_ahead_past(alloc, points, role, points.of_role(role), place)
+}
+
+/// The same, where these are the role's own points: to find them goes through all points, which is done once for all
+/// places of a role.
+pub fn look_ahead_past(
+    alloc: Global,
+    points: &Points,
+    role: RoleId,
+    own: PointSet,
+    place: u16,
+) -> Result<Ahead, AllocError>
+    requires own { IsSetOfRole (net_in points.now) role (members own.0) }
+    requires last { place ≤ length points.now.messages }
+    ensures { IfOk result (λ a. IsAhead (net_in points.now) role place a.next.items a.may_end) }
+{
     // The points keep within the text.
     points.count();
-    let own = points.of_role(role);
     let places = places_ahead(points, role, own, place);
     let may_end = some_ends(points, &places);
     let next = own_points(points, own, &places).list(alloc)?;

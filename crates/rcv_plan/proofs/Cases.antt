@@ -2,7 +2,8 @@
 use Rattle.std.proofs.Common.{◌≡◌, ℕ, Bool, true, false, List, [], ◌∷◌, ◌++◌, refl}
 use Rattle.std.specs.Prelude.{◌&&◌, not, codes}
 use Rattle.rcv_model.specs.Plan.{EveryLine, CrashLine, LimitLine, RoomLine, HostLine}
-use Rattle.rcv_scan.specs.Symbols.{Symbol, Word, Number, Mark}
+use Rattle.rcv_plan.specs.declared.sign.Sign.TheVariants.{Equals, Comma}
+use Rattle.rcv_plan.specs.Symbols.{Symbol, Word, Number, Is}
 use Rattle.rcv_plan.specs.declared.fault.Fault.TheVariants.{Token, Role, Twice, Range}
 use Rattle.rcv_plan.specs.Grammar.{Written, WrittenEvery, WrittenCrash, WrittenLimit, WrittenRoom, WrittenHost, plan_text}
 use Rattle.rcv_plan.specs.Codes.{is_unknown, is_repeated, is_out_of_range}
@@ -33,7 +34,7 @@ abbrev crash_symbols : List Symbol
 crash_symbols = Word (codes "crash") ∷ Word a ∷ []
 
 abbrev host_symbols : List Symbol
-host_symbols = Word (codes "host") ∷ Word h ∷ Mark (codes "=") ∷ Word a ∷ Mark (codes ",") ∷ []
+host_symbols = Word (codes "host") ∷ Word h ∷ Is Equals ∷ Word a ∷ Is Comma ∷ []
 
 -- ---- a plan that is read
 
@@ -136,7 +137,7 @@ twice_in_host = refl
 once_in_host : is_repeated roles (backward host_symbols []) (Word b) [] ≡ false
 once_in_host = refl
 
-in_two_hosts : HoldsAt roles Twice (plan_text (WrittenHost (codes "g") a b [] ∷ []) ++ Word (codes "host") ∷ Word h ∷ Mark (codes "=") ∷ []) (Word b ∷ [])
+in_two_hosts : HoldsAt roles Twice (plan_text (WrittenHost (codes "g") a b [] ∷ []) ++ Word (codes "host") ∷ Word h ∷ Is Equals ∷ []) (Word b ∷ [])
 in_two_hosts = refl
 
 -- ---- 43: each range at both its ends

@@ -1,15 +1,16 @@
 -- What the loop over items keeps, and what follows from it at the end and where it stops.
-use Rattle.std.proofs.Common.{◌≡◌, ℕ, Bool, true, false, List, [], ◌∷◌, ◌++◌, ◌<◌, length, arith, refl, sym, ap, subst, ◌∙◌, append_assoc, append-nil}
-use Rattle.std.specs.Prelude.{◌&&◌, ◌||◌, codes, map, Err}
-use Rattle.std.specs.Str.{bytes_eq}
+use Rattle.std.proofs.Common.{◌≡◌, ℕ, true, false, List, [], ◌∷◌, ◌++◌, ◌<◌, length, arith, refl, sym, ap, subst, ◌∙◌, append_assoc, append-nil}
+use Rattle.std.specs.Prelude.{codes, map, Err}
 use Rattle.std.proofs.lemmas.List.{map-append}
 use Rattle.rcv_model.specs.Plan.{PlanLine}
-use Rattle.rcv_scan.specs.Symbols.{Symbol, Word, Mark}
+use Rattle.rcv_plan.specs.declared.sign.Sign.{Sign}
+use Rattle.rcv_plan.specs.declared.sign.Sign.TheVariants.{Equals, Comma}
+use Rattle.rcv_plan.specs.Symbols.{Symbol, Word, Is}
 use Rattle.rcv_plan.specs.declared.fault.Fault.{Fault}
 use Rattle.rcv_plan.specs.declared.fault.Fault.TheVariants.{Token, Role, Twice, Range}
 use Rattle.rcv_plan.specs.declared.fault.ReadError.{ReadError}
 use Rattle.rcv_plan.specs.declared.fault.ReadError.TheVariants as causes
-use Rattle.rcv_plan.specs.Lines.{IsPlanFor}
+use Rattle.rcv_plan.specs.Lines.{IsPlanFor, AreOnce, IsPlanned}
 use Rattle.rcv_plan.specs.Grammar.{Written, WrittenEvery, WrittenCrash, WrittenLimit, WrittenRoom, WrittenHost, more_roles, item_text, plan_text, IsDerived, IsBeginning, said}
 use Rattle.rcv_plan.specs.Codes.{is_between}
 use Rattle.rcv_plan.specs.Refusing.{code_of, backward, HoldsAt, IsFree, IsFirst, IsRead, Ends}
@@ -18,6 +19,7 @@ use Rattle.rcv_plan.proofs.Fresh.{Fresh, fresh}
 use Rattle.rcv_plan.proofs.Telling.{has, NoneAt, AllFree, Speaks, Knows, Tells, TakesItem, StopsAt, Completes, Allowed}
 use Rattle.rcv_plan.proofs.Hosting.{backward_append, free_append}
 use Rattle.rcv_plan.proofs.Items.{item_tells}
+use Rattle.rcv_plan.proofs.Crashes.{none_once, once_more}
 
 -- ---- what the grammar derives it has, symbol by symbol
 
@@ -33,14 +35,10 @@ had_there : (back front ts : List Symbol) (t : Symbol) → AllHad back (front ++
 had_there back [] ts t a = a.0
 had_there back (x ∷ front) ts t a = had_there (x ∷ back) front ts t a.1
 
-more_had : (qs : List (List ℕ)) (q m : List ℕ) (b : List Symbol) → bytes_eq m (codes ",") ≡ true
-    → AllHad (Word q ∷ Mark m ∷ b) (more_roles qs) × (is_between (backward (more_roles qs) (Word q ∷ Mark m ∷ b)) ≡ true)
-more_had [] q m b e = (tt, e)
-more_had (r ∷ qs) q m b e = let others = more_had qs r (codes ",") (Word q ∷ Mark m ∷ b) refl in ((rw e (either (bytes_eq m (codes "="))), (refl, others.0)), others.1)
-  where
-    either : (a : Bool) → ((a || true) && true) ≡ true
-    either true = refl
-    either false = refl
+more_had : (qs : List (List ℕ)) (q : List ℕ) (b : List Symbol)
+    → AllHad (Word q ∷ Is Comma ∷ b) (more_roles qs) × (is_between (backward (more_roles qs) (Word q ∷ Is Comma ∷ b)) ≡ true)
+more_had [] q b = (tt, refl)
+more_had (r ∷ qs) q b = let others = more_had qs r (Word q ∷ Is Comma ∷ b) in ((refl, (refl, others.0)), others.1)
 
 item_had : (w : Written) (back : List Symbol) → Fresh back → AllHad back (item_text w) × (is_between (backward (item_text w) back) ≡ true)
 item_had (WrittenEvery r n) back f = ((rw (f.behind (codes "every"), f.behind (codes "crash"), f.behind (codes "host"), f.in_list, f.between) refl, (rw f.between refl, (rw f.between refl, tt))), refl)
@@ -48,7 +46,7 @@ item_had (WrittenCrash r n) back f = ((rw (f.behind (codes "every"), f.behind (c
 item_had (WrittenLimit n) back f = ((rw (f.behind (codes "every"), f.behind (codes "crash"), f.behind (codes "host"), f.in_list, f.between) refl, (rw (f.behind (codes "every"), f.behind (codes "crash"), f.between) refl, tt)), refl)
 item_had (WrittenRoom n) back f = ((rw (f.behind (codes "every"), f.behind (codes "crash"), f.behind (codes "host"), f.in_list, f.between) refl, (rw (f.behind (codes "every"), f.behind (codes "crash"), f.between) refl, tt)), refl)
 item_had (WrittenHost h a b qs) back f =
-    let others = more_had qs b (codes ",") (Word a ∷ Mark (codes "=") ∷ Word h ∷ Word (codes "host") ∷ back) refl in
+    let others = more_had qs b (Word a ∷ Is Equals ∷ Word h ∷ Word (codes "host") ∷ back) in
     ((rw (f.behind (codes "every"), f.behind (codes "crash"), f.behind (codes "host"), f.in_list, f.between) refl, (rw f.between refl, (rw f.between refl, (refl, (refl, (refl, others.0)))))), others.1)
 
 plan_had : (ws : List Written) (back : List Symbol) → is_between back ≡ true → AllHad back (plan_text ws) × (is_between (backward (plan_text ws) back) ≡ true)
@@ -121,9 +119,10 @@ pub record SoFar (roles : List (List ℕ)) (symbols left : List Symbol) (k : Kno
   pub cut : symbols ≡ plan_text items ++ left
   pub free : AllFree roles [] (plan_text items) left
   pub over : is_between (backward (plan_text items) []) ≡ true
-  pub settled : (m : List ℕ) (us : List Symbol) → left ≡ Mark m ∷ us → has (backward (plan_text items) []) (Mark m) ≡ false
+  pub settled : (m : Sign) (us : List Symbol) → left ≡ Is m ∷ us → has (backward (plan_text items) []) (Is m) ≡ false
   pub knows : Knows roles (backward (plan_text items) []) k
   pub said_by : k.lines ≡ map (said roles) items
+  pub once : AreOnce k.lines
 
 pub begin : (roles : List (List ℕ)) (symbols : List Symbol) (k : KnownView) → k.lines ≡ [] → k.names ≡ [] → SoFar roles symbols symbols k
 begin roles symbols k e n = record {
@@ -134,10 +133,16 @@ begin roles symbols k e n = record {
   settled = λ m us x. refl;
   knows = record { lines = e; names = n; fits = subst (λ (l : List PlanLine). IsPlanFor (length roles) l) (sym e) (λ i d l. absurd (omega (arith, l))) };
   said_by = e;
+  once = subst (λ (l : List PlanLine). AreOnce l) (sym e) none_once;
 }
 
 tells : (roles : List (List ℕ)) (symbols left : List Symbol) (k : KnownView) (h : SoFar roles symbols left k) → (left ≡ [] → ⊥) → Tells roles (backward (plan_text h.items) []) k left (next_item roles k left)
 tells roles symbols left k h some = item_tells roles (backward (plan_text h.items) []) k left (fresh (backward (plan_text h.items) []) h.over) h.knows some h.settled
+
+pub item_taken : (roles : List (List ℕ)) (symbols left new : List Symbol) (k k' : KnownView) → SoFar roles symbols left k → (left ≡ [] → ⊥) → next_item roles k left ≡ Takes k' new → (item : Written) × (left ≡ item_text item ++ new)
+item_taken roles symbols left new k k' h some e =
+    let t : TakesItem roles (backward (plan_text h.items) []) k k' left new = subst (λ (s : Step KnownView). Tells roles (backward (plan_text h.items) []) k left s) e (tells roles symbols left k h some) in
+    (t.item, t.cut)
 
 pub one_more : (roles : List (List ℕ)) (symbols left new : List Symbol) (k k' : KnownView) → SoFar roles symbols left k → (left ≡ [] → ⊥) → next_item roles k left ≡ Takes k' new → SoFar roles symbols new k'
 one_more roles symbols left new k k' h some e = go (subst (λ (s : Step KnownView). Tells roles (backward (plan_text h.items) []) k left s) e (tells roles symbols left k h some))
@@ -151,8 +156,9 @@ one_more roles symbols left new k k' h some e = go (subst (λ (s : Step KnownVie
           cut = h.cut ∙ ap (λ (z : List Symbol). plan_text h.items ++ z) t.cut ∙ sym (append_assoc (plan_text h.items) (item_text t.item) new) ∙ sym (ap (λ (z : List Symbol). z ++ new) text);
           free = subst (λ (z : List Symbol). AllFree roles [] z new) (sym text) (free_append roles [] (plan_text h.items) (item_text t.item) new (subst (λ (z : List Symbol). AllFree roles [] (plan_text h.items) z) t.cut h.free) t.free);
           over = subst (λ (z : List Symbol). is_between z ≡ true) (sym behind) t.over;
-          settled = λ m us x. subst (λ (z : List Symbol). has z (Mark m) ≡ false) (sym behind) (t.settled m us x);
+          settled = λ m us x. subst (λ (z : List Symbol). has z (Is m) ≡ false) (sym behind) (t.settled m us x);
           knows = subst (λ (z : List Symbol). Knows roles z k') (sym behind) t.knows;
+          once = subst (λ (l : List PlanLine). AreOnce l) (sym t.more) (once_more k.lines (said roles t.item) h.once t.alone);
           said_by = t.more ∙ ap (λ (l : List PlanLine). l ++ said roles t.item ∷ []) h.said_by ∙ sym (map-append (said roles) h.items (t.item ∷ []));
         }
 
@@ -165,6 +171,9 @@ done roles symbols left k h e =
       free = free_of roles symbols (h.items, all) (subst (λ (z : List Symbol). AllFree roles [] z []) (sym all) (subst (λ (z : List Symbol). AllFree roles [] (plan_text h.items) z) e h.free));
       said_by = h.said_by;
     }
+
+pub planned : (roles : List (List ℕ)) (symbols left : List Symbol) (k : KnownView) → SoFar roles symbols left k → IsPlanned (length roles) k.lines
+planned roles symbols left k h = record { fits = h.knows.fits; once = h.once }
 
 -- ---- where it stops
 

@@ -4,16 +4,16 @@ use Rattle.std.proofs.lemmas.List.Folds.{list_any-append}
 use Rattle.std.proofs.lemmas.Bool.Decides.{nat_tests}
 use Rattle.std.specs.BTreeSet.{BTreeSet, contains_by, Updates}
 use Rattle.std.specs.Ordering.{nat_cmp, ordering_then, is_eq}
-use Rattle.std.specs.Prelude.{cond, codes, Option, Some, None, ◌||◌, ◌&&◌, ◌==◌, nat_lt}
-use Rattle.std.specs.Str.{bytes_eq}
+use Rattle.std.specs.Prelude.{cond, Option, Some, None, ◌||◌, ◌&&◌, ◌==◌, nat_lt}
 use Rattle.rcv_tree.specs.Bits.{is_listed}
 use Rattle.rcv_model.specs.Plan.{PlanLine, CrashLine}
-use Rattle.rcv_scan.specs.Symbols.{Symbol, Word, Number, Text, Mark}
-use Rattle.rcv_plan.specs.declared.fault.Fault.TheVariants.{Token, Twice}
+use Rattle.rcv_plan.specs.declared.sign.Sign.TheVariants.{Comma}
+use Rattle.rcv_plan.specs.Symbols.{Symbol, Is, Word, Number, Text}
+use Rattle.rcv_plan.specs.declared.fault.Fault.TheVariants.{Twice}
 use Rattle.rcv_plan.specs.Lines.{has_crash, is_crash, is_hosted}
 use Rattle.rcv_plan.specs.Grammar.{place_of}
 use Rattle.rcv_plan.specs.Codes.{within}
-use Rattle.rcv_plan.specs.Items.{KnownView, Step, Takes, Stops, goes_on, found, unhosted, next_mark, next_member, next_members, next_count}
+use Rattle.rcv_plan.specs.Items.{KnownView, Step, Takes, Stops, goes_on, found, unhosted, next_member, next_members, next_count}
 
 same_key : (p m r n : ℕ) → is_eq (ordering_then (nat_cmp p r) (nat_cmp m n)) ≡ (p == r && m == n)
 same_key p m r n = go (nat_lt p r) (p == r) (nat_lt m n) (m == n) refl refl refl refl
@@ -44,15 +44,15 @@ found_more p m lines before now ties updates r n =
     ∙ either (p == r && m == n) (has_crash r n lines)
     ∙ sym (list_any-append (is_crash r n) lines (CrashLine p m ∷ []))
 
-pub count_twice : (k : KnownView) (p n digits : ℕ) (old after : List Symbol) → old ≡ Number digits ∷ after → n ≡ digits → within 0 100000 n ≡ true → has_crash p n k.lines ≡ true
+pub count_twice : (k : KnownView) (p n number : ℕ) (old after : List Symbol) → old ≡ Number number ∷ after → n ≡ number → within 0 100000 n ≡ true → has_crash p n k.lines ≡ true
     → next_count k p old ≡ Stops Twice old
-count_twice k p n digits old after e is w h =
+count_twice k p n number old after e is w h =
     subst (λ (z : List Symbol). next_count k p z ≡ Stops Twice z) (sym e)
     (subst (λ (x : ℕ). next_count k p (Number x ∷ after) ≡ Stops Twice (Number x ∷ after)) is (rw (w, h) refl))
 
-pub count_taken : (k : KnownView) (p n digits : ℕ) (old after : List Symbol) → old ≡ Number digits ∷ after → n ≡ digits → within 0 100000 n ≡ true → has_crash p n k.lines ≡ false
+pub count_taken : (k : KnownView) (p n number : ℕ) (old after : List Symbol) → old ≡ Number number ∷ after → n ≡ number → within 0 100000 n ≡ true → has_crash p n k.lines ≡ false
     → next_count k p old ≡ Takes n after
-count_taken k p n digits old after e is w h =
+count_taken k p n number old after e is w h =
     subst (λ (z : List Symbol). next_count k p z ≡ Takes n after) (sym e)
     (subst (λ (x : ℕ). next_count k p (Number x ∷ after) ≡ Takes n after) is (rw (w, h) refl))
 
@@ -68,7 +68,7 @@ member_left roles k qs all r ts new e = go (place_of roles r) e
     go None h = absurd cc
     go (Some p) h = taken (is_listed qs p || is_hosted p k.lines) p h
 
-pub comma_more : (roles : List (List ℕ)) (k : KnownView) (qs all : List ℕ) (old mid new : List Symbol) → old ≡ Mark (codes ",") ∷ mid → next_member roles k qs mid ≡ Takes all new
+pub comma_more : (roles : List (List ℕ)) (k : KnownView) (qs all : List ℕ) (old mid new : List Symbol) → old ≡ Is Comma ∷ mid → next_member roles k qs mid ≡ Takes all new
     → next_members roles k all new ≡ next_members roles k qs old
 comma_more roles k qs all old (Word r ∷ ts) new cut e =
     let left = member_left roles k qs all r ts new e in
@@ -76,36 +76,5 @@ comma_more roles k qs all old (Word r ∷ ts) new cut e =
     ∙ sym (ap (next_members roles k qs) cut ∙ ap (λ (s : Step (List ℕ)). goes_on s (λ q after. next_members roles k q ts)) e)
 comma_more roles k qs all old [] new cut e = absurd cc
 comma_more roles k qs all old (Number n ∷ ts) new cut e = absurd cc
-comma_more roles k qs all old (Mark n ∷ ts) new cut e = absurd cc
+comma_more roles k qs all old (Is n ∷ ts) new cut e = absurd cc
 comma_more roles k qs all old (Text n ∷ ts) new cut e = absurd cc
-
-pub no_comma : (roles : List (List ℕ)) (k : KnownView) (qs : List ℕ) (ts : List Symbol) → next_mark (codes ",") ts ≡ Stops Token ts → next_members roles k qs ts ≡ Takes qs ts
-no_comma roles k qs [] e = refl
-no_comma roles k qs (Word w ∷ ts) e = refl
-no_comma roles k qs (Number n ∷ ts) e = refl
-no_comma roles k qs (Text n ∷ ts) e = refl
-no_comma roles k qs (Mark m ∷ Word r ∷ ts) e = go (bytes_eq m (codes ",")) refl e
-  where
-    go : (b : Bool) → bytes_eq m (codes ",") ≡ b → cond b (Takes m (Word r ∷ ts)) (Stops Token (Mark m ∷ Word r ∷ ts)) ≡ Stops Token (Mark m ∷ Word r ∷ ts) → next_members roles k qs (Mark m ∷ Word r ∷ ts) ≡ Takes qs (Mark m ∷ Word r ∷ ts)
-    go true t h = absurd cc
-    go false t h = rw t refl
-no_comma roles k qs (Mark m ∷ []) e = go (bytes_eq m (codes ",")) refl e
-  where
-    go : (b : Bool) → bytes_eq m (codes ",") ≡ b → cond b (Takes m []) (Stops Token (Mark m ∷ [])) ≡ Stops Token (Mark m ∷ []) → next_members roles k qs (Mark m ∷ []) ≡ Takes qs (Mark m ∷ [])
-    go true t h = absurd cc
-    go false t h = rw t refl
-no_comma roles k qs (Mark m ∷ Number x ∷ ts) e = go (bytes_eq m (codes ",")) refl e
-  where
-    go : (b : Bool) → bytes_eq m (codes ",") ≡ b → cond b (Takes m (Number x ∷ ts)) (Stops Token (Mark m ∷ Number x ∷ ts)) ≡ Stops Token (Mark m ∷ Number x ∷ ts) → next_members roles k qs (Mark m ∷ Number x ∷ ts) ≡ Takes qs (Mark m ∷ Number x ∷ ts)
-    go true t h = absurd cc
-    go false t h = rw t refl
-no_comma roles k qs (Mark m ∷ Text x ∷ ts) e = go (bytes_eq m (codes ",")) refl e
-  where
-    go : (b : Bool) → bytes_eq m (codes ",") ≡ b → cond b (Takes m (Text x ∷ ts)) (Stops Token (Mark m ∷ Text x ∷ ts)) ≡ Stops Token (Mark m ∷ Text x ∷ ts) → next_members roles k qs (Mark m ∷ Text x ∷ ts) ≡ Takes qs (Mark m ∷ Text x ∷ ts)
-    go true t h = absurd cc
-    go false t h = rw t refl
-no_comma roles k qs (Mark m ∷ Mark x ∷ ts) e = go (bytes_eq m (codes ",")) refl e
-  where
-    go : (b : Bool) → bytes_eq m (codes ",") ≡ b → cond b (Takes m (Mark x ∷ ts)) (Stops Token (Mark m ∷ Mark x ∷ ts)) ≡ Stops Token (Mark m ∷ Mark x ∷ ts) → next_members roles k qs (Mark m ∷ Mark x ∷ ts) ≡ Takes qs (Mark m ∷ Mark x ∷ ts)
-    go true t h = absurd cc
-    go false t h = rw t refl

@@ -1,7 +1,7 @@
 -- What holds behind symbols where an item may begin.
 use Rattle.std.proofs.Common.{◌≡◌, ℕ, true, false, List, [], ◌∷◌, refl}
 use Rattle.rcv_model.specs.Plan.{PlanLine}
-use Rattle.rcv_scan.specs.Symbols.{Symbol, Word, Number, Mark, Text}
+use Rattle.rcv_plan.specs.Symbols.{Symbol, Word, Number, Is, Text}
 use Rattle.rcv_plan.specs.Codes.{is_between, is_behind, is_behind_role, is_in_list, with_hosted}
 
 pub record Fresh (back : List Symbol) : Type 0 where
@@ -15,10 +15,10 @@ pub record Fresh (back : List Symbol) : Type 0 where
 pub fresh : (back : List Symbol) → is_between back ≡ true → Fresh back
 fresh [] e = record { between = e; behind = λ w. refl; role = λ w. refl; in_list = refl; word = λ x. refl; hosted = λ l q. refl }
 fresh (Number n ∷ back) e = record { between = e; behind = λ w. refl; role = λ w. refl; in_list = refl; word = λ x. refl; hosted = λ l q. refl }
-fresh (Word q ∷ Mark m ∷ back) e = record { between = e; behind = λ w. refl; role = λ w. refl; in_list = refl; word = λ x. refl; hosted = λ l q. refl }
+fresh (Word q ∷ Is m ∷ back) e = record { between = e; behind = λ w. refl; role = λ w. refl; in_list = refl; word = λ x. refl; hosted = λ l q. refl }
 fresh (Word q ∷ []) e = absurd cc
 fresh (Word q ∷ Word r ∷ back) e = absurd cc
 fresh (Word q ∷ Number r ∷ back) e = absurd cc
 fresh (Word q ∷ Text r ∷ back) e = absurd cc
-fresh (Mark m ∷ back) e = absurd cc
+fresh (Is m ∷ back) e = absurd cc
 fresh (Text x ∷ back) e = absurd cc

@@ -4,13 +4,15 @@ use Rattle.std.specs.Prelude.{◌&&◌, ◌||◌, codes, cond, map}
 use Rattle.std.specs.List.{All}
 use Rattle.std.specs.Str.{bytes_eq}
 use Rattle.rcv_model.specs.Plan.{PlanLine, HostLine}
-use Rattle.rcv_scan.specs.Symbols.{Symbol, Word, Number, Mark, Text}
+use Rattle.rcv_plan.specs.declared.sign.Sign.{Sign}
+use Rattle.rcv_plan.specs.declared.sign.Sign.TheVariants.{Equals, Comma, Foreign}
+use Rattle.rcv_plan.specs.Symbols.{Symbol, Word, Number, Is, Text}
 use Rattle.rcv_plan.specs.declared.fault.Fault.{Fault}
 use Rattle.rcv_plan.specs.declared.fault.Fault.TheVariants.{Token, Role, Twice, Range}
 use Rattle.rcv_plan.specs.Lines.{is_hosted}
 use Rattle.rcv_plan.specs.Grammar.{WrittenEvery, WrittenCrash, WrittenLimit, WrittenRoom, WrittenHost, more_roles, item_text, place}
 use Rattle.rcv_plan.specs.Codes.{is_among, with_role, lines_before, hosts_before, is_second}
-use Rattle.rcv_plan.specs.Items.{KnownView, Step, Takes, Stops, goes_on, with_host, next_mark, next_member, next_members, host_roles, every_line, crash_line, limit_line, room_line, host_line, line_by, next_item, is_first_word}
+use Rattle.rcv_plan.specs.Items.{KnownView, Step, Takes, Stops, goes_on, with_host, next_sign, next_member, next_members, host_roles, every_line, crash_line, limit_line, room_line, host_line, line_by, next_item, is_first_word}
 use Rattle.rcv_plan.proofs.Fresh.{Fresh}
 use Rattle.rcv_plan.proofs.Telling.{has, NoneAt, AllFree, Speaks, Knows, Tells, StopsAt, Completes, Allowed, fits_more, every_tells, crash_tells, limit_tells, room_tells}
 use Rattle.rcv_plan.proofs.Hosting.{backward_append, free_append, same_bytes, IsWordAt, TellsRole, role_tells, TellsRoles, Behind, free_comma, roles_tell, last_grows, hosted_so_far}
@@ -18,7 +20,7 @@ use Rattle.std.proofs.lemmas.List.Elements.{All-push}
 
 more_roles_append : (xs ys : List (List ℕ)) → more_roles (xs ++ ys) ≡ more_roles xs ++ more_roles ys
 more_roles_append [] ys = refl
-more_roles_append (x ∷ xs) ys = ap (λ (z : List Symbol). Mark (codes ",") ∷ Word x ∷ z) (more_roles_append xs ys)
+more_roles_append (x ∷ xs) ys = ap (λ (z : List Symbol). Is Comma ∷ Word x ∷ z) (more_roles_append xs ys)
 
 host_free : (roles : List (List ℕ)) (back : List Symbol) (ts : List Symbol) → Fresh back → NoneAt roles back (Word (codes "host")) ts
 host_free roles back ts f = record {
@@ -41,15 +43,15 @@ name_free roles back k h ts f kn e =
       ranged = refl;
     }
 
-equals_free : (roles : List (List ℕ)) (back : List Symbol) (h : List ℕ) (ts : List Symbol) → Fresh back → NoneAt roles (Word h ∷ Word (codes "host") ∷ back) (Mark (codes "=")) ts
+equals_free : (roles : List (List ℕ)) (back : List Symbol) (h : List ℕ) (ts : List Symbol) → Fresh back → NoneAt roles (Word h ∷ Word (codes "host") ∷ back) (Is Equals) ts
 equals_free roles back h ts f = record { had = rw f.between refl; known = refl; single = refl; ranged = refl }
 
 -- the symbols up to the mark behind the name
 abbrev opening : List ℕ → List Symbol
-opening h = Word (codes "host") ∷ Word h ∷ Mark (codes "=") ∷ []
+opening h = Word (codes "host") ∷ Word h ∷ Is Equals ∷ []
 
 opening_free : (roles : List (List ℕ)) (back : List Symbol) (k : KnownView) (h : List ℕ) (ts : List Symbol) → Fresh back → Knows roles back k → is_among h k.names ≡ false → AllFree roles back (opening h) ts
-opening_free roles back k h ts f kn e = (host_free roles back (Word h ∷ Mark (codes "=") ∷ ts) f, (name_free roles back k h (Mark (codes "=") ∷ ts) f kn e, (equals_free roles back h ts f, tt)))
+opening_free roles back k h ts f kn e = (host_free roles back (Word h ∷ Is Equals ∷ ts) f, (name_free roles back k h (Is Equals ∷ ts) f kn e, (equals_free roles back h ts f, tt)))
 
 lines_open : (roles : List (List ℕ)) (back : List Symbol) (k : KnownView) (h : List ℕ) → Fresh back → Knows roles back k → lines_before roles (Word h ∷ Word (codes "host") ∷ back) ≡ k.lines
 lines_open roles back k h f kn = f.hosted (lines_before roles back) (place roles (codes "host")) ∙ sym kn.lines
@@ -64,13 +66,13 @@ with_word Range front left w c = subst (λ (z : List Symbol). Allowed Range fron
 -- the roles of a host, behind its first two
 host_ends : (roles : List (List ℕ)) (back : List Symbol) (k : KnownView) (h a b : List ℕ) (qs : List ℕ) (ts : List Symbol) (s : Step (List ℕ)) → Fresh back → Knows roles back k → is_among h k.names ≡ false
     → qs ≡ place roles a ∷ place roles b ∷ []
-    → AllFree roles back (Word (codes "host") ∷ Word h ∷ Mark (codes "=") ∷ Word a ∷ Mark (codes ",") ∷ Word b ∷ []) ts
-    → TellsRoles roles (Word b ∷ Mark (codes ",") ∷ Word a ∷ Mark (codes "=") ∷ Word h ∷ Word (codes "host") ∷ back) k.lines qs ts s
-    → Tells roles back k (Word (codes "host") ∷ Word h ∷ Mark (codes "=") ∷ Word a ∷ Mark (codes ",") ∷ Word b ∷ ts) (goes_on s (λ all left. Takes (with_host k h all) left))
+    → AllFree roles back (Word (codes "host") ∷ Word h ∷ Is Equals ∷ Word a ∷ Is Comma ∷ Word b ∷ []) ts
+    → TellsRoles roles (Word b ∷ Is Comma ∷ Word a ∷ Is Equals ∷ Word h ∷ Word (codes "host") ∷ back) k.lines qs ts s
+    → Tells roles back k (Word (codes "host") ∷ Word h ∷ Is Equals ∷ Word a ∷ Is Comma ∷ Word b ∷ ts) (goes_on s (λ all left. Takes (with_host k h all) left))
 host_ends roles back k h a b qs ts (Takes all left) f kn e two free t = record {
   item = WrittenHost h a b t.names;
-  cut = ap (λ (z : List Symbol). Word (codes "host") ∷ Word h ∷ Mark (codes "=") ∷ Word a ∷ Mark (codes ",") ∷ Word b ∷ z) t.cut;
-  free = free_append roles back (Word (codes "host") ∷ Word h ∷ Mark (codes "=") ∷ Word a ∷ Mark (codes ",") ∷ Word b ∷ []) (more_roles t.names) left (subst (λ (z : List Symbol). AllFree roles back (Word (codes "host") ∷ Word h ∷ Mark (codes "=") ∷ Word a ∷ Mark (codes ",") ∷ Word b ∷ []) z) t.cut free) t.free;
+  cut = ap (λ (z : List Symbol). Word (codes "host") ∷ Word h ∷ Is Equals ∷ Word a ∷ Is Comma ∷ Word b ∷ z) t.cut;
+  free = free_append roles back (Word (codes "host") ∷ Word h ∷ Is Equals ∷ Word a ∷ Is Comma ∷ Word b ∷ []) (more_roles t.names) left (subst (λ (z : List Symbol). AllFree roles back (Word (codes "host") ∷ Word h ∷ Is Equals ∷ Word a ∷ Is Comma ∷ Word b ∷ []) z) t.cut free) t.free;
   knows = record {
     lines = sym t.lines_are;
     names = sym (t.hosts ∙ named);
@@ -79,46 +81,47 @@ host_ends roles back k h a b qs ts (Takes all left) f kn e two free t = record {
   over = t.over;
   settled = t.settled;
   more = ap (λ (x : List ℕ). k.lines ++ HostLine x ∷ []) (t.more ∙ ap (λ (x : List ℕ). x ++ map (place roles) t.names) two);
+  alone = λ r c x. absurd cc;
 }
   where
     named : hosts_before (Word h ∷ Word (codes "host") ∷ back) ≡ k.names ++ h ∷ []
     named = rw (f.between) (ap (λ (x : List (List ℕ)). x ++ h ∷ []) (names_before roles back k f kn))
 host_ends roles back k h a b qs ts (Stops fault left) f kn e two free t = record {
-  front = Word (codes "host") ∷ Word h ∷ Mark (codes "=") ∷ Word a ∷ Mark (codes ",") ∷ Word b ∷ more_roles t.names ++ Mark (codes ",") ∷ [];
-  cut = ap (λ (z : List Symbol). Word (codes "host") ∷ Word h ∷ Mark (codes "=") ∷ Word a ∷ Mark (codes ",") ∷ Word b ∷ z) (t.cut ∙ sym (append_assoc (more_roles t.names) (Mark (codes ",") ∷ []) left));
-  free = free_append roles back (Word (codes "host") ∷ Word h ∷ Mark (codes "=") ∷ Word a ∷ Mark (codes ",") ∷ Word b ∷ []) (more_roles t.names ++ Mark (codes ",") ∷ []) left
-      (subst (λ (z : List Symbol). AllFree roles back (Word (codes "host") ∷ Word h ∷ Mark (codes "=") ∷ Word a ∷ Mark (codes ",") ∷ Word b ∷ []) z) (t.cut ∙ sym (append_assoc (more_roles t.names) (Mark (codes ",") ∷ []) left)) free) t.free;
-  speaks = subst (λ (z : List Symbol). Speaks roles fault z left) (sym (backward_append (more_roles t.names) (Mark (codes ",") ∷ []) (Word b ∷ Mark (codes ",") ∷ Word a ∷ Mark (codes "=") ∷ Word h ∷ Word (codes "host") ∷ back))) t.speaks;
+  front = Word (codes "host") ∷ Word h ∷ Is Equals ∷ Word a ∷ Is Comma ∷ Word b ∷ more_roles t.names ++ Is Comma ∷ [];
+  cut = ap (λ (z : List Symbol). Word (codes "host") ∷ Word h ∷ Is Equals ∷ Word a ∷ Is Comma ∷ Word b ∷ z) (t.cut ∙ sym (append_assoc (more_roles t.names) (Is Comma ∷ []) left));
+  free = free_append roles back (Word (codes "host") ∷ Word h ∷ Is Equals ∷ Word a ∷ Is Comma ∷ Word b ∷ []) (more_roles t.names ++ Is Comma ∷ []) left
+      (subst (λ (z : List Symbol). AllFree roles back (Word (codes "host") ∷ Word h ∷ Is Equals ∷ Word a ∷ Is Comma ∷ Word b ∷ []) z) (t.cut ∙ sym (append_assoc (more_roles t.names) (Is Comma ∷ []) left)) free) t.free;
+  speaks = subst (λ (z : List Symbol). Speaks roles fault z left) (sym (backward_append (more_roles t.names) (Is Comma ∷ []) (Word b ∷ Is Comma ∷ Word a ∷ Is Equals ∷ Word h ∷ Word (codes "host") ∷ back))) t.speaks;
   item = WrittenHost h a b (t.names ++ h ∷ []);
   rest = Word h ∷ [];
-  begins = ap (λ (z : List Symbol). Word (codes "host") ∷ Word h ∷ Mark (codes "=") ∷ Word a ∷ Mark (codes ",") ∷ Word b ∷ z)
-      (append_assoc (more_roles t.names) (Mark (codes ",") ∷ []) (Word h ∷ []) ∙ sym (more_roles_append t.names (h ∷ [])));
-  allowed = with_word fault (Word (codes "host") ∷ Word h ∷ Mark (codes "=") ∷ Word a ∷ Mark (codes ",") ∷ Word b ∷ more_roles t.names ++ Mark (codes ",") ∷ []) left t.word
+  begins = ap (λ (z : List Symbol). Word (codes "host") ∷ Word h ∷ Is Equals ∷ Word a ∷ Is Comma ∷ Word b ∷ z)
+      (append_assoc (more_roles t.names) (Is Comma ∷ []) (Word h ∷ []) ∙ sym (more_roles_append t.names (h ∷ [])));
+  allowed = with_word fault (Word (codes "host") ∷ Word h ∷ Is Equals ∷ Word a ∷ Is Comma ∷ Word b ∷ more_roles t.names ++ Is Comma ∷ []) left t.word
       (λ r. (
         WrittenHost h a b (t.names ++ r ∷ []),
         [],
-        ap (λ (z : List Symbol). Word (codes "host") ∷ Word h ∷ Mark (codes "=") ∷ Word a ∷ Mark (codes ",") ∷ Word b ∷ z)
-            (append-nil ((more_roles t.names ++ Mark (codes ",") ∷ []) ++ Word r ∷ []) ∙ append_assoc (more_roles t.names) (Mark (codes ",") ∷ []) (Word r ∷ []) ∙ sym (more_roles_append t.names (r ∷ []))),
+        ap (λ (z : List Symbol). Word (codes "host") ∷ Word h ∷ Is Equals ∷ Word a ∷ Is Comma ∷ Word b ∷ z)
+            (append-nil ((more_roles t.names ++ Is Comma ∷ []) ++ Word r ∷ []) ∙ append_assoc (more_roles t.names) (Is Comma ∷ []) (Word r ∷ []) ∙ sym (more_roles_append t.names (r ∷ []))),
       ));
 }
 
 -- the second role
 second_role : (roles : List (List ℕ)) (back : List Symbol) (k : KnownView) (h a : List ℕ) (qs : List ℕ) (ts : List Symbol) (s : Step (List ℕ)) → Fresh back → Knows roles back k → is_among h k.names ≡ false
     → qs ≡ place roles a ∷ [] → All (λ q. q < length roles) qs
-    → ((us : List Symbol) → Mark (codes ",") ∷ ts ≡ us → NoneAt roles (Mark (codes "=") ∷ Word h ∷ Word (codes "host") ∷ back) (Word a) us)
-    → lines_before roles (Word a ∷ Mark (codes "=") ∷ Word h ∷ Word (codes "host") ∷ back) ≡ k.lines ++ HostLine qs ∷ []
-    → TellsRole roles (codes ",") (Word a ∷ Mark (codes "=") ∷ Word h ∷ Word (codes "host") ∷ back) qs ts s
-    → Tells roles back k (Word (codes "host") ∷ Word h ∷ Mark (codes "=") ∷ Word a ∷ Mark (codes ",") ∷ ts) (goes_on (goes_on s (next_members roles k)) (λ all left. Takes (with_host k h all) left))
+    → ((us : List Symbol) → Is Comma ∷ ts ≡ us → NoneAt roles (Is Equals ∷ Word h ∷ Word (codes "host") ∷ back) (Word a) us)
+    → lines_before roles (Word a ∷ Is Equals ∷ Word h ∷ Word (codes "host") ∷ back) ≡ k.lines ++ HostLine qs ∷ []
+    → TellsRole roles Comma (Word a ∷ Is Equals ∷ Word h ∷ Word (codes "host") ∷ back) qs ts s
+    → Tells roles back k (Word (codes "host") ∷ Word h ∷ Is Equals ∷ Word a ∷ Is Comma ∷ ts) (goes_on (goes_on s (next_members roles k)) (λ all left. Takes (with_host k h all) left))
 second_role roles back k h a qs ts (Stops fault left) f kn e one within first lines t = record {
-  front = Word (codes "host") ∷ Word h ∷ Mark (codes "=") ∷ Word a ∷ Mark (codes ",") ∷ [];
-  cut = ap (λ (z : List Symbol). Word (codes "host") ∷ Word h ∷ Mark (codes "=") ∷ Word a ∷ Mark (codes ",") ∷ z) (sym t.same);
+  front = Word (codes "host") ∷ Word h ∷ Is Equals ∷ Word a ∷ Is Comma ∷ [];
+  cut = ap (λ (z : List Symbol). Word (codes "host") ∷ Word h ∷ Is Equals ∷ Word a ∷ Is Comma ∷ z) (sym t.same);
   free = (
-    host_free roles back (Word h ∷ Mark (codes "=") ∷ Word a ∷ Mark (codes ",") ∷ left) f,
+    host_free roles back (Word h ∷ Is Equals ∷ Word a ∷ Is Comma ∷ left) f,
     (
-      name_free roles back k h (Mark (codes "=") ∷ Word a ∷ Mark (codes ",") ∷ left) f kn e,
+      name_free roles back k h (Is Equals ∷ Word a ∷ Is Comma ∷ left) f kn e,
       (
-        equals_free roles back h (Word a ∷ Mark (codes ",") ∷ left) f,
-        (first (Mark (codes ",") ∷ left) (ap (λ (z : List Symbol). Mark (codes ",") ∷ z) (sym t.same)), (free_comma roles (codes "=") a (Word h ∷ Word (codes "host") ∷ back) left refl, tt)),
+        equals_free roles back h (Word a ∷ Is Comma ∷ left) f,
+        (first (Is Comma ∷ left) (ap (λ (z : List Symbol). Is Comma ∷ z) (sym t.same)), (free_comma roles Equals a (Word h ∷ Word (codes "host") ∷ back) left refl, tt)),
       ),
     ),
   );
@@ -126,25 +129,24 @@ second_role roles back k h a qs ts (Stops fault left) f kn e one within first li
   item = WrittenHost h a h [];
   rest = Word h ∷ [];
   begins = refl;
-  allowed = with_word fault (Word (codes "host") ∷ Word h ∷ Mark (codes "=") ∷ Word a ∷ Mark (codes ",") ∷ []) left t.word (λ r. (WrittenHost h a r [], [], refl));
+  allowed = with_word fault (Word (codes "host") ∷ Word h ∷ Is Equals ∷ Word a ∷ Is Comma ∷ []) left t.word (λ r. (WrittenHost h a r [], [], refl));
 }
 second_role roles back k h a qs ts (Takes two left) f kn e one within first lines t =
-    subst (λ (z : List Symbol). Tells roles back k (Word (codes "host") ∷ Word h ∷ Mark (codes "=") ∷ Word a ∷ Mark (codes ",") ∷ z) (goes_on (next_members roles k two left) (λ all end. Takes (with_host k h all) end))) (sym t.cut)
+    subst (λ (z : List Symbol). Tells roles back k (Word (codes "host") ∷ Word h ∷ Is Equals ∷ Word a ∷ Is Comma ∷ z) (goes_on (next_members roles k two left) (λ all end. Takes (with_host k h all) end))) (sym t.cut)
     (host_ends roles back k h a t.name two left (next_members roles k two left) f kn e (t.more ∙ ap (λ (x : List ℕ). x ++ place roles t.name ∷ []) one) (
-      host_free roles back (Word h ∷ Mark (codes "=") ∷ Word a ∷ Mark (codes ",") ∷ Word t.name ∷ left) f,
+      host_free roles back (Word h ∷ Is Equals ∷ Word a ∷ Is Comma ∷ Word t.name ∷ left) f,
       (
-        name_free roles back k h (Mark (codes "=") ∷ Word a ∷ Mark (codes ",") ∷ Word t.name ∷ left) f kn e,
+        name_free roles back k h (Is Equals ∷ Word a ∷ Is Comma ∷ Word t.name ∷ left) f kn e,
         (
-          equals_free roles back h (Word a ∷ Mark (codes ",") ∷ Word t.name ∷ left) f,
-          (first (Mark (codes ",") ∷ Word t.name ∷ left) (ap (λ (z : List Symbol). Mark (codes ",") ∷ z) t.cut), (free_comma roles (codes "=") a (Word h ∷ Word (codes "host") ∷ back) (Word t.name ∷ left) refl, (t.free, tt))),
+          equals_free roles back h (Word a ∷ Is Comma ∷ Word t.name ∷ left) f,
+          (first (Is Comma ∷ Word t.name ∷ left) (ap (λ (z : List Symbol). Is Comma ∷ z) t.cut), (free_comma roles Equals a (Word h ∷ Word (codes "host") ∷ back) (Word t.name ∷ left) refl, (t.free, tt))),
         ),
       ),
     )
-    (roles_tell roles k (codes ",") t.name (Word a ∷ Mark (codes "=") ∷ Word h ∷ Word (codes "host") ∷ back) two left behind))
+    (roles_tell roles k t.name (Word a ∷ Is Equals ∷ Word h ∷ Word (codes "host") ∷ back) two left behind))
   where
-    behind : Behind roles k.lines (codes ",") t.name (Word a ∷ Mark (codes "=") ∷ Word h ∷ Word (codes "host") ∷ back) two
+    behind : Behind roles k.lines t.name (Word a ∷ Is Equals ∷ Word h ∷ Word (codes "host") ∷ back) two
     behind = record {
-      comma = refl;
       lines_are = ap (λ (x : List PlanLine). with_role x (place roles t.name)) lines ∙ last_grows k.lines qs (place roles t.name) ∙ sym (ap (λ (x : List ℕ). k.lines ++ HostLine x ∷ []) t.more);
       known = subst (λ (x : List ℕ). All (λ p. p < length roles) x) (sym t.more) (All-push (λ p. p < length roles) qs (place roles t.name) within t.known);
     }
@@ -159,7 +161,7 @@ host_stops roles back fault ts f speaks allowed = record {
   free = (host_free roles back ts f, tt);
   speaks = speaks;
   item = WrittenHost [] [] [] [];
-  rest = Word [] ∷ Mark (codes "=") ∷ Word [] ∷ Mark (codes ",") ∷ Word [] ∷ [];
+  rest = Word [] ∷ Is Equals ∷ Word [] ∷ Is Comma ∷ Word [] ∷ [];
   begins = refl;
 }
 
@@ -172,12 +174,12 @@ name_stops roles back k h fault ts f kn e speaks allowed = record {
   free = (host_free roles back (Word h ∷ ts) f, (name_free roles back k h ts f kn e, tt));
   speaks = speaks;
   item = WrittenHost h [] [] [];
-  rest = Mark (codes "=") ∷ Word [] ∷ Mark (codes ",") ∷ Word [] ∷ [];
+  rest = Is Equals ∷ Word [] ∷ Is Comma ∷ Word [] ∷ [];
   begins = refl;
 }
 
 open_stops : (roles : List (List ℕ)) (back : List Symbol) (k : KnownView) (h : List ℕ) (fault : Fault) (ts : List Symbol) → Fresh back → Knows roles back k → is_among h k.names ≡ false
-    → Speaks roles fault (Mark (codes "=") ∷ Word h ∷ Word (codes "host") ∷ back) ts → Allowed fault (opening h) ts → StopsAt roles back (Word (codes "host") ∷ Word h ∷ Mark (codes "=") ∷ ts) fault ts
+    → Speaks roles fault (Is Equals ∷ Word h ∷ Word (codes "host") ∷ back) ts → Allowed fault (opening h) ts → StopsAt roles back (Word (codes "host") ∷ Word h ∷ Is Equals ∷ ts) fault ts
 open_stops roles back k h fault ts f kn e speaks allowed = record {
   allowed = allowed;
   front = opening h;
@@ -185,58 +187,52 @@ open_stops roles back k h fault ts f kn e speaks allowed = record {
   free = opening_free roles back k h ts f kn e;
   speaks = speaks;
   item = WrittenHost h [] [] [];
-  rest = Word [] ∷ Mark (codes ",") ∷ Word [] ∷ [];
+  rest = Word [] ∷ Is Comma ∷ Word [] ∷ [];
   begins = refl;
 }
 
 first_stops : (roles : List (List ℕ)) (back : List Symbol) (k : KnownView) (h a : List ℕ) (fault : Fault) (ts : List Symbol) → Fresh back → Knows roles back k → is_among h k.names ≡ false
-    → NoneAt roles (Mark (codes "=") ∷ Word h ∷ Word (codes "host") ∷ back) (Word a) ts
-    → Speaks roles fault (Word a ∷ Mark (codes "=") ∷ Word h ∷ Word (codes "host") ∷ back) ts → Allowed fault (Word (codes "host") ∷ Word h ∷ Mark (codes "=") ∷ Word a ∷ []) ts → StopsAt roles back (Word (codes "host") ∷ Word h ∷ Mark (codes "=") ∷ Word a ∷ ts) fault ts
+    → NoneAt roles (Is Equals ∷ Word h ∷ Word (codes "host") ∷ back) (Word a) ts
+    → Speaks roles fault (Word a ∷ Is Equals ∷ Word h ∷ Word (codes "host") ∷ back) ts → Allowed fault (Word (codes "host") ∷ Word h ∷ Is Equals ∷ Word a ∷ []) ts → StopsAt roles back (Word (codes "host") ∷ Word h ∷ Is Equals ∷ Word a ∷ ts) fault ts
 first_stops roles back k h a fault ts f kn e first speaks allowed = record {
   allowed = allowed;
-  front = Word (codes "host") ∷ Word h ∷ Mark (codes "=") ∷ Word a ∷ [];
+  front = Word (codes "host") ∷ Word h ∷ Is Equals ∷ Word a ∷ [];
   cut = refl;
-  free = (host_free roles back (Word h ∷ Mark (codes "=") ∷ Word a ∷ ts) f, (name_free roles back k h (Mark (codes "=") ∷ Word a ∷ ts) f kn e, (equals_free roles back h (Word a ∷ ts) f, (first, tt))));
+  free = (host_free roles back (Word h ∷ Is Equals ∷ Word a ∷ ts) f, (name_free roles back k h (Is Equals ∷ Word a ∷ ts) f kn e, (equals_free roles back h (Word a ∷ ts) f, (first, tt))));
   speaks = speaks;
   item = WrittenHost h a [] [];
-  rest = Mark (codes ",") ∷ Word [] ∷ [];
+  rest = Is Comma ∷ Word [] ∷ [];
   begins = refl;
 }
 
 -- what stands behind the first role
 behind_first : (roles : List (List ℕ)) (back : List Symbol) (k : KnownView) (h a : List ℕ) (qs : List ℕ) (ts : List Symbol) → Fresh back → Knows roles back k → is_among h k.names ≡ false
     → qs ≡ place roles a ∷ [] → All (λ q. q < length roles) qs
-    → NoneAt roles (Mark (codes "=") ∷ Word h ∷ Word (codes "host") ∷ back) (Word a) ts
-    → lines_before roles (Word a ∷ Mark (codes "=") ∷ Word h ∷ Word (codes "host") ∷ back) ≡ k.lines ++ HostLine qs ∷ []
-    → Tells roles back k (Word (codes "host") ∷ Word h ∷ Mark (codes "=") ∷ Word a ∷ ts)
-    (goes_on (goes_on (next_mark (codes ",") ts) (λ m vs. goes_on (next_member roles k qs vs) (next_members roles k))) (λ all left. Takes (with_host k h all) left))
+    → NoneAt roles (Is Equals ∷ Word h ∷ Word (codes "host") ∷ back) (Word a) ts
+    → lines_before roles (Word a ∷ Is Equals ∷ Word h ∷ Word (codes "host") ∷ back) ≡ k.lines ++ HostLine qs ∷ []
+    → Tells roles back k (Word (codes "host") ∷ Word h ∷ Is Equals ∷ Word a ∷ ts)
+    (goes_on (goes_on (next_sign Comma ts) (λ m vs. goes_on (next_member roles k qs vs) (next_members roles k))) (λ all left. Takes (with_host k h all) left))
 behind_first roles back k h a qs [] f kn e one within first lines = first_stops roles back k h a Token [] f kn e first refl tt
 behind_first roles back k h a qs (Word w ∷ ts) f kn e one within first lines = first_stops roles back k h a Token (Word w ∷ ts) f kn e first refl tt
 behind_first roles back k h a qs (Number w ∷ ts) f kn e one within first lines = first_stops roles back k h a Token (Number w ∷ ts) f kn e first refl tt
 behind_first roles back k h a qs (Text w ∷ ts) f kn e one within first lines = first_stops roles back k h a Token (Text w ∷ ts) f kn e first refl tt
-behind_first roles back k h a qs (Mark n ∷ ts) f kn e one within first lines = go (bytes_eq n (codes ",")) refl
-  where
-    go : (c : Bool) → bytes_eq n (codes ",") ≡ c → Tells roles back k (Word (codes "host") ∷ Word h ∷ Mark (codes "=") ∷ Word a ∷ Mark n ∷ ts)
-        (goes_on (goes_on (cond c (Takes n ts) (Stops Token (Mark n ∷ ts))) (λ m vs. goes_on (next_member roles k qs vs) (next_members roles k))) (λ all left. Takes (with_host k h all) left))
-    go false t = first_stops roles back k h a Token (Mark n ∷ ts) f kn e first (rw t refl) tt
-    go true t =
-        let same = same_bytes n (codes ",") t in
-        subst (λ (z : List ℕ). Tells roles back k (Word (codes "host") ∷ Word h ∷ Mark (codes "=") ∷ Word a ∷ Mark z ∷ ts)
-        (goes_on (goes_on (next_member roles k qs ts) (next_members roles k)) (λ all left. Takes (with_host k h all) left))) (sym same)
-        (second_role roles back k h a qs ts (next_member roles k qs ts) f kn e one within
-        (λ us u. subst (λ (z : List Symbol). NoneAt roles (Mark (codes "=") ∷ Word h ∷ Word (codes "host") ∷ back) (Word a) z) (ap (λ (x : List ℕ). Mark x ∷ ts) same ∙ u) first) lines
-        (role_tells roles k (codes ",") (Word a ∷ Mark (codes "=") ∷ Word h ∷ Word (codes "host") ∷ back) qs ts refl (λ p. ap (λ (x : List PlanLine). is_hosted p x) lines ∙ hosted_so_far k.lines qs p)))
+behind_first roles back k h a qs (Is Equals ∷ ts) f kn e one within first lines = first_stops roles back k h a Token (Is Equals ∷ ts) f kn e first refl tt
+behind_first roles back k h a qs (Is Foreign ∷ ts) f kn e one within first lines = first_stops roles back k h a Token (Is Foreign ∷ ts) f kn e first refl tt
+behind_first roles back k h a qs (Is Comma ∷ ts) f kn e one within first lines =
+    second_role roles back k h a qs ts (next_member roles k qs ts) f kn e one within
+    (λ us u. subst (λ (z : List Symbol). NoneAt roles (Is Equals ∷ Word h ∷ Word (codes "host") ∷ back) (Word a) z) u first) lines
+    (role_tells roles k Comma (Word a ∷ Is Equals ∷ Word h ∷ Word (codes "host") ∷ back) qs ts refl (λ p. ap (λ (x : List PlanLine). is_hosted p x) lines ∙ hosted_so_far k.lines qs p))
 
 -- the first role
 first_role : (roles : List (List ℕ)) (back : List Symbol) (k : KnownView) (h : List ℕ) (ts : List Symbol) (s : Step (List ℕ)) → Fresh back → Knows roles back k → is_among h k.names ≡ false
-    → TellsRole roles (codes "=") (Word h ∷ Word (codes "host") ∷ back) [] ts s
-    → Tells roles back k (Word (codes "host") ∷ Word h ∷ Mark (codes "=") ∷ ts)
-    (goes_on (goes_on s (λ q us. goes_on (next_mark (codes ",") us) (λ m vs. goes_on (next_member roles k q vs) (next_members roles k)))) (λ all left. Takes (with_host k h all) left))
+    → TellsRole roles Equals (Word h ∷ Word (codes "host") ∷ back) [] ts s
+    → Tells roles back k (Word (codes "host") ∷ Word h ∷ Is Equals ∷ ts)
+    (goes_on (goes_on s (λ q us. goes_on (next_sign Comma us) (λ m vs. goes_on (next_member roles k q vs) (next_members roles k)))) (λ all left. Takes (with_host k h all) left))
 first_role roles back k h ts (Stops fault left) f kn e t =
-    subst (λ (z : List Symbol). StopsAt roles back (Word (codes "host") ∷ Word h ∷ Mark (codes "=") ∷ z) fault left) t.same (open_stops roles back k h fault left f kn e t.speaks (with_word fault (opening h) left t.word (λ r. (WrittenHost h r [] [], Mark (codes ",") ∷ Word [] ∷ [], refl))))
+    subst (λ (z : List Symbol). StopsAt roles back (Word (codes "host") ∷ Word h ∷ Is Equals ∷ z) fault left) t.same (open_stops roles back k h fault left f kn e t.speaks (with_word fault (opening h) left t.word (λ r. (WrittenHost h r [] [], Is Comma ∷ Word [] ∷ [], refl))))
 first_role roles back k h ts (Takes qs left) f kn e t =
-    subst (λ (z : List Symbol). Tells roles back k (Word (codes "host") ∷ Word h ∷ Mark (codes "=") ∷ z)
-    (goes_on (goes_on (next_mark (codes ",") left) (λ m vs. goes_on (next_member roles k qs vs) (next_members roles k))) (λ all end. Takes (with_host k h all) end))) (sym t.cut)
+    subst (λ (z : List Symbol). Tells roles back k (Word (codes "host") ∷ Word h ∷ Is Equals ∷ z)
+    (goes_on (goes_on (next_sign Comma left) (λ m vs. goes_on (next_member roles k qs vs) (next_members roles k))) (λ all end. Takes (with_host k h all) end))) (sym t.cut)
     (behind_first roles back k h t.name qs left f kn e t.more
     (subst (λ (x : List ℕ). All (λ p. p < length roles) x) (sym t.more) (All-push (λ p. p < length roles) [] (place roles t.name) (λ i d l. absurd (omega (arith, l))) t.known))
     t.free
@@ -244,34 +240,30 @@ first_role roles back k h ts (Takes qs left) f kn e t =
 
 -- what stands behind the name
 behind_name : (roles : List (List ℕ)) (back : List Symbol) (k : KnownView) (h : List ℕ) (ts : List Symbol) → Fresh back → Knows roles back k → is_among h k.names ≡ false
-    → Tells roles back k (Word (codes "host") ∷ Word h ∷ ts) (goes_on (next_mark (codes "=") ts) (λ m vs. goes_on (host_roles roles k vs) (λ qs ws. Takes (with_host k h qs) ws)))
+    → Tells roles back k (Word (codes "host") ∷ Word h ∷ ts) (goes_on (next_sign Equals ts) (λ m vs. goes_on (host_roles roles k vs) (λ qs ws. Takes (with_host k h qs) ws)))
 behind_name roles back k h [] f kn e = name_stops roles back k h Token [] f kn e refl tt
 behind_name roles back k h (Word w ∷ ts) f kn e = name_stops roles back k h Token (Word w ∷ ts) f kn e (rw (f.word (codes "host")) refl) tt
 behind_name roles back k h (Number w ∷ ts) f kn e = name_stops roles back k h Token (Number w ∷ ts) f kn e (rw (f.between, f.word (codes "host")) refl) tt
 behind_name roles back k h (Text w ∷ ts) f kn e = name_stops roles back k h Token (Text w ∷ ts) f kn e refl tt
-behind_name roles back k h (Mark n ∷ ts) f kn e = go (bytes_eq n (codes "=")) refl
-  where
-    go : (c : Bool) → bytes_eq n (codes "=") ≡ c → Tells roles back k (Word (codes "host") ∷ Word h ∷ Mark n ∷ ts)
-        (goes_on (cond c (Takes n ts) (Stops Token (Mark n ∷ ts))) (λ m vs. goes_on (host_roles roles k vs) (λ qs ws. Takes (with_host k h qs) ws)))
-    go false t = name_stops roles back k h Token (Mark n ∷ ts) f kn e (rw (f.between, t) refl) tt
-    go true t =
-        subst (λ (z : List ℕ). Tells roles back k (Word (codes "host") ∷ Word h ∷ Mark z ∷ ts) (goes_on (host_roles roles k ts) (λ qs ws. Takes (with_host k h qs) ws))) (sym (same_bytes n (codes "=") t))
-        (first_role roles back k h ts (next_member roles k [] ts) f kn e
-        (role_tells roles k (codes "=") (Word h ∷ Word (codes "host") ∷ back) [] ts refl (λ p. ap (λ (x : List PlanLine). is_hosted p x) (lines_open roles back k h f kn))))
+behind_name roles back k h (Is Comma ∷ ts) f kn e = name_stops roles back k h Token (Is Comma ∷ ts) f kn e (rw f.between refl) tt
+behind_name roles back k h (Is Foreign ∷ ts) f kn e = name_stops roles back k h Token (Is Foreign ∷ ts) f kn e (rw f.between refl) tt
+behind_name roles back k h (Is Equals ∷ ts) f kn e =
+    first_role roles back k h ts (next_member roles k [] ts) f kn e
+    (role_tells roles k Equals (Word h ∷ Word (codes "host") ∷ back) [] ts refl (λ p. ap (λ (x : List PlanLine). is_hosted p x) (lines_open roles back k h f kn)))
 
 pub host_tells : (roles : List (List ℕ)) (back : List Symbol) (k : KnownView) (ts : List Symbol) → Fresh back → Knows roles back k → Tells roles back k (Word (codes "host") ∷ ts) (host_line roles k ts)
 host_tells roles back k [] f kn = host_stops roles back Token [] f (f.word (codes "host")) tt
 host_tells roles back k (Number n ∷ ts) f kn = host_stops roles back Token (Number n ∷ ts) f (rw (f.behind (codes "every"), f.behind (codes "crash"), f.between) refl) tt
-host_tells roles back k (Mark n ∷ ts) f kn = host_stops roles back Token (Mark n ∷ ts) f (rw (f.behind (codes "host"), f.in_list) refl) tt
+host_tells roles back k (Is n ∷ ts) f kn = host_stops roles back Token (Is n ∷ ts) f (rw (f.behind (codes "host"), f.in_list) refl) tt
 host_tells roles back k (Text n ∷ ts) f kn = host_stops roles back Token (Text n ∷ ts) f refl tt
 host_tells roles back k (Word h ∷ ts) f kn = go (is_among h k.names) refl
   where
     go : (c : Bool) → is_among h k.names ≡ c
-        → Tells roles back k (Word (codes "host") ∷ Word h ∷ ts) (goes_on (cond c (Stops Twice (Word h ∷ ts)) (Takes h ts)) (λ h us. goes_on (next_mark (codes "=") us) (λ m vs. goes_on (host_roles roles k vs) (λ qs ws. Takes (with_host k h qs) ws))))
+        → Tells roles back k (Word (codes "host") ∷ Word h ∷ ts) (goes_on (cond c (Stops Twice (Word h ∷ ts)) (Takes h ts)) (λ h us. goes_on (next_sign Equals us) (λ m vs. goes_on (host_roles roles k vs) (λ qs ws. Takes (with_host k h qs) ws))))
     go false e = behind_name roles back k h ts f kn e
     go true e =
         let before : is_among h (hosts_before back) ≡ true = subst (λ (x : List (List ℕ)). is_among h x ≡ true) kn.names e in
-        host_stops roles back Twice (Word h ∷ ts) f (rw f.between refl, rw f.between refl, rw (f.word (codes "host"), f.between, f.behind (codes "host"), before) refl) (WrittenHost h [] [] [], Mark (codes "=") ∷ Word [] ∷ Mark (codes ",") ∷ Word [] ∷ [], refl)
+        host_stops roles back Twice (Word h ∷ ts) f (rw f.between refl, rw f.between refl, rw (f.word (codes "host"), f.between, f.behind (codes "host"), before) refl) (WrittenHost h [] [] [], Is Equals ∷ Word [] ∷ Is Comma ∷ Word [] ∷ [], refl)
 
 -- ---- any item
 
@@ -307,7 +299,7 @@ first_completes w e = go (bytes_eq w (codes "every")) (bytes_eq w (codes "crash"
     go false true c d h p q r s t any = turn (codes "crash") q (WrittenCrash [] 1, Word [] ∷ Number 1 ∷ [], refl)
     go false false true d h p q r s t any = turn (codes "limit") r (WrittenLimit 1, Number 1 ∷ [], refl)
     go false false false true h p q r s t any = turn (codes "room") s (WrittenRoom 1, Number 1 ∷ [], refl)
-    go false false false false true p q r s t any = turn (codes "host") t (WrittenHost [] [] [] [], Word [] ∷ Mark (codes "=") ∷ Word [] ∷ Mark (codes ",") ∷ Word [] ∷ [], refl)
+    go false false false false true p q r s t any = turn (codes "host") t (WrittenHost [] [] [] [], Word [] ∷ Is Equals ∷ Word [] ∷ Is Comma ∷ Word [] ∷ [], refl)
     go false false false false false p q r s t any = absurd cc
 
 line_tells : (roles : List (List ℕ)) (back : List Symbol) (k : KnownView) (w : List ℕ) (ts : List Symbol) → Fresh back → Knows roles back k → is_first_word w ≡ true → is_second roles (lines_before roles back) w ts ≡ false
@@ -328,12 +320,12 @@ line_tells roles back k w ts f kn first e = go (bytes_eq w (codes "every")) (byt
     go false false false false true p q r s t any = turn (codes "host") (host_line roles k ts) t (λ n. host_tells roles back k ts f kn)
     go false false false false false p q r s t any = absurd cc
 
-pub item_tells : (roles : List (List ℕ)) (back : List Symbol) (k : KnownView) (ts : List Symbol) → Fresh back → Knows roles back k → ((ts ≡ []) → ⊥) → ((m : List ℕ) (us : List Symbol) → ts ≡ Mark m ∷ us → has back (Mark m) ≡ false)
+pub item_tells : (roles : List (List ℕ)) (back : List Symbol) (k : KnownView) (ts : List Symbol) → Fresh back → Knows roles back k → ((ts ≡ []) → ⊥) → ((m : Sign) (us : List Symbol) → ts ≡ Is m ∷ us → has back (Is m) ≡ false)
     → Tells roles back k ts (next_item roles k ts)
 item_tells roles back k [] f kn some end = absurd (some refl)
 item_tells roles back k (Number n ∷ ts) f kn some end = empty_stops roles back Token (Number n ∷ ts) (rw (f.role (codes "every"), f.role (codes "crash"), f.behind (codes "limit"), f.behind (codes "room")) refl) tt
 item_tells roles back k (Text n ∷ ts) f kn some end = empty_stops roles back Token (Text n ∷ ts) refl tt
-item_tells roles back k (Mark n ∷ ts) f kn some end = empty_stops roles back Token (Mark n ∷ ts) (end n ts refl) tt
+item_tells roles back k (Is n ∷ ts) f kn some end = empty_stops roles back Token (Is n ∷ ts) (end n ts refl) tt
 item_tells roles back k (Word w ∷ ts) f kn some end = go (is_second roles k.lines w ts) (is_first_word w) refl refl
   where
     before : (b : Bool) → is_second roles k.lines w ts ≡ b → is_second roles (lines_before roles back) w ts ≡ b

@@ -3,9 +3,14 @@ mod Due
 mod Groups
 mod Found
 mod Fresh
+mod Crashes
 mod Telling
 mod Hosting
+pub mod Fitting
 mod Items
-mod Exactly
-mod Once
+pub mod Exactly
+pub mod Once
+pub mod Answered
+pub mod Few
 mod Cases
+mod Examples

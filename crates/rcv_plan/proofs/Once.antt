@@ -2,11 +2,12 @@
 use Rattle.std.proofs.Common.{◌≡◌, ℕ, Bool, true, false, List, [], ◌∷◌, ◌++◌, ◌<◌, arith, refl, sym, subst, ◌∙◌, inl, inr}
 use Rattle.std.specs.Prelude.{◌⊎◌, nat_lt}
 use Rattle.std.proofs.lemmas.Bool.Decides.{nat_tests}
-use Rattle.rcv_scan.specs.Symbols.{Symbol}
+use Rattle.rcv_plan.specs.Symbols.{Symbol}
 use Rattle.rcv_plan.specs.declared.fault.Fault.{Fault}
 use Rattle.rcv_plan.specs.declared.fault.Fault.TheVariants.{Token, Role, Twice, Range}
 use Rattle.rcv_plan.specs.Refusing.{code_of, HoldsAt, IsFirst}
 use Rattle.rcv_plan.specs.Laws.{PlansHaveOneAnswer}
+use Rattle.rcv_plan.proofs.Answered.{answered, same_lines}
 
 -- two ways to cut a list
 abbrev Cuts : List Symbol → List Symbol → List Symbol → List Symbol → Type 0
@@ -58,6 +59,8 @@ one_first roles symbols f g left other h i = meet (cuts h.front left i.front oth
 
 pub plans_have_one_answer : PlansHaveOneAnswer
 plans_have_one_answer = record {
+  answered = answered;
+  lines = same_lines;
   either = λ roles symbols lines f left r h. r.free f h.front left h.cut h.holds;
   first = one_first;
 }

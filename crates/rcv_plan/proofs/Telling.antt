@@ -4,7 +4,8 @@ use Rattle.std.proofs.Common.{◌≡◌, ℕ, Bool, true, false, List, [], ◌�
 use Rattle.std.specs.Prelude.{◌&&◌, ◌||◌, ◌==◌, codes, cond, Option, Some, None}
 use Rattle.std.specs.Str.{bytes_eq}
 use Rattle.rcv_model.specs.Plan.{PlanLine, EveryLine, CrashLine, LimitLine, RoomLine, HostLine}
-use Rattle.rcv_scan.specs.Symbols.{Symbol, Word, Number, Mark, Text}
+use Rattle.rcv_plan.specs.declared.sign.Sign.{Sign}
+use Rattle.rcv_plan.specs.Symbols.{Symbol, Word, Number, Is, Text, is_comma, is_equals}
 use Rattle.rcv_plan.specs.declared.fault.Fault.{Fault}
 use Rattle.rcv_plan.specs.declared.fault.Fault.TheVariants.{Token, Role, Twice, Range}
 use Rattle.std.proofs.lemmas.Bool.Decides.{nat_tests}
@@ -16,13 +17,14 @@ use Rattle.rcv_plan.specs.Codes.{is_between, is_behind, is_behind_role, is_in_li
 use Rattle.rcv_plan.specs.Refusing.{backward}
 use Rattle.rcv_plan.specs.Items.{KnownView, Step, Takes, Stops, goes_on, with_line, found, next_number, next_count, every_line, crash_line, limit_line, room_line, is_first_word}
 use Rattle.rcv_plan.proofs.Fresh.{Fresh}
+use Rattle.rcv_plan.proofs.Crashes.{same_crash}
 
 -- the grammar has the symbol behind those
 abbrev pub has : List Symbol → Symbol → Bool
 has back (Word w) = is_behind (codes "every") back || (is_behind (codes "crash") back || (is_behind (codes "host") back || (is_in_list back || (is_between back && is_first_word w))))
 has back (Number n) = is_behind_role (codes "every") back || (is_behind_role (codes "crash") back || (is_behind (codes "limit") back || is_behind (codes "room") back))
-has (Word q ∷ back) (Mark m) = (is_behind (codes "host") back && bytes_eq m (codes "=")) || (is_in_list back && bytes_eq m (codes ","))
-has back (Mark m) = false
+has (Word q ∷ back) (Is m) = (is_behind (codes "host") back && is_equals m) || (is_in_list back && is_comma m)
+has back (Is m) = false
 has back (Text x) = false
 
 -- no code from 41 on holds at the symbol, and the grammar has it
@@ -58,8 +60,9 @@ pub record TakesItem (roles : List (List ℕ)) (back : List Symbol) (k k' : Know
   pub free : AllFree roles back (item_text item) left
   pub knows : Knows roles (backward (item_text item) back) k'
   pub over : is_between (backward (item_text item) back) ≡ true
-  pub settled : (m : List ℕ) (us : List Symbol) → left ≡ Mark m ∷ us → has (backward (item_text item) back) (Mark m) ≡ false
+  pub settled : (m : Sign) (us : List Symbol) → left ≡ Is m ∷ us → has (backward (item_text item) back) (Is m) ≡ false
   pub more : k'.lines ≡ k.lines ++ said roles item ∷ []
+  pub alone : (r n : ℕ) → said roles item ≡ CrashLine r n → has_crash r n k.lines ≡ false
 
 -- the symbols begin an item
 abbrev pub Completes : List Symbol → Type 0
@@ -155,10 +158,10 @@ limit_tells roles back k (Word w ∷ ts) f kn e = record {
   begins = refl;
   allowed = tt;
 }
-limit_tells roles back k (Mark m ∷ ts) f kn e = record {
+limit_tells roles back k (Is m ∷ ts) f kn e = record {
   front = Word (codes "limit") ∷ [];
   cut = refl;
-  free = (limit_free roles back (Mark m ∷ ts) f e, tt);
+  free = (limit_free roles back (Is m ∷ ts) f e, tt);
   speaks = rw (f.behind (codes "host"), f.in_list) refl;
   item = WrittenLimit 1;
   rest = Number 1 ∷ [];
@@ -190,6 +193,7 @@ limit_tells roles back k (Number n ∷ ts) f kn e = go (within 1 100000 n) refl
       over = refl;
       settled = λ m vs x. refl;
       more = refl;
+      alone = λ r c x. absurd cc;
     }
     go false w = record {
       front = Word (codes "limit") ∷ [];
@@ -247,10 +251,10 @@ room_tells roles back k (Word w ∷ ts) f kn e = record {
   begins = refl;
   allowed = tt;
 }
-room_tells roles back k (Mark m ∷ ts) f kn e = record {
+room_tells roles back k (Is m ∷ ts) f kn e = record {
   front = Word (codes "room") ∷ [];
   cut = refl;
-  free = (room_free roles back (Mark m ∷ ts) f e, tt);
+  free = (room_free roles back (Is m ∷ ts) f e, tt);
   speaks = rw (f.behind (codes "host"), f.in_list) refl;
   item = WrittenRoom 1;
   rest = Number 1 ∷ [];
@@ -282,6 +286,7 @@ room_tells roles back k (Number n ∷ ts) f kn e = go (within 1 1024 n) refl
       over = refl;
       settled = λ m vs x. refl;
       more = refl;
+      alone = λ r c x. absurd cc;
     }
     go false w = record {
       front = Word (codes "room") ∷ [];
@@ -391,7 +396,7 @@ pub every_tells : (roles : List (List ℕ)) (back : List Symbol) (k : KnownView)
     → Tells roles back k (Word (codes "every") ∷ ts) (every_line roles k ts)
 every_tells roles back k [] f kn e = every_stops roles back Token [] f e (f.word (codes "every")) tt
 every_tells roles back k (Number n ∷ ts) f kn e = every_stops roles back Token (Number n ∷ ts) f e (rw (f.behind (codes "every"), f.behind (codes "crash"), f.between) refl) tt
-every_tells roles back k (Mark m ∷ ts) f kn e = every_stops roles back Token (Mark m ∷ ts) f e (rw (f.behind (codes "host"), f.in_list) refl) tt
+every_tells roles back k (Is m ∷ ts) f kn e = every_stops roles back Token (Is m ∷ ts) f e (rw (f.behind (codes "host"), f.in_list) refl) tt
 every_tells roles back k (Text m ∷ ts) f kn e = every_stops roles back Token (Text m ∷ ts) f e refl tt
 every_tells roles back k (Word r ∷ ts) f kn e = go (place_of roles r) refl
   where
@@ -402,7 +407,7 @@ every_tells roles back k (Word r ∷ ts) f kn e = go (place_of roles r) refl
         → Tells roles back k (Word (codes "every") ∷ Word r ∷ us) (goes_on (next_number 1 100000 us) (λ n vs. Takes (with_line k (EveryLine p n)) vs))
     number p is [] e' = every_stops_behind roles back Token r p [] f e' is refl tt
     number p is (Word w ∷ us) e' = every_stops_behind roles back Token r p (Word w ∷ us) f e' is (rw (f.word (codes "every")) refl) tt
-    number p is (Mark m ∷ us) e' = every_stops_behind roles back Token r p (Mark m ∷ us) f e' is (rw f.between refl) tt
+    number p is (Is m ∷ us) e' = every_stops_behind roles back Token r p (Is m ∷ us) f e' is (rw f.between refl) tt
     number p is (Text m ∷ us) e' = every_stops_behind roles back Token r p (Text m ∷ us) f e' is refl tt
     number p is (Number n ∷ us) e' = test (within 1 100000 n) refl
       where
@@ -425,6 +430,7 @@ every_tells roles back k (Word r ∷ ts) f kn e = go (place_of roles r) refl
           over = refl;
           settled = λ m vs x. refl;
           more = rw is refl;
+          alone = λ q c x. absurd cc;
         }
         test false w = every_stops_behind roles back Range r p (Number n ∷ us) f e' is (rw f.between refl, refl, rw f.between refl, rw (f.between, f.word (codes "every"), w) refl) (WrittenEvery r n, [], refl)
 
@@ -436,7 +442,7 @@ pub crash_tells : (roles : List (List ℕ)) (back : List Symbol) (k : KnownView)
     → Tells roles back k (Word (codes "crash") ∷ ts) (crash_line roles k ts)
 crash_tells roles back k [] f kn e = crash_stops roles back Token [] f e (f.word (codes "crash")) tt
 crash_tells roles back k (Number n ∷ ts) f kn e = crash_stops roles back Token (Number n ∷ ts) f e (rw (f.behind (codes "every"), f.behind (codes "crash"), f.between) refl) tt
-crash_tells roles back k (Mark m ∷ ts) f kn e = crash_stops roles back Token (Mark m ∷ ts) f e (rw (f.behind (codes "host"), f.in_list) refl) tt
+crash_tells roles back k (Is m ∷ ts) f kn e = crash_stops roles back Token (Is m ∷ ts) f e (rw (f.behind (codes "host"), f.in_list) refl) tt
 crash_tells roles back k (Text m ∷ ts) f kn e = crash_stops roles back Token (Text m ∷ ts) f e refl tt
 crash_tells roles back k (Word r ∷ ts) f kn e = go (place_of roles r) refl
   where
@@ -447,7 +453,7 @@ crash_tells roles back k (Word r ∷ ts) f kn e = go (place_of roles r) refl
         → Tells roles back k (Word (codes "crash") ∷ Word r ∷ us) (goes_on (next_count k p us) (λ n vs. Takes (with_line k (CrashLine p n)) vs))
     number p is [] e' = crash_stops_behind roles back Token r p [] f e' is refl tt
     number p is (Word w ∷ us) e' = crash_stops_behind roles back Token r p (Word w ∷ us) f e' is (rw (f.word (codes "crash")) refl) tt
-    number p is (Mark m ∷ us) e' = crash_stops_behind roles back Token r p (Mark m ∷ us) f e' is (rw f.between refl) tt
+    number p is (Is m ∷ us) e' = crash_stops_behind roles back Token r p (Is m ∷ us) f e' is (rw f.between refl) tt
     number p is (Text m ∷ us) e' = crash_stops_behind roles back Token r p (Text m ∷ us) f e' is refl tt
     number p is (Number n ∷ us) e' = test (within 0 100000 n) (has_crash p n k.lines) refl refl
       where
@@ -478,6 +484,7 @@ crash_tells roles back k (Word r ∷ ts) f kn e = go (place_of roles r) refl
           over = refl;
           settled = λ m vs x. refl;
           more = rw is refl;
+          alone = rw is (λ q c x. same_crash p n q c k.lines x h);
         }
         test true true w h = crash_stops_behind roles back Twice r p (Number n ∷ us) f e' is (rw f.between refl, refl, single true h) (WrittenCrash r n, [], refl)
         test false c w h = crash_stops_behind roles back Range r p (Number n ∷ us) f e' is (rw f.between refl, refl, single false (no_crash (length roles) p n k.lines kn.fits w), rw (f.between, f.word (codes "crash"), w) refl) (WrittenCrash r n, [], refl)

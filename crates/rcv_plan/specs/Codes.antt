@@ -4,7 +4,7 @@ use Rattle.std.specs.Prelude.{◌≡◌, ℕ, nat_le, Bool, true, false, not, �
 use Rattle.std.specs.List.{list_any}
 use Rattle.std.specs.Str.{bytes_eq}
 use Rattle.rcv_model.specs.Plan.{PlanLine, EveryLine, CrashLine, LimitLine, RoomLine, HostLine}
-use Rattle.rcv_scan.specs.Symbols.{Symbol, Word, Number, Mark}
+use Rattle.rcv_plan.specs.Symbols.{Symbol, Word, Number, Is, is_comma, is_equals}
 use Rattle.rcv_plan.specs.declared.fault.Fault.{Fault}
 use Rattle.rcv_plan.specs.declared.fault.Fault.TheVariants.{Token, Role, Twice, Range}
 use Rattle.rcv_plan.specs.Lines.{has_every, has_crash, has_limit, has_room, is_hosted}
@@ -20,7 +20,7 @@ is_among name names = list_any (λ other. bytes_eq other name) names
 abbrev pub is_between : List Symbol → Bool
 is_between [] = true
 is_between (Number n ∷ back) = true
-is_between (Word q ∷ Mark m ∷ back) = bytes_eq m (codes ",")
+is_between (Word q ∷ Is m ∷ back) = is_comma m
 is_between _ = false
 
 -- the first word of an item is this one, and stands directly before
@@ -35,7 +35,7 @@ is_behind_role word _ = false
 
 -- a role of a host stands here
 abbrev pub is_in_list : List Symbol → Bool
-is_in_list (Mark m ∷ back) = bytes_eq m (codes "=") || bytes_eq m (codes ",")
+is_in_list (Is m ∷ back) = is_equals m || is_comma m
 is_in_list _ = false
 
 -- the line that a number ends
@@ -58,7 +58,7 @@ with_role (line ∷ lines) q = line ∷ with_role lines q
 
 -- a role behind a = begins a host, and one behind a comma goes on with it
 abbrev pub with_hosted : List Symbol → List PlanLine → ℕ → List PlanLine
-with_hosted (Mark m ∷ back) lines q = if bytes_eq m (codes "=") then lines ++ HostLine (q ∷ []) ∷ [] else with_role lines q
+with_hosted (Is m ∷ back) lines q = if is_equals m then lines ++ HostLine (q ∷ []) ∷ [] else with_role lines q
 with_hosted _ lines q = lines
 
 -- The lines so far, the last host as far as it has come.

@@ -3,7 +3,8 @@ use Rattle.std.specs.Prelude.{◌≡◌, ℕ, codes, List, [], ◌∷◌, ◌++�
 use Rattle.std.specs.List.{position}
 use Rattle.std.specs.Str.{bytes_eq}
 use Rattle.rcv_model.specs.Plan.{PlanLine, EveryLine, CrashLine, LimitLine, RoomLine, HostLine}
-use Rattle.rcv_scan.specs.Symbols.{Symbol, Word, Number, Mark}
+use Rattle.rcv_plan.specs.declared.sign.Sign.TheVariants.{Equals, Comma}
+use Rattle.rcv_plan.specs.Symbols.{Symbol, Word, Number, Is}
 
 -- A host has a name, two roles, and any others.
 pub data Written : Type 0 where
@@ -15,14 +16,14 @@ pub data Written : Type 0 where
 
 abbrev pub more_roles : List (List ℕ) → List Symbol
 more_roles [] = []
-more_roles (q ∷ qs) = Mark (codes ",") ∷ Word q ∷ more_roles qs
+more_roles (q ∷ qs) = Is Comma ∷ Word q ∷ more_roles qs
 
 abbrev pub item_text : Written → List Symbol
 item_text (WrittenEvery r n) = Word (codes "every") ∷ Word r ∷ Number n ∷ []
 item_text (WrittenCrash r n) = Word (codes "crash") ∷ Word r ∷ Number n ∷ []
 item_text (WrittenLimit n) = Word (codes "limit") ∷ Number n ∷ []
 item_text (WrittenRoom n) = Word (codes "room") ∷ Number n ∷ []
-item_text (WrittenHost h a b qs) = Word (codes "host") ∷ Word h ∷ Mark (codes "=") ∷ Word a ∷ Mark (codes ",") ∷ Word b ∷ more_roles qs
+item_text (WrittenHost h a b qs) = Word (codes "host") ∷ Word h ∷ Is Equals ∷ Word a ∷ Is Comma ∷ Word b ∷ more_roles qs
 
 abbrev pub plan_text : List Written → List Symbol
 plan_text [] = []

@@ -5,7 +5,9 @@ use Rattle.std.specs.Ordering.{nat_cmp, ordering_then}
 use Rattle.std.specs.Str.{bytes_eq}
 use Rattle.rcv_tree.specs.Bits.{is_listed}
 use Rattle.rcv_model.specs.Plan.{PlanLine, EveryLine, CrashLine, LimitLine, RoomLine, HostLine}
-use Rattle.rcv_scan.specs.Symbols.{Symbol, Word, Number, Mark}
+use Rattle.rcv_plan.specs.declared.sign.Sign.{Sign}
+use Rattle.rcv_plan.specs.declared.sign.Sign.TheVariants.{Equals, Comma, Foreign}
+use Rattle.rcv_plan.specs.Symbols.{Symbol, Word, Number, Is}
 use Rattle.rcv_plan.specs.declared.fault.Fault.{Fault}
 use Rattle.rcv_plan.specs.declared.fault.Fault.TheVariants.{Token, Role, Twice, Range}
 use Rattle.rcv_plan.specs.declared.fault.ReadError.{ReadError}
@@ -38,13 +40,11 @@ Goes (Ok x) said new step = step ≡ Takes (said x) new
 Goes (Err errors.Memory) said new step = Unit {0}
 Goes (Err (errors.Refused f)) said new step = step ≡ Stops f new
 
-abbrev pub next_word : List Symbol → Step (List ℕ)
-next_word (Word w ∷ ts) = Takes w ts
-next_word ts = Stops Token ts
-
-abbrev pub next_mark : List ℕ → List Symbol → Step (List ℕ)
-next_mark m (Mark b ∷ ts) = if bytes_eq b m then Takes b ts else Stops Token (Mark b ∷ ts)
-next_mark m ts = Stops Token ts
+abbrev pub next_sign : Sign → List Symbol → Step Sign
+next_sign Equals (Is Equals ∷ ts) = Takes Equals ts
+next_sign Comma (Is Comma ∷ ts) = Takes Comma ts
+next_sign Foreign (Is Foreign ∷ ts) = Takes Foreign ts
+next_sign m ts = Stops Token ts
 
 -- a role that is declared
 abbrev pub found : Option ℕ → List Symbol → List Symbol → Step ℕ
@@ -81,10 +81,8 @@ next_member roles k qs here = goes_on (next_role roles here) (unhosted k qs here
 
 -- the other roles of a host
 abbrev pub next_members : List (List ℕ) → KnownView → List ℕ → List Symbol → Step (List ℕ)
-next_members roles k qs (Mark m ∷ Word r ∷ ts) =
-    if bytes_eq m (codes ",") then goes_on (next_member roles k qs (Word r ∷ ts)) (λ all after. next_members roles k all ts)
-    else Takes qs (Mark m ∷ Word r ∷ ts)
-next_members roles k qs (Mark m ∷ ts) = if bytes_eq m (codes ",") then Stops Token ts else Takes qs (Mark m ∷ ts)
+next_members roles k qs (Is Comma ∷ Word r ∷ ts) = goes_on (next_member roles k qs (Word r ∷ ts)) (λ all after. next_members roles k all ts)
+next_members roles k qs (Is Comma ∷ ts) = Stops Token ts
 next_members roles k qs ts = Takes qs ts
 
 abbrev pub with_line : KnownView → PlanLine → KnownView
@@ -112,13 +110,13 @@ room_line k ts = goes_on (next_number 1 1024 ts) (λ n us. Takes (with_line k (R
 abbrev pub host_roles : List (List ℕ) → KnownView → List Symbol → Step (List ℕ)
 host_roles roles k ts =
     goes_on (next_member roles k [] ts) (λ q us.
-    goes_on (next_mark (codes ",") us) (λ m vs.
+    goes_on (next_sign Comma us) (λ m vs.
     goes_on (next_member roles k q vs) (next_members roles k)))
 
 abbrev pub host_line : List (List ℕ) → KnownView → List Symbol → Step KnownView
 host_line roles k ts =
     goes_on (next_name k ts) (λ h us.
-    goes_on (next_mark (codes "=") us) (λ m vs.
+    goes_on (next_sign Equals us) (λ m vs.
     goes_on (host_roles roles k vs) (λ qs ws. Takes (with_host k h qs) ws)))
 
 abbrev pub is_first_word : List ℕ → Bool

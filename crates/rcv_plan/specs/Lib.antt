@@ -1,3 +1,4 @@
+pub mod Symbols
 pub mod Lines
 pub mod Plans
 pub mod Grammar

@@ -1,5 +1,5 @@
 -- The lines of a plan: what they are for, and which of them stand among others.
-use Rattle.std.specs.Prelude.{ℕ, ◌≤◌, ◌<◌, Bool, true, false, ◌&&◌, ◌==◌, List}
+use Rattle.std.specs.Prelude.{◌≡◌, ℕ, ◌≤◌, ◌<◌, Bool, true, false, ◌&&◌, ◌==◌, List, ◌∷◌, ◌++◌}
 use Rattle.std.specs.List.{All, list_any}
 use Rattle.rcv_tree.specs.Bits.{is_listed}
 use Rattle.rcv_model.specs.Plan.{PlanLine, EveryLine, CrashLine, LimitLine, RoomLine, HostLine}
@@ -62,3 +62,12 @@ has_room plan = list_any is_room plan
 
 abbrev pub is_hosted : ℕ → List PlanLine → Bool
 is_hosted r plan = list_any (is_host r) plan
+
+-- No role crashes twice at one count.
+abbrev pub AreOnce : List PlanLine → Type 0
+AreOnce plan = (front back : List PlanLine) (r n : ℕ) → plan ≡ front ++ CrashLine r n ∷ back → has_crash r n front ≡ false
+
+-- A plan that was read for so many roles.
+pub record IsPlanned (roles : ℕ) (plan : List PlanLine) : Type 0 where
+  pub fits : IsPlanFor roles plan
+  pub once : AreOnce plan

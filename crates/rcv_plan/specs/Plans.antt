@@ -17,7 +17,7 @@ pub record IsRow (plan : List PlanLine) (r : ℕ) (row : Row) : Type 0 where
   pub ascending : IsNonDecreasing row.crashes.items
   pub crashes : IsPermutation (crashes_in plan r) row.crashes.items
 
--- No line names the role.
+-- The lines say of the role what no line says, the defaults.
 pub record IsSilentOn (plan : List PlanLine) (r : ℕ) : Type 0 where
   pub every : every_in plan r ≡ 1
   pub crashes : crashes_in plan r ≡ []

@@ -6,7 +6,7 @@ use Rattle.rcv_lexer.specs.declared.token.Token.{Token}
 use Rattle.rcv_lexer.specs.declared.token.TextError.{TextError}
 use Rattle.rcv_lexer.specs.declared.token.TextError.TheVariants as errors
 use Rattle.rcv_model.specs.Plan.{PlanLine}
-use Rattle.rcv_scan.specs.Symbols.{Symbol, symbols_of, line_before}
+use Rattle.rcv_plan.specs.Symbols.{Symbol, symbols_of, line_before}
 use Rattle.rcv_plan.specs.declared.fault.Fault.{Fault}
 use Rattle.rcv_plan.specs.declared.fault.Fault.TheVariants as faults
 use Rattle.rcv_plan.specs.declared.fault.ReadError.{ReadError}

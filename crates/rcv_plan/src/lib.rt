@@ -1,7 +1,7 @@
 // Plans: how often a role saves, where it crashes, which roles share a host, and how far a session goes.
 #![tactic(auto)]
 
-ghost use Rattle.rcv_plan.specs.Laws.{PlansHaveOneAnswer};
+ghost use Rattle.rcv_plan.specs.Laws.{PlansHaveOneAnswer, PlansAreShort, ReadPlansArePlanned};
 
 mod fault;
 mod known;
@@ -9,13 +9,24 @@ mod line;
 pub mod plan;
 mod read;
 mod reader;
+mod sign;
 #[cfg(test)]
 mod tests;
 
 pub use fault::Fault;
 pub use read::read_plan;
 
-/// A plan is read or refused, never both, and there is one first and least code.
+/// A plan is read or refused, never both; what is read is one list of lines, and there is one first and least code.
 pub fn plans_have_one_answer()
     ensures { PlansHaveOneAnswer }
+{}
+
+/// In a plan that was read each role has at most 100,001 crash lines.
+pub fn plans_are_short()
+    ensures { PlansAreShort }
+{}
+
+/// In a plan that was read each role is declared, each number is in its range, and no role crashes twice at one count.
+pub fn read_plans_are_planned()
+    ensures { ReadPlansArePlanned }
 {}

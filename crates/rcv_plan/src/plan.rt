@@ -26,7 +26,7 @@ pub struct Row {
 #[derive(Drop)]
 pub struct Plan {
     lines: Vec<Line>,
-    // For each role of the protocol; none where nothing is planned.
+    // For each role of the protocol.
     rows: Vec<Row>,
     limit: u32,
     room: u32,
@@ -46,18 +46,6 @@ impl Model for Plan {
 }
 
 impl Plan {
-    /// The plan without lines, which keeps the allocator. It takes no memory.
-    pub fn none(alloc: Global) -> Plan
-        ensures { result ≡ [] }
-    {
-        Plan {
-            lines: Vec::new(alloc),
-            rows: Vec::new(alloc),
-            limit: 10_000,
-            room: 64,
-        }
-    }
-
     /// The plan of these lines, for so many roles.
     pub(crate) fn of(alloc: Global, roles: u8, lines: Vec<Line>) -> Result<Plan, AllocError>
         requires few { roles ≤ 8 }

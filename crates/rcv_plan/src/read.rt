@@ -3,9 +3,9 @@
 ghost use Rattle.std.specs.Prelude.{◌≡◌, ◌≤◌, [], length, MatchResult, IfOk, IfErr, OnOk};
 ghost use Rattle.std.specs.List.{All};
 ghost use Rattle.rcv_lexer.specs.Parts.{LiesIn};
-ghost use Rattle.rcv_scan.specs.Symbols.{symbols_of};
+ghost use Rattle.rcv_plan.specs.Symbols.{symbols_of};
 ghost use Rattle.rcv_accept.specs.Accepted.{roles_of};
-ghost use Rattle.rcv_plan.specs.Lines.{IsPlanFor};
+ghost use Rattle.rcv_plan.specs.Lines.{IsPlanned};
 ghost use Rattle.rcv_plan.specs.Refusing.{IsRead, IsRefused};
 ghost use Rattle.rcv_plan.specs.Refusing.{Ends};
 
@@ -30,7 +30,7 @@ pub(crate) fn items<'a>(
     requires few { length roles.now ≤ 8 }
     requires fresh { (known.old.lines ≡ []) × (known.old.names ≡ []) }
     ensures ok { OnOk result (IsRead roles.now reader.old.rest known.new.lines) }
-    ensures fits { OnOk result (IsPlanFor (length roles.now) known.new.lines) }
+    ensures planned { OnOk result (IsPlanned (length roles.now) known.new.lines) }
     ensures err { IfErr result (λ e. Ends roles.now e reader.old.rest reader.new.rest) }
 {
     while !reader.rest.is_empty() {
@@ -58,7 +58,7 @@ pub fn read_plan(
     requires inside { All (λ t. LiesIn bundle.now t.span) list.now }
     ensures read { MatchResult result (IsRead accepted.now.protocol.roles (symbols_of bundle.now list.now))
         (IsRefused bundle.now list.now last accepted.now.protocol.roles) }
-    ensures fits { IfOk result (IsPlanFor (roles_of accepted.now)) }
+    ensures planned { IfOk result (IsPlanned (roles_of accepted.now)) }
 {
     let mut reader = Reader {
         rest: Ahead::new(bundle, list),

@@ -1,14 +1,12 @@
 // Reads one item of a plan.
 
-ghost use Rattle.std.specs.Prelude.{◌≡◌, ◌≤◌, ◌<◌, ◌∷◌, codes, length, true, false, IfOk, IfSome, IfNone, OnOk};
-ghost use Rattle.rcv_scan.specs.Symbols.{Mark, decimal};
+ghost use Rattle.std.specs.Prelude.{◌≡◌, ◌≤◌, ◌<◌, ◌∷◌, length, true, false, IfSome, IfNone, OnOk};
+ghost use Rattle.rcv_plan.specs.Symbols.{Is, IsNotNext};
 ghost use Rattle.rcv_plan.specs.Grammar.{place_of};
 ghost use Rattle.rcv_plan.specs.Codes.{within, is_second, is_second_every};
 ghost use Rattle.rcv_plan.specs.Items.{
-  Stops,
   Goes,
-  next_word,
-  next_mark,
+  next_sign,
   next_role,
   next_number,
   next_count,
@@ -29,7 +27,8 @@ ghost use Rattle.rcv_plan.specs.Items.{
 use crate::fault::{Fault, ReadError};
 use crate::known::Known;
 use crate::line::{Line, is_listed};
-use rcv_scan::{Ahead, Lexeme, is, number_of};
+use crate::sign::Sign;
+use rcv_scan::{Ahead, is};
 use rcv_tree::name::{Name, Names};
 use rcv_tree::role::{RoleId, Roles};
 use std::alloc::Global;
@@ -37,7 +36,7 @@ use std::alloc::Global;
 /// What is still to be read.
 #[derive(Drop)]
 pub struct Reader<'a> {
-    pub rest: Ahead<'a>,
+    pub rest: Ahead<'a, Sign>,
 }
 
 // The place of the name, counted from 0.
@@ -48,12 +47,11 @@ fn place_of(names: &[Name], name: &[u8]) -> Option<usize>
     names.iter().position(|other| other.as_slice() == name)
 }
 
-// The number of these digits, if it is in the range.
-fn in_range(digits: &[u8], low: u32, high: u32) -> Option<u32>
-    ensures some { IfSome result (λ n. (n ≡ decimal 0 digits.now) × (within low high n ≡ true)) }
-    ensures none { IfNone result (within low high (decimal 0 digits.now) ≡ false) }
+// The number, if it is in the range.
+fn in_range(number: u64, low: u32, high: u32) -> Option<u32>
+    ensures some { IfSome result (λ n. (n ≡ number) × (within low high n ≡ true)) }
+    ensures none { IfNone result (within low high number ≡ false) }
 {
-    let number = number_of(digits);
     if number < low as u64 || (high as u64) < number {
         return None;
     }
@@ -62,32 +60,26 @@ fn in_range(digits: &[u8], low: u32, high: u32) -> Option<u32>
 
 impl<'a> Reader<'a> {
     // Takes this mark.
-    fn mark(&mut self, mark: &[u8]) -> Result<(), ReadError>
-        ensures goes { Goes result (λ _. mark.now) self.new.rest (next_mark mark.now self.old.rest) }
+    fn expect(&mut self, sign: Sign) -> Result<(), ReadError>
+        ensures goes { Goes result (λ _. sign) self.new.rest (next_sign sign self.old.rest) }
         ensures shorter { length self.new.rest ≤ length self.old.rest }
     {
-        let Some((Lexeme::Mark(bytes), after)) = self.rest.next() else {
+        let Some(after) = self.rest.sign(sign) else {
             return Err(ReadError::Refused(Fault::Token));
         };
-        if !is(bytes, mark) {
-            return Err(ReadError::Refused(Fault::Token));
-        }
         self.rest = after;
         Ok(())
     }
 
     // Takes a comma if it is next.
     fn takes_comma(&mut self) -> bool
-        ensures yes { result ≡ true → self.old.rest ≡ Mark (codes ",") ∷ self.new.rest }
-        ensures no { result ≡ false → next_mark (codes ",") self.old.rest ≡ Stops Fault.Token self.old.rest }
+        ensures yes { result ≡ true → self.old.rest ≡ Is Sign.Comma ∷ self.new.rest }
+        ensures no { result ≡ false → IsNotNext (Is Sign.Comma) self.old.rest }
         ensures kept { result ≡ false → self.new.rest ≡ self.old.rest }
     {
-        let Some((Lexeme::Mark(bytes), after)) = self.rest.next() else {
+        let Some(after) = self.rest.sign(Sign::Comma) else {
             return false;
         };
-        if !is(bytes, b",") {
-            return false;
-        }
         self.rest = after;
         true
     }
@@ -98,7 +90,7 @@ impl<'a> Reader<'a> {
         ensures goes { Goes result (λ role. role) self.new.rest (next_role roles.now self.old.rest) }
         ensures shorter { length self.new.rest ≤ length self.old.rest }
     {
-        let Some((Lexeme::Word(name), after)) = self.rest.next() else {
+        let Some((name, after)) = self.rest.word() else {
             return Err(ReadError::Refused(Fault::Token));
         };
         let Some(place) = place_of(roles.as_slice(), name) else {
@@ -113,10 +105,10 @@ impl<'a> Reader<'a> {
         ensures goes { Goes result (λ n. n) self.new.rest (next_number low high self.old.rest) }
         ensures shorter { length self.new.rest ≤ length self.old.rest }
     {
-        let Some((Lexeme::Number(digits), after)) = self.rest.next() else {
+        let Some((number, after)) = self.rest.number() else {
             return Err(ReadError::Refused(Fault::Token));
         };
-        let Some(number) = in_range(digits, low, high) else {
+        let Some(number) = in_range(number, low, high) else {
             return Err(ReadError::Refused(Fault::Range));
         };
         self.rest = after;
@@ -128,10 +120,10 @@ impl<'a> Reader<'a> {
         ensures goes { Goes result (λ n. n) self.new.rest (next_count known.now role self.old.rest) }
         ensures shorter { length self.new.rest ≤ length self.old.rest }
     {
-        let Some((Lexeme::Number(digits), after)) = self.rest.next() else {
+        let Some((number, after)) = self.rest.number() else {
             return Err(ReadError::Refused(Fault::Token));
         };
-        let Some(number) = in_range(digits, 0, 100_000) else {
+        let Some(number) = in_range(number, 0, 100_000) else {
             return Err(ReadError::Refused(Fault::Range));
         };
         if known.has_crash(role, number) {
@@ -146,7 +138,7 @@ impl<'a> Reader<'a> {
         ensures goes { Goes result (λ h. h.now) self.new.rest (next_name known.now self.old.rest) }
         ensures shorter { length self.new.rest ≤ length self.old.rest }
     {
-        let Some((Lexeme::Word(name), after)) = self.rest.next() else {
+        let Some((name, after)) = self.rest.word() else {
             return Err(ReadError::Refused(Fault::Token));
         };
         if known.has_name(name) {
@@ -167,7 +159,7 @@ impl<'a> Reader<'a> {
         ensures goes { Goes result (λ _. members.new) self.new.rest (next_member roles.now known.now members.old self.old.rest) }
         ensures shorter { length self.new.rest ≤ length self.old.rest }
     {
-        let Some((Lexeme::Word(name), after)) = self.rest.next() else {
+        let Some((name, after)) = self.rest.word() else {
             return Err(ReadError::Refused(Fault::Token));
         };
         let Some(place) = place_of(roles.as_slice(), name) else {
@@ -212,7 +204,7 @@ impl<'a> Reader<'a> {
     {
         let mut members = Roles::new(alloc);
         self.member(roles, known, &mut members)?;
-        self.mark(b",")?;
+        self.expect(Sign::Comma)?;
         self.member(roles, known, &mut members)?;
         self.members(roles, known, &mut members)?;
         Ok(members)
@@ -223,7 +215,7 @@ impl<'a> Reader<'a> {
         requires { length roles.now ≤ 8 }
         ensures { result ≡ is_second_every roles.now known.now.lines self.now.rest }
     {
-        let Some((Lexeme::Word(name), _)) = self.rest.next() else {
+        let Some((name, _)) = self.rest.word() else {
             return false;
         };
         match place_of(roles.as_slice(), name) {
@@ -293,7 +285,7 @@ impl<'a> Reader<'a> {
         ensures shorter { length self.new.rest ≤ length self.old.rest }
     {
         let name = self.name(known)?;
-        self.mark(b"=")?;
+        self.expect(Sign::Equals)?;
         let members = self.host_roles(alloc, roles, known)?;
         known.push_host(name, members)?;
         Ok(())
@@ -335,7 +327,7 @@ impl<'a> Reader<'a> {
         ensures goes { Goes result (λ _. known.new) self.new.rest (next_item roles.now known.old self.old.rest) }
         ensures shorter { OnOk result (length self.new.rest < length self.old.rest) }
     {
-        let Some((Lexeme::Word(word), after)) = self.rest.next() else {
+        let Some((word, after)) = self.rest.word() else {
             return Err(ReadError::Refused(Fault::Token));
         };
         let behind = Reader { rest: after };

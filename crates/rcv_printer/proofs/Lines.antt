@@ -7,7 +7,7 @@ use Rattle.std.proofs.lemmas.Slice.Eq.{bytes_eq-Decides}
 use Rattle.rcv_tree.specs.declared.protocol.Decl.{Decl}
 use Rattle.rcv_tree.specs.Words.{is_word_byte}
 use Rattle.rcv_reader.specs.declared.sign.Sign.TheVariants.{Role, From, To, Left, Right, Semicolon}
-use Rattle.rcv_reader.specs.Symbols.{Symbol, Is, Name}
+use Rattle.rcv_reader.specs.Symbols.{Symbol, Is, Word}
 use Rattle.rcv_reader.specs.Grammar.{is_decl_word, dotted, names_behind, sort_list, roles_behind, decl, decls}
 use Rattle.rcv_printer.specs.CanonicalText.{inner, listed, comma_list, decl_line, decl_lines, message_line}
 use Rattle.rcv_grammar.specs.Printable.{IsName, AreNames, IsPrintableDecl, ArePrintableDecls}
@@ -29,7 +29,7 @@ says_names (n ∷ ns) {next} h said stop = comma (name n h.0 (says_names ns h.1 
 
 -- A, B
 pub says_list : (n : List ℕ) (ns : List (List ℕ)) {next : List ℕ} {s : List Symbol} → IsName n → AreNames ns → Says next s → StopsAt is_word_byte next
-    → Says (comma_list (n ∷ ns) next) (Name n ∷ names_behind ns s)
+    → Says (comma_list (n ∷ ns) next) (Word n ∷ names_behind ns s)
 says_list n ns {next} first more said stop = name n first (says_names ns more said stop) (stops_more (codes ", ") ns next (λ x. refl) stop)
 
 pub says_sorts : (ns : List (List ℕ)) {next : List ℕ} {s : List Symbol} → AreNames ns → Says next s → StopsAt is_word_byte next
@@ -103,7 +103,7 @@ inner_margin (b ∷ bs) h = (h.0, inner_margin bs h.1)
 
 pub says_message : (margin label : List ℕ) (sorts : List (List ℕ)) (sender receiver : List ℕ) {next : List ℕ} {s : List Symbol}
     → IsMargin margin → IsName label → AreNames sorts → IsName sender → IsName receiver → Says next s
-    → Says (message_line margin label sorts sender receiver next) (Name label ∷ Is Left ∷ sort_list sorts (Is Right ∷ Is From ∷ Name sender ∷ Is To ∷ Name receiver ∷ Is Semicolon ∷ s))
+    → Says (message_line margin label sorts sender receiver next) (Word label ∷ Is Left ∷ sort_list sorts (Is Right ∷ Is From ∷ Word sender ∷ Is To ∷ Word receiver ∷ Is Semicolon ∷ s))
 says_message margin label sorts sender receiver m l ns a b said =
     let to = space (keyword (codes "to") To (name receiver b (semicolon said) refl) refl refl (λ before. refl)) in
     let source = right (keyword (codes "from") From (name sender a to refl) refl refl (λ before. refl)) in

@@ -4,14 +4,14 @@ use Rattle.std.specs.Prelude.{◌==◌, ◌&&◌, ◌||◌}
 use Rattle.std.proofs.lemmas.List.{drop_at}
 use Rattle.std.proofs.Math.Seq.{take-append_seam}
 use Rattle.rcv_lexer.specs.declared.token.Kind.{Kind}
-use Rattle.rcv_lexer.specs.declared.token.Kind.TheVariants.{Word, Text, Mark}
+use Rattle.rcv_lexer.specs.declared.token.Kind.TheVariants as kinds
 use Rattle.rcv_lexer.specs.declared.piece.Piece.{Piece}
 use Rattle.rcv_lexer.specs.Pieces.{is_inside, piece_of}
 use Rattle.rcv_tree.specs.Words.{is_letter, is_word_byte}
 use Rattle.rcv_lexer.specs.Tokens.{Cuts}
 use Rattle.rcv_reader.specs.declared.sign.Sign.{Sign}
 use Rattle.rcv_reader.specs.declared.sign.Sign.TheVariants.{Open, Close, Left, Right, Comma, Semicolon, Dot, Less, Greater}
-use Rattle.rcv_reader.specs.Symbols.{Symbol, Is, Name, Quoted, symbol_by, sign_or, reserved}
+use Rattle.rcv_reader.specs.Symbols.{Symbol, Is, Word, Text, symbol_by, sign_or, reserved}
 use Rattle.rcv_grammar.specs.Printable.{IsName}
 use Rattle.rcv_lexer.specs.Tokens.{IsQuotable}
 use Rattle.rcv_tree.specs.Words.{Passes, IsWord}
@@ -64,33 +64,33 @@ pub feed : {next : List ℕ} {s : List Symbol} → Says next s → Says (10 ∷ 
 feed {next} {s} said = says_piece (10 ∷ []) next None s true refl (λ before. refl) said
 
 pub left : {next : List ℕ} {s : List Symbol} → Says next s → Says (40 ∷ next) (Is Left ∷ s)
-left {next} {s} said = says_piece (40 ∷ []) next (Some Mark) s false (left_piece next) (λ before. refl) said
+left {next} {s} said = says_piece (40 ∷ []) next (Some kinds.Mark) s false (left_piece next) (λ before. refl) said
 
 pub dot : {next : List ℕ} {s : List Symbol} → Says next s → Says (46 ∷ next) (Is Dot ∷ s)
-dot {next} {s} said = says_piece (46 ∷ []) next (Some Mark) s false (dot_piece next) (λ before. refl) said
+dot {next} {s} said = says_piece (46 ∷ []) next (Some kinds.Mark) s false (dot_piece next) (λ before. refl) said
 
 pub close : {next : List ℕ} {s : List Symbol} → Says next s → Says (125 ∷ next) (Is Close ∷ s)
-close {next} {s} said = says_piece (125 ∷ []) next (Some Mark) s false (close_piece next) (λ before. refl) said
+close {next} {s} said = says_piece (125 ∷ []) next (Some kinds.Mark) s false (close_piece next) (λ before. refl) said
 
 -- marks in front of a space or a line feed
 pub right : {next : List ℕ} {s : List Symbol} → Says next s → Says (41 ∷ 32 ∷ next) (Is Right ∷ s)
-right {next} {s} said = says_piece (41 ∷ []) (32 ∷ next) (Some Mark) s false refl (λ before. refl) (space said)
+right {next} {s} said = says_piece (41 ∷ []) (32 ∷ next) (Some kinds.Mark) s false refl (λ before. refl) (space said)
 
 pub comma : {next : List ℕ} {s : List Symbol} → Says next s → Says (44 ∷ 32 ∷ next) (Is Comma ∷ s)
-comma {next} {s} said = says_piece (44 ∷ []) (32 ∷ next) (Some Mark) s false refl (λ before. refl) (space said)
+comma {next} {s} said = says_piece (44 ∷ []) (32 ∷ next) (Some kinds.Mark) s false refl (λ before. refl) (space said)
 
 pub greater : {next : List ℕ} {s : List Symbol} → Says next s → Says (62 ∷ 32 ∷ next) (Is Greater ∷ s)
-greater {next} {s} said = says_piece (62 ∷ []) (32 ∷ next) (Some Mark) s false refl (λ before. refl) (space said)
+greater {next} {s} said = says_piece (62 ∷ []) (32 ∷ next) (Some kinds.Mark) s false refl (λ before. refl) (space said)
 
 pub semicolon : {next : List ℕ} {s : List Symbol} → Says next s → Says (59 ∷ 10 ∷ next) (Is Semicolon ∷ s)
-semicolon {next} {s} said = says_piece (59 ∷ []) (10 ∷ next) (Some Mark) s false refl (λ before. refl) (feed said)
+semicolon {next} {s} said = says_piece (59 ∷ []) (10 ∷ next) (Some kinds.Mark) s false refl (λ before. refl) (feed said)
 
 pub opened : {next : List ℕ} {s : List Symbol} → Says next s → Says (123 ∷ 10 ∷ next) (Is Open ∷ s)
-opened {next} {s} said = says_piece (123 ∷ []) (10 ∷ next) (Some Mark) s false refl (λ before. refl) (feed said)
+opened {next} {s} said = says_piece (123 ∷ []) (10 ∷ next) (Some kinds.Mark) s false refl (λ before. refl) (feed said)
 
 -- ); in front of a line feed
 pub call_end : {next : List ℕ} {s : List Symbol} → Says next s → Says (41 ∷ 59 ∷ 10 ∷ next) (Is Right ∷ Is Semicolon ∷ s)
-call_end {next} {s} said = says_piece (41 ∷ []) (59 ∷ 10 ∷ next) (Some Mark) (Is Semicolon ∷ s) false refl (λ before. refl) (semicolon said)
+call_end {next} {s} said = says_piece (41 ∷ []) (59 ∷ 10 ∷ next) (Some kinds.Mark) (Is Semicolon ∷ s) false refl (λ before. refl) (semicolon said)
 
 -- ---- words
 
@@ -119,28 +119,28 @@ calm_word (b ∷ w) next h before =
     ∙ calm_inside w next (word_is_inside w h.1)
 
 -- a name
-pub name : (n : List ℕ) {next : List ℕ} {s : List Symbol} → IsName n → Says next s → StopsAt is_word_byte next → Says (n ++ next) (Name n ∷ s)
+pub name : (n : List ℕ) {next : List ℕ} {s : List Symbol} → IsName n → Says next s → StopsAt is_word_byte next → Says (n ++ next) (Word n ∷ s)
 name n {next} {s} h said stop =
-    subst (λ (symbol : Symbol). Says (n ++ next) (symbol ∷ s)) (ap (λ (o : Option Sign). sign_or o (Name n)) h.1)
-    (says_piece n next (Some Word) s false (word_piece n next h.0 stop) (calm_word n next h.0) said)
+    subst (λ (symbol : Symbol). Says (n ++ next) (symbol ∷ s)) (ap (λ (o : Option Sign). sign_or o (Word n)) h.1)
+    (says_piece n next (Some kinds.Word) s false (word_piece n next h.0 stop) (calm_word n next h.0) said)
 
 -- < in front of a name
 pub less : (n next : List ℕ) {s : List Symbol} → IsName n → Says (n ++ next) s → Says (60 ∷ (n ++ next)) (Is Less ∷ s)
-less n next {s} h said = says_piece (60 ∷ []) (n ++ next) (Some Mark) s false (less_piece n next h.0) (λ before. refl) said
+less n next {s} h said = says_piece (60 ∷ []) (n ++ next) (Some kinds.Mark) s false (less_piece n next h.0) (λ before. refl) said
 
 -- what stands between two quotes
-pub text : (q : List ℕ) {next : List ℕ} {s : List Symbol} → IsQuotable q → Says next s → Says (34 ∷ (q ++ 34 ∷ next)) (Quoted q ∷ s)
+pub text : (q : List ℕ) {next : List ℕ} {s : List Symbol} → IsQuotable q → Says next s → Says (34 ∷ (q ++ 34 ∷ next)) (Text q ∷ s)
 text q {next} {s} h said =
     let joined : (q ++ 34 ∷ []) ++ next ≡ q ++ 34 ∷ next = append_assoc q (34 ∷ []) next in
     let calm : (before : Bool) → breaks before (in_quotes q ++ next) ≡ breaks false next = λ before. ap (breaks false) joined ∙ calm_inside q (34 ∷ next) h.0 in
-    subst (λ (x : List ℕ). Says (34 ∷ x) (Quoted q ∷ s)) joined
-    (subst (λ (x : List ℕ). Says (in_quotes q ++ next) (Quoted x ∷ s)) (unquoted_is q)
-    (says_piece (in_quotes q) next (Some Text) s false (text_piece q next h) calm said))
+    subst (λ (x : List ℕ). Says (34 ∷ x) (Text q ∷ s)) joined
+    (subst (λ (x : List ℕ). Says (in_quotes q ++ next) (Text x ∷ s)) (unquoted_is q)
+    (says_piece (in_quotes q) next (Some kinds.Text) s false (text_piece q next h) calm said))
 
 -- a reserved word in front of a space
 pub keyword : (w : List ℕ) (sign : Sign) {next : List ℕ} {s : List Symbol} → Says next s → reserved w ≡ Some sign
-    → piece_of (w ++ 32 ∷ next) ≡ Some (piece (Some Word) (length w)) → ((before : Bool) → breaks before (w ++ 32 ∷ next) ≡ breaks false next)
+    → piece_of (w ++ 32 ∷ next) ≡ Some (piece (Some kinds.Word) (length w)) → ((before : Bool) → breaks before (w ++ 32 ∷ next) ≡ breaks false next)
     → Says (w ++ 32 ∷ next) (Is sign ∷ s)
 keyword w sign {next} {s} said is cut calm =
-    subst (λ (symbol : Symbol). Says (w ++ 32 ∷ next) (symbol ∷ s)) (ap (λ (o : Option Sign). sign_or o (Name w)) is)
-    (says_piece w (32 ∷ next) (Some Word) s false cut calm (space said))
+    subst (λ (symbol : Symbol). Says (w ++ 32 ∷ next) (symbol ∷ s)) (ap (λ (o : Option Sign). sign_or o (Word w)) is)
+    (says_piece w (32 ∷ next) (Some kinds.Word) s false cut calm (space said))

@@ -6,7 +6,7 @@ use Rattle.rcv_tree.specs.declared.protocol.Protocol.{Protocol}
 use Rattle.rcv_model.specs.Text.{Body, End, Single, Choose, Loop, Again, Parallel, Call, Bodies, NoMore, Or, body_of}
 use Rattle.rcv_reader.specs.declared.sign.Sign.{Sign}
 use Rattle.rcv_reader.specs.declared.sign.Sign.TheVariants as sign
-use Rattle.rcv_reader.specs.Symbols.{Symbol, Is, Name}
+use Rattle.rcv_reader.specs.Symbols.{Symbol, Is, Word}
 use Rattle.rcv_reader.specs.Grammar.{stmts, blocks_behind, dotted, roles_behind, spelling}
 use Rattle.rcv_grammar.specs.Canonical.{name_at, names_at, first_name, more_names, written_of, blocks_of, source_of}
 use Rattle.rcv_printer.specs.CanonicalText.{inner, module_line, body_text, blocks_text, head_line, canonical}
@@ -64,7 +64,7 @@ mutual
 -- ---- the whole text
 
 says_module : (names : List (List ℕ)) {next : List ℕ} {s : List Symbol} → SomeNames names → Says next s
-    → Says (module_line names next) (Is sign.Module ∷ Name (first_name names) ∷ dotted (more_names names) (Is sign.Semicolon ∷ s))
+    → Says (module_line names next) (Is sign.Module ∷ Word (first_name names) ∷ dotted (more_names names) (Is sign.Semicolon ∷ s))
 says_module [] h said = absurd h
 says_module (n ∷ ns) h said =
     let after = semicolon said in
@@ -72,7 +72,7 @@ says_module (n ∷ ns) h said =
 
 says_head : (n : List ℕ) (roles : List (List ℕ)) {next : List ℕ} {s : List Symbol} → IsName n → SomeNames roles → Says next s
     → Says (head_line n roles next)
-    (Is sign.Global ∷ Is sign.Protocol ∷ Name n ∷ Is sign.Left ∷ Is sign.Role ∷ Name (first_name roles) ∷ roles_behind (more_names roles) (Is sign.Right ∷ Is sign.Open ∷ s))
+    (Is sign.Global ∷ Is sign.Protocol ∷ Word n ∷ Is sign.Left ∷ Is sign.Role ∷ Word (first_name roles) ∷ roles_behind (more_names roles) (Is sign.Right ∷ Is sign.Open ∷ s))
 says_head n [] h names said = absurd names
 says_head n (r ∷ rs) h names said =
     let roles = name r names.0 (says_roles rs names.1 (right (opened said)) refl) (roles_stop rs _ refl) in

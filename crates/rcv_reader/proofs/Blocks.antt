@@ -11,12 +11,12 @@ use Rattle.rcv_model.specs.Text as trees
 use Rattle.rcv_model.proofs.Text.{stmt_body-Message, stmt_body-Choice, stmt_body-Rec, stmt_body-Continue}
 use Rattle.rcv_reader.specs.declared.sign.Sign.TheVariants.{Open, Close, Or, Choice, Rec, Continue, Left, Right, From, To, At, Semicolon}
 use Rattle.rcv_reader.specs.declared.fault.Stop.{Stop}
-use Rattle.rcv_reader.specs.Symbols.{Symbol, Is, Name}
+use Rattle.rcv_reader.specs.Symbols.{Symbol, Is, Word, IsNotNext}
 use Rattle.rcv_reader.specs.Grammar as grammar
 use Rattle.rcv_reader.specs.Grammar.{Written, NoStmt, AMessage, AChoice, ARec, AContinue, NoBlock, ABlock, stmts, sort_list, names_behind, blocks_behind, IsBegun, IsProper, AreProper}
 use Rattle.rcv_reader.specs.Machine.{Place, Item, Opening, First, Rest, More, State, behind, answer}
 use Rattle.rcv_reader.specs.Trees.{or_first, role_at, roles_at, points, points_of, singles, tree_of, trees_of, MayReceive, IsFit, AreFit}
-use Rattle.rcv_reader.specs.Descent.{known, place_at, Halts, Goes, IsNotNext, a_name, MayBegin, IsRoleName, messages, in_front, branches_in_front, AreReceived, IsBlock, AreBranches, Adds, AddsSome}
+use Rattle.rcv_reader.specs.Descent.{known, place_at, Halts, Goes, a_name, MayBegin, IsRoleName, messages, in_front, branches_in_front, AreReceived, IsBlock, AreBranches, Adds, AddsSome}
 use Rattle.rcv_reader.proofs.Going.{halts_behind, rest_is_first, more_is_rest, in_message, to_message}
 use Rattle.rcv_reader.proofs.Reading.{IsSame, IsOther, known_same, halts_over}
 
@@ -64,7 +64,7 @@ message_read roles r4 r6 count c6 c7 label sorts sender block block' t0 t1 t2 t3
       },
     )
 
-pub again_read : (roles : List (List ℕ)) (count c : ℕ) (name : List ℕ) (block block' : List Stmt) (old mid new : List Symbol) → old ≡ Name name ∷ mid → mid ≡ Is Semicolon ∷ new → c ≡ count → block' ≡ block ++ stmt.Continue name ∷ []
+pub again_read : (roles : List (List ℕ)) (count c : ℕ) (name : List ℕ) (block block' : List Stmt) (old mid new : List Symbol) → old ≡ Word name ∷ mid → mid ≡ Is Semicolon ∷ new → c ≡ count → block' ≡ block ++ stmt.Continue name ∷ []
     → AddsSome roles count c block block' (Is Continue ∷ old) new
 again_read roles count c name block block' old mid new e f same is = (
   stmt.Continue name ∷ [],
@@ -82,7 +82,7 @@ again_read roles count c name block block' old mid new e f same is = (
   },
 )
 
-rec_said : (roles : List (List ℕ)) (count c : ℕ) (name : List ℕ) (body : Block) (block block' : List Stmt) (old mid new : List Symbol) → old ≡ Name name ∷ mid → IsBlock roles count c body mid new
+rec_said : (roles : List (List ℕ)) (count c : ℕ) (name : List ℕ) (body : Block) (block block' : List Stmt) (old mid new : List Symbol) → old ≡ Word name ∷ mid → IsBlock roles count c body mid new
     → block' ≡ block ++ stmt.Rec name body ∷ [] → AddsSome roles count c block block' (Is Rec ∷ old) new
 rec_said roles count c name body block block' old mid new e b is =
     let n = b.counted in (
@@ -93,7 +93,7 @@ rec_said roles count c name body block block' old mid new e b is =
           put = λ rest. ARec name b.written rest;
           proper = λ rest p. (b.begun, b.proper, p);
           fit = λ rest p. (b.fit, p);
-          spelled = λ rest next m. ap (λ (x : List Symbol). Is Rec ∷ x) (e ∙ ap (λ (x : List Symbol). Name name ∷ x) (b.spelled ∙ ap (λ (x : List Symbol). Is Open ∷ stmts b.written (Is Close ∷ x)) m));
+          spelled = λ rest next m. ap (λ (x : List Symbol). Is Rec ∷ x) (e ∙ ap (λ (x : List Symbol). Word name ∷ x) (b.spelled ∙ ap (λ (x : List Symbol). Is Open ∷ stmts b.written (Is Close ∷ x)) m));
           counted = λ rest. omega (arith, n);
           tree = λ rest. ap (λ (x : ℕ). trees.Loop name (tree_of roles count b.written) (tree_of roles x rest)) (sym n) ∙ ap (λ (x : trees.Body). trees.Loop name x (tree_of roles c rest)) (sym b.tree)
               ∙ sym (stmt_body-Rec name body (tree_of roles c rest));
@@ -102,7 +102,7 @@ rec_said roles count c name body block block' old mid new e b is =
       },
     )
 
-pub rec_read : (roles r1 : List (List ℕ)) (count c1 c : ℕ) (name : List ℕ) (body : Block) (block block' : List Stmt) (old mid new : List Symbol) → old ≡ Name name ∷ mid → r1 ≡ roles → c1 ≡ count → IsBlock r1 c1 c body mid new
+pub rec_read : (roles r1 : List (List ℕ)) (count c1 c : ℕ) (name : List ℕ) (body : Block) (block block' : List Stmt) (old mid new : List Symbol) → old ≡ Word name ∷ mid → r1 ≡ roles → c1 ≡ count → IsBlock r1 c1 c body mid new
     → block' ≡ block ++ stmt.Rec name body ∷ [] → AddsSome roles count c block block' (Is Rec ∷ old) new
 rec_read roles r1 count c1 c name body block block' old mid new e same-roles same-count is-block is =
     rec_said roles count c name body block block' old mid new e (subst (λ (x : List (List ℕ)). IsBlock x count c body mid new) same-roles (subst (λ (x : ℕ). IsBlock r1 x c body mid new) same-count is-block)) is
@@ -119,7 +119,7 @@ choice_said roles count c subject bs block block' t0 t1 t2 t3 e0 role b is =
           put = λ rest. AChoice role.0 b.first b.others rest;
           proper = λ rest p. (b.begun, b.proper, b.all_proper, p);
           fit = λ rest p. ((subject, role.1), b.fit, b.all_fit, p);
-          spelled = λ rest next m. ap (λ (x : List Symbol). Is Choice ∷ x) (e0 ∙ ap (λ (x : List Symbol). Is At ∷ x) (role.2 ∙ ap (λ (x : List Symbol). Name role.0 ∷ x) (b.spelled ∙ ap (λ (x : List Symbol). Is Open ∷ stmts b.first (Is Close ∷ blocks_behind Or b.others x)) m)));
+          spelled = λ rest next m. ap (λ (x : List Symbol). Is Choice ∷ x) (e0 ∙ ap (λ (x : List Symbol). Is At ∷ x) (role.2 ∙ ap (λ (x : List Symbol). Word role.0 ∷ x) (b.spelled ∙ ap (λ (x : List Symbol). Is Open ∷ stmts b.first (Is Close ∷ blocks_behind Or b.others x)) m)));
           counted = λ rest. omega (arith, n);
           tree = λ rest. ap (λ (x : ℕ). trees.Choose x (trees.Or (tree_of roles count b.first) (trees_of roles (count + points b.first) b.others)) (tree_of roles (count + (points b.first + points_of b.others)) rest)) place
               ∙ ap (λ (x : ℕ). trees.Choose subject (trees.Or (tree_of roles count b.first) (trees_of roles (count + points b.first) b.others)) (tree_of roles x rest)) (sym n)

@@ -2,7 +2,7 @@
 use Rattle.std.proofs.Common.{◌≡◌, ℕ, Bool, true, false, List, [], ◌∷◌, refl, subst, inl, inr}
 use Rattle.rcv_reader.specs.declared.sign.Sign.TheVariants.{Global, From, To, Choice, At, Or, Rec, Continue, Par, And, Do, Open, Close, Left, Right, Semicolon}
 use Rattle.rcv_reader.specs.declared.fault.Fault.TheVariants.{Token, AfterContinue, Unguarded, NotYet}
-use Rattle.rcv_reader.specs.Symbols.{Symbol, Is, Name, Quoted, Other}
+use Rattle.rcv_reader.specs.Symbols.{Symbol, Is, Word, Text, Number}
 use Rattle.rcv_reader.specs.Grammar.{Written, NoStmt, AMessage, AChoice, ARec, AContinue, APar, ADo, Blocks, NoBlock, ABlock, names_behind, sort_list, stmts, blocks_behind, IsBegun, IsProper, AreProper}
 use Rattle.rcv_reader.specs.Machine.{Place, Item, This, AnyName, AnyQuoted, MoreModules, Decls, Alias, RoleName, MoreRoles, Sorts, MoreSorts, Subject, Sender, Receiver, MoreReceivers, RecName, AgainName, Opening, First, Rest, More, State, Outcome, On, Wrong, behind, unless, meets, is_open, begins, ends, branches, behind_all, step, Derives}
 use Rattle.rcv_reader.proofs.Steps.{HasMore, Both, Agrees, has_more, completion, tested}
@@ -15,9 +15,9 @@ in_message q k = This (Is Left) ∷ Sorts ∷ This (Is From) ∷ Sender ∷ Rest
 abbrev in_choice : Place → List Item → List Item
 in_choice p k = This (Is At) ∷ Subject ∷ Opening p ∷ More p ∷ k
 
-message_back : (q : Place) (b : Written) (n : List ℕ) (us vs : List Symbol) (k : List Item) → Name n ∷ us ≡ stmts b (Is Close ∷ vs) → IsProper b → Derives k vs → Derives (in_message q k) us
+message_back : (q : Place) (b : Written) (n : List ℕ) (us vs : List Symbol) (k : List Item) → Word n ∷ us ≡ stmts b (Is Close ∷ vs) → IsProper b → Derives k vs → Derives (in_message q k) us
 message_back q (AMessage l ss s r rs rest) n us vs k e proper d =
-    let is : us ≡ Is Left ∷ sort_list ss (Is Right ∷ Is From ∷ Name s ∷ Is To ∷ Name r ∷ names_behind rs (Is Semicolon ∷ stmts rest (Is Close ∷ vs))) = cc in
+    let is : us ≡ Is Left ∷ sort_list ss (Is Right ∷ Is From ∷ Word s ∷ Is To ∷ Word r ∷ names_behind rs (Is Semicolon ∷ stmts rest (Is Close ∷ vs))) = cc in
     rw is (_, refl, (_, (ss, refl), (_, refl, (_, (s, r, rs, refl), (vs, (rest, proper, refl), d)))))
 message_back q NoStmt n us vs k e proper d = absurd cc
 message_back q (AChoice s f os rest) n us vs k e proper d = absurd cc
@@ -26,7 +26,7 @@ message_back q (AContinue m rest) n us vs k e proper d = absurd cc
 message_back q (APar f g os rest) n us vs k e proper d = absurd cc
 message_back q (ADo m r rs rest) n us vs k e proper d = absurd cc
 
-message_both : (p q : Place) (n : List ℕ) (k : List Item) → Both (in_message q k) (Name n) (First p ∷ k)
+message_both : (p q : Place) (n : List ℕ) (k : List Item) → Both (in_message q k) (Word n) (First p ∷ k)
 message_both p q n k us = (
   λ a.
       let b = a.2 in
@@ -39,7 +39,7 @@ message_both p q n k us = (
 
 choice_back : (p : Place) (b : Written) (us vs : List Symbol) (k : List Item) → Is Choice ∷ us ≡ stmts b (Is Close ∷ vs) → IsProper b → Derives k vs → Derives (in_choice p k) us
 choice_back p (AChoice s f os rest) us vs k e proper d =
-    let is : us ≡ Is At ∷ Name s ∷ Is Open ∷ stmts f (Is Close ∷ blocks_behind Or os (stmts rest (Is Close ∷ vs))) = cc in
+    let is : us ≡ Is At ∷ Word s ∷ Is Open ∷ stmts f (Is Close ∷ blocks_behind Or os (stmts rest (Is Close ∷ vs))) = cc in
     rw is (_, refl, (_, (s, refl), (_, (f, proper.0, proper.1, refl), (vs, (os, rest, proper.2, proper.3, refl), d))))
 choice_back p NoStmt us vs k e proper d = absurd cc
 choice_back p (AMessage l ss s r rs rest) us vs k e proper d = absurd cc
@@ -60,7 +60,7 @@ choice_both p k us = (
 
 loop_back : (p q : Place) (b : Written) (us vs : List Symbol) (k : List Item) → Is Rec ∷ us ≡ stmts b (Is Close ∷ vs) → IsProper b → Derives k vs → Derives (RecName p ∷ Rest q ∷ k) us
 loop_back p q (ARec m body rest) us vs k e proper d =
-    let is : us ≡ Name m ∷ Is Open ∷ stmts body (Is Close ∷ stmts rest (Is Close ∷ vs)) = cc in
+    let is : us ≡ Word m ∷ Is Open ∷ stmts body (Is Close ∷ stmts rest (Is Close ∷ vs)) = cc in
     rw is (_, (m, body, proper.0, proper.1, refl), (vs, (rest, proper.2, refl), d))
 loop_back p q NoStmt us vs k e proper d = absurd cc
 loop_back p q (AMessage l ss s r rs rest) us vs k e proper d = absurd cc
@@ -79,7 +79,7 @@ loop_both p q k us = (
 
 go_back : (p q : Place) (b : Written) (us vs : List Symbol) (k : List Item) → Is Continue ∷ us ≡ stmts b (Is Close ∷ vs) → IsProper b → Derives k vs → Derives (AgainName p ∷ Rest q ∷ k) us
 go_back p q (AContinue m rest) us vs k e proper d =
-    let is : us ≡ Name m ∷ Is Semicolon ∷ stmts rest (Is Close ∷ vs) = cc in
+    let is : us ≡ Word m ∷ Is Semicolon ∷ stmts rest (Is Close ∷ vs) = cc in
     rw is (_, (m, refl), (vs, (rest, proper, refl), d))
 go_back p q NoStmt us vs k e proper d = absurd cc
 go_back p q (AMessage l ss s r rs rest) us vs k e proper d = absurd cc
@@ -103,11 +103,11 @@ par_more p k =
     (Is Open ∷ stmts one (Is Close ∷ Is And ∷ Is Open ∷ stmts one (Is Close ∷ Is Close ∷ c.0)), (c.0, (APar one one NoBlock NoStmt, tt, (tt, tt, tt, tt, tt, tt), refl), c.1))
 
 do_more : (p : Place) (k : List Item) → HasMore (Is Do) (First p ∷ k)
-do_more p k = let c = completion k in (Name [] ∷ Is Left ∷ Name [] ∷ Is Right ∷ Is Semicolon ∷ Is Close ∷ c.0, (c.0, (ADo [] [] [] NoStmt, tt, tt, refl), c.1))
+do_more p k = let c = completion k in (Word [] ∷ Is Left ∷ Word [] ∷ Is Right ∷ Is Semicolon ∷ Is Close ∷ c.0, (c.0, (ADo [] [] [] NoStmt, tt, tt, refl), c.1))
 
 -- the symbols that begin a statement
 abbrev begins_stmt : Symbol → Bool
-begins_stmt (Name n) = true
+begins_stmt (Word n) = true
 begins_stmt (Is Choice) = true
 begins_stmt (Is Rec) = true
 begins_stmt (Is Continue) = true
@@ -117,7 +117,7 @@ begins_stmt _ = false
 
 begun_stmt : (b : Written) (t : Symbol) (us next : List Symbol) → IsBegun b → t ∷ us ≡ stmts b next → begins_stmt t ≡ true
 begun_stmt NoStmt t us next begun e = absurd begun
-begun_stmt (AMessage l ss s r rs rest) t us next begun e = let is : t ≡ Name l = cc in rw is refl
+begun_stmt (AMessage l ss s r rs rest) t us next begun e = let is : t ≡ Word l = cc in rw is refl
 begun_stmt (AChoice s f os rest) t us next begun e = let is : t ≡ Is Choice = cc in rw is refl
 begun_stmt (ARec m body rest) t us next begun e = let is : t ≡ Is Rec = cc in rw is refl
 begun_stmt (AContinue m rest) t us next begun e = let is : t ≡ Is Continue = cc in rw is refl
@@ -125,9 +125,9 @@ begun_stmt (APar f g os rest) t us next begun e = let is : t ≡ Is Par = cc in 
 begun_stmt (ADo m r rs rest) t us next begun e = let is : t ≡ Is Do = cc in rw is refl
 
 begins_agrees : (s : State) (p : Place) (t : Symbol) (ts : List Symbol) (k : List Item) → Agrees (begins s p t ts k) t (First p ∷ k)
-begins_agrees s p (Name n) ts k =
+begins_agrees s p (Word n) ts k =
     let both = message_both p (behind p false) n k in
-    tested p.ended AfterContinue (On s (in_message (behind p false) k)) (Name n) (First p ∷ k) tt (has_more (in_message (behind p false) k) (Name n) (First p ∷ k) both) both
+    tested p.ended AfterContinue (On s (in_message (behind p false) k)) (Word n) (First p ∷ k) tt (has_more (in_message (behind p false) k) (Word n) (First p ∷ k) both) both
 begins_agrees s p (Is Choice) ts k =
     let both = choice_both p k in
     tested p.ended AfterContinue (On s (in_choice p k)) (Is Choice) (First p ∷ k) tt (has_more (in_choice p k) (Is Choice) (First p ∷ k) both) both
@@ -178,9 +178,9 @@ as_rest o t p k other a = same_agrees o t (First p) (Rest p) k k (λ us d. first
 
 ends_agrees : (s : State) (p : Place) (t : Symbol) (ts : List Symbol) (k : List Item) → Agrees (ends s p t ts k) t (Rest p ∷ k)
 ends_agrees s p (Is Close) ts k = λ us. (λ d. (us, (NoStmt, tt, refl), d), λ d. close_back d.1.0 us d.0 k d.1.2 d.2)
-ends_agrees s p (Name n) ts k = as_rest (begins s p (Name n) ts k) (Name n) p k (λ e. cc) (begins_agrees s p (Name n) ts k)
-ends_agrees s p (Quoted q) ts k = as_rest (Wrong Token) (Quoted q) p k (λ e. cc) (begins_agrees s p (Quoted q) ts k)
-ends_agrees s p Other ts k = as_rest (Wrong Token) Other p k (λ e. cc) (begins_agrees s p Other ts k)
+ends_agrees s p (Word n) ts k = as_rest (begins s p (Word n) ts k) (Word n) p k (λ e. cc) (begins_agrees s p (Word n) ts k)
+ends_agrees s p (Text q) ts k = as_rest (Wrong Token) (Text q) p k (λ e. cc) (begins_agrees s p (Text q) ts k)
+ends_agrees s p (Number n) ts k = as_rest (Wrong Token) (Number n) p k (λ e. cc) (begins_agrees s p (Number n) ts k)
 ends_agrees s p (Is w) ts k = as_rest (begins s p (Is w) ts k) (Is w) p k (λ e. cc) (begins_agrees s p (Is w) ts k)
 
 rest_to_more : (p q : Place) (k : List Item) (ts : List Symbol) → Derives (Rest q ∷ k) ts → Derives (More p ∷ k) ts
@@ -213,9 +213,9 @@ branches_agrees s p (Is Or) ts k = λ us. (
   λ a. let b = a.2 in (b.0, (ABlock a.1.0 b.1.0, b.1.1, (a.1.1, a.1.2, b.1.2), b.1.3, simp (a.1.3, b.1.4)), b.2),
   λ d. or_back p d.1.0 d.1.1 us d.0 k d.1.4 d.1.2 d.1.3 d.2,
 )
-branches_agrees s p (Name n) ts k = as_more (ends s (behind p false) (Name n) ts k) (Name n) p (behind p false) k (λ e. cc) (ends_agrees s (behind p false) (Name n) ts k)
-branches_agrees s p (Quoted q) ts k = as_more (Wrong Token) (Quoted q) p (behind p false) k (λ e. cc) (ends_agrees s (behind p false) (Quoted q) ts k)
-branches_agrees s p Other ts k = as_more (Wrong Token) Other p (behind p false) k (λ e. cc) (ends_agrees s (behind p false) Other ts k)
+branches_agrees s p (Word n) ts k = as_more (ends s (behind p false) (Word n) ts k) (Word n) p (behind p false) k (λ e. cc) (ends_agrees s (behind p false) (Word n) ts k)
+branches_agrees s p (Text q) ts k = as_more (Wrong Token) (Text q) p (behind p false) k (λ e. cc) (ends_agrees s (behind p false) (Text q) ts k)
+branches_agrees s p (Number n) ts k = as_more (Wrong Token) (Number n) p (behind p false) k (λ e. cc) (ends_agrees s (behind p false) (Number n) ts k)
 branches_agrees s p (Is w) ts k = as_more (ends s (behind p false) (Is w) ts k) (Is w) p (behind p false) k (λ e. cc) (ends_agrees s (behind p false) (Is w) ts k)
 
 behind_agrees : (t : Symbol) → Agrees (behind_all t) t []

@@ -5,9 +5,9 @@ use Rattle.rcv_reader.specs.declared.fault.Fault.{Fault}
 use Rattle.rcv_reader.specs.declared.fault.Fault.TheVariants.{Token, AfterContinue, Unguarded, NotYet}
 use Rattle.rcv_reader.specs.declared.fault.Stop.{Stop}
 use Rattle.rcv_reader.specs.declared.fault.Stop.TheVariants as errors
-use Rattle.rcv_reader.specs.Symbols.{Symbol, Is, Name}
+use Rattle.rcv_reader.specs.Symbols.{Symbol, Is, Word, IsNotNext}
 use Rattle.rcv_reader.specs.Machine.{Place, Item, This, AnyName, Sorts, MoreSorts, Subject, Sender, MoreReceivers, RecName, AgainName, Opening, First, Rest, More, State, Outcome, Wrong, behind, is_open, step, after, Refuses, answer}
-use Rattle.rcv_reader.specs.Descent.{Halts, IsNotNext, starts, waits, is_unguarded, MayBegin}
+use Rattle.rcv_reader.specs.Descent.{Halts, starts, waits, is_unguarded, MayBegin}
 
 -- the same step, the same answer
 pub same_step : (s : State) (k k' : List Item) (t : Symbol) (ts : List Symbol) → step s t ts k ≡ step s t ts k' → answer s k (t ∷ ts) ≡ answer s k' (t ∷ ts)
@@ -69,7 +69,7 @@ more_is_rest s p (t ∷ ts) h k = same_step s (More p ∷ k) (Rest (behind p fal
 -- ---- the first symbol of a statement
 
 ended_starts : (s : State) (p : Place) (t : Symbol) (ts : List Symbol) (k : List Item) → p.ended ≡ true → starts (t ∷ ts) ≡ true → step s t ts (First p ∷ k) ≡ Wrong AfterContinue
-ended_starts s p (Name n) ts k e is = rw e refl
+ended_starts s p (Word n) ts k e is = rw e refl
 ended_starts s p (Is Choice) ts k e is = rw e refl
 ended_starts s p (Is Rec) ts k e is = rw e refl
 ended_starts s p (Is Continue) ts k e is = rw e refl
@@ -82,7 +82,7 @@ after_continue s p [] e is k = absurd cc
 after_continue s p (t ∷ ts) e is k = wrong_step s (First p ∷ k) AfterContinue t ts (ended_starts s p t ts k e is)
 
 no_start : (s : State) (p : Place) (t : Symbol) (ts : List Symbol) (k : List Item) → starts (t ∷ ts) ≡ false → step s t ts (First p ∷ k) ≡ Wrong Token
-no_start s p (Name n) ts k is = absurd cc
+no_start s p (Word n) ts k is = absurd cc
 no_start s p (Is Choice) ts k is = absurd cc
 no_start s p (Is Rec) ts k is = absurd cc
 no_start s p (Is Continue) ts k is = absurd cc
@@ -128,7 +128,7 @@ in_message k = AnyName ∷ This (Is Left) ∷ Sorts ∷ This (Is From) ∷ Sende
 
 named_first : (s : State) (p : Place) (t : Symbol) (ts : List Symbol) (k : List Item) → p.ended ≡ false → waits (t ∷ ts) ≡ false → (t ≡ Is Choice → ⊥) → (t ≡ Is Rec → ⊥) → (t ≡ Is Continue → ⊥)
     → step s t ts (First p ∷ k) ≡ step s t ts (in_message (Rest (behind p false) ∷ k))
-named_first s p (Name n) ts k e w a b c = rw e refl
+named_first s p (Word n) ts k e w a b c = rw e refl
 named_first s p (Is Choice) ts k e w a b c = absurd (a refl)
 named_first s p (Is Rec) ts k e w a b c = absurd (b refl)
 named_first s p (Is Continue) ts k e w a b c = absurd (c refl)

@@ -4,34 +4,34 @@ use Rattle.std.specs.Prelude.{◌≢◌}
 use Rattle.rcv_tree.specs.declared.protocol.Decl.{Decl}
 use Rattle.rcv_reader.specs.declared.sign.Sign.TheVariants.{Role, Right, Comma, Semicolon, Dot, Global}
 use Rattle.rcv_reader.specs.declared.fault.Fault.TheVariants.{Token}
-use Rattle.rcv_reader.specs.Symbols.{Symbol, Is, Name, Quoted, Other}
+use Rattle.rcv_reader.specs.Symbols.{Symbol, Is, Word, Text, Number, IsNotNext, NoWord, NoText}
 use Rattle.rcv_reader.specs.Grammar.{dotted, roles_behind, decl, decls, AreDecls, is_decl_word}
 use Rattle.rcv_reader.specs.Machine.{Item, This, AnyName, AnyQuoted, MoreModules, Decls, RoleName, MoreRoles, State, Wrong, step, Refuses, answer}
-use Rattle.rcv_reader.specs.Descent.{known, IsNotNext, NoName, NoQuoted, module_list, names_of_roles, AddsName, IsDecl, AreSuch}
+use Rattle.rcv_reader.specs.Descent.{known, module_list, names_of_roles, AddsName, IsDecl, AreSuch}
 use Rattle.rcv_reader.proofs.Stops.{stops_by}
 use Rattle.rcv_reader.proofs.Reading.{IsSame, IsOther, known_same, not_empty}
 use Rattle.rcv_reader.proofs.Going.{same_step, not_first}
 
 -- ---- where nothing of the kind stands
 
-unquoted_step : (s : State) (k : List Item) (t : Symbol) (ts : List Symbol) → ((q : List ℕ) → t ≡ Quoted q → ⊥) → step s t ts (AnyQuoted ∷ k) ≡ Wrong Token
-unquoted_step s k (Quoted q) ts h = absurd (h q refl)
+unquoted_step : (s : State) (k : List Item) (t : Symbol) (ts : List Symbol) → ((q : List ℕ) → t ≡ Text q → ⊥) → step s t ts (AnyQuoted ∷ k) ≡ Wrong Token
+unquoted_step s k (Text q) ts h = absurd (h q refl)
 unquoted_step s k (Is w) ts h = refl
-unquoted_step s k (Name n) ts h = refl
-unquoted_step s k Other ts h = refl
+unquoted_step s k (Word n) ts h = refl
+unquoted_step s k (Number n) ts h = refl
 
-pub no_quoted : (s : State) (ts : List Symbol) → NoQuoted ts → (k : List Item) → answer s (AnyQuoted ∷ k) ts ≡ Refuses Token ts
+pub no_quoted : (s : State) (ts : List Symbol) → NoText ts → (k : List Item) → answer s (AnyQuoted ∷ k) ts ≡ Refuses Token ts
 no_quoted s [] h k = refl
-no_quoted s (t ∷ ts) h k = stops_by s (AnyQuoted ∷ k) t ts (unquoted_step s k t ts (λ q. not_first (Quoted q) t ts (h q)))
+no_quoted s (t ∷ ts) h k = stops_by s (AnyQuoted ∷ k) t ts (unquoted_step s k t ts (λ q. not_first (Text q) t ts (h q)))
 
-undeclared_step : (s : State) (aliases : List (List ℕ)) (k : List Item) (t : Symbol) (ts : List Symbol) → (t ≡ Is Global → ⊥) → ((n : List ℕ) → t ≡ Name n → ⊥) → step s t ts (Decls aliases ∷ k) ≡ Wrong Token
+undeclared_step : (s : State) (aliases : List (List ℕ)) (k : List Item) (t : Symbol) (ts : List Symbol) → (t ≡ Is Global → ⊥) → ((n : List ℕ) → t ≡ Word n → ⊥) → step s t ts (Decls aliases ∷ k) ≡ Wrong Token
 undeclared_step s aliases k (Is Global) ts g h = absurd (g refl)
-undeclared_step s aliases k (Name n) ts g h = absurd (h n refl)
+undeclared_step s aliases k (Word n) ts g h = absurd (h n refl)
 undeclared_step s aliases k _ ts g h = refl
 
-pub no_decl : (s : State) (aliases : List (List ℕ)) (ts : List Symbol) → IsNotNext (Is Global) ts → NoName ts → (k : List Item) → answer s (Decls aliases ∷ k) ts ≡ Refuses Token ts
+pub no_decl : (s : State) (aliases : List (List ℕ)) (ts : List Symbol) → IsNotNext (Is Global) ts → NoWord ts → (k : List Item) → answer s (Decls aliases ∷ k) ts ≡ Refuses Token ts
 no_decl s aliases [] g h k = refl
-no_decl s aliases (t ∷ ts) g h k = stops_by s (Decls aliases ∷ k) t ts (undeclared_step s aliases k t ts (not_first (Is Global) t ts g) (λ n. not_first (Name n) t ts (h n)))
+no_decl s aliases (t ∷ ts) g h k = stops_by s (Decls aliases ∷ k) t ts (undeclared_step s aliases k t ts (not_first (Is Global) t ts g) (λ n. not_first (Word n) t ts (h n)))
 
 modules_over : (s : State) (t : Symbol) (ts : List Symbol) (k : List Item) → (t ≡ Is Dot → ⊥) → step s t ts (MoreModules ∷ k) ≡ step s t ts (This (Is Semicolon) ∷ k)
 modules_over s (Is Dot) ts k h = absurd (h refl)
@@ -51,13 +51,13 @@ roles_end s (t ∷ ts) h k = same_step s (MoreRoles ∷ k) (This (Is Right) ∷ 
 
 -- ---- the module's names
 
-dotted_push : (ns : List (List ℕ)) (m : List ℕ) (next : List Symbol) → dotted (ns ++ m ∷ []) next ≡ dotted ns (Is Dot ∷ Name m ∷ next)
+dotted_push : (ns : List (List ℕ)) (m : List ℕ) (next : List Symbol) → dotted (ns ++ m ∷ []) next ≡ dotted ns (Is Dot ∷ Word m ∷ next)
 dotted_push [] m next = refl
-dotted_push (n ∷ ns) m next = ap (λ (x : List Symbol). Is Dot ∷ Name n ∷ x) (dotted_push ns m next)
+dotted_push (n ∷ ns) m next = ap (λ (x : List Symbol). Is Dot ∷ Word n ∷ x) (dotted_push ns m next)
 
-modules_push : (ns : List (List ℕ)) (m : List ℕ) (next : List Symbol) → ns ≢ [] → module_list (ns ++ m ∷ []) next ≡ module_list ns (Is Dot ∷ Name m ∷ next)
+modules_push : (ns : List (List ℕ)) (m : List ℕ) (next : List Symbol) → ns ≢ [] → module_list (ns ++ m ∷ []) next ≡ module_list ns (Is Dot ∷ Word m ∷ next)
 modules_push [] m next some = absurd (some refl)
-modules_push (n ∷ ns) m next some = ap (λ (x : List Symbol). Name n ∷ x) (dotted_push ns m next)
+modules_push (n ∷ ns) m next some = ap (λ (x : List Symbol). Word n ∷ x) (dotted_push ns m next)
 
 pub record ModulesSoFar (roles roles' recs recs' : List (List ℕ)) (count count' : ℕ) (names : List (List ℕ)) (start now : List Symbol) : Type 0 where
   pub goes : (k : List Item) → answer (known roles count) (AnyName ∷ MoreModules ∷ k) start ≡ answer (known roles' count') (MoreModules ∷ k) now
@@ -74,7 +74,7 @@ modules_to_next roles r0 r1 recs q0 q1 count c0 c1 names start now mid so_far e 
 
 pub modules_next : (roles r0 r1 r2 recs q0 q1 q2 : List (List ℕ)) (count c0 c1 c2 : ℕ) (names names' : List (List ℕ)) (n : List ℕ) (start now mid new : List Symbol)
     → ModulesSoFar roles r0 recs q0 count c0 names start now → now ≡ Is Dot ∷ mid → IsSame r0 r1 q0 q1 c0 c1
-    → ((k : List Item) → answer (known r1 c1) (AnyName ∷ k) mid ≡ answer (known r2 c2) k new) → mid ≡ Name n ∷ new → IsSame r1 r2 q1 q2 c1 c2 → names' ≡ names ++ n ∷ [] → length new ≤ length mid → length mid < length now
+    → ((k : List Item) → answer (known r1 c1) (AnyName ∷ k) mid ≡ answer (known r2 c2) k new) → mid ≡ Word n ∷ new → IsSame r1 r2 q1 q2 c1 c2 → names' ≡ names ++ n ∷ [] → length new ≤ length mid → length mid < length now
     → ModulesSoFar roles r2 recs q2 count c2 names' start new
 modules_next roles r0 r1 r2 recs q0 q1 q2 count c0 c1 c2 names names' n start now mid new so_far e same goes read same' is le lt = record {
   goes = λ k. modules_to_next roles r0 r1 recs q0 q1 count c0 c1 names start now mid so_far e same k ∙ goes (MoreModules ∷ k);
@@ -93,13 +93,13 @@ modules_to_end roles r0 r1 recs q0 q1 count c0 c1 names start now mid so_far oth
 
 -- ---- the roles
 
-roles_behind_push : (ns : List (List ℕ)) (m : List ℕ) (next : List Symbol) → roles_behind (ns ++ m ∷ []) next ≡ roles_behind ns (Is Comma ∷ Is Role ∷ Name m ∷ next)
+roles_behind_push : (ns : List (List ℕ)) (m : List ℕ) (next : List Symbol) → roles_behind (ns ++ m ∷ []) next ≡ roles_behind ns (Is Comma ∷ Is Role ∷ Word m ∷ next)
 roles_behind_push [] m next = refl
-roles_behind_push (n ∷ ns) m next = ap (λ (x : List Symbol). Is Comma ∷ Is Role ∷ Name n ∷ x) (roles_behind_push ns m next)
+roles_behind_push (n ∷ ns) m next = ap (λ (x : List Symbol). Is Comma ∷ Is Role ∷ Word n ∷ x) (roles_behind_push ns m next)
 
-roles_push : (ns : List (List ℕ)) (m : List ℕ) (next : List Symbol) → ns ≢ [] → names_of_roles (ns ++ m ∷ []) next ≡ names_of_roles ns (Is Comma ∷ Is Role ∷ Name m ∷ next)
+roles_push : (ns : List (List ℕ)) (m : List ℕ) (next : List Symbol) → ns ≢ [] → names_of_roles (ns ++ m ∷ []) next ≡ names_of_roles ns (Is Comma ∷ Is Role ∷ Word m ∷ next)
 roles_push [] m next some = absurd (some refl)
-roles_push (n ∷ ns) m next some = ap (λ (x : List Symbol). Name n ∷ x) (roles_behind_push ns m next)
+roles_push (n ∷ ns) m next some = ap (λ (x : List Symbol). Word n ∷ x) (roles_behind_push ns m next)
 
 pub record RolesSoFar (roles roles' recs recs' : List (List ℕ)) (count count' : ℕ) (start now : List Symbol) : Type 0 where
   pub goes : (k : List Item) → answer (known roles count) (RoleName ∷ k) start ≡ answer (known roles' count') (MoreRoles ∷ k) now

@@ -6,11 +6,11 @@ use Rattle.rcv_tree.specs.declared.statement.Stmt.TheVariants as statements
 use Rattle.rcv_reader.specs.declared.sign.Sign.TheVariants.{Right, Comma, Semicolon}
 use Rattle.rcv_reader.specs.declared.fault.Stop.{Stop}
 use Rattle.rcv_reader.specs.declared.fault.Stop.TheVariants as errors
-use Rattle.rcv_reader.specs.Symbols.{Symbol, Is, Name}
+use Rattle.rcv_reader.specs.Symbols.{Symbol, Is, Word, IsNotNext}
 use Rattle.rcv_reader.specs.Grammar.{names_behind, sort_list}
 use Rattle.rcv_reader.specs.Machine.{Item, This, AnyName, Sorts, MoreSorts, Receiver, MoreReceivers, State, answer, is_listed}
 use Rattle.rcv_reader.specs.Trees.{or_first, role_at, roles_at, MayReceive}
-use Rattle.rcv_reader.specs.Descent.{known, Halts, IsNotNext, messages, IsReceived, AreReceived}
+use Rattle.rcv_reader.specs.Descent.{known, Halts, messages, IsReceived, AreReceived}
 use Rattle.rcv_reader.proofs.Going.{sorts_is_name, sorts_end, receivers_end}
 
 -- roles, recursions and points are as before
@@ -27,13 +27,13 @@ pub halts_over : (e : Stop) (s : State) (front over : List Item → List Item) (
 halts_over errors.Memory s front over old new h = tt
 halts_over (errors.Refused fault) s front over old new h = λ k. h (over k)
 
-pub names_push : (ns : List (List ℕ)) (m : List ℕ) (next : List Symbol) → names_behind (ns ++ m ∷ []) next ≡ names_behind ns (Is Comma ∷ Name m ∷ next)
+pub names_push : (ns : List (List ℕ)) (m : List ℕ) (next : List Symbol) → names_behind (ns ++ m ∷ []) next ≡ names_behind ns (Is Comma ∷ Word m ∷ next)
 names_push [] m next = refl
-names_push (n ∷ ns) m next = ap (λ (x : List Symbol). Is Comma ∷ Name n ∷ x) (names_push ns m next)
+names_push (n ∷ ns) m next = ap (λ (x : List Symbol). Is Comma ∷ Word n ∷ x) (names_push ns m next)
 
-sort_push : (ns : List (List ℕ)) (m : List ℕ) (next : List Symbol) → ns ≢ [] → sort_list (ns ++ m ∷ []) next ≡ sort_list ns (Is Comma ∷ Name m ∷ next)
+sort_push : (ns : List (List ℕ)) (m : List ℕ) (next : List Symbol) → ns ≢ [] → sort_list (ns ++ m ∷ []) next ≡ sort_list ns (Is Comma ∷ Word m ∷ next)
 sort_push [] m next some = absurd (some refl)
-sort_push (n ∷ ns) m next some = ap (λ (x : List Symbol). Name n ∷ x) (names_push ns m next)
+sort_push (n ∷ ns) m next some = ap (λ (x : List Symbol). Word n ∷ x) (names_push ns m next)
 
 pub not_empty : (ns : List (List ℕ)) (m : List ℕ) → ns ++ m ∷ [] ≢ []
 not_empty [] m e = cc
@@ -55,7 +55,7 @@ sorts_to_first roles r1 recs q1 count c1 start mid other same k =
     ∙ ap (λ (x : List Symbol). answer (known r1 c1) (AnyName ∷ MoreSorts ∷ k) x) (sym other.0)
 
 pub sorts_first : (roles r1 r2 recs q1 q2 : List (List ℕ)) (count c1 c2 : ℕ) (sorts : List (List ℕ)) (n : List ℕ) (start mid new : List Symbol) → IsOther (Is Right) start mid → IsSame roles r1 recs q1 count c1
-    → ((k : List Item) → answer (known r1 c1) (AnyName ∷ k) mid ≡ answer (known r2 c2) k new) → mid ≡ Name n ∷ new → IsSame r1 r2 q1 q2 c1 c2 → sorts ≡ [] ++ n ∷ [] → length new ≤ length mid
+    → ((k : List Item) → answer (known r1 c1) (AnyName ∷ k) mid ≡ answer (known r2 c2) k new) → mid ≡ Word n ∷ new → IsSame r1 r2 q1 q2 c1 c2 → sorts ≡ [] ++ n ∷ [] → length new ≤ length mid
     → SortsSoFar roles r2 recs q2 count c2 sorts start new
 sorts_first roles r1 r2 recs q1 q2 count c1 c2 sorts n start mid new other same goes read same' is le = record {
   goes = λ k. sorts_to_first roles r1 recs q1 count c1 start mid other same k ∙ goes (MoreSorts ∷ k);
@@ -73,7 +73,7 @@ sorts_to_next roles r0 r1 recs q0 q1 count c0 c1 sorts start now mid so_far e sa
 
 pub sorts_next : (roles r0 r1 r2 recs q0 q1 q2 : List (List ℕ)) (count c0 c1 c2 : ℕ) (sorts sorts' : List (List ℕ)) (n : List ℕ) (start now mid new : List Symbol)
     → SortsSoFar roles r0 recs q0 count c0 sorts start now → now ≡ Is Comma ∷ mid → IsSame r0 r1 q0 q1 c0 c1
-    → ((k : List Item) → answer (known r1 c1) (AnyName ∷ k) mid ≡ answer (known r2 c2) k new) → mid ≡ Name n ∷ new → IsSame r1 r2 q1 q2 c1 c2 → sorts' ≡ sorts ++ n ∷ [] → length new ≤ length mid → length mid < length now
+    → ((k : List Item) → answer (known r1 c1) (AnyName ∷ k) mid ≡ answer (known r2 c2) k new) → mid ≡ Word n ∷ new → IsSame r1 r2 q1 q2 c1 c2 → sorts' ≡ sorts ++ n ∷ [] → length new ≤ length mid → length mid < length now
     → SortsSoFar roles r2 recs q2 count c2 sorts' start new
 sorts_next roles r0 r1 r2 recs q0 q1 q2 count c0 c1 c2 sorts sorts' n start now mid new so_far e same goes read same' is le lt = record {
   goes = λ k. sorts_to_next roles r0 r1 recs q0 q1 count c0 c1 sorts start now mid so_far e same k ∙ goes (MoreSorts ∷ k);
@@ -100,7 +100,7 @@ pub record ReceiversSoFar (roles roles' recs recs' : List (List ℕ)) (count cou
   pub places : before ≡ roles_at roles (first ∷ others)
   pub counted : count' ≡ count + length before
   pub added : block' ≡ block ++ messages label sorts sender before count
-  pub read : start ≡ Name first ∷ names_behind others now
+  pub read : start ≡ Word first ∷ names_behind others now
   pub same_roles : roles' ≡ roles
   pub same_recs : recs' ≡ recs
   pub few : count' ≤ 256
@@ -176,8 +176,8 @@ receivers_next roles r0 r1 r2 recs q0 q1 q2 count c0 c1 c2 label sorts sender be
           ∙ ap (λ (x : ℕ). block ++ (messages label sorts sender before count ++ statements.Message label sorts sender is.role (x + 1) ∷ [])) count-is
           ∙ ap (λ (x : List Stmt). block ++ x) (sym (messages_push label sorts sender before is.role count))
           ∙ ap (λ (x : List ℕ). block ++ messages label sorts sender x count) (sym j);
-      read = so_far.read ∙ ap (λ (x : List Symbol). Name so_far.first ∷ names_behind so_far.others x) (e ∙ ap (λ (x : List Symbol). Is Comma ∷ x) is.spelled)
-          ∙ ap (λ (x : List Symbol). Name so_far.first ∷ x) (sym (names_push so_far.others is.name new));
+      read = so_far.read ∙ ap (λ (x : List Symbol). Word so_far.first ∷ names_behind so_far.others x) (e ∙ ap (λ (x : List Symbol). Is Comma ∷ x) is.spelled)
+          ∙ ap (λ (x : List Symbol). Word so_far.first ∷ x) (sym (names_push so_far.others is.name new));
       same_roles = same'.0 ∙ roles-is;
       same_recs = same'.1 ∙ same.1 ∙ so_far.same_recs;
       few = counts.1;
@@ -210,7 +210,7 @@ receivers_read roles r0 recs q0 count c0 c2 label sorts sender before block bloc
       may = subst (λ (x : List (List ℕ)). MayReceive roles sender [] (so_far.first ∷ x)) (append-nil so_far.others) (so_far.may [] tt);
       counted = same ∙ so_far.counted ∙ ap (λ (x : ℕ). count + x) (ap length p ∙ long (so_far.others));
       added = so_far.added ∙ ap (λ (x : List ℕ). block ++ messages label sorts sender x count) p;
-      spelled = so_far.read ∙ ap (λ (x : List Symbol). Name so_far.first ∷ names_behind so_far.others x) (sym other.0 ∙ e);
+      spelled = so_far.read ∙ ap (λ (x : List Symbol). Word so_far.first ∷ names_behind so_far.others x) (sym other.0 ∙ e);
     }
   where
     mapped : (xs : List (List ℕ)) → length (roles_at roles xs) ≡ length xs

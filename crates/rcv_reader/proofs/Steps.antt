@@ -2,10 +2,10 @@
 use Rattle.std.proofs.Common.{◌≡◌, Bool, true, false, cond, List, [], ◌∷◌, refl, inl}
 use Rattle.std.specs.Prelude.{◌⊎◌}
 use Rattle.rcv_reader.specs.declared.sign.Sign.{Sign}
-use Rattle.rcv_reader.specs.declared.sign.Sign.TheVariants.{Module, Global, Protocol, Role, From, To, Choice, At, Or, Rec, Continue, Par, And, Do, Open, Close, Left, Right, Comma, Semicolon, Dot, Less, Greater}
+use Rattle.rcv_reader.specs.declared.sign.Sign.TheVariants.{Module, Global, Protocol, Role, From, To, Choice, At, Or, Rec, Continue, Par, And, Do, Open, Close, Left, Right, Comma, Semicolon, Dot, Less, Greater, Foreign}
 use Rattle.rcv_reader.specs.declared.fault.Fault.{Fault}
 use Rattle.rcv_reader.specs.declared.fault.Fault.TheVariants.{Token, Deep, NoName, Twice, SelfMessage, AfterContinue, Unguarded, TooMany, NotYet}
-use Rattle.rcv_reader.specs.Symbols.{Symbol, Is, Name, Quoted}
+use Rattle.rcv_reader.specs.Symbols.{Symbol, Is, Word, Text}
 use Rattle.rcv_reader.specs.Grammar.{NoStmt, AContinue, NoBlock}
 use Rattle.rcv_reader.specs.Machine.{Item, This, AnyName, AnyQuoted, MoreModules, Decls, Alias, RoleName, MoreRoles, Sorts, MoreSorts, Subject, Sender, Receiver, MoreReceivers, RecName, AgainName, Opening, First, Rest, More, Outcome, On, Wrong, unless, same, Derives}
 
@@ -13,23 +13,23 @@ use Rattle.rcv_reader.specs.Machine.{Item, This, AnyName, AnyQuoted, MoreModules
 pub completion : (k : List Item) → (ts : List Symbol) × Derives k ts
 completion [] = ([], refl)
 completion (This m ∷ k) = let c = completion k in (m ∷ c.0, (c.0, refl, c.1))
-completion (AnyName ∷ k) = let c = completion k in (Name [] ∷ c.0, (c.0, ([], refl), c.1))
-completion (AnyQuoted ∷ k) = let c = completion k in (Quoted [] ∷ c.0, (c.0, ([], refl), c.1))
+completion (AnyName ∷ k) = let c = completion k in (Word [] ∷ c.0, (c.0, ([], refl), c.1))
+completion (AnyQuoted ∷ k) = let c = completion k in (Text [] ∷ c.0, (c.0, ([], refl), c.1))
 completion (MoreModules ∷ k) = let c = completion k in (Is Semicolon ∷ c.0, (c.0, ([], refl), c.1))
 completion (Decls aliases ∷ k) = let c = completion k in (Is Global ∷ c.0, (c.0, ([], tt, refl), c.1))
-completion (Alias aliases ∷ k) = let c = completion k in (Name [] ∷ Is Semicolon ∷ Is Global ∷ c.0, (c.0, ([], [], tt, refl), c.1))
-completion (RoleName ∷ k) = let c = completion k in (Name [] ∷ Is Right ∷ c.0, (c.0, ([], [], refl), c.1))
+completion (Alias aliases ∷ k) = let c = completion k in (Word [] ∷ Is Semicolon ∷ Is Global ∷ c.0, (c.0, ([], [], tt, refl), c.1))
+completion (RoleName ∷ k) = let c = completion k in (Word [] ∷ Is Right ∷ c.0, (c.0, ([], [], refl), c.1))
 completion (MoreRoles ∷ k) = let c = completion k in (Is Right ∷ c.0, (c.0, ([], refl), c.1))
 completion (Sorts ∷ k) = let c = completion k in (Is Right ∷ c.0, (c.0, ([], refl), c.1))
 completion (MoreSorts ∷ k) = let c = completion k in (Is Right ∷ c.0, (c.0, ([], refl), c.1))
-completion (Subject ∷ k) = let c = completion k in (Name [] ∷ c.0, (c.0, ([], refl), c.1))
-completion (Sender ∷ k) = let c = completion k in (Name [] ∷ Is To ∷ Name [] ∷ Is Semicolon ∷ c.0, (c.0, ([], [], [], refl), c.1))
-completion (Receiver sender before ∷ k) = let c = completion k in (Name [] ∷ Is Semicolon ∷ c.0, (c.0, ([], [], refl), c.1))
+completion (Subject ∷ k) = let c = completion k in (Word [] ∷ c.0, (c.0, ([], refl), c.1))
+completion (Sender ∷ k) = let c = completion k in (Word [] ∷ Is To ∷ Word [] ∷ Is Semicolon ∷ c.0, (c.0, ([], [], [], refl), c.1))
+completion (Receiver sender before ∷ k) = let c = completion k in (Word [] ∷ Is Semicolon ∷ c.0, (c.0, ([], [], refl), c.1))
 completion (MoreReceivers sender before ∷ k) = let c = completion k in (Is Semicolon ∷ c.0, (c.0, ([], refl), c.1))
-completion (RecName p ∷ k) = let c = completion k in (Name [] ∷ Is Open ∷ Is Continue ∷ Name [] ∷ Is Semicolon ∷ Is Close ∷ c.0, (c.0, ([], AContinue [] NoStmt, tt, tt, refl), c.1))
-completion (AgainName p ∷ k) = let c = completion k in (Name [] ∷ Is Semicolon ∷ c.0, (c.0, ([], refl), c.1))
-completion (Opening p ∷ k) = let c = completion k in (Is Open ∷ Is Continue ∷ Name [] ∷ Is Semicolon ∷ Is Close ∷ c.0, (c.0, (AContinue [] NoStmt, tt, tt, refl), c.1))
-completion (First p ∷ k) = let c = completion k in (Is Continue ∷ Name [] ∷ Is Semicolon ∷ Is Close ∷ c.0, (c.0, (AContinue [] NoStmt, tt, tt, refl), c.1))
+completion (RecName p ∷ k) = let c = completion k in (Word [] ∷ Is Open ∷ Is Continue ∷ Word [] ∷ Is Semicolon ∷ Is Close ∷ c.0, (c.0, ([], AContinue [] NoStmt, tt, tt, refl), c.1))
+completion (AgainName p ∷ k) = let c = completion k in (Word [] ∷ Is Semicolon ∷ c.0, (c.0, ([], refl), c.1))
+completion (Opening p ∷ k) = let c = completion k in (Is Open ∷ Is Continue ∷ Word [] ∷ Is Semicolon ∷ Is Close ∷ c.0, (c.0, (AContinue [] NoStmt, tt, tt, refl), c.1))
+completion (First p ∷ k) = let c = completion k in (Is Continue ∷ Word [] ∷ Is Semicolon ∷ Is Close ∷ c.0, (c.0, (AContinue [] NoStmt, tt, tt, refl), c.1))
 completion (Rest p ∷ k) = let c = completion k in (Is Close ∷ c.0, (c.0, (NoStmt, tt, refl), c.1))
 completion (More p ∷ k) = let c = completion k in (Is Close ∷ c.0, (c.0, (NoBlock, NoStmt, tt, tt, refl), c.1))
 
@@ -100,6 +100,7 @@ same_only Semicolon Semicolon e = refl
 same_only Dot Dot e = refl
 same_only Less Less e = refl
 same_only Greater Greater e = refl
+same_only Foreign Foreign e = refl
 same_only _ _ e = absurd cc
 
 pub same_itself : (a : Sign) → same a a ≡ true
@@ -126,3 +127,4 @@ same_itself Semicolon = refl
 same_itself Dot = refl
 same_itself Less = refl
 same_itself Greater = refl
+same_itself Foreign = refl

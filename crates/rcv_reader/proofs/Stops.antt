@@ -3,9 +3,8 @@ use Rattle.std.proofs.Common.{◌≡◌, ℕ, Bool, true, false, List, [], ◌�
 use Rattle.std.specs.Prelude.{cond}
 use Rattle.rcv_reader.specs.declared.sign.Sign.TheVariants.{Open}
 use Rattle.rcv_reader.specs.declared.fault.Fault.TheVariants.{Token}
-use Rattle.rcv_reader.specs.Symbols.{Symbol, Is, Name, Quoted, Other}
+use Rattle.rcv_reader.specs.Symbols.{Symbol, Is, Word, Text, Number, IsNotNext, NoWord}
 use Rattle.rcv_reader.specs.Machine.{Place, Item, This, Opening, AnyName, Alias, RoleName, Subject, Sender, Receiver, RecName, AgainName, State, Outcome, On, Wrong, named, meets, step, after, Refuses, answer}
-use Rattle.rcv_reader.specs.Descent.{IsNotNext, NoName}
 use Rattle.rcv_reader.proofs.Heads.{meets_only}
 
 -- an outcome decides the answer
@@ -20,11 +19,11 @@ pub no_sign : (s : State) (m : Symbol) (ts : List Symbol) → IsNotNext m ts →
 no_sign s m [] h k = refl
 no_sign s m (t ∷ ts) h k = stops_by s (This m ∷ k) t ts (no_this (meets t m) s k m t refl (λ e. h ts (ap (λ (x : Symbol). x ∷ ts) e)))
 
-unnamed : (t : Symbol) (next : List ℕ → Outcome) → ((n : List ℕ) → t ≡ Name n → ⊥) → named t next ≡ Wrong Token
-unnamed (Name n) next h = absurd (h n refl)
+unnamed : (t : Symbol) (next : List ℕ → Outcome) → ((n : List ℕ) → t ≡ Word n → ⊥) → named t next ≡ Wrong Token
+unnamed (Word n) next h = absurd (h n refl)
 unnamed (Is w) next h = refl
-unnamed (Quoted q) next h = refl
-unnamed Other next h = refl
+unnamed (Text q) next h = refl
+unnamed (Number n) next h = refl
 
 -- the items that begin with a name
 abbrev pub begins_named : Item → Bool
@@ -38,7 +37,7 @@ begins_named (RecName p) = true
 begins_named (AgainName p) = true
 begins_named _ = false
 
-unnamed_step : (s : State) (i : Item) (k : List Item) (t : Symbol) (ts : List Symbol) → begins_named i ≡ true → ((n : List ℕ) → t ≡ Name n → ⊥) → step s t ts (i ∷ k) ≡ Wrong Token
+unnamed_step : (s : State) (i : Item) (k : List Item) (t : Symbol) (ts : List Symbol) → begins_named i ≡ true → ((n : List ℕ) → t ≡ Word n → ⊥) → step s t ts (i ∷ k) ≡ Wrong Token
 unnamed_step s AnyName k t ts is h = unnamed t _ h
 unnamed_step s (Alias aliases) k t ts is h = unnamed t _ h
 unnamed_step s RoleName k t ts is h = unnamed t _ h
@@ -49,7 +48,7 @@ unnamed_step s (RecName p) k t ts is h = unnamed t _ h
 unnamed_step s (AgainName p) k t ts is h = unnamed t _ h
 unnamed_step s _ k t ts is h = absurd cc
 
-pub no_name : (s : State) (i : Item) (ts : List Symbol) → begins_named i ≡ true → NoName ts → (k : List Item) → answer s (i ∷ k) ts ≡ Refuses Token ts
+pub no_name : (s : State) (i : Item) (ts : List Symbol) → begins_named i ≡ true → NoWord ts → (k : List Item) → answer s (i ∷ k) ts ≡ Refuses Token ts
 no_name s i [] is h k = refl
 no_name s i (t ∷ ts) is h k = stops_by s (i ∷ k) t ts (unnamed_step s i k t ts is (λ n e. h n ts (ap (λ (x : Symbol). x ∷ ts) e)))
 

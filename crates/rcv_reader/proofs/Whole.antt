@@ -12,12 +12,12 @@ use Rattle.rcv_reader.specs.declared.sign.Sign.TheVariants as sign
 use Rattle.rcv_reader.specs.declared.fault.Fault.TheVariants.{Token}
 use Rattle.rcv_reader.specs.declared.fault.Stop.{Stop}
 use Rattle.rcv_reader.specs.declared.fault.Stop.TheVariants as errors
-use Rattle.rcv_reader.specs.Symbols.{Symbol, Is, Name}
+use Rattle.rcv_reader.specs.Symbols.{Symbol, Is, Word, IsNotNext}
 use Rattle.rcv_reader.specs.Grammar.{NoStmt, decls}
 use Rattle.rcv_reader.specs.Machine.{Item, This, AnyName, MoreModules, Decls, RoleName, Rest, outermost, step, Wrong, State, Refuses, answer, reading}
 use Rattle.rcv_reader.specs.Trees.{Reads, tree_of}
 use Rattle.rcv_reader.specs.Refusals.{IsRead}
-use Rattle.rcv_reader.specs.Descent.{known, IsNotNext, Halts, Ends, EndFails, IsHead, Adds, module_list, names_of_roles, in_front, place_at}
+use Rattle.rcv_reader.specs.Descent.{known, Halts, Ends, EndFails, IsHead, Adds, module_list, names_of_roles, in_front, place_at}
 use Rattle.rcv_reader.proofs.Stops.{stops_by}
 use Rattle.rcv_reader.proofs.Reading.{known_same}
 use Rattle.rcv_reader.proofs.Blocks.{body_of-in_front}
@@ -53,7 +53,7 @@ end_fails errors.Memory r q r2 c c2 old mid left begun goes h = tt
 end_fails (errors.Refused fault) r q r2 c c2 old mid left begun goes h = begun ∙ goes [] ∙ h
 
 abbrev whole_of : List (List ℕ) → List Decl → List ℕ → List (List ℕ) → List Symbol → List Symbol
-whole_of modules ds name roles mid = Is Module ∷ module_list modules (Is Semicolon ∷ decls ds (Is Global ∷ Is sign.Protocol ∷ Name name ∷ Is Left ∷ Is Role ∷ names_of_roles roles (Is Right ∷ Is Open ∷ mid)))
+whole_of modules ds name roles mid = Is Module ∷ module_list modules (Is Semicolon ∷ decls ds (Is Global ∷ Is sign.Protocol ∷ Word name ∷ Is Left ∷ Is Role ∷ names_of_roles roles (Is Right ∷ Is Open ∷ mid)))
 
 reads : (p : Protocol) (c c2 : ℕ) (old mid : List Symbol) → IsHead p.«module» (declarations p.decls) p.name p.roles old mid → Adds p.roles 0 c2 [] (statements p.body) mid (Is Close ∷ []) → Reads old p
 reads p c c2 old mid h d =

@@ -8,7 +8,7 @@ use Rattle.rcv_model.specs.Text as trees
 use Rattle.rcv_reader.specs.declared.sign.Sign.TheVariants.{Module, Global, Protocol, Role, Left, Right, Open, Close, Or, Choice, Rec, Continue, Par, Do, Semicolon}
 use Rattle.rcv_reader.specs.declared.fault.Stop.{Stop}
 use Rattle.rcv_reader.specs.declared.fault.Stop.TheVariants as errors
-use Rattle.rcv_reader.specs.Symbols.{Symbol, Is, Name, Quoted}
+use Rattle.rcv_reader.specs.Symbols.{Symbol, Is, Word, Text}
 use Rattle.rcv_reader.specs.Grammar as grammar
 use Rattle.rcv_reader.specs.Grammar.{Written, stmts, names_behind, roles_behind, dotted, decl, decls, is_decl_word, AreDecls, blocks_behind, IsBegun, IsProper, AreProper}
 use Rattle.rcv_tree.specs.declared.protocol.Decl.{Decl}
@@ -31,23 +31,13 @@ abbrev pub Goes : {X : Type 0} → Result X Stop → State → State → (List I
 Goes (Ok x) s s' front behind old new = (k : List Item) → answer s (front k) old ≡ answer s' (behind x k) new
 Goes (Err e) s s' front behind old new = Halts e s front old new
 
--- the symbol isn't the next one
-abbrev pub IsNotNext : Symbol → List Symbol → Type 0
-IsNotNext t ts = (us : List Symbol) → ts ≡ t ∷ us → ⊥
-
-abbrev pub NoName : List Symbol → Type 0
-NoName ts = (n : List ℕ) → IsNotNext (Name n) ts
-
-abbrev pub NoQuoted : List Symbol → Type 0
-NoQuoted ts = (q : List ℕ) → IsNotNext (Quoted q) ts
-
 -- a name at the front
 abbrev pub a_name : List ℕ → List Symbol → List Symbol
-a_name n ts = Name n ∷ ts
+a_name n ts = Word n ∷ ts
 
 -- a statement begins; one that isn't read yet
 abbrev pub starts : List Symbol → Bool
-starts (Name n ∷ ts) = true
+starts (Word n ∷ ts) = true
 starts (Is Choice ∷ ts) = true
 starts (Is Rec ∷ ts) = true
 starts (Is Continue ∷ ts) = true
@@ -73,12 +63,12 @@ pub record MayBegin (p : Place) (ts : List Symbol) : Type 0 where
 
 -- the name of a role was read
 abbrev pub IsRoleName : List (List ℕ) → ℕ → List Symbol → List Symbol → Type 0
-IsRoleName roles r old new = (n : List ℕ) × (place_of roles n ≡ Some r) × (old ≡ Name n ∷ new)
+IsRoleName roles r old new = (n : List ℕ) × (place_of roles n ≡ Some r) × (old ≡ Word n ∷ new)
 
 -- Name , Name ..
 abbrev pub name_list : List (List ℕ) → List Symbol → List Symbol
 name_list [] next = next
-name_list (n ∷ ns) next = Name n ∷ names_behind ns next
+name_list (n ∷ ns) next = Word n ∷ names_behind ns next
 
 -- the messages of one statement, behind n points
 abbrev pub messages : List ℕ → List (List ℕ) → ℕ → List ℕ → ℕ → List Stmt
@@ -103,7 +93,7 @@ pub record IsReceived (roles : List (List ℕ)) (label : List ℕ) (sorts : List
   pub apart : (role == sender) ≡ false
   pub joins : before' ≡ before ++ role ∷ []
   pub added : block' ≡ block ++ statements.Message label sorts sender role (n + 1) ∷ []
-  pub spelled : old ≡ Name name ∷ new
+  pub spelled : old ≡ Word name ∷ new
 
 -- All receivers of a message were read, and the mark behind them.
 pub record AreReceived (roles : List (List ℕ)) (label : List ℕ) (sorts : List (List ℕ)) (sender n n' : ℕ) (block block' : List Stmt) (old new : List Symbol) : Type 0 where
@@ -112,7 +102,7 @@ pub record AreReceived (roles : List (List ℕ)) (label : List ℕ) (sorts : Lis
   pub may : MayReceive roles sender [] (first ∷ others)
   pub counted : n' ≡ n + (1 + length others)
   pub added : block' ≡ block ++ messages label sorts sender (roles_at roles (first ∷ others)) n
-  pub spelled : old ≡ Name first ∷ names_behind others (Is Semicolon ∷ new)
+  pub spelled : old ≡ Word first ∷ names_behind others (Is Semicolon ∷ new)
 
 -- Statements were read: what is written, in front of any others of its block, with its symbols and its tree.
 pub record AreStmts (roles : List (List ℕ)) (n n' : ℕ) (added : List Stmt) (old new : List Symbol) : Type 0 where
@@ -161,26 +151,26 @@ AddsSome roles n n' block block' old new = (added : List Stmt) × (block' ≡ bl
 -- ---- the head
 
 abbrev pub a_name_of : List ℕ → Symbol
-a_name_of n = Name n
+a_name_of n = Word n
 
 abbrev pub a_quoted : List ℕ → List Symbol → List Symbol
-a_quoted q ts = Quoted q ∷ ts
+a_quoted q ts = Text q ∷ ts
 
 -- Name . Name ..
 abbrev pub module_list : List (List ℕ) → List Symbol → List Symbol
 module_list [] next = next
-module_list (n ∷ ns) next = Name n ∷ dotted ns next
+module_list (n ∷ ns) next = Word n ∷ dotted ns next
 
 -- Name , role Name ..
 abbrev pub names_of_roles : List (List ℕ) → List Symbol → List Symbol
 names_of_roles [] next = next
-names_of_roles (n ∷ ns) next = Name n ∷ roles_behind ns next
+names_of_roles (n ∷ ns) next = Word n ∷ roles_behind ns next
 
 -- one more name was read
 pub record AddsName (names names' : List (List ℕ)) (old new : List Symbol) : Type 0 where
   pub name : List ℕ
   pub added : names' ≡ names ++ name ∷ []
-  pub spelled : old ≡ Name name ∷ new
+  pub spelled : old ≡ Word name ∷ new
 
 -- a declaration was read
 pub record IsDecl (d : Decl) (old new : List Symbol) : Type 0 where
@@ -206,7 +196,7 @@ pub record IsHead (modules : List (List ℕ)) (ds : List Decl) (name : List ℕ)
   pub some_module : modules ≡ [] → ⊥
   pub some_role : roles ≡ [] → ⊥
   pub words : AreDecls ds
-  pub spelled : old ≡ Is Module ∷ module_list modules (Is Semicolon ∷ decls ds (Is Global ∷ Is Protocol ∷ Name name ∷ Is Left ∷ Is Role ∷ names_of_roles roles (Is Right ∷ Is Open ∷ new)))
+  pub spelled : old ≡ Is Module ∷ module_list modules (Is Semicolon ∷ decls ds (Is Global ∷ Is Protocol ∷ Word name ∷ Is Left ∷ Is Role ∷ names_of_roles roles (Is Right ∷ Is Open ∷ new)))
 
 -- the fault behind the protocol
 abbrev pub EndFails : Stop → State → List Symbol → Type 0

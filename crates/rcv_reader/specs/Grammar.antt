@@ -4,7 +4,7 @@ use Rattle.std.specs.Str.{bytes_eq}
 use Rattle.rcv_tree.specs.declared.protocol.Decl.{Decl}
 use Rattle.rcv_reader.specs.declared.sign.Sign.{Sign}
 use Rattle.rcv_reader.specs.declared.sign.Sign.TheVariants.{Module, Global, Protocol, Role, From, To, Choice, At, Or, Rec, Continue, Par, And, Do, Open, Close, Left, Right, Comma, Semicolon, Dot, Less, Greater}
-use Rattle.rcv_reader.specs.Symbols.{Symbol, Is, Name, Quoted}
+use Rattle.rcv_reader.specs.Symbols.{Symbol, Is, Word, Text}
 
 -- Statements with what stands behind each in its block, and the other blocks of a choice or a par. Names are as written.
 mutual
@@ -24,27 +24,27 @@ mutual
 -- Each in front of what follows: . Name . Name ..
 abbrev pub dotted : List (List ℕ) → List Symbol → List Symbol
 dotted [] next = next
-dotted (n ∷ ns) next = Is Dot ∷ Name n ∷ dotted ns next
+dotted (n ∷ ns) next = Is Dot ∷ Word n ∷ dotted ns next
 
 -- , Name , Name ..
 abbrev pub names_behind : List (List ℕ) → List Symbol → List Symbol
 names_behind [] next = next
-names_behind (n ∷ ns) next = Is Comma ∷ Name n ∷ names_behind ns next
+names_behind (n ∷ ns) next = Is Comma ∷ Word n ∷ names_behind ns next
 
 -- Name , Name .. or nothing
 abbrev pub sort_list : List (List ℕ) → List Symbol → List Symbol
 sort_list [] next = next
-sort_list (n ∷ ns) next = Name n ∷ names_behind ns next
+sort_list (n ∷ ns) next = Word n ∷ names_behind ns next
 
 -- , role Name , role Name ..
 abbrev pub roles_behind : List (List ℕ) → List Symbol → List Symbol
 roles_behind [] next = next
-roles_behind (n ∷ ns) next = Is Comma ∷ Is Role ∷ Name n ∷ roles_behind ns next
+roles_behind (n ∷ ns) next = Is Comma ∷ Is Role ∷ Word n ∷ roles_behind ns next
 
 -- type or data < Schema > "extern" from "file" as Alias ;
 abbrev pub decl : Decl → List Symbol → List Symbol
 decl d next =
-    Name d.word ∷ Is Less ∷ Name d.schema ∷ Is Greater ∷ Quoted d.extern_name ∷ Is From ∷ Quoted d.file ∷ Name (codes "as") ∷ Name d.alias ∷ Is Semicolon ∷ next
+    Word d.word ∷ Is Less ∷ Word d.schema ∷ Is Greater ∷ Text d.extern_name ∷ Is From ∷ Text d.file ∷ Word (codes "as") ∷ Word d.alias ∷ Is Semicolon ∷ next
 
 abbrev pub decls : List Decl → List Symbol → List Symbol
 decls [] next = next
@@ -55,15 +55,15 @@ abbrev mutual
   pub stmts : Written → List Symbol → List Symbol
   stmts NoStmt next = next
   stmts (AMessage label sorts sender receiver others rest) next =
-      Name label ∷ Is Left ∷ sort_list sorts (Is Right ∷ Is From ∷ Name sender ∷ Is To ∷ Name receiver ∷ names_behind others (Is Semicolon ∷ stmts rest next))
+      Word label ∷ Is Left ∷ sort_list sorts (Is Right ∷ Is From ∷ Word sender ∷ Is To ∷ Word receiver ∷ names_behind others (Is Semicolon ∷ stmts rest next))
   stmts (AChoice subject first others rest) next =
-      Is Choice ∷ Is At ∷ Name subject ∷ Is Open ∷ stmts first (Is Close ∷ blocks_behind Or others (stmts rest next))
-  stmts (ARec name body rest) next = Is Rec ∷ Name name ∷ Is Open ∷ stmts body (Is Close ∷ stmts rest next)
-  stmts (AContinue name rest) next = Is Continue ∷ Name name ∷ Is Semicolon ∷ stmts rest next
+      Is Choice ∷ Is At ∷ Word subject ∷ Is Open ∷ stmts first (Is Close ∷ blocks_behind Or others (stmts rest next))
+  stmts (ARec name body rest) next = Is Rec ∷ Word name ∷ Is Open ∷ stmts body (Is Close ∷ stmts rest next)
+  stmts (AContinue name rest) next = Is Continue ∷ Word name ∷ Is Semicolon ∷ stmts rest next
   stmts (APar first second others rest) next =
       Is Par ∷ Is Open ∷ stmts first (Is Close ∷ Is And ∷ Is Open ∷ stmts second (Is Close ∷ blocks_behind And others (stmts rest next)))
   stmts (ADo name role others rest) next =
-      Is Do ∷ Name name ∷ Is Left ∷ Name role ∷ names_behind others (Is Right ∷ Is Semicolon ∷ stmts rest next)
+      Is Do ∷ Word name ∷ Is Left ∷ Word role ∷ names_behind others (Is Right ∷ Is Semicolon ∷ stmts rest next)
 
   pub blocks_behind : Sign → Blocks → List Symbol → List Symbol
   blocks_behind word NoBlock next = next
@@ -110,8 +110,8 @@ pub record Source : Type 0 where
 
 abbrev pub spelling : Source → List Symbol
 spelling s =
-    Is Module ∷ Name s.module_name
-    ∷ dotted s.module_more (Is Semicolon ∷ decls s.declared (Is Global ∷ Is Protocol ∷ Name s.name ∷ Is Left ∷ Is Role ∷ Name s.role ∷ roles_behind s.other_roles (Is Right ∷ Is Open ∷ stmts s.body (Is Close ∷ []))))
+    Is Module ∷ Word s.module_name
+    ∷ dotted s.module_more (Is Semicolon ∷ decls s.declared (Is Global ∷ Is Protocol ∷ Word s.name ∷ Is Left ∷ Is Role ∷ Word s.role ∷ roles_behind s.other_roles (Is Right ∷ Is Open ∷ stmts s.body (Is Close ∷ []))))
 
 -- the symbols spell this module
 abbrev pub Spells : List Symbol → Source → Type 0

@@ -4,10 +4,10 @@ use Rattle.std.specs.List.{list_any}
 use Rattle.std.specs.Str.{bytes_eq}
 use Rattle.rcv_tree.specs.declared.protocol.Decl.{Decl}
 use Rattle.rcv_reader.specs.declared.sign.Sign.{Sign}
-use Rattle.rcv_reader.specs.declared.sign.Sign.TheVariants.{Module, Global, Protocol, Role, From, To, Choice, At, Or, Rec, Continue, Par, And, Do, Open, Close, Left, Right, Comma, Semicolon, Dot, Less, Greater}
+use Rattle.rcv_reader.specs.declared.sign.Sign.TheVariants.{Module, Global, Protocol, Role, From, To, Choice, At, Or, Rec, Continue, Par, And, Do, Open, Close, Left, Right, Comma, Semicolon, Dot, Less, Greater, Foreign}
 use Rattle.rcv_reader.specs.declared.fault.Fault.{Fault}
 use Rattle.rcv_reader.specs.declared.fault.Fault.TheVariants.{Token, Deep, NoName, Twice, SelfMessage, AfterContinue, Unguarded, TooMany, NotYet}
-use Rattle.rcv_reader.specs.Symbols.{Symbol, Is, Name, Quoted, Other}
+use Rattle.rcv_reader.specs.Symbols.{Symbol, Is, Word, Text, Number}
 use Rattle.rcv_reader.specs.Grammar.{Written, Blocks, is_decl_word, dotted, names_behind, sort_list, roles_behind, decls, stmts, blocks_behind, IsBegun, IsProper, AreProper, AreDecls}
 
 abbrev pub code_of : Fault → ℕ
@@ -86,7 +86,7 @@ abbrev pub unless : Bool → Fault → Outcome → Outcome
 unless test fault next = cond test (Wrong fault) next
 
 abbrev pub named : Symbol → (List ℕ → Outcome) → Outcome
-named (Name n) next = next n
+named (Word n) next = next n
 named _ next = Wrong Token
 
 abbrev pub by_place : Option ℕ → (ℕ → Outcome) → Outcome
@@ -122,18 +122,19 @@ same Semicolon Semicolon = true
 same Dot Dot = true
 same Less Less = true
 same Greater Greater = true
+same Foreign Foreign = true
 same _ _ = false
 
 abbrev pub meets : Symbol → Symbol → Bool
 meets (Is a) (Is b) = same a b
-meets (Name a) (Name b) = bytes_eq a b
-meets (Quoted a) (Quoted b) = bytes_eq a b
-meets Other Other = true
+meets (Word a) (Word b) = bytes_eq a b
+meets (Text a) (Text b) = bytes_eq a b
+meets (Number a) (Number b) = a == b
 meets _ _ = false
 
 -- What is awaited behind the symbol, where k is awaited behind the item.
 abbrev pub quoted : Symbol → Outcome → Outcome
-quoted (Quoted q) next = next
+quoted (Text q) next = next
 quoted _ next = Wrong Token
 
 abbrev pub modules : State → Symbol → List Item → Outcome
@@ -143,8 +144,8 @@ modules s _ k = Wrong Token
 
 abbrev pub declares : State → List (List ℕ) → Symbol → List Item → Outcome
 declares s aliases (Is Global) k = On s k
-declares s aliases (Name w) k =
-    cond (is_decl_word w) (On s (This (Is Less) ∷ AnyName ∷ This (Is Greater) ∷ AnyQuoted ∷ This (Is From) ∷ AnyQuoted ∷ This (Name (codes "as")) ∷ Alias aliases ∷ k)) (Wrong Token)
+declares s aliases (Word w) k =
+    cond (is_decl_word w) (On s (This (Is Less) ∷ AnyName ∷ This (Is Greater) ∷ AnyQuoted ∷ This (Is From) ∷ AnyQuoted ∷ This (Word (codes "as")) ∷ Alias aliases ∷ k)) (Wrong Token)
 declares s aliases _ k = Wrong Token
 
 abbrev pub more_roles : State → Symbol → List Item → Outcome
@@ -153,7 +154,7 @@ more_roles s (Is Right) k = On s k
 more_roles s _ k = Wrong Token
 
 abbrev pub sorts : State → Symbol → List Item → Outcome
-sorts s (Name n) k = On s (MoreSorts ∷ k)
+sorts s (Word n) k = On s (MoreSorts ∷ k)
 sorts s (Is Right) k = On s k
 sorts s _ k = Wrong Token
 
@@ -187,12 +188,12 @@ opens s p _ k = Wrong Token
 
 -- The name behind `continue` is that of a recursion from the start of whose body a walk comes here without a message.
 abbrev pub is_open : Place → List Symbol → Bool
-is_open p (Name n ∷ ts) = holds n (drop (length p.recs - p.comes) p.recs)
+is_open p (Word n ∷ ts) = holds n (drop (length p.recs - p.comes) p.recs)
 is_open p _ = false
 
 -- the first symbol of a statement, with the symbols behind it
 abbrev pub begins : State → Place → Symbol → List Symbol → List Item → Outcome
-begins s p (Name n) ts k =
+begins s p (Word n) ts k =
     unless p.ended AfterContinue (On s (This (Is Left) ∷ Sorts ∷ This (Is From) ∷ Sender ∷ Rest (behind p false) ∷ k))
 begins s p (Is Choice) ts k = unless p.ended AfterContinue (On s (This (Is At) ∷ Subject ∷ Opening p ∷ More p ∷ k))
 begins s p (Is Rec) ts k = unless p.ended AfterContinue (On s (RecName p ∷ Rest (behind p false) ∷ k))
@@ -273,21 +274,21 @@ reading symbols = answer begin awaited symbols
 -- In the grammar's words: what an item derives, in front of what follows.
 abbrev pub Front : Item → List Symbol → List Symbol → Type 0
 Front (This m) ts us = ts ≡ m ∷ us
-Front AnyName ts us = (n : List ℕ) × (ts ≡ Name n ∷ us)
-Front AnyQuoted ts us = (q : List ℕ) × (ts ≡ Quoted q ∷ us)
+Front AnyName ts us = (n : List ℕ) × (ts ≡ Word n ∷ us)
+Front AnyQuoted ts us = (q : List ℕ) × (ts ≡ Text q ∷ us)
 Front MoreModules ts us = (ns : List (List ℕ)) × (ts ≡ dotted ns (Is Semicolon ∷ us))
 Front (Decls aliases) ts us = (ds : List Decl) × AreDecls ds × (ts ≡ decls ds (Is Global ∷ us))
-Front (Alias aliases) ts us = (n : List ℕ) × (ds : List Decl) × AreDecls ds × (ts ≡ Name n ∷ Is Semicolon ∷ decls ds (Is Global ∷ us))
-Front RoleName ts us = (n : List ℕ) × (ns : List (List ℕ)) × (ts ≡ Name n ∷ roles_behind ns (Is Right ∷ us))
+Front (Alias aliases) ts us = (n : List ℕ) × (ds : List Decl) × AreDecls ds × (ts ≡ Word n ∷ Is Semicolon ∷ decls ds (Is Global ∷ us))
+Front RoleName ts us = (n : List ℕ) × (ns : List (List ℕ)) × (ts ≡ Word n ∷ roles_behind ns (Is Right ∷ us))
 Front MoreRoles ts us = (ns : List (List ℕ)) × (ts ≡ roles_behind ns (Is Right ∷ us))
 Front Sorts ts us = (ns : List (List ℕ)) × (ts ≡ sort_list ns (Is Right ∷ us))
 Front MoreSorts ts us = (ns : List (List ℕ)) × (ts ≡ names_behind ns (Is Right ∷ us))
-Front Subject ts us = (n : List ℕ) × (ts ≡ Name n ∷ us)
-Front Sender ts us = (n r : List ℕ) × (rs : List (List ℕ)) × (ts ≡ Name n ∷ Is To ∷ Name r ∷ names_behind rs (Is Semicolon ∷ us))
-Front (Receiver sender before) ts us = (r : List ℕ) × (rs : List (List ℕ)) × (ts ≡ Name r ∷ names_behind rs (Is Semicolon ∷ us))
+Front Subject ts us = (n : List ℕ) × (ts ≡ Word n ∷ us)
+Front Sender ts us = (n r : List ℕ) × (rs : List (List ℕ)) × (ts ≡ Word n ∷ Is To ∷ Word r ∷ names_behind rs (Is Semicolon ∷ us))
+Front (Receiver sender before) ts us = (r : List ℕ) × (rs : List (List ℕ)) × (ts ≡ Word r ∷ names_behind rs (Is Semicolon ∷ us))
 Front (MoreReceivers sender before) ts us = (rs : List (List ℕ)) × (ts ≡ names_behind rs (Is Semicolon ∷ us))
-Front (RecName p) ts us = (n : List ℕ) × (b : Written) × IsBegun b × IsProper b × (ts ≡ Name n ∷ Is Open ∷ stmts b (Is Close ∷ us))
-Front (AgainName p) ts us = (n : List ℕ) × (ts ≡ Name n ∷ Is Semicolon ∷ us)
+Front (RecName p) ts us = (n : List ℕ) × (b : Written) × IsBegun b × IsProper b × (ts ≡ Word n ∷ Is Open ∷ stmts b (Is Close ∷ us))
+Front (AgainName p) ts us = (n : List ℕ) × (ts ≡ Word n ∷ Is Semicolon ∷ us)
 Front (Opening p) ts us = (b : Written) × IsBegun b × IsProper b × (ts ≡ Is Open ∷ stmts b (Is Close ∷ us))
 Front (First p) ts us = (b : Written) × IsBegun b × IsProper b × (ts ≡ stmts b (Is Close ∷ us))
 Front (Rest p) ts us = (b : Written) × IsProper b × (ts ≡ stmts b (Is Close ∷ us))

@@ -1,23 +1,14 @@
 -- What the reader answers.
-use Rattle.std.specs.Prelude.{◌≡◌, ℕ, ◌-◌, List, [], ◌∷◌, length, drop}
+use Rattle.std.specs.Prelude.{◌≡◌, ℕ, List, length}
 use Rattle.rcv_tree.specs.declared.refusal.Refusal.TheVariants as refusals
 use Rattle.rcv_tree.specs.declared.protocol.Protocol.{Protocol}
 use Rattle.rcv_lexer.specs.declared.token.Token.{Token}
 use Rattle.rcv_lexer.specs.declared.token.TextError.{TextError}
 use Rattle.rcv_lexer.specs.declared.token.TextError.TheVariants as errors
 use Rattle.rcv_reader.specs.declared.fault.Fault.{Fault}
-use Rattle.rcv_reader.specs.Symbols.{Symbol, symbols_of}
+use Rattle.rcv_reader.specs.Symbols.{Symbol, symbols_of, line_before}
 use Rattle.rcv_reader.specs.Machine.{State, Taken, Refuses, reading, code_of}
 use Rattle.rcv_reader.specs.Trees.{Reads}
-
--- the line of the first token, or of the end where there is none
-abbrev pub line_of : List Token → ℕ → ℕ
-line_of [] last = last
-line_of (t ∷ ts) last = t.line
-
--- the line of the token from which on n are left, or of the end
-abbrev pub line_before : List Token → ℕ → ℕ → ℕ
-line_before tokens last n = line_of (drop (length tokens - n) tokens) last
 
 -- no code holds in the symbols, and this is their tree
 abbrev pub IsRead : List Symbol → Protocol → Type 0

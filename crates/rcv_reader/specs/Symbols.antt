@@ -1,18 +1,17 @@
--- Tokens by what they say to the grammar.
-use Rattle.std.specs.Prelude.{ℕ, ◌-◌, codes, List, length, map, slice_range, Option, Some, None, if◌then◌else◌}
+-- The tokens of a protocol by what they say: a reserved word or a mark is a sign, and a name is any other word.
+use Rattle.std.specs.Prelude.{ℕ, codes, List, Option, Some, None, if◌then◌else◌}
 use Rattle.std.specs.Str.{bytes_eq}
 use Rattle.rcv_lexer.specs.declared.token.Kind.{Kind}
 use Rattle.rcv_lexer.specs.declared.token.Kind.TheVariants as kinds
 use Rattle.rcv_lexer.specs.declared.token.Token.{Token}
+use Rattle.rcv_scan.specs.Symbols as scan
+use Rattle.rcv_scan.specs.Symbols.{number_of}
 use Rattle.rcv_reader.specs.declared.sign.Sign.{Sign}
-use Rattle.rcv_reader.specs.declared.sign.Sign.TheVariants.{Module, Global, Protocol, Role, From, To, Choice, At, Or, Rec, Continue, Par, And, Do, Open, Close, Left, Right, Comma, Semicolon, Dot, Less, Greater}
+use Rattle.rcv_reader.specs.declared.sign.Sign.TheVariants.{Module, Global, Protocol, Role, From, To, Choice, At, Or, Rec, Continue, Par, And, Do, Open, Close, Left, Right, Comma, Semicolon, Dot, Less, Greater, Foreign}
+pub use Rattle.rcv_scan.specs.Symbols.{Is, Word, Number, Text, IsNotNext, NoWord, NoText, unquoted, line_before}
 
--- A reserved word or a mark, any other word, what stands between two quotes, or anything else.
-pub data Symbol : Type 0 where
-  Is : (sign : Sign) → Symbol
-  Name : (bytes : List ℕ) → Symbol
-  Quoted : (bytes : List ℕ) → Symbol
-  Other : Symbol
+abbrev pub Symbol : Type 0
+Symbol = scan.Symbol Sign
 
 -- the reserved words in front of a body
 abbrev pub head_word : List ℕ → Option Sign
@@ -45,47 +44,31 @@ or_else (Some s) other = Some s
 abbrev pub reserved : List ℕ → Option Sign
 reserved w = or_else (head_word w) (stmt_word w)
 
--- the marks of the grammar
-abbrev pub mark : List ℕ → Option Sign
+-- the marks of the grammar, and any other one
+abbrev pub mark : List ℕ → Sign
 mark m =
-    if bytes_eq m (codes "{") then Some Open
-    else (if bytes_eq m (codes "}") then Some Close
-    else (if bytes_eq m (codes "(") then Some Left
-    else (if bytes_eq m (codes ")") then Some Right
-    else (if bytes_eq m (codes ",") then Some Comma
-    else (if bytes_eq m (codes ";") then Some Semicolon
-    else (if bytes_eq m (codes ".") then Some Dot
-    else (if bytes_eq m (codes "<") then Some Less
-    else (if bytes_eq m (codes ">") then Some Greater
-    else None))))))))
-
--- the reserved word or the mark that a token is
-abbrev pub sign_by : Kind → List ℕ → Option Sign
-sign_by kinds.Word bytes = reserved bytes
-sign_by kinds.Mark bytes = mark bytes
-sign_by _ bytes = None
-
--- without the quotes
-abbrev pub unquoted : List ℕ → List ℕ
-unquoted bytes = slice_range bytes 1 (length bytes - 1)
-
--- a token that is no sign
-abbrev pub no_sign : Kind → List ℕ → Symbol
-no_sign kinds.Word bytes = Name bytes
-no_sign kinds.Text bytes = Quoted (unquoted bytes)
-no_sign _ bytes = Other
+    if bytes_eq m (codes "{") then Open
+    else (if bytes_eq m (codes "}") then Close
+    else (if bytes_eq m (codes "(") then Left
+    else (if bytes_eq m (codes ")") then Right
+    else (if bytes_eq m (codes ",") then Comma
+    else (if bytes_eq m (codes ";") then Semicolon
+    else (if bytes_eq m (codes ".") then Dot
+    else (if bytes_eq m (codes "<") then Less
+    else (if bytes_eq m (codes ">") then Greater
+    else Foreign))))))))
 
 abbrev pub sign_or : Option Sign → Symbol → Symbol
 sign_or None symbol = symbol
 sign_or (Some s) symbol = Is s
 
+-- what a token of this kind with these bytes says
 abbrev pub symbol_by : Kind → List ℕ → Symbol
-symbol_by kind bytes = sign_or (sign_by kind bytes) (no_sign kind bytes)
-
--- what a token of the bundle says
-abbrev pub symbol_of : List ℕ → Token → Symbol
-symbol_of bundle token = symbol_by token.kind (slice_range bundle token.span.start token.span.end)
+symbol_by kinds.Word bytes = sign_or (reserved bytes) (Word bytes)
+symbol_by kinds.Number digits = Number (number_of digits)
+symbol_by kinds.Text bytes = Text (unquoted bytes)
+symbol_by kinds.Mark bytes = Is (mark bytes)
 
 -- what the tokens of the bundle say, one after another
 abbrev pub symbols_of : List ℕ → List Token → List Symbol
-symbols_of bundle tokens = map (symbol_of bundle) tokens
+symbols_of = scan.symbols_of symbol_by

@@ -2,16 +2,16 @@
 
 ghost use Rattle.std.specs.Prelude.{◌≡◌, ◌≢◌, ◌<◌, ◌≤◌, ◌+◌, ◌++◌, ◌∷◌, [], length, ℕ, List, codes, IfOk, OnOk, IfErr, true, false};
 ghost use Rattle.rcv_tree.specs.Lists.{declarations};
-ghost use Rattle.rcv_reader.specs.Symbols.{Is};
+ghost use Rattle.rcv_reader.specs.Symbols.{Is, IsNotNext};
 ghost use Rattle.rcv_reader.specs.Grammar.{decls, is_decl_word};
 ghost use Rattle.rcv_reader.specs.Machine.{This, AnyName, AnyQuoted, MoreModules, Alias, RoleName, MoreRoles};
-ghost use Rattle.rcv_reader.specs.Descent.{declaring, a_name, a_name_of, a_quoted, AddsName, module_list, names_of_roles, known, Goes, IsNotNext, IsDecl, AreSuch};
+ghost use Rattle.rcv_reader.specs.Descent.{declaring, a_name, a_name_of, a_quoted, AddsName, module_list, names_of_roles, known, Goes, IsDecl, AreSuch};
 
 use crate::aliases::Aliases;
 use crate::fault::{Fault, Stop};
 use crate::parser::{Parser, holds};
 use crate::sign::Sign;
-use crate::words::is;
+use rcv_scan::is;
 use rcv_tree::name::{Name, Names};
 use rcv_tree::protocol::{Decl, Decls};
 use std::alloc::Global;
@@ -31,7 +31,7 @@ impl<'a> Parser<'a> {
         ensures kept { (self.new.roles ≡ self.old.roles) × (self.new.recs.items ≡ self.old.recs.items) × (self.new.count ≡ self.old.count) }
         ensures shorter { length self.new.rest ≤ length self.old.rest }
     {
-        let Some((bytes, after)) = self.rest.quoted() else {
+        let Some((bytes, after)) = self.rest.text() else {
             return Err(Stop::Refused(Fault::Token));
         };
         let text = Name::of(alloc, bytes)?;
@@ -66,7 +66,7 @@ impl<'a> Parser<'a> {
         ensures kept { (self.new.recs.items ≡ self.old.recs.items) × (self.new.count ≡ self.old.count) }
         ensures shorter { length self.new.rest ≤ length self.old.rest }
     {
-        let Some((bytes, after)) = self.rest.name() else {
+        let Some((bytes, after)) = self.rest.word() else {
             return Err(Stop::Refused(Fault::Token));
         };
         if holds(bytes, self.roles.as_slice()) {
@@ -104,7 +104,7 @@ impl<'a> Parser<'a> {
         ensures kept { (self.new.roles ≡ self.old.roles) × (self.new.recs.items ≡ self.old.recs.items) × (self.new.count ≡ self.old.count) }
         ensures shorter { length self.new.rest ≤ length self.old.rest }
     {
-        let Some((bytes, after)) = self.rest.name() else {
+        let Some((bytes, after)) = self.rest.word() else {
             return Err(Stop::Refused(Fault::Token));
         };
         if !is(bytes, b"as") {
@@ -121,7 +121,7 @@ impl<'a> Parser<'a> {
         ensures kept { (self.new.roles ≡ self.old.roles) × (self.new.recs.items ≡ self.old.recs.items) × (self.new.count ≡ self.old.count) }
         ensures shorter { length self.new.rest ≤ length self.old.rest }
     {
-        let Some((bytes, after)) = self.rest.name() else {
+        let Some((bytes, after)) = self.rest.word() else {
             return Err(Stop::Refused(Fault::Token));
         };
         if aliases.holds(bytes) {
@@ -142,7 +142,7 @@ impl<'a> Parser<'a> {
         ensures shorter { length self.new.rest ≤ length self.old.rest }
         ensures taken { OnOk result (length self.new.rest < length self.old.rest) }
     {
-        let Some((bytes, after)) = self.rest.name() else {
+        let Some((bytes, after)) = self.rest.word() else {
             return Err(Stop::Refused(Fault::Token));
         };
         if !is_decl_word(bytes) {

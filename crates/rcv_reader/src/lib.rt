@@ -3,7 +3,6 @@
 
 ghost use Rattle.rcv_reader.specs.Laws.{CodesAreFair};
 
-mod ahead;
 mod aliases;
 mod fault;
 mod head;

@@ -3,14 +3,14 @@
 ghost use Rattle.std.specs.Prelude.{◌≡◌, ◌<◌, ◌≤◌, ◌+◌, ◌-◌, ◌++◌, ◌∷◌, [], length, ℕ, List, drop, IfSome, IfNone, OnOk, IfOk, IfErr, true, false, Option};
 ghost use Rattle.rcv_tree.specs.Lists.{statements};
 ghost use Rattle.rcv_tree.specs.declared.statement.Stmt.{Stmt};
-ghost use Rattle.rcv_reader.specs.Symbols.{Is};
+ghost use Rattle.rcv_reader.specs.Symbols.{Is, IsNotNext};
 ghost use Rattle.rcv_reader.specs.Grammar.{sort_list};
 ghost use Rattle.rcv_reader.specs.Machine.{place_of, holds, is_listed, is_open, This, AnyName, Sorts, MoreSorts, Subject, Sender, Receiver, MoreReceivers, RecName, AgainName, Opening, First, Rest, More, inside, inside_rec, behind};
-ghost use Rattle.rcv_reader.specs.Descent.{a_name, is_unguarded, MayBegin, IsReceived, AreReceived, Adds, AddsSome, Halts, known, place_at, Goes, IsNotNext, IsRoleName, messages, AreStmts, AreSomeStmts, IsBlock, AreBranches};
+ghost use Rattle.rcv_reader.specs.Descent.{a_name, is_unguarded, MayBegin, IsReceived, AreReceived, Adds, AddsSome, Halts, known, place_at, starts, waits, Goes, IsRoleName, messages, AreStmts, AreSomeStmts, IsBlock, AreBranches};
 
-use crate::ahead::Ahead;
 use crate::fault::{Fault, Stop};
 use crate::sign::Sign;
+use rcv_scan::{Ahead, Lexeme};
 use rcv_tree::name::{Name, Names};
 use rcv_tree::point::Point;
 use rcv_tree::role::{RoleId, Roles};
@@ -30,7 +30,7 @@ pub struct Spot {
 /// innermost last, and the number of points.
 #[derive(Drop)]
 pub struct Parser<'a> {
-    pub rest: Ahead<'a>,
+    pub rest: Ahead<'a, Sign>,
     pub roles: Names,
     pub recs: Vec<Name>,
     pub count: u16,
@@ -114,7 +114,7 @@ impl<'a> Parser<'a> {
         ensures kept { (self.new.roles ≡ self.old.roles) × (self.new.recs.items ≡ self.old.recs.items) × (self.new.count ≡ self.old.count) }
         ensures shorter { length self.new.rest ≤ length self.old.rest }
     {
-        let Some((bytes, after)) = self.rest.name() else {
+        let Some((bytes, after)) = self.rest.word() else {
             return Err(Stop::Refused(Fault::Token));
         };
         let name = Name::of(alloc, bytes)?;
@@ -131,7 +131,7 @@ impl<'a> Parser<'a> {
         ensures kept { (self.new.roles ≡ self.old.roles) × (self.new.recs.items ≡ self.old.recs.items) × (self.new.count ≡ self.old.count) }
         ensures shorter { length self.new.rest ≤ length self.old.rest }
     {
-        let Some((bytes, after)) = self.rest.name() else {
+        let Some((bytes, after)) = self.rest.word() else {
             return Err(Stop::Refused(Fault::Token));
         };
         let Some(place) = place_of(self.roles.as_slice(), bytes) else {
@@ -178,7 +178,7 @@ impl<'a> Parser<'a> {
         ensures kept { (self.new.roles ≡ self.old.roles) × (self.new.recs.items ≡ self.old.recs.items) }
         ensures shorter { length self.new.rest ≤ length self.old.rest }
     {
-        let Some((bytes, after)) = self.rest.name() else {
+        let Some((bytes, after)) = self.rest.word() else {
             return Err(Stop::Refused(Fault::Token));
         };
         let Some(place) = place_of(self.roles.as_slice(), bytes) else {
@@ -257,7 +257,7 @@ impl<'a> Parser<'a> {
         ensures kept { OnOk result ((self.new.roles ≡ self.old.roles) × (self.new.recs.items ≡ self.old.recs.items) × (self.new.count ≤ 256)) }
         ensures shorter { length self.new.rest ≤ length self.old.rest }
     {
-        let Some((bytes, after)) = self.rest.name() else {
+        let Some((bytes, after)) = self.rest.word() else {
             return Err(Stop::Refused(Fault::Token));
         };
         if !holds(bytes, self.recs.as_slice()) {
@@ -297,11 +297,34 @@ impl<'a> Parser<'a> {
         let Some(after) = self.rest.sign(Sign::Continue) else {
             return false;
         };
-        let Some((name, _)) = after.name() else {
+        let Some((name, _)) = after.word() else {
             return false;
         };
         let recs = self.recs.as_slice();
         holds(name, &recs[recs.len() - spot.comes..])
+    }
+
+    // Whether a statement begins here.
+    fn starts(&self) -> bool
+        ensures { result ≡ starts self.now.rest }
+    {
+        match self.rest.next() {
+            Some((Lexeme::Word(_), _)) => true,
+            Some(
+                (Lexeme::Is(Sign::Choice | Sign::Rec | Sign::Continue | Sign::Par | Sign::Do), _),
+            ) => true,
+            _ => false,
+        }
+    }
+
+    // Whether a statement begins here that isn't read yet.
+    fn waits(&self) -> bool
+        ensures { result ≡ waits self.now.rest }
+    {
+        matches!(
+            self.rest.next(),
+            Some((Lexeme::Is(Sign::Par | Sign::Do), _))
+        )
     }
 
     // Nothing but the grammar may speak against a statement here.
@@ -311,13 +334,13 @@ impl<'a> Parser<'a> {
         ensures err { let p = place_at self.now.recs.items spot.depth spot.comes spot.ended in
             IfErr result (λ e. Halts e (known self.now.roles self.now.count) (λ k. First p ∷ k) self.now.rest self.now.rest) }
     {
-        if spot.ended && self.rest.starts() {
+        if spot.ended && self.starts() {
             return Err(Stop::Refused(Fault::AfterContinue));
         }
         if spot.ended {
             return Err(Stop::Refused(Fault::Token));
         }
-        if self.rest.waits() {
+        if self.waits() {
             return Err(Stop::Refused(Fault::NotYet));
         }
         if self.is_unguarded(spot) {
@@ -338,7 +361,7 @@ impl<'a> Parser<'a> {
         ensures kept { OnOk result ((self.new.roles ≡ self.old.roles) × (self.new.recs.items ≡ self.old.recs.items) × (self.new.count ≤ 256)) }
         ensures shorter { length self.new.rest ≤ length self.old.rest }
     {
-        let Some((bytes, after)) = self.rest.name() else {
+        let Some((bytes, after)) = self.rest.word() else {
             return Err(Stop::Refused(Fault::Token));
         };
         let name = Name::of(alloc, bytes)?;

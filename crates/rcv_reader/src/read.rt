@@ -9,13 +9,13 @@ ghost use Rattle.rcv_lexer.specs.Parts.{LiesIn};
 ghost use Rattle.rcv_reader.specs.Symbols.{Is, symbols_of};
 ghost use Rattle.rcv_reader.specs.Machine.{Taken, answer, This, AnyName, MoreModules, RoleName, Rest, outermost};
 ghost use Rattle.rcv_reader.specs.Descent.{declaring, known, Goes, Ends, EndFails, IsHead, Adds};
-ghost use Rattle.rcv_reader.specs.Refusals.{IsRead, IsRefused, line_before};
+ghost use Rattle.rcv_reader.specs.Refusals.{IsRead, IsRefused};
 
-use crate::ahead::Ahead;
 use crate::fault::{Fault, Stop};
 use crate::parser::{Parser, Spot, copy_of};
 use crate::sign::Sign;
 use rcv_lexer::token::{TextError, Token};
+use rcv_scan::{Ahead, line_before};
 use rcv_tree::name::{Name, Names};
 use rcv_tree::protocol::{Decls, Protocol};
 use rcv_tree::refusal::Refusal;
@@ -97,17 +97,6 @@ impl<'a> Parser<'a> {
             roles,
             body,
         })
-    }
-}
-
-// The line of the token from which on so many are left, or of the end.
-fn line_before(list: &[Token], last: u32, left: usize) -> u32
-    ensures { result ≡ line_before list.now last left }
-{
-    let place = list.len().saturating_sub(left);
-    match &list[place..] {
-        [first, ..] => first.line,
-        [] => last,
     }
 }
 

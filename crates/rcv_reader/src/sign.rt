@@ -1,7 +1,7 @@
 // Reserved words and marks.
 
-/// A reserved word of the grammar, or one of its marks.
-#[derive(Clone, Copy, Debug, PartialEq, Eq)]
+/// A reserved word of the grammar, one of its marks, or any other mark.
+#[derive(Clone, Copy, Debug, PartialEq, Eq, Drop)]
 pub enum Sign {
     Module,
     Global,
@@ -26,4 +26,6 @@ pub enum Sign {
     Dot,
     Less,
     Greater,
+    /// A mark that the grammar doesn't have.
+    Foreign,
 }

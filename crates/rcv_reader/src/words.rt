@@ -1,18 +1,35 @@
 // What a token says: a reserved word or a mark, a name, or what stands between quotes.
 
-ghost use Rattle.std.specs.Prelude.{◌≡◌, ◌-◌, length, slice_range, Option, None};
-ghost use Rattle.std.specs.Str.{bytes_eq};
-ghost use Rattle.rcv_lexer.specs.Parts.{LiesIn};
-ghost use Rattle.rcv_reader.specs.Symbols.{head_word, stmt_word, reserved, mark, sign_by, unquoted};
+ghost use Rattle.std.specs.Prelude.{◌≡◌, Option, None};
+ghost use Rattle.rcv_reader.specs.Symbols.{head_word, stmt_word, reserved, mark};
 
 use crate::sign::Sign;
-use rcv_lexer::token::{Kind, Token};
+use rcv_lexer::token::Kind;
+use rcv_scan::{Alphabet, Lexeme, is, number_of, unquoted};
 
-/// Whether the two are the same.
-pub fn is(word: &[u8], other: &[u8]) -> bool
-    ensures { result ≡ bytes_eq word.now other.now }
-{
-    word == other
+impl Alphabet for Sign {
+    ghost use Rattle.rcv_scan.specs.Symbols.{greatest};
+    ghost use Rattle.rcv_reader.specs.Symbols.{symbol_by};
+
+    ghost symbol_by = { symbol_by };
+
+    ghost greatest = { greatest };
+
+    fn is(self, other: Sign) -> bool {
+        self == other
+    }
+
+    fn lexeme<'a>(kind: Kind, bytes: &'a [u8]) -> Lexeme<'a, Sign> {
+        match kind {
+            Kind::Word => match reserved(bytes) {
+                Some(sign) => Lexeme::Is(sign),
+                None => Lexeme::Word(bytes),
+            },
+            Kind::Number => Lexeme::Number(number_of(bytes)),
+            Kind::Text => Lexeme::Text(unquoted(bytes)),
+            Kind::Mark => Lexeme::Is(mark(bytes)),
+        }
+    }
 }
 
 fn head_word(word: &[u8]) -> Option<Sign>
@@ -68,57 +85,28 @@ fn reserved(word: &[u8]) -> Option<Sign>
     }
 }
 
-fn mark(bytes: &[u8]) -> Option<Sign>
+fn mark(bytes: &[u8]) -> Sign
     ensures { result ≡ mark bytes.now }
 {
     if is(bytes, b"{") {
-        Some(Sign::Open)
+        Sign::Open
     } else if is(bytes, b"}") {
-        Some(Sign::Close)
+        Sign::Close
     } else if is(bytes, b"(") {
-        Some(Sign::Left)
+        Sign::Left
     } else if is(bytes, b")") {
-        Some(Sign::Right)
+        Sign::Right
     } else if is(bytes, b",") {
-        Some(Sign::Comma)
+        Sign::Comma
     } else if is(bytes, b";") {
-        Some(Sign::Semicolon)
+        Sign::Semicolon
     } else if is(bytes, b".") {
-        Some(Sign::Dot)
+        Sign::Dot
     } else if is(bytes, b"<") {
-        Some(Sign::Less)
+        Sign::Less
     } else if is(bytes, b">") {
-        Some(Sign::Greater)
+        Sign::Greater
     } else {
-        None
+        Sign::Foreign
     }
-}
-
-/// The reserved word or the mark that a token of this kind is.
-pub fn sign_by(kind: Kind, bytes: &[u8]) -> Option<Sign>
-    ensures { result ≡ sign_by kind bytes.now }
-{
-    match kind {
-        Kind::Word => reserved(bytes),
-        Kind::Mark => mark(bytes),
-        Kind::Number | Kind::Text => None,
-    }
-}
-
-/// The bytes of a token.
-pub fn bytes_of<'a>(bundle: &'a [u8], token: Token) -> &'a [u8]
-    requires { LiesIn bundle.now token.span }
-    ensures { result.now ≡ slice_range bundle.now token.span.start token.span.end }
-{
-    &bundle[token.span.start..token.span.end]
-}
-
-/// What stands between the first and the last byte.
-pub fn unquoted(bytes: &[u8]) -> &[u8]
-    ensures { result.now ≡ unquoted bytes.now }
-{
-    if bytes.len() < 2 {
-        return &[];
-    }
-    &bytes[1..bytes.len() - 1]
 }

@@ -8,13 +8,13 @@ use Rattle.rcv_script.specs.declared.fault.ScriptError.{ScriptError}
 use Rattle.rcv_script.specs.declared.fault.ScriptError.TheVariants as errors
 use Rattle.rcv_script.specs.declared.fault.Fault.{Fault}
 use Rattle.rcv_script.specs.declared.fault.Fault.TheVariants as faults
-use Rattle.rcv_script.specs.Symbols.{Symbol, Is, Word, Number}
+use Rattle.rcv_script.specs.Symbols.{Symbol, Is, Word, Number, IsNotNext, NoWord, NoNumber}
 use Rattle.rcv_script.specs.Expressions.{Signed, times_more, product_of, plus_or_minus, plus_more, sum_of, atom_expr, term_expr, product_expr, sum_expr, factors as factors_of, terms as terms_of}
 use Rattle.rcv_script.specs.declared.expression.Product.{Product}
 use Rattle.rcv_script.specs.declared.expression.Sum.{Sum}
 use Rattle.rcv_script.proofs.Values.{product_is, sum_is}
 use Rattle.rcv_script.specs.Machine.{Item, AnAtom, Factors, Terms, a_product, a_sum, factors, terms, Place, Outcome, On, Wrong, atom, step, after, Refuses, answer}
-use Rattle.rcv_script.specs.Descent.{IsNotNext, NoWord, NoNumber, Halts, Stops, IsWordAtom, IsNoWordAtom, term_sign}
+use Rattle.rcv_script.specs.Descent.{Halts, Stops, IsWordAtom, IsNoWordAtom, term_sign}
 use Rattle.rcv_script.proofs.Stops.{not_first}
 
 -- what stops what is awaited behind stops what is awaited in front

@@ -10,9 +10,8 @@ use Rattle.rcv_script.specs.declared.words.LineKind.{LineKind}
 use Rattle.rcv_script.specs.declared.words.LineKind.TheVariants as kinds
 use Rattle.rcv_script.specs.declared.fault.Fault.{Fault}
 use Rattle.rcv_script.specs.declared.fault.Fault.TheVariants as faults
-use Rattle.rcv_script.specs.Symbols.{Symbol, Is, Word}
+use Rattle.rcv_script.specs.Symbols.{Symbol, Is, Word, IsNotNext}
 use Rattle.rcv_script.specs.Machine.{Item, Scripts, Lines, ALine, This, AWord, ASigned, ATest, AnAtom, Factors, Terms, a_product, a_sum, Place, Writing, Known, On, unless, fault_if, deeper, deciding, remembering, place_in, word_atom, with_expr, line_fault, var_fault, set_fault, send_fault, pick_fault, on_fault, role_fault, line_behind, with_line, with_script, begun, rest_of_pick, kind_of, no_lines, Taken, answer}
-use Rattle.rcv_script.specs.Descent.{IsNotNext}
 use Rattle.rcv_script.specs.Grammar.{WrittenAtom, Digits, Named, Signed, Inside, WrittenProduct, OneFactor, Multiplied, WrittenSum, OneTerm, Added, Subtracted, WrittenLine, VarText, SendText, PickText, WhenText, OnText, WrittenScript, atom_text, product_text, sum_text, test_mark, number_text, line_text, lines_text, scripts_text, WordSays, AtomSays, ProductSays, SumSays, signed_number, LineSays, LinesSay, ScriptsSay}
 use Rattle.rcv_script.specs.Laws.{WrittenScriptsAreRead}
 use Rattle.rcv_script.proofs.Going.{by_outcome, factors_end}

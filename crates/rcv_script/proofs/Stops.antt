@@ -7,9 +7,8 @@ use Rattle.rcv_script.specs.declared.sign.Sign.{Sign}
 use Rattle.rcv_script.specs.declared.sign.Sign.TheVariants as signs
 use Rattle.rcv_script.specs.declared.fault.Fault.{Fault}
 use Rattle.rcv_script.specs.declared.fault.Fault.TheVariants.{Token}
-use Rattle.rcv_script.specs.Symbols.{Symbol, Is, Word, Number, Other}
+use Rattle.rcv_script.specs.Symbols.{Symbol, Is, Word, Number, Text, IsNotNext, NoWord, NoNumber}
 use Rattle.rcv_script.specs.Machine.{Item, This, AWord, ASigned, ANumber, ATest, Outcome, On, Wrong, same, meets, word, number, signed, test, step, after, Refuses, answer}
-use Rattle.rcv_script.specs.Descent.{IsNotNext, NoWord, NoNumber}
 
 pub stops_by : (item : Item) (f : Fault) (t : Symbol) (ts : List Symbol) → step t item ≡ Wrong f → answer item (t ∷ ts) ≡ Refuses f (t ∷ ts)
 stops_by item f t ts e = ap (λ (o : Outcome). after o (t ∷ ts) (λ next. answer next ts)) e
@@ -33,6 +32,7 @@ same_only signs.AtLeast signs.AtLeast e = refl
 same_only signs.Plus signs.Plus e = refl
 same_only signs.Minus signs.Minus e = refl
 same_only signs.Times signs.Times e = refl
+same_only signs.Foreign signs.Foreign e = refl
 same_only _ _ e = absurd cc
 
 pub meets_only : (t m : Symbol) → meets t m ≡ true → t ≡ m
@@ -53,7 +53,7 @@ unnamed : (t : Symbol) (f : List ℕ → Option Fault) (k : List ℕ → Item) �
 unnamed (Word w) f k h = absurd (h w refl)
 unnamed (Is s) f k h = refl
 unnamed (Number n) f k h = refl
-unnamed Other f k h = refl
+unnamed (Text q) f k h = refl
 
 -- no word is next
 pub no_word : (f : List ℕ → Option Fault) (ts : List Symbol) → NoWord ts → (k : List ℕ → Item) → answer (AWord f k) ts ≡ Refuses Token ts
@@ -64,14 +64,14 @@ unnumbered : (t : Symbol) (k : ℕ → Item) → ((n : ℕ) → t ≡ Number n �
 unnumbered (Number n) k h = absurd (h n refl)
 unnumbered (Is s) k h = refl
 unnumbered (Word w) k h = refl
-unnumbered Other k h = refl
+unnumbered (Text q) k h = refl
 
 unsigned : (t : Symbol) (k : ℤ → Item) → (t ≡ Is signs.Minus → ⊥) → ((n : ℕ) → t ≡ Number n → ⊥) → signed t k ≡ Wrong Token
 unsigned (Is signs.Minus) k g h = absurd (g refl)
 unsigned (Is _) k g h = refl
 unsigned (Number n) k g h = absurd (h n refl)
 unsigned (Word w) k g h = refl
-unsigned Other k g h = refl
+unsigned (Text q) k g h = refl
 
 -- no number is next, behind a sign and without one
 pub no_number : (ts : List Symbol) → NoNumber ts → (k : ℕ → Item) → answer (ANumber k) ts ≡ Refuses Token ts

@@ -8,9 +8,9 @@ use Rattle.rcv_points.specs.Follow.{PointView}
 use Rattle.rcv_script.specs.declared.fault.Fault.TheVariants as faults
 use Rattle.rcv_script.specs.declared.fault.ScriptError.{ScriptError}
 use Rattle.rcv_script.specs.declared.fault.ScriptError.TheVariants as errors
-use Rattle.rcv_script.specs.Symbols.{Symbol, Is, Word, Number, Other}
+use Rattle.rcv_script.specs.Symbols.{Symbol, Is, Word, Number, Text, IsNotNext}
 use Rattle.rcv_script.specs.Machine.{Item, Scripts, Known, On, Wrong, script, script_of, with_script, scripts, no_lines, awaited, reading, Taken, Refuses, answer}
-use Rattle.rcv_script.specs.Descent.{IsNotNext, Halts}
+use Rattle.rcv_script.specs.Descent.{Halts}
 use Rattle.rcv_script.specs.Refusals.{Ends}
 use Rattle.rcv_script.proofs.Stops.{stops_by, not_first}
 
@@ -63,15 +63,15 @@ pub scripts_end : (roles : List (List ℕ)) (messages : List PointView) (ss : Li
     → reading roles messages start ≡ Taken ss
 scripts_end roles messages ss given start now new so_far same end = so_far.goes ∙ ap (answer (Scripts (known roles messages ss given))) (sym same ∙ end)
 
-by_word : (b : Bool) (k : Item) (w : List ℕ) → bytes_eq w (codes "role") ≡ b → (Word w ≡ Word (codes "role") → ⊥) → cond b (On k) (Wrong faults.Token) ≡ Wrong faults.Token
-by_word true k w e h = absurd (h (ap Word ((bytes_eq-Decides w (codes "role")).0 e)))
+by_word : (b : Bool) (k : Item) (w : List ℕ) → bytes_eq w (codes "role") ≡ b → (w ≡ codes "role" → ⊥) → cond b (On k) (Wrong faults.Token) ≡ Wrong faults.Token
+by_word true k w e h = absurd (h ((bytes_eq-Decides w (codes "role")).0 e))
 by_word false k w e h = refl
 
 no_role_here : (k : Known) (t : Symbol) → (t ≡ Word (codes "role") → ⊥) → scripts k t ≡ Wrong faults.Token
-no_role_here k (Word w) h = by_word (bytes_eq w (codes "role")) (script_of k) w refl h
+no_role_here k (Word w) h = by_word (bytes_eq w (codes "role")) (script_of k) w refl (λ e. h (ap Word e))
 no_role_here k (Is sign) h = refl
 no_role_here k (Number n) h = refl
-no_role_here k Other h = refl
+no_role_here k (Text q) h = refl
 
 no_role : (k : Known) (ts : List Symbol) → IsNotNext (Word (codes "role")) ts → (ts ≡ [] → ⊥) → answer (Scripts k) ts ≡ Refuses faults.Token ts
 no_role k [] h more = absurd (more refl)

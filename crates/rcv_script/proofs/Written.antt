@@ -9,9 +9,9 @@ use Rattle.rcv_script.specs.declared.fault.Fault.{Fault}
 use Rattle.rcv_script.specs.declared.fault.Fault.TheVariants as faults
 use Rattle.rcv_script.specs.declared.fault.ScriptError.{ScriptError}
 use Rattle.rcv_script.specs.Lines.{line_of}
-use Rattle.rcv_script.specs.Symbols.{Symbol, Is, Word, Number, Other}
+use Rattle.rcv_script.specs.Symbols.{Symbol, Is, Word, Number, Text, IsNotNext, NoWord}
 use Rattle.rcv_script.specs.Machine.{Item, Lines, ALine, This, AWord, AnEnd, Writing, Place, Wrong, with_line, lines, line, end_or_when, condition, rest_of_pick, on_line, with_expr, remembering, set_fault, on_fault, fault_if, takes_bare, place_in, step, Refuses, answer}
-use Rattle.rcv_script.specs.Descent.{IsNotNext, NoWord, Halts, writing, place_at}
+use Rattle.rcv_script.specs.Descent.{Halts, writing, place_at}
 use Rattle.rcv_script.proofs.Stops.{not_first, stops_by}
 use Rattle.rcv_script.proofs.Going.{halts_behind, same_step}
 
@@ -72,7 +72,7 @@ no_line_here : (s : Writing) (t : Symbol) (k : List (List ℕ) × script.Line �
 no_line_here s (Word w) k h = absurd (h w refl)
 no_line_here s (Is sign) k h = refl
 no_line_here s (Number n) k h = refl
-no_line_here s Other k h = refl
+no_line_here s (Text q) k h = refl
 
 pub no_line : (s : Writing) (ts : List Symbol) → NoWord ts → (k : List (List ℕ) × script.Line → Item) → answer (ALine s k) ts ≡ Refuses faults.Token ts
 no_line s [] h k = refl

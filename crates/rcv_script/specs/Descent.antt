@@ -12,7 +12,7 @@ use Rattle.rcv_script.specs.declared.sign.Sign.{Sign}
 use Rattle.rcv_script.specs.declared.sign.Sign.TheVariants as signs
 use Rattle.rcv_script.specs.Expressions.{atom_expr, sum_expr}
 use Rattle.rcv_script.specs.Lines.{line_of, test_of}
-use Rattle.rcv_script.specs.Symbols.{Symbol, Word, Number}
+use Rattle.rcv_script.specs.Symbols.{Symbol}
 use Rattle.rcv_script.specs.Machine.{Item, Place, Writing, Refuses, On, Wrong, word_atom, answer}
 
 -- The machine stops at what is left, whatever is awaited behind.
@@ -25,18 +25,6 @@ abbrev pub Goes :
     {X Y : Type 0} → Result X ScriptError → ((Y → Item) → Item) → (X → Y) → List Symbol → List Symbol → Type 0
 Goes {X} {Y} (Ok x) front said old new = (k : Y → Item) → answer (front k) old ≡ answer (k (said x)) new
 Goes {X} {Y} (Err e) front said old new = Halts e front old new
-
--- the symbol isn't the next one
-abbrev pub IsNotNext : Symbol → List Symbol → Type 0
-IsNotNext t ts = (us : List Symbol) → ts ≡ t ∷ us → ⊥
-
--- no word is the next symbol
-abbrev pub NoWord : List Symbol → Type 0
-NoWord ts = (w : List ℕ) → IsNotNext (Word w) ts
-
--- no number is the next symbol
-abbrev pub NoNumber : List Symbol → Type 0
-NoNumber ts = (n : ℕ) → IsNotNext (Number n) ts
 
 -- a place in an expression
 abbrev pub place_at : List (List ℕ) → Option Fault → Option Fault → ℕ → Place

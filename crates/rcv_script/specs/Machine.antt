@@ -10,7 +10,7 @@ use Rattle.rcv_script.specs.declared.fault.Fault.{Fault}
 use Rattle.rcv_script.specs.declared.fault.Fault.TheVariants as faults
 use Rattle.rcv_script.specs.declared.words.LineKind.{LineKind}
 use Rattle.rcv_script.specs.declared.words.LineKind.TheVariants as kinds
-use Rattle.rcv_script.specs.Symbols.{Symbol, Is, Word, Number, Other}
+use Rattle.rcv_script.specs.Symbols.{Symbol, Is, Word, Number, Text}
 
 -- the code of a fault
 abbrev pub code_of : Fault → ℕ
@@ -296,7 +296,7 @@ abbrev pub line : Writing → Symbol → (List (List ℕ) × Line → Item) → 
 line s (Word w) k = line_by s (kind_of w) k
 line s (Is sign) k = Wrong faults.Token
 line s (Number n) k = Wrong faults.Token
-line s Other k = Wrong faults.Token
+line s (Text q) k = Wrong faults.Token
 
 -- one more line of the role, with the variables behind it
 abbrev pub with_line : Writing → List (List ℕ) × Line → Writing
@@ -332,7 +332,7 @@ abbrev pub scripts : Known → Symbol → Outcome
 scripts known (Word w) = cond (bytes_eq w (codes "role")) (On (script_of known)) (Wrong faults.Token)
 scripts known (Is sign) = Wrong faults.Token
 scripts known (Number n) = Wrong faults.Token
-scripts known Other = Wrong faults.Token
+scripts known (Text q) = Wrong faults.Token
 
 -- ---- one step, and all of them
 
@@ -353,6 +353,7 @@ same signs.AtLeast signs.AtLeast = true
 same signs.Plus signs.Plus = true
 same signs.Minus signs.Minus = true
 same signs.Times signs.Times = true
+same signs.Foreign signs.Foreign = true
 same _ _ = false
 
 -- the symbol is the awaited one

@@ -1,5 +1,5 @@
 -- What the reader of scripts answers.
-use Rattle.std.specs.Prelude.{◌≡◌, ℕ, ◌-◌, List, [], ◌∷◌, length, drop}
+use Rattle.std.specs.Prelude.{◌≡◌, ℕ, List, length}
 use Rattle.rcv_tree.specs.declared.refusal.Refusal.TheVariants as refusals
 use Rattle.rcv_lexer.specs.declared.token.Token.{Token}
 use Rattle.rcv_lexer.specs.declared.token.TextError.{TextError}
@@ -9,17 +9,8 @@ use Rattle.rcv_points.specs.Follow.{PointView}
 use Rattle.rcv_script.specs.declared.fault.Fault.{Fault}
 use Rattle.rcv_script.specs.declared.fault.ScriptError.{ScriptError}
 use Rattle.rcv_script.specs.declared.fault.ScriptError.TheVariants as causes
-use Rattle.rcv_script.specs.Symbols.{Symbol, symbols_of}
+use Rattle.rcv_script.specs.Symbols.{Symbol, symbols_of, line_before}
 use Rattle.rcv_script.specs.Machine.{Taken, Refuses, reading, code_of}
-
--- the line of the first token, or of the end where there is none
-abbrev pub line_of_first : List Token → ℕ → ℕ
-line_of_first [] last = last
-line_of_first (t ∷ ts) last = t.line
-
--- the line of the token from which on n are left, or of the end
-abbrev pub line_before : List Token → ℕ → ℕ → ℕ
-line_before tokens last n = line_of_first (drop (length tokens - n) tokens) last
 
 -- the reading comes to the end, and these are the lines that the symbols say
 abbrev pub AreRead : List (List ℕ) → List PointView → List Symbol → List (List Line) → Type 0

@@ -1,18 +1,17 @@
--- Tokens by what they say to the grammar.
-use Rattle.std.specs.Prelude.{ℕ, ◌+◌, ◌-◌, ◌*◌, codes, List, [], ◌∷◌, map, slice_range, Option, Some, None, if◌then◌else◌, nat_le}
+-- The tokens of scripts by what they say. No word is reserved, and a number has 63 bits.
+use Rattle.std.specs.Prelude.{ℕ, codes, List, Option, Some, None, if◌then◌else◌, nat_le, unwrap_or}
 use Rattle.std.specs.Str.{bytes_eq}
 use Rattle.rcv_lexer.specs.declared.token.Kind.{Kind}
 use Rattle.rcv_lexer.specs.declared.token.Kind.TheVariants as kinds
 use Rattle.rcv_lexer.specs.declared.token.Token.{Token}
+use Rattle.rcv_scan.specs.Symbols as scan
+use Rattle.rcv_scan.specs.Symbols.{number_of, unquoted}
 use Rattle.rcv_script.specs.declared.sign.Sign.{Sign}
-use Rattle.rcv_script.specs.declared.sign.Sign.TheVariants.{Open, Close, Left, Right, Semicolon, Equals, Less, AtMost, Same, Differ, More, AtLeast, Plus, Minus, Times}
+use Rattle.rcv_script.specs.declared.sign.Sign.TheVariants.{Open, Close, Left, Right, Semicolon, Equals, Less, AtMost, Same, Differ, More, AtLeast, Plus, Minus, Times, Foreign}
+pub use Rattle.rcv_scan.specs.Symbols.{Is, Word, Number, Text, IsNotNext, NoWord, NoNumber, line_before}
 
--- A mark, a word, a number of 63 bits, or anything else.
-pub data Symbol : Type 0 where
-  Is : (sign : Sign) → Symbol
-  Word : (bytes : List ℕ) → Symbol
-  Number : (number : ℕ) → Symbol
-  Other : Symbol
+abbrev pub Symbol : Type 0
+Symbol = scan.Symbol Sign
 
 -- the marks of blocks and of lines
 abbrev pub block_mark : List ℕ → Option Sign
@@ -36,60 +35,32 @@ comparing_mark m =
     else (if bytes_eq m (codes ">=") then Some AtLeast
     else None)))))
 
--- the marks that compute
-abbrev pub computing_mark : List ℕ → Option Sign
+-- the marks that compute, and any other one
+abbrev pub computing_mark : List ℕ → Sign
 computing_mark m =
-    if bytes_eq m (codes "+") then Some Plus
-    else (if bytes_eq m (codes "-") then Some Minus
-    else (if bytes_eq m (codes "*") then Some Times
-    else None))
+    if bytes_eq m (codes "+") then Plus
+    else (if bytes_eq m (codes "-") then Minus
+    else (if bytes_eq m (codes "*") then Times
+    else Foreign))
 
--- the first of two marks
-abbrev pub or_else : Option Sign → Option Sign → Option Sign
-or_else None other = other
-or_else (Some s) other = Some s
-
--- the marks of the grammar
-abbrev pub mark : List ℕ → Option Sign
-mark m = or_else (block_mark m) (or_else (comparing_mark m) (computing_mark m))
-
--- the mark, or else this symbol
-abbrev pub sign_or : Option Sign → Symbol → Symbol
-sign_or None symbol = symbol
-sign_or (Some s) symbol = Is s
-
--- the number that digits say behind a number
-abbrev pub decimal : ℕ → List ℕ → ℕ
-decimal n [] = n
-decimal n (digit ∷ digits) = decimal (n * 10 + (digit - 48)) digits
+abbrev pub mark : List ℕ → Sign
+mark m = unwrap_or (block_mark m) (unwrap_or (comparing_mark m) (computing_mark m))
 
 -- the greatest number of a script
 abbrev pub greatest : ℕ
 greatest = 9223372036854775807
 
 -- a number that a script may have
-abbrev pub number_or_other : ℕ → Symbol
-number_or_other n = if nat_le n greatest then Number n else Other
-
--- the mark that a token is
-abbrev pub sign_by : Kind → List ℕ → Option Sign
-sign_by kinds.Mark bytes = mark bytes
-sign_by _ bytes = None
-
--- a token that is no mark of the grammar
-abbrev pub no_sign : Kind → List ℕ → Symbol
-no_sign kinds.Word bytes = Word bytes
-no_sign kinds.Number bytes = number_or_other (decimal 0 bytes)
-no_sign _ bytes = Other
+abbrev pub number_or_foreign : ℕ → Symbol
+number_or_foreign n = if nat_le n greatest then Number n else Is Foreign
 
 -- what a token of this kind with these bytes says
 abbrev pub symbol_by : Kind → List ℕ → Symbol
-symbol_by kind bytes = sign_or (sign_by kind bytes) (no_sign kind bytes)
-
--- what a token of the bundle says
-abbrev pub symbol_of : List ℕ → Token → Symbol
-symbol_of bundle token = symbol_by token.kind (slice_range bundle token.span.start token.span.end)
+symbol_by kinds.Word bytes = Word bytes
+symbol_by kinds.Number digits = number_or_foreign (number_of digits)
+symbol_by kinds.Text bytes = Text (unquoted bytes)
+symbol_by kinds.Mark bytes = Is (mark bytes)
 
 -- what the tokens of the bundle say, one after another
 abbrev pub symbols_of : List ℕ → List Token → List Symbol
-symbols_of bundle tokens = map (symbol_of bundle) tokens
+symbols_of = scan.symbols_of symbol_by

@@ -2,17 +2,18 @@
 
 ghost use Rattle.std.specs.Prelude.{◌≡◌, ◌<◌, ◌≤◌, ◌∷◌, length, IfSome, IfNone, IfOk, IfErr, true, false, Option, ℕ};
 ghost use Rattle.rcv_model.specs.Script.{Negated};
-ghost use Rattle.rcv_script.specs.Symbols.{Is, Word};
+ghost use Rattle.rcv_script.specs.Symbols.{Is, Word, IsNotNext};
 ghost use Rattle.rcv_script.specs.Expressions.{atom_expr, product_expr, sum_expr};
 ghost use Rattle.rcv_script.specs.Lines.{test_of};
 ghost use Rattle.rcv_script.specs.Machine.{This, ATest, AnAtom, a_product, a_sum, with_expr, condition, place_of};
-ghost use Rattle.rcv_script.specs.Descent.{Goes, Passes, IsNotNext, IsWordAtom, IsNoWordAtom, place_at, term_sign, parts_of};
+ghost use Rattle.rcv_script.specs.Descent.{Goes, Passes, IsWordAtom, IsNoWordAtom, place_at, term_sign, parts_of};
 
-use crate::ahead::Ahead;
 use crate::expression::{Atom, Product, Sum, Term};
 use crate::fault::{Fault, ScriptError};
-use crate::line::{Comparison, Condition, is};
+use crate::line::{Comparison, Condition};
+use crate::parser::Parser;
 use crate::sign::Sign;
+use rcv_scan::is;
 use rcv_tree::name::{Name, Names};
 use std::alloc::Global;
 
@@ -53,61 +54,61 @@ fn word_atom(names: &Names, banned: Banned, word: &[u8]) -> Result<Atom, Fault>
     }
 }
 
-impl<'a> Ahead<'a> {
+impl<'a> Parser<'a> {
     /// Takes this mark.
     pub fn expect(&mut self, sign: Sign) -> Result<(), ScriptError>
-        ensures goes { Passes result (λ k. This (Is sign) k) self.old self.new }
-        ensures shorter { length self.new ≤ length self.old }
+        ensures goes { Passes result (λ k. This (Is sign) k) self.old.rest self.new.rest }
+        ensures shorter { length self.new.rest ≤ length self.old.rest }
     {
-        let Some(after) = self.sign(sign) else {
+        let Some(after) = self.rest.sign(sign) else {
             return Err(ScriptError::Refused(Fault::Token));
         };
-        *self = after;
+        self.rest = after;
         Ok(())
     }
 
     /// Takes this word.
     pub fn expect_word(&mut self, word: &[u8]) -> Result<(), ScriptError>
-        ensures goes { Passes result (λ k. This (Word word.now) k) self.old self.new }
-        ensures shorter { length self.new ≤ length self.old }
+        ensures goes { Passes result (λ k. This (Word word.now) k) self.old.rest self.new.rest }
+        ensures shorter { length self.new.rest ≤ length self.old.rest }
     {
-        let Some((found, after)) = self.word() else {
+        let Some((found, after)) = self.rest.word() else {
             return Err(ScriptError::Refused(Fault::Token));
         };
         if !is(found, word) {
             return Err(ScriptError::Refused(Fault::Token));
         }
-        *self = after;
+        self.rest = after;
         Ok(())
     }
 
     /// Takes this mark if it is next.
     pub fn takes(&mut self, sign: Sign) -> bool
-        ensures yes { result ≡ true → self.old ≡ Is sign ∷ self.new }
-        ensures taken { result ≡ true → length self.new < length self.old }
-        ensures no { result ≡ false → (self.new ≡ self.old) × IsNotNext (Is sign) self.old }
-        ensures shorter { length self.new ≤ length self.old }
+        ensures yes { result ≡ true → self.old.rest ≡ Is sign ∷ self.new.rest }
+        ensures taken { result ≡ true → length self.new.rest < length self.old.rest }
+        ensures no { result ≡ false → (self.new.rest ≡ self.old.rest) × IsNotNext (Is sign) self.old.rest }
+        ensures shorter { length self.new.rest ≤ length self.old.rest }
     {
-        let Some(after) = self.sign(sign) else {
+        let Some(after) = self.rest.sign(sign) else {
             return false;
         };
-        *self = after;
+        self.rest = after;
         true
     }
 
     // Takes the mark in front of one more term if one is next: whether the term is subtracted.
     fn takes_term(&mut self) -> Option<bool>
-        ensures some { IfSome result (λ minus. self.old ≡ Is (term_sign minus) ∷ self.new) }
-        ensures taken { IfSome result (λ minus. length self.new < length self.old) }
-        ensures none { IfNone result ((self.new ≡ self.old) × IsNotNext (Is Sign.Plus) self.old × IsNotNext (Is Sign.Minus) self.old) }
-        ensures shorter { length self.new ≤ length self.old }
+        ensures some { IfSome result (λ minus. self.old.rest ≡ Is (term_sign minus) ∷ self.new.rest) }
+        ensures taken { IfSome result (λ minus. length self.new.rest < length self.old.rest) }
+        ensures none { IfNone result ((self.new.rest ≡ self.old.rest) × IsNotNext (Is Sign.Plus) self.old.rest × IsNotNext (Is Sign.Minus) self.old.rest) }
+        ensures shorter { length self.new.rest ≤ length self.old.rest }
     {
-        if let Some(after) = self.sign(Sign::Plus) {
-            *self = after;
+        if let Some(after) = self.rest.sign(Sign::Plus) {
+            self.rest = after;
             return Some(false);
         }
-        if let Some(after) = self.sign(Sign::Minus) {
-            *self = after;
+        if let Some(after) = self.rest.sign(Sign::Minus) {
+            self.rest = after;
             return Some(true);
         }
         None
@@ -123,34 +124,34 @@ impl<'a> Ahead<'a> {
         depth: u32,
     ) -> Result<Atom, ScriptError>
         requires { depth ≤ 32 }
-        ensures goes { Goes result (λ k. AnAtom (place_at names.now banned.value banned.attempt depth) k) atom_expr self.old self.new }
-        ensures shorter { length self.new ≤ length self.old }
+        ensures goes { Goes result (λ k. AnAtom (place_at names.now banned.value banned.attempt depth) k) atom_expr self.old.rest self.new.rest }
+        ensures shorter { length self.new.rest ≤ length self.old.rest }
     {
-        if let Some((number, after)) = self.number() {
-            *self = after;
+        if let Some((number, after)) = self.rest.number() {
+            self.rest = after;
             return Ok(Atom::Number(number as i64));
         }
-        if let Some((word, after)) = self.word() {
+        if let Some((word, after)) = self.rest.word() {
             return match word_atom(names, banned, word) {
                 Ok(atom) => {
-                    *self = after;
+                    self.rest = after;
                     Ok(atom)
                 }
                 Err(fault) => Err(ScriptError::Refused(fault)),
             };
         }
-        if let Some(after) = self.sign(Sign::Minus) {
+        if let Some(after) = self.rest.sign(Sign::Minus) {
             if depth >= 32 {
                 return Err(ScriptError::Refused(Fault::TooMany));
             }
-            *self = after;
+            self.rest = after;
             return self.negated(alloc, names, banned, depth + 1);
         }
-        if let Some(after) = self.sign(Sign::Left) {
+        if let Some(after) = self.rest.sign(Sign::Left) {
             if depth >= 32 {
                 return Err(ScriptError::Refused(Fault::TooMany));
             }
-            *self = after;
+            self.rest = after;
             return self.group(alloc, names, banned, depth + 1);
         }
         Err(ScriptError::Refused(Fault::Token))
@@ -167,8 +168,8 @@ impl<'a> Ahead<'a> {
     ) -> Result<Atom, ScriptError>
         requires { depth ≤ 32 }
         ensures goes { Goes result (λ k. AnAtom (place_at names.now banned.value banned.attempt depth) (λ e. k (Negated e)))
-            atom_expr self.old self.new }
-        ensures shorter { length self.new ≤ length self.old }
+            atom_expr self.old.rest self.new.rest }
+        ensures shorter { length self.new.rest ≤ length self.old.rest }
     {
         let atom = self.atom(alloc, names, banned, depth)?;
         Ok(Atom::Negated(Box::new(alloc, atom)?))
@@ -185,8 +186,8 @@ impl<'a> Ahead<'a> {
     ) -> Result<Atom, ScriptError>
         requires { depth ≤ 32 }
         ensures goes { Goes result (λ k. a_sum (place_at names.now banned.value banned.attempt depth) (λ e. This (Is Sign.Right) (k e)))
-            atom_expr self.old self.new }
-        ensures shorter { length self.new ≤ length self.old }
+            atom_expr self.old.rest self.new.rest }
+        ensures shorter { length self.new.rest ≤ length self.old.rest }
     {
         let sum = self.sum(alloc, names, banned, depth)?;
         self.expect(Sign::Right)?;
@@ -204,8 +205,8 @@ impl<'a> Ahead<'a> {
     ) -> Result<Product, ScriptError>
         requires { depth ≤ 32 }
         ensures goes { Goes result (λ k. a_product (place_at names.now banned.value banned.attempt depth) k)
-            product_expr self.old self.new }
-        ensures shorter { length self.new ≤ length self.old }
+            product_expr self.old.rest self.new.rest }
+        ensures shorter { length self.new.rest ≤ length self.old.rest }
     {
         let mut product = Product::new(alloc);
         product.push(self.atom(alloc, names, banned, depth)?)?;
@@ -225,8 +226,8 @@ impl<'a> Ahead<'a> {
         depth: u32,
     ) -> Result<Sum, ScriptError>
         requires { depth ≤ 32 }
-        ensures goes { Goes result (λ k. a_sum (place_at names.now banned.value banned.attempt depth) k) sum_expr self.old self.new }
-        ensures shorter { length self.new ≤ length self.old }
+        ensures goes { Goes result (λ k. a_sum (place_at names.now banned.value banned.attempt depth) k) sum_expr self.old.rest self.new.rest }
+        ensures shorter { length self.new.rest ≤ length self.old.rest }
     {
         let mut sum = Sum::new(alloc);
         let first = self.product(alloc, names, banned, depth)?;
@@ -248,8 +249,8 @@ impl<'a> Ahead<'a> {
         names: &Names,
         banned: Banned,
     ) -> Result<Sum, ScriptError>
-        ensures goes { Goes result (λ k. with_expr (place_at names.now banned.value banned.attempt 0) k) sum_expr self.old self.new }
-        ensures shorter { length self.new ≤ length self.old }
+        ensures goes { Goes result (λ k. with_expr (place_at names.now banned.value banned.attempt 0) k) sum_expr self.old.rest self.new.rest }
+        ensures shorter { length self.new.rest ≤ length self.old.rest }
     {
         self.expect(Sign::Equals)?;
         let sum = self.sum(alloc, names, banned, 0)?;
@@ -264,8 +265,8 @@ impl<'a> Ahead<'a> {
         names: &Names,
         banned: Banned,
     ) -> Result<Condition, ScriptError>
-        ensures goes { Goes result (λ k. condition (place_at names.now banned.value banned.attempt 0) k) parts_of self.old self.new }
-        ensures shorter { length self.new ≤ length self.old }
+        ensures goes { Goes result (λ k. condition (place_at names.now banned.value banned.attempt 0) k) parts_of self.old.rest self.new.rest }
+        ensures shorter { length self.new.rest ≤ length self.old.rest }
     {
         let left = self.sum(alloc, names, banned, 0)?;
         let comparison = self.comparison()?;
@@ -280,8 +281,8 @@ impl<'a> Ahead<'a> {
 
     // Takes a mark that compares.
     fn comparison(&mut self) -> Result<Comparison, ScriptError>
-        ensures goes { Goes result (λ k. ATest k) test_of self.old self.new }
-        ensures shorter { length self.new ≤ length self.old }
+        ensures goes { Goes result (λ k. ATest k) test_of self.old.rest self.new.rest }
+        ensures shorter { length self.new.rest ≤ length self.old.rest }
     {
         if self.takes(Sign::Less) {
             Ok(Comparison::Less)

@@ -6,8 +6,9 @@ ghost use Rattle.rcv_script.specs.Lines.{line_of, IsPointOf};
 ghost use Rattle.rcv_script.specs.Machine.{is_sent, is_part, sends, takes_part, sends_bare, takes_bare, has_send, send_fault, pick_fault, on_fault};
 
 use crate::fault::Fault;
-use crate::line::{Line, is};
+use crate::line::Line;
 use rcv_points::points::Points;
+use rcv_scan::is;
 use rcv_tree::point::Point;
 
 /// What speaks against the label of a `send` line behind these lines.

@@ -3,7 +3,6 @@
 
 ghost use Rattle.rcv_script.specs.Laws.{WrittenScriptsAreRead, ReadScriptsAreWritten, RefusalsAreFinal};
 
-mod ahead;
 pub mod expression;
 mod fault;
 mod formula;

@@ -1,7 +1,6 @@
 // Lines of a script, and what each kind of line does.
 
 ghost use Rattle.std.specs.Prelude.{◌≡◌, Option, pos, slice_set};
-ghost use Rattle.std.specs.Str.{bytes_eq};
 ghost use Rattle.rcv_model.specs.Script.{calculate, holds, is_met};
 ghost use Rattle.rcv_script.specs.Expressions.{sum_expr};
 ghost use Rattle.rcv_script.specs.Lines.{test_of, when_of, line_of};
@@ -108,11 +107,4 @@ pub fn set(vars: &mut Vars, place: usize, number: i64)
     if place < vars.0.len() {
         vars.0[place] = number;
     }
-}
-
-/// Whether the two are the same.
-pub fn is(word: &[u8], other: &[u8]) -> bool
-    ensures { result ≡ bytes_eq word.now other.now }
-{
-    word == other
 }

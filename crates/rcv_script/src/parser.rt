@@ -5,18 +5,24 @@ ghost use Rattle.rcv_script.specs.Symbols.{Is, Word};
 ghost use Rattle.rcv_script.specs.Expressions.{sum_expr};
 ghost use Rattle.rcv_script.specs.Lines.{line_of, when_of};
 ghost use Rattle.rcv_script.specs.Machine.{AWord, ASigned, ANumber, Lines, ALine, var_fault, set_fault, send_fault, pick_fault, on_fault, var_line, send_line, pick_line, on_line, line_behind, line_fault, rest_of_pick, place_in, fault_if, takes_bare};
-ghost use Rattle.rcv_script.specs.Descent.{Goes, IsNotNext, writing, place_at};
+ghost use Rattle.rcv_script.specs.Descent.{Goes, writing, place_at};
 
-use crate::ahead::Ahead;
 use crate::fault::{Fault, ScriptError};
 use crate::formula::{Banned, place_of};
 use crate::labels::{on_fault, pick_fault, send_fault, takes_bare};
-use crate::line::{Condition, Line, is};
+use crate::line::{Condition, Line};
 use crate::sign::Sign;
 use crate::words::{LineKind, kind_of};
 use rcv_points::points::Points;
+use rcv_scan::{Ahead, is};
 use rcv_tree::name::{Name, Names};
 use std::alloc::Global;
+
+/// What is still to be read.
+#[derive(Drop)]
+pub struct Parser<'a> {
+    pub rest: Ahead<'a, Sign>,
+}
 
 // What speaks against the name of a new variable.
 fn var_fault(names: &Names, name: &[u8]) -> Option<Fault>
@@ -42,69 +48,69 @@ fn line_fault(kind: LineKind, names: &Names, lines: &[Line]) -> Option<Fault>
     if many { Some(Fault::TooMany) } else { None }
 }
 
-impl<'a> Ahead<'a> {
+impl<'a> Parser<'a> {
     // Takes the name of a new variable.
     fn new_variable(&mut self, alloc: Global, names: &Names) -> Result<Name, ScriptError>
-        ensures goes { Goes result (λ k. AWord (var_fault names.now) k) (λ n. n) self.old self.new }
-        ensures shorter { length self.new ≤ length self.old }
+        ensures goes { Goes result (λ k. AWord (var_fault names.now) k) (λ n. n) self.old.rest self.new.rest }
+        ensures shorter { length self.new.rest ≤ length self.old.rest }
     {
-        let Some((word, after)) = self.word() else {
+        let Some((word, after)) = self.rest.word() else {
             return Err(ScriptError::Refused(Fault::Token));
         };
         if let Some(fault) = var_fault(names, word) {
             return Err(ScriptError::Refused(fault));
         }
         let name = Name::of(alloc, word)?;
-        *self = after;
+        self.rest = after;
         Ok(name)
     }
 
     // Takes the name of a variable: its place.
     fn variable(&mut self, names: &Names) -> Result<usize, ScriptError>
-        ensures goes { Goes result (λ k. AWord (set_fault names.now) (λ n. k (place_in names.now n))) (λ place. place) self.old self.new }
-        ensures shorter { length self.new ≤ length self.old }
+        ensures goes { Goes result (λ k. AWord (set_fault names.now) (λ n. k (place_in names.now n))) (λ place. place) self.old.rest self.new.rest }
+        ensures shorter { length self.new.rest ≤ length self.old.rest }
     {
-        let Some((word, after)) = self.word() else {
+        let Some((word, after)) = self.rest.word() else {
             return Err(ScriptError::Refused(Fault::Token));
         };
         let Some(place) = place_of(names.as_slice(), word) else {
             return Err(ScriptError::Refused(Fault::Variable));
         };
-        *self = after;
+        self.rest = after;
         Ok(place)
     }
 
     // Takes a number that may be below 0.
     fn signed(&mut self) -> Result<i64, ScriptError>
-        ensures goes { Goes result (λ k. ASigned k) (λ z. z) self.old self.new }
-        ensures shorter { length self.new ≤ length self.old }
+        ensures goes { Goes result (λ k. ASigned k) (λ z. z) self.old.rest self.new.rest }
+        ensures shorter { length self.new.rest ≤ length self.old.rest }
     {
         if self.takes(Sign::Minus) {
             return self.negative();
         }
-        let Some((number, after)) = self.number() else {
+        let Some((number, after)) = self.rest.number() else {
             return Err(ScriptError::Refused(Fault::Token));
         };
-        *self = after;
+        self.rest = after;
         Ok(number as i64)
     }
 
     // Takes the number behind a sign.
     fn negative(&mut self) -> Result<i64, ScriptError>
-        ensures goes { Goes result (λ k. ANumber (λ n. k (neg_ℤ (pos n)))) (λ z. z) self.old self.new }
-        ensures shorter { length self.new ≤ length self.old }
+        ensures goes { Goes result (λ k. ANumber (λ n. k (neg_ℤ (pos n)))) (λ z. z) self.old.rest self.new.rest }
+        ensures shorter { length self.new.rest ≤ length self.old.rest }
     {
-        let Some((number, after)) = self.number() else {
+        let Some((number, after)) = self.rest.number() else {
             return Err(ScriptError::Refused(Fault::Token));
         };
-        *self = after;
+        self.rest = after;
         Ok(-(number as i64))
     }
 
     // Takes what stands behind the word `var`.
     fn var_line(&mut self, alloc: Global, names: &mut Names) -> Result<Line, ScriptError>
-        ensures goes { Goes result (λ k. var_line names.old k) (λ line. (names.new, line_of line)) self.old self.new }
-        ensures shorter { length self.new ≤ length self.old }
+        ensures goes { Goes result (λ k. var_line names.old k) (λ line. (names.new, line_of line)) self.old.rest self.new.rest }
+        ensures shorter { length self.new.rest ≤ length self.old.rest }
     {
         let name = self.new_variable(alloc, names)?;
         self.expect(Sign::Equals)?;
@@ -122,17 +128,17 @@ impl<'a> Ahead<'a> {
         role: usize,
         lines: &[Line],
     ) -> Result<Name, ScriptError>
-        ensures goes { Goes result (λ k. AWord (send_fault points.now.messages role (map line_of lines.now)) k) (λ n. n) self.old self.new }
-        ensures shorter { length self.new ≤ length self.old }
+        ensures goes { Goes result (λ k. AWord (send_fault points.now.messages role (map line_of lines.now)) k) (λ n. n) self.old.rest self.new.rest }
+        ensures shorter { length self.new.rest ≤ length self.old.rest }
     {
-        let Some((word, after)) = self.word() else {
+        let Some((word, after)) = self.rest.word() else {
             return Err(ScriptError::Refused(Fault::Token));
         };
         if let Some(fault) = send_fault(points, role, lines, word) {
             return Err(ScriptError::Refused(fault));
         }
         let label = Name::of(alloc, word)?;
-        *self = after;
+        self.rest = after;
         Ok(label)
     }
 
@@ -143,33 +149,33 @@ impl<'a> Ahead<'a> {
         points: &Points,
         role: usize,
     ) -> Result<Name, ScriptError>
-        ensures goes { Goes result (λ k. AWord (pick_fault points.now.messages role) k) (λ n. n) self.old self.new }
-        ensures shorter { length self.new ≤ length self.old }
+        ensures goes { Goes result (λ k. AWord (pick_fault points.now.messages role) k) (λ n. n) self.old.rest self.new.rest }
+        ensures shorter { length self.new.rest ≤ length self.old.rest }
     {
-        let Some((word, after)) = self.word() else {
+        let Some((word, after)) = self.rest.word() else {
             return Err(ScriptError::Refused(Fault::Token));
         };
         if let Some(fault) = pick_fault(points, role, word) {
             return Err(ScriptError::Refused(fault));
         }
         let label = Name::of(alloc, word)?;
-        *self = after;
+        self.rest = after;
         Ok(label)
     }
 
     // Takes the label of an `on` line.
     fn on_label(&mut self, alloc: Global, points: &Points, role: usize) -> Result<Name, ScriptError>
-        ensures goes { Goes result (λ k. AWord (on_fault points.now.messages role) k) (λ n. n) self.old self.new }
-        ensures shorter { length self.new ≤ length self.old }
+        ensures goes { Goes result (λ k. AWord (on_fault points.now.messages role) k) (λ n. n) self.old.rest self.new.rest }
+        ensures shorter { length self.new.rest ≤ length self.old.rest }
     {
-        let Some((word, after)) = self.word() else {
+        let Some((word, after)) = self.rest.word() else {
             return Err(ScriptError::Refused(Fault::Token));
         };
         if let Some(fault) = on_fault(points, role, word) {
             return Err(ScriptError::Refused(fault));
         }
         let label = Name::of(alloc, word)?;
-        *self = after;
+        self.rest = after;
         Ok(label)
     }
 
@@ -183,8 +189,8 @@ impl<'a> Ahead<'a> {
         lines: &[Line],
     ) -> Result<Line, ScriptError>
         ensures goes { Goes result (λ k. send_line (writing points.now.messages role names.now lines.now) k)
-            (λ line. (names.now, line_of line)) self.old self.new }
-        ensures shorter { length self.new ≤ length self.old }
+            (λ line. (names.now, line_of line)) self.old.rest self.new.rest }
+        ensures shorter { length self.new.rest ≤ length self.old.rest }
     {
         let label = self.send_label(alloc, points, role, lines)?;
         let number = self.number_set(alloc, names, DECIDING)?;
@@ -201,8 +207,8 @@ impl<'a> Ahead<'a> {
         lines: &[Line],
     ) -> Result<Line, ScriptError>
         ensures goes { Goes result (λ k. pick_line (writing points.now.messages role names.now lines.now) k)
-            (λ line. (names.now, line_of line)) self.old self.new }
-        ensures shorter { length self.new ≤ length self.old }
+            (λ line. (names.now, line_of line)) self.old.rest self.new.rest }
+        ensures shorter { length self.new.rest ≤ length self.old.rest }
     {
         let label = self.pick_label(alloc, points, role)?;
         let when = self.when(alloc, names)?;
@@ -211,8 +217,8 @@ impl<'a> Ahead<'a> {
 
     // Takes what stands behind the label of a `pick` line.
     fn when(&mut self, alloc: Global, names: &Names) -> Result<Option<Condition>, ScriptError>
-        ensures goes { Goes result (λ k. rest_of_pick (place_at names.now (Some Fault.Variable) None 0) k) when_of self.old self.new }
-        ensures shorter { length self.new ≤ length self.old }
+        ensures goes { Goes result (λ k. rest_of_pick (place_at names.now (Some Fault.Variable) None 0) k) when_of self.old.rest self.new.rest }
+        ensures shorter { length self.new.rest ≤ length self.old.rest }
     {
         if self.takes(Sign::Semicolon) {
             return Ok(None);
@@ -231,8 +237,8 @@ impl<'a> Ahead<'a> {
         lines: &[Line],
     ) -> Result<Line, ScriptError>
         ensures goes { Goes result (λ k. on_line (writing points.now.messages role names.now lines.now) k)
-            (λ line. (names.now, line_of line)) self.old self.new }
-        ensures shorter { length self.new ≤ length self.old }
+            (λ line. (names.now, line_of line)) self.old.rest self.new.rest }
+        ensures shorter { length self.new.rest ≤ length self.old.rest }
     {
         let label = self.on_label(alloc, points, role)?;
         let banned = remembering(points, role, label.as_slice());
@@ -257,8 +263,8 @@ impl<'a> Ahead<'a> {
         lines: &[Line],
     ) -> Result<Line, ScriptError>
         ensures goes { Goes result (λ k. line_behind (writing points.now.messages role names.old lines.now) kind k)
-            (λ line. (names.new, line_of line)) self.old self.new }
-        ensures shorter { length self.new ≤ length self.old }
+            (λ line. (names.new, line_of line)) self.old.rest self.new.rest }
+        ensures shorter { length self.new.rest ≤ length self.old.rest }
     {
         match kind {
             LineKind::Var => self.var_line(alloc, names),
@@ -278,11 +284,11 @@ impl<'a> Ahead<'a> {
         lines: &[Line],
     ) -> Result<Line, ScriptError>
         ensures goes { Goes result (λ k. ALine (writing points.now.messages role names.old lines.now) k)
-            (λ line. (names.new, line_of line)) self.old self.new }
-        ensures taken { IfOk result (λ line. length self.new < length self.old) }
-        ensures shorter { length self.new ≤ length self.old }
+            (λ line. (names.new, line_of line)) self.old.rest self.new.rest }
+        ensures taken { IfOk result (λ line. length self.new.rest < length self.old.rest) }
+        ensures shorter { length self.new.rest ≤ length self.old.rest }
     {
-        let Some((word, after)) = self.word() else {
+        let Some((word, after)) = self.rest.word() else {
             return Err(ScriptError::Refused(Fault::Token));
         };
         let Some(kind) = kind_of(word) else {
@@ -291,7 +297,7 @@ impl<'a> Ahead<'a> {
         if let Some(fault) = line_fault(kind, names, lines) {
             return Err(ScriptError::Refused(fault));
         }
-        *self = after;
+        self.rest = after;
         self.line_behind(alloc, kind, points, role, names, lines)
     }
 
@@ -303,8 +309,8 @@ impl<'a> Ahead<'a> {
         role: usize,
     ) -> Result<Vec<Line>, ScriptError>
         ensures goes { Goes result (λ k. Lines (writing points.now.messages role [] []) k)
-            (λ lines. map line_of lines.items) self.old self.new }
-        ensures shorter { length self.new ≤ length self.old }
+            (λ lines. map line_of lines.items) self.old.rest self.new.rest }
+        ensures shorter { length self.new.rest ≤ length self.old.rest }
     {
         let mut names = Names::new(alloc);
         let mut lines = Vec::new(alloc);

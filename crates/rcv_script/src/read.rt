@@ -3,22 +3,22 @@
 ghost use Rattle.std.specs.Prelude.{◌≡◌, ◌<◌, ◌≤◌, ◌∷◌, [], length, map, MatchResult, IfOk, IfErr, true, false};
 ghost use Rattle.std.specs.List.{All};
 ghost use Rattle.rcv_lexer.specs.Parts.{LiesIn};
-ghost use Rattle.rcv_script.specs.Symbols.{Word, symbols_of};
+ghost use Rattle.rcv_script.specs.Symbols.{Word, IsNotNext, symbols_of};
 ghost use Rattle.rcv_script.specs.Lines.{line_of};
 ghost use Rattle.rcv_script.specs.Machine.{AWord, is_listed, role_fault, script, place_in, no_lines};
-ghost use Rattle.rcv_script.specs.Descent.{Goes, IsNotNext};
-ghost use Rattle.rcv_script.specs.Refusals.{AreRead, Ends, line_before};
+ghost use Rattle.rcv_script.specs.Descent.{Goes};
+ghost use Rattle.rcv_script.specs.Refusals.{AreRead, Ends};
 ghost use Rattle.rcv_script.specs.Scripts.{AreScriptsOf, AreRefusedFor};
 
-use crate::ahead::Ahead;
 use crate::fault::{Fault, ScriptError};
 use crate::formula::place_of;
-use crate::line::is;
+use crate::parser::Parser;
 use crate::scripts::{Script, Scripts};
 use crate::sign::Sign;
 use rcv_accept::accepted::Accepted;
 use rcv_lexer::token::{TextError, Token};
 use rcv_points::points::Points;
+use rcv_scan::{Ahead, is, line_before};
 use rcv_tree::name::Names;
 use rcv_tree::refusal::Refusal;
 use std::alloc::Global;
@@ -30,32 +30,32 @@ struct Given {
     script: Script,
 }
 
-impl<'a> Ahead<'a> {
+impl<'a> Parser<'a> {
     // Takes this word if it is next.
     fn takes_word(&mut self, word: &[u8]) -> bool
-        ensures yes { result ≡ true → self.old ≡ Word word.now ∷ self.new }
-        ensures taken { result ≡ true → length self.new < length self.old }
-        ensures no { result ≡ false → (self.new ≡ self.old) × IsNotNext (Word word.now) self.old }
-        ensures shorter { length self.new ≤ length self.old }
+        ensures yes { result ≡ true → self.old.rest ≡ Word word.now ∷ self.new.rest }
+        ensures taken { result ≡ true → length self.new.rest < length self.old.rest }
+        ensures no { result ≡ false → (self.new.rest ≡ self.old.rest) × IsNotNext (Word word.now) self.old.rest }
+        ensures shorter { length self.new.rest ≤ length self.old.rest }
     {
-        let Some((found, after)) = self.word() else {
+        let Some((found, after)) = self.rest.word() else {
             return false;
         };
         if !is(found, word) {
             return false;
         }
-        *self = after;
+        self.rest = after;
         true
     }
 
     // Takes the name of a role that has no script yet: its place.
     fn role(&mut self, roles: &Names, given: &[usize]) -> Result<usize, ScriptError>
         ensures goes { Goes result (λ k. AWord (role_fault roles.now given.now) (λ n. k (place_in roles.now n)))
-            (λ role. role) self.old self.new }
+            (λ role. role) self.old.rest self.new.rest }
         ensures declared { IfOk result (λ role. role < length roles.now) }
-        ensures shorter { length self.new ≤ length self.old }
+        ensures shorter { length self.new.rest ≤ length self.old.rest }
     {
-        let Some((word, after)) = self.word() else {
+        let Some((word, after)) = self.rest.word() else {
             return Err(ScriptError::Refused(Fault::Token));
         };
         let Some(role) = place_of(roles.as_slice(), word) else {
@@ -64,7 +64,7 @@ impl<'a> Ahead<'a> {
         if is_listed(role, given) {
             return Err(ScriptError::Refused(Fault::Role));
         }
-        *self = after;
+        self.rest = after;
         Ok(role)
     }
 
@@ -76,9 +76,9 @@ impl<'a> Ahead<'a> {
         points: &Points,
         given: &[usize],
     ) -> Result<Given, ScriptError>
-        ensures goes { Goes result (λ k. script roles.now given.now points.now.messages k) (λ x. (x.role, x.script)) self.old self.new }
+        ensures goes { Goes result (λ k. script roles.now given.now points.now.messages k) (λ x. (x.role, x.script)) self.old.rest self.new.rest }
         ensures declared { IfOk result (λ x. x.role < length roles.now) }
-        ensures shorter { length self.new ≤ length self.old }
+        ensures shorter { length self.new.rest ≤ length self.old.rest }
     {
         let role = self.role(roles, given)?;
         self.expect(Sign::Open)?;
@@ -96,9 +96,9 @@ impl<'a> Ahead<'a> {
         roles: &Names,
         points: &Points,
     ) -> Result<Vec<Script>, ScriptError>
-        ensures ok { IfOk result (λ scripts. AreRead roles.now points.now.messages self.old scripts.items) }
+        ensures ok { IfOk result (λ scripts. AreRead roles.now points.now.messages self.old.rest scripts.items) }
         ensures all { IfOk result (λ scripts. length scripts.items ≡ length roles.now) }
-        ensures err { IfErr result (λ e. Ends roles.now points.now.messages e self.old self.new) }
+        ensures err { IfErr result (λ e. Ends roles.now points.now.messages e self.old.rest self.new.rest) }
     {
         let mut scripts = no_lines(alloc, roles)?;
         let mut given = Vec::new(alloc);
@@ -107,7 +107,7 @@ impl<'a> Ahead<'a> {
             given.push(next.role)?;
             scripts[next.role] = next.script;
         }
-        if self.is_empty() {
+        if self.rest.is_empty() {
             Ok(scripts)
         } else {
             Err(ScriptError::Refused(Fault::Token))
@@ -134,17 +134,6 @@ fn no_lines(alloc: Global, roles: &Names) -> Result<Vec<Script>, ScriptError>
     Ok(scripts)
 }
 
-// The line of the token from which on so many are left, or of the end.
-fn line_before(list: &[Token], last: u32, left: usize) -> u32
-    ensures { result ≡ line_before list.now last left }
-{
-    let place = list.len().saturating_sub(left);
-    match &list[place..] {
-        [first, ..] => first.line,
-        [] => last,
-    }
-}
-
 /// The scripts that the tokens of a part of the bundle say, for an accepted protocol. `last` is the line of the part's
 /// end. A part without tokens gives each role a script without lines.
 ///
@@ -169,13 +158,15 @@ pub fn read_scripts(
 {
     let roles = &accepted.protocol().roles;
     let points = accepted.points();
-    let mut ahead = Ahead::new(bundle, list);
-    match ahead.scripts(alloc, roles, points) {
+    let mut parser = Parser {
+        rest: Ahead::new(bundle, list),
+    };
+    match parser.scripts(alloc, roles, points) {
         Ok(scripts) => Ok(Scripts::of(alloc, scripts, points)?),
         Err(ScriptError::Memory) => Err(TextError::Memory),
         Err(ScriptError::Refused(fault)) => Err(TextError::Refused(Refusal::Text {
             code: fault.code(),
-            line: line_before(list, last, ahead.len()),
+            line: line_before(list, last, parser.rest.len()),
         })),
     }
 }

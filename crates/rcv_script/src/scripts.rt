@@ -8,8 +8,9 @@ ghost use Rattle.rcv_script.specs.Lines.{line_of, lines_at};
 ghost use Rattle.rcv_script.specs.Attempts.{lines_read, scripts_read};
 ghost use Rattle.rcv_script.specs.Scripts.{net_by, HasPoint};
 
-use crate::line::{Line, is, is_met, set};
+use crate::line::{Line, is_met, set};
 use rcv_points::points::{Message, Points};
+use rcv_scan::is;
 use rcv_tree::name::Name;
 use rcv_tree::point::Point;
 use rcv_tree::role::RoleId;

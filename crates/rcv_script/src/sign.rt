@@ -1,7 +1,7 @@
 // Marks of the grammar.
 
-/// A mark of the grammar.
-#[derive(Clone, Copy, Debug, PartialEq, Eq)]
+/// A mark of the grammar, or what it has nowhere.
+#[derive(Clone, Copy, Debug, PartialEq, Eq, Drop)]
 pub enum Sign {
     Open,
     Close,
@@ -18,4 +18,6 @@ pub enum Sign {
     Plus,
     Minus,
     Times,
+    /// Any other mark, or a number above the greatest one of a script.
+    Foreign,
 }

@@ -1,13 +1,12 @@
 // What a token says: a word, a number, a mark, or nothing that the grammar has.
 
-ghost use Rattle.std.specs.Prelude.{◌≡◌, ◌<◌, ◌≤◌, IfSome, IfNone, slice_range, Option};
-ghost use Rattle.rcv_lexer.specs.Parts.{LiesIn};
-ghost use Rattle.rcv_script.specs.Symbols.{block_mark, comparing_mark, computing_mark, mark, sign_by, decimal, greatest};
+ghost use Rattle.std.specs.Prelude.{◌≡◌, Option};
+ghost use Rattle.rcv_script.specs.Symbols.{block_mark, comparing_mark, computing_mark, mark};
 ghost use Rattle.rcv_script.specs.Machine.{kind_of};
 
-use crate::line::is;
 use crate::sign::Sign;
-use rcv_lexer::token::{Kind, Token};
+use rcv_lexer::token::Kind;
+use rcv_scan::{Alphabet, Lexeme, is, number_of, unquoted};
 
 /// What a line does.
 #[derive(Clone, Copy, Debug, PartialEq, Eq)]
@@ -75,62 +74,56 @@ fn comparing_mark(bytes: &[u8]) -> Option<Sign>
     }
 }
 
-fn computing_mark(bytes: &[u8]) -> Option<Sign>
+fn computing_mark(bytes: &[u8]) -> Sign
     ensures { result ≡ computing_mark bytes.now }
 {
     if is(bytes, b"+") {
-        Some(Sign::Plus)
+        Sign::Plus
     } else if is(bytes, b"-") {
-        Some(Sign::Minus)
+        Sign::Minus
     } else if is(bytes, b"*") {
-        Some(Sign::Times)
+        Sign::Times
     } else {
-        None
+        Sign::Foreign
     }
 }
 
-fn mark(bytes: &[u8]) -> Option<Sign>
+fn mark(bytes: &[u8]) -> Sign
     ensures { result ≡ mark bytes.now }
 {
     if let Some(sign) = block_mark(bytes) {
-        return Some(sign);
+        return sign;
     }
     match comparing_mark(bytes) {
-        Some(sign) => Some(sign),
+        Some(sign) => sign,
         None => computing_mark(bytes),
     }
 }
 
-/// The mark of the grammar that a token of this kind is.
-pub fn sign_by(kind: Kind, bytes: &[u8]) -> Option<Sign>
-    ensures { result ≡ sign_by kind bytes.now }
-{
-    match kind {
-        Kind::Mark => mark(bytes),
-        Kind::Word | Kind::Number | Kind::Text => None,
-    }
-}
+impl Alphabet for Sign {
+    ghost use Rattle.rcv_script.specs.Symbols.{symbol_by, greatest};
 
-/// The number that these digits say; none above the greatest one of a script, 9223372036854775807.
-pub fn number(digits: &[u8]) -> Option<u64>
-    ensures some { IfSome result (λ n. (n ≡ decimal 0 digits.now) × (n ≤ greatest)) }
-    ensures none { IfNone result (greatest < decimal 0 digits.now) }
-{
-    let mut number: u64 = 0;
-    for digit in digits {
-        let longer = number as u128 * 10 + digit.saturating_sub(48) as u128;
-        if longer > 9223372036854775807 {
-            return None;
+    ghost symbol_by = { symbol_by };
+
+    ghost greatest = { greatest };
+
+    fn is(self, other: Sign) -> bool {
+        self == other
+    }
+
+    fn lexeme<'a>(kind: Kind, bytes: &'a [u8]) -> Lexeme<'a, Sign> {
+        match kind {
+            Kind::Word => Lexeme::Word(bytes),
+            Kind::Number => {
+                let number = number_of(bytes);
+                if number <= 9223372036854775807 {
+                    Lexeme::Number(number)
+                } else {
+                    Lexeme::Is(Sign::Foreign)
+                }
+            }
+            Kind::Text => Lexeme::Text(unquoted(bytes)),
+            Kind::Mark => Lexeme::Is(mark(bytes)),
         }
-        number = longer as u64;
     }
-    Some(number)
-}
-
-/// The bytes of a token.
-pub fn bytes_of<'a>(bundle: &'a [u8], token: Token) -> &'a [u8]
-    requires { LiesIn bundle.now token.span }
-    ensures { result.now ≡ slice_range bundle.now token.span.start token.span.end }
-{
-    &bundle[token.span.start..token.span.end]
 }

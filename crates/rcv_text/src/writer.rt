@@ -1,6 +1,6 @@
 // A text that grows word by word.
 
-ghost use Rattle.std.specs.Prelude.{◌≡◌, [], ◌++◌, OnOk, decimal};
+ghost use Rattle.std.specs.Prelude.{◌≡◌, [], ◌∷◌, ◌++◌, IfOk, OnOk, decimal};
 ghost use Rattle.std.specs.Fmt.{signed_decimal};
 
 use itoa::Buffer;
@@ -31,11 +31,29 @@ impl Writer {
         }
     }
 
+    /// The empty text, with room for so many bytes at once; a longer text takes more as it grows. Fails where memory runs
+    /// out.
+    pub fn with_room(alloc: Global, room: usize) -> Result<Writer, AllocError>
+        ensures { IfOk result (λ text. text ≡ []) }
+    {
+        Ok(Writer {
+            text: Vec::with_capacity(alloc, room)?,
+        })
+    }
+
     /// The text goes on with these bytes. Fails where memory runs out.
     pub fn word(&mut self, word: &[u8]) -> Result<(), AllocError>
         ensures { OnOk result (self.new ≡ self.old ++ word.now) }
     {
         self.text.extend_from_slice(word)
+    }
+
+    /// The text goes on with this byte. Fails where memory runs out.
+    pub fn byte(&mut self, byte: u8) -> Result<(), AllocError>
+        ensures { OnOk result (self.new ≡ self.old ++ byte ∷ []) }
+    {
+        self.text.push(byte)?;
+        Ok(())
     }
 
     /// The text goes on with a number in decimal. Fails where memory runs out.

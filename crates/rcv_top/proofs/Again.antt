@@ -1,18 +1,18 @@
 -- A canonical text is its own canonical text.
-use Rattle.std.proofs.Common.{◌≡◌, ℕ, ◌-◌, ◌≤◌, codes, List, [], ◌∷◌, length, take, drop, None, refl, sym, ap, subst, arith}
-use Rattle.std.specs.Prelude.{not, position, slice_range}
+use Rattle.std.proofs.Common.{◌≡◌, ℕ, ◌-◌, ◌≤◌, codes, List, [], ◌∷◌, length, take, drop, refl, sym, ap, subst, arith}
+use Rattle.std.specs.Prelude.{slice_range}
 use Rattle.rcv_tree.specs.declared.protocol.Protocol.{Protocol}
 use Rattle.rcv_session.specs.Session.{SessionView}
 use Rattle.rcv_accept.specs.Accepted.{IsAcceptedProtocol}
 use Rattle.rcv_script.specs.Machine.{no_lines}
 use Rattle.rcv_lexer.specs.declared.parts.Parts.{Parts}
-use Rattle.rcv_lexer.specs.Parts.{parts_of, span}
-use Rattle.rcv_lexer.specs.Pieces.{is_blank}
+use Rattle.rcv_lexer.specs.Parts.{parts_of}
 use Rattle.rcv_lexer.specs.Tokens.{AreTokens}
 use Rattle.rcv_printer.specs.CanonicalText.{canonical}
 use Rattle.rcv_printer.specs.Laws.{IsReadAs}
 use Rattle.rcv_printer.proofs.ReadBack.{reads_back}
-use Rattle.rcv_input.specs.Input.{IsBlankPart, IsTaken}
+use Rattle.rcv_plan.proofs.Answered.{none_read}
+use Rattle.rcv_input.specs.Input.{IsTaken}
 use Rattle.rcv_top.specs.declared.status.Status.{Status}
 use Rattle.rcv_top.specs.declared.status.Status.TheVariants as statuses
 use Rattle.rcv_top.specs.Commands.{CommandView, Check}
@@ -24,18 +24,15 @@ use Rattle.rcv_top.proofs.Answering.{one_command}
 nothing_there : (text : List ℕ) (n : ℕ) → slice_range text n n ≡ []
 nothing_there text n = let none : n - n ≡ 0 = omega arith in ap (λ (k : ℕ). take k (drop n text)) none
 
-blank_there : (text : List ℕ) (n : ℕ) → IsBlankPart text (span n n)
-blank_there text n = subst (λ (bytes : List ℕ). position (λ b. not (is_blank b)) bytes ≡ None) (sym (nothing_there text n)) refl
-
--- the session of a protocol without scripts
+-- the session of a protocol without scripts and without a plan
 abbrev bare : Protocol → SessionView
-bare p = record { protocol = p; scripts = no_lines p.roles }
+bare p = record { protocol = p; scripts = no_lines p.roles; plan = [] }
 
 taken_again : (text : List ℕ) (p : Protocol) → IsReadAs text p → IsAcceptedProtocol p → IsTaken text (bare p)
 taken_again text p back lawful = record {
   protocol = record { text = record { tokens = back.tokens; cut = subst (λ (parts : Parts). AreTokens text parts.protocol back.tokens) (sym back.one_part) back.are_tokens; read = back.read }; accepted = lawful };
   are_scripts = record { tokens = []; cut = subst (λ (parts : Parts). AreTokens text parts.scripts []) (sym back.one_part) ([], nothing_there text (length text), refl); read = refl };
-  no_plan = subst (λ (parts : Parts). IsBlankPart text parts.plan) (sym back.one_part) (blank_there text (length text));
+  plan = record { tokens = []; cut = subst (λ (parts : Parts). AreTokens text parts.plan []) (sym back.one_part) ([], nothing_there text (length text), refl); read = none_read p.roles };
 }
 
 again : (input : List ℕ) (session : SessionView) → IsTaken input session → IsTaken (canonical session.protocol) (bare session.protocol)

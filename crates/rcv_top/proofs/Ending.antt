@@ -1,5 +1,5 @@
 -- The session of what is taken comes to its end, and each role's line is known there.
-use Rattle.std.proofs.Common.{◌≡◌, ℕ, zero, suc, ◌+◌, Some, List, [], ◌∷◌, length, refl, ◌∙◌, ap, subst, inl, inr, ⊎_elim, ◌⊎◌, arith}
+use Rattle.std.proofs.Common.{◌≡◌, ℕ, ◌≤◌, zero, suc, ◌+◌, Some, List, [], ◌∷◌, length, refl, ◌∙◌, ap, subst, inl, inr, ⊎_elim, ◌⊎◌, arith}
 use Rattle.std.specs.Prelude.{slice_get, slice_index}
 use Rattle.std.proofs.lemmas.Bool.{cases_eq}
 use Rattle.rcv_tree.specs.declared.entry.Entry.{Entry}
@@ -16,6 +16,9 @@ use Rattle.rcv_model.proofs.Choosing.{chosen_in}
 use Rattle.rcv_model.proofs.OneThread.{one_journal}
 use Rattle.rcv_model.proofs.Threads.{one_thread}
 use Rattle.rcv_model.proofs.Finals.{done_or_limited}
+use Rattle.rcv_plan.specs.Symbols.{symbols_of}
+use Rattle.rcv_plan.proofs.Fitting.{read_is_planned}
+use Rattle.rcv_core.proofs.Ranges.{ranges}
 use Rattle.rcv_session.specs.Session.{net_for, lines_of, rules_of}
 use Rattle.rcv_journal.specs.declared.line.RoleLine.{RoleLine}
 use Rattle.rcv_journal.specs.declared.line.RoleWord.{RoleWord}
@@ -74,7 +77,7 @@ are_lines rules s lawful = record {
 
 pub sessions_end : SessionsEnd
 sessions_end input session taken = ⊎_elim (λ done. (Completed, text, run Completed (all_done done))) (λ at. (Limited, text, run Limited (at_limit at)))
-    (done_or_limited rules one.0 lawful taken.protocol.accepted.accepted chooses (omega arith) (law.legal one.1) final)
+    (done_or_limited rules one.0 lawful taken.protocol.accepted.accepted chooses room (law.legal one.1) final)
   where
     rules : Rules
     rules = rules_of session
@@ -103,6 +106,9 @@ sessions_end input session taken = ⊎_elim (λ done. (Completed, text, run Comp
       is_journal = record { legal = law.legal one.1; final = final; ends = ends; text = record { lines = lines; are_lines = are_lines rules (reading rules one.0) lawful; is_text = refl } };
       alone = one.1;
     }
+
+    room : 1 ≤ rules.room
+    room = (ranges session (read_is_planned session.protocol.roles (symbols_of input taken.plan.tokens) session.plan taken.plan.read)).room_first
 
     chooses : ChoosesOffered rules
     chooses r events attempt zs some = chosen_in (net_for session) (lines_of session) r events attempt zs some

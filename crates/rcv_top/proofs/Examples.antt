@@ -1,5 +1,5 @@
 -- Each law has something to speak of: applied to the input that rcv_input's worked case takes.
-use Rattle.std.proofs.Common.{◌≡◌, ℕ, codes, ◌<◌, List, [], ◌∷◌, length, refl, ap, arith}
+use Rattle.std.proofs.Common.{◌≡◌, ℕ, codes, ◌<◌, ◌≤◌, List, [], ◌∷◌, length, refl, ap, arith}
 use Rattle.std.specs.Prelude.{◌↔◌}
 use Rattle.rcv_session.specs.Session.{rules_of}
 use Rattle.rcv_accept.specs.Accepted.{IsAcceptedProtocol, net_for}
@@ -12,7 +12,7 @@ use Rattle.rcv_grammar.specs.Printable.{IsPrintable}
 use Rattle.rcv_grammar.proofs.Once.{texts_have_one_tree}
 use Rattle.rcv_grammar.proofs.Canonizing.{canonical_sources_are_read}
 use Rattle.rcv_grammar.proofs.Printables.{read_is_printable}
-use Rattle.rcv_printer.specs.CanonicalText.{canonical}
+use Rattle.rcv_printer.specs.CanonicalText.{canonical, body_text, inner}
 use Rattle.rcv_printer.specs.Laws.{IsReadAs}
 use Rattle.rcv_printer.proofs.ReadBack.{reads_back, stays}
 use Rattle.rcv_model.specs.Journal.{reading}
@@ -24,14 +24,16 @@ use Rattle.rcv_project.specs.LocalText.{IsTextOf}
 use Rattle.rcv_project.proofs.OneText.{roles_have_one_text}
 use Rattle.rcv_tables.specs.TableText.{table_text}
 use Rattle.rcv_tables.proofs.OneText.{one_table_text}
-use Rattle.rcv_input.proofs.Worked.{input, symbols, tokens, cut, protocol, is_read, session, taken}
+use Rattle.rcv_input.proofs.Planned as planned
+use Rattle.rcv_input.proofs.Worked.{input, symbols, tokens, cut, protocol, its_body, is_read, session, taken}
 use Rattle.rcv_top.specs.declared.status.Status.{Status}
 use Rattle.rcv_top.specs.declared.status.Status.TheVariants.{Completed}
 use Rattle.rcv_top.specs.Commands.{Check}
 use Rattle.rcv_top.specs.Running.{IsOneThreadRun}
 use Rattle.rcv_top.specs.Recovering.{IsTableText, accepted_as}
 use Rattle.rcv_top.specs.Headline.{IsHeadline}
-use Rattle.rcv_top.specs.Outcome.{IsOutcome, made}
+use Rattle.rcv_top.specs.Outcome.{most_bytes, IsOutcome, made}
+use Rattle.rcv_top.proofs.Again.{checks_stay}
 use Rattle.rcv_top.proofs.Answering.{session_headline}
 use Rattle.rcv_top.proofs.Ending.{sessions_end}
 use Rattle.rcv_top.proofs.Outcomes.{one_outcome}
@@ -58,6 +60,13 @@ ended = sessions_end input session taken
 headline : IsHeadline (rules_of session) ended.2.journal
 headline = session_headline input session ended.2.journal ended.0 ended.1 taken ended.2.is_journal
 
+-- so it is where the first role crashes, and both fail
+crashed : (status : Status) × (bytes : List ℕ) × IsOneThreadRun planned.session status bytes
+crashed = sessions_end planned.input planned.session planned.is_taken
+
+headline_of_crashes : IsHeadline (rules_of planned.session) crashed.2.journal
+headline_of_crashes = session_headline planned.input planned.session crashed.2.journal crashed.0 crashed.1 planned.is_taken crashed.2.is_journal
+
 -- each role and point of the journal has a name, and its last line tells whether all roles are done
 named : AreNamed session ended.2.journal
 named = legal_is_named session ended.2.journal lawful ended.2.is_journal.legal
@@ -68,6 +77,13 @@ last = completed_is_written session (reading (rules_of session) ended.2.journal)
 -- `check` writes its canonical text, and nothing else; that is read as the same protocol
 checked : IsOutcome (codes "check" ∷ []) input Completed (canonical protocol)
 checked = made Check session (record { words_are = refl; short = omega arith }) taken (refl, refl)
+
+-- and written again, it stays as it is
+short_again : length (canonical protocol) ≤ most_bytes
+short_again = let body = ap (λ b. length (body_text protocol.roles (inner []) b (codes "}\n"))) its_body in omega (arith, body)
+
+checked_again : IsOutcome (codes "check" ∷ []) (canonical protocol) Completed (canonical protocol)
+checked_again = checks_stay input (canonical protocol) checked short_again
 
 no_other : (s : Status) (b : List ℕ) → IsOutcome (codes "check" ∷ []) input s b → (Completed ≡ s) × (canonical protocol ≡ b)
 no_other s b outcome = one_outcome (codes "check" ∷ []) input Completed s (canonical protocol) b checked outcome

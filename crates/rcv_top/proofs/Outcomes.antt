@@ -12,7 +12,7 @@ use Rattle.rcv_tree.specs.declared.entry.Entry.TheVariants as entries
 use Rattle.rcv_model.specs.Text.{Body, body_of}
 use Rattle.rcv_model.specs.Places.{net_of}
 use Rattle.rcv_model.specs.Script.{Line}
-use Rattle.rcv_model.specs.Plain.{bare_rules}
+use Rattle.rcv_model.specs.Plan.{session_rules}
 use Rattle.rcv_model.specs.Journal.{Rules, State, reading}
 use Rattle.rcv_model.specs.Final.{IsOneThread}
 use Rattle.rcv_model.proofs.OneThread.{one_journal}
@@ -23,7 +23,7 @@ use Rattle.rcv_input.specs.Refusals.{IsFirstRefusal}
 use Rattle.rcv_input.specs.Line.{refusal_line}
 use Rattle.rcv_input.proofs.Once.{one_answer}
 use Rattle.rcv_printer.specs.CanonicalText.{canonical}
-use Rattle.rcv_session.specs.Session.{SessionView, rules_of}
+use Rattle.rcv_session.specs.Session.{SessionView, lines_of, rules_of}
 use Rattle.rcv_journal.specs.declared.line.RoleLine.{RoleLine}
 use Rattle.rcv_journal.specs.JournalText.{entry_line, role_line, limit_text, word_text, is_done, is_limit, journal_text}
 use Rattle.rcv_journal.specs.Lines.{AreLinesOf, IsTextOf}
@@ -49,10 +49,11 @@ use Rattle.rcv_top.proofs.Answering.{one_command}
 both : {A : Type 0} (f : List (List ℕ) → Body → A) (p q : Protocol) → p.roles ≡ q.roles → body_of p.body ≡ body_of q.body → f p.roles (body_of p.body) ≡ f q.roles (body_of q.body)
 both f p q roles bodies = ap (λ rs. f rs (body_of p.body)) roles ∙ ap (λ b. f q.roles b) bodies
 
-same_rules : (s t : SessionView) → s.protocol.roles ≡ t.protocol.roles → body_of s.protocol.body ≡ body_of t.protocol.body → s.scripts ≡ t.scripts → rules_of s ≡ rules_of t
-same_rules s t roles bodies scripts =
-    both (λ names body. bare_rules body (length names) (λ r. slice_index_or s.scripts r [])) s.protocol t.protocol roles bodies
-    ∙ ap (λ (lines : List (List Line)). bare_rules (body_of t.protocol.body) (length t.protocol.roles) (λ r. slice_index_or lines r [])) scripts
+same_rules : (s t : SessionView) → s.protocol.roles ≡ t.protocol.roles → body_of s.protocol.body ≡ body_of t.protocol.body → s.scripts ≡ t.scripts → s.plan ≡ t.plan → rules_of s ≡ rules_of t
+same_rules s t roles bodies scripts plans =
+    both (λ names body. session_rules body (length names) (λ r. slice_index_or s.scripts r []) s.plan) s.protocol t.protocol roles bodies
+    ∙ ap (λ (lines : List (List Line)). session_rules (body_of t.protocol.body) (length t.protocol.roles) (λ r. slice_index_or lines r []) s.plan) scripts
+    ∙ ap (session_rules (body_of t.protocol.body) (length t.protocol.roles) (lines_of t)) plans
 
 -- a line says the same of two protocols that say the same
 abbrev event_words : Event → List (List ℕ) → Body → List ℕ
@@ -108,7 +109,7 @@ one_run s t a b x y lawful same run other = (same_end (rules_of t) (reading (rul
     k = other.journal
 
     rules : rules_of s ≡ rules_of t
-    rules = same_rules s t same.protocols.role_names same.protocols.bodies same.scripts
+    rules = same_rules s t same.protocols.role_names same.protocols.bodies same.scripts same.plans
 
     journals : j ≡ k
     journals = (one_journal (rules_of t) j k).same (proper (body_of t.protocol.body) (length t.protocol.roles) lawful.form).two_ends (subst (λ (r : Rules). IsOneThread r j) rules run.alone) other.alone

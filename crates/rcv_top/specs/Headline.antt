@@ -9,7 +9,7 @@ use Rattle.rcv_model.specs.Journal.{Rules, State, durable, group_of, kept_by, re
 use Rattle.rcv_model.specs.Final.{IsFinal}
 
 -- The recovery from p's failure leaves the kept events but the undone ones: the failed roles' lost events and what
--- depends on them, no others. The failed roles are those of p's host; today p alone.
+-- depends on them, no others. The failed roles are p and those of p's host.
 pub record IsExactRecovery (rules : Rules) (before after : State) (p : ℕ) : Type 0 where
   pub has : ℕ → Bool
   pub exact : UndoesExactly rules.net before.kept (group_of rules p) (durable rules before) has

@@ -38,7 +38,7 @@ pub record IsAsked (words : List (List ℕ)) (command : CommandView) (input : Li
   pub short : length input ≤ most_bytes
 
 -- What a command makes of a session: its one-thread journal with how that ends, the canonical text of its protocol,
--- the recovery tables of that, or what the role of a name does.
+-- the recovery table of that, or what the role of a name does.
 abbrev pub Makes : SessionView → CommandView → Status → List ℕ → Type 0
 Makes session Run status bytes = IsOneThreadRun session status bytes
 Makes session Check status bytes = (status ≡ Completed) × (bytes ≡ canonical session.protocol)

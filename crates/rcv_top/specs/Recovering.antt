@@ -8,7 +8,7 @@ use Rattle.rcv_tables.specs.TableText.{table_text}
 abbrev pub accepted_as : Protocol → AcceptedView
 accepted_as protocol = record { protocol = protocol }
 
--- The text of the recovery tables of a protocol.
+-- The text of the recovery table of a protocol.
 pub record IsTableText (protocol : Protocol) (bytes : List ℕ) : Type 0 where
   pub table : TableView
   pub is_table : IsTable (net_for (accepted_as protocol)) (roles_of (accepted_as protocol)) table

@@ -6,6 +6,7 @@ ghost use Rattle.rcv_input.specs.Line.{refusal_line};
 ghost use Rattle.rcv_session.specs.Session.{SessionView};
 ghost use Rattle.rcv_printer.specs.CanonicalText.{canonical};
 ghost use Rattle.rcv_script.specs.Scripts.{AreScriptsFor};
+ghost use Rattle.rcv_plan.specs.Lines.{IsPlanned};
 ghost use Rattle.rcv_accept.specs.Accepted.{IsAcceptedProtocol};
 ghost use Rattle.rcv_top.specs.Commands.{view_of, words_of};
 ghost use Rattle.rcv_top.specs.Outcome.{IsOutcome};
@@ -39,7 +40,7 @@ pub struct Output {
 }
 
 /// What is written for an input of at most 1,048,576 bytes, and with which status: the first refusal of the input, or
-/// what the command makes of its protocol and its scripts.
+/// what the command makes of its protocol, its scripts and its plan.
 ///
 /// The error comes where no memory was left.
 pub fn answer(alloc: Global, command: Command<'_>, input: &[u8]) -> Result<Output, AllocError>
@@ -59,13 +60,15 @@ pub fn answer(alloc: Global, command: Command<'_>, input: &[u8]) -> Result<Outpu
 
 // Runs a session to its end, and writes its journal.
 fn run(alloc: Global, taken: Input) -> Result<Output, AllocError>
-    requires { AreScriptsFor taken.accepted.protocol taken.scripts }
-    ensures { IfOk result (λ output.
-        IsOneThreadRun (record { protocol = taken.accepted.protocol; scripts = taken.scripts.lines }) output.status output.bytes.items) }
+    requires belong { AreScriptsFor taken.accepted.protocol taken.scripts }
+    requires planned { IsPlanned (length taken.accepted.protocol.roles) taken.plan }
+    ensures { IfOk result (λ output. IsOneThreadRun
+        (record { protocol = taken.accepted.protocol; scripts = taken.scripts.lines; plan = taken.plan })
+        output.status output.bytes.items) }
 {
-    let setup = Setup::new(alloc, taken.accepted, taken.scripts)?;
+    let setup = Setup::new(alloc, taken.accepted, taken.scripts, taken.plan)?;
     let mut book = Book::new(alloc, &setup)?;
-    book.run_alone()?;
+    book.run_alone();
     let bytes = text_of(alloc, &book)?;
     let status = match book.final_state() {
         Outcome::Completed => Status::Completed,
@@ -85,7 +88,7 @@ fn check(alloc: Global, protocol: &Protocol) -> Result<Output, AllocError>
     })
 }
 
-// Writes the recovery tables of a protocol.
+// Writes the recovery table of a protocol.
 fn write_tables(alloc: Global, accepted: &Accepted) -> Result<Output, AllocError>
     ensures { IfOk result (λ output. (output.status ≡ Status.Completed) × IsTableText accepted.now.protocol output.bytes.items) }
 {

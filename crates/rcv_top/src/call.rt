@@ -24,7 +24,7 @@ const USAGE: &[u8] =
 /// `check` and `table`, or the words `project`, `--role` and any third one, which names a role. The answer says how the
 /// call ended:
 /// - `Completed`: under `run` the session of the input completed, and its journal was written; under `check` the input's
-///   protocol was written as its canonical text; under `table` its recovery tables were written; under `project` what the
+///   protocol was written as its canonical text; under `table` its recovery table was written; under `project` what the
 ///   role does was written.
 /// - `Limited`: under `run` the session's journal was written, and at its end some role that isn't done has come to the
 ///   limit.

@@ -7,7 +7,7 @@ pub enum Command<'a> {
     Run,
     /// Writes the canonical text of the input's protocol.
     Check,
-    /// Writes the recovery tables of the input's protocol.
+    /// Writes the recovery table of the input's protocol.
     Table,
     /// Writes what the role with this name does at each of its places.
     Project { role: &'a [u8] },

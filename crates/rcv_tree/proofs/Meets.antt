@@ -1,9 +1,8 @@
 -- The bits of two words that are set in both, or in the first alone, and the words that have none.
-use Rattle.std.proofs.Common.{◌≡◌, ℕ, zero, suc, ◌+◌, ◌-◌, ◌*◌, ◌/◌, ◌%◌, ◌^◌, ◌<◌, ◌≤◌, Bool, true, false, ◌==◌, ◌||◌, ◌&&◌, not, List, [], ◌∷◌, ◌++◌, cond, length, get_or, refl, sym, ◌∙◌, ap, subst, append_assoc, append-nil, ⊎_elim, arith, bit_and, bit_or, min, w64}
-use Rattle.std.specs.Prelude.{bit_xor, IsTrue, ◌↔◌}
+use Rattle.std.proofs.Common.{◌≡◌, ℕ, zero, suc, ◌+◌, ◌-◌, ◌*◌, ◌/◌, ◌%◌, ◌^◌, ◌<◌, ◌≤◌, Bool, true, false, ◌==◌, ◌||◌, ◌&&◌, not, List, [], ◌∷◌, ◌++◌, get_or, refl, sym, ◌∙◌, ap, subst, append-nil, arith, bit_and, bit_or, min}
+use Rattle.std.specs.Prelude.{bit_xor}
 use Rattle.std.specs.Int.{bit_at}
-use Rattle.std.proofs.lemmas.Bool.Decides.{nat_tests}
-use Rattle.std.proofs.lemmas.Nat.Bits.{bit_at_and, bit_at_xor, bit_at-lt, bit_at-zero, bit_at_above, same_from_bits_below}
+use Rattle.std.proofs.lemmas.Nat.Bits.{bit_at_and, bit_at_xor, bit_at-lt, bit_at-zero, same_from_bits_below}
 use Rattle.rcv_tree.specs.Bits.{has_bit, has_point, members, members_from, IsPoint}
 use Rattle.rcv_tree.proofs.Unions.{has_or}
 
@@ -113,23 +112,10 @@ none_is_empty xs e f g h all =
     ∙ ap (λ w. bit_or (bit_or (bit_or 0 0) w) (get_or xs 3 0)) (word_none xs 2 (omega arith) g all)
     ∙ ap (λ w. bit_or (bit_or (bit_or 0 0) 0) w) (word_none xs 3 (omega arith) h all)
 
--- The points of a set, one number more.
+-- The points of a set among all numbers.
 pub members_are : (words : List ℕ) (n : ℕ) → n ≡ 256 → members_from words n 1 ≡ members words
 unfolding members
 members_are words n e = ap (λ k. members_from words k 1) e
-
-pub members_more : (words done more : List ℕ) (i : ℕ) → i < 256 → more ≡ done ++ cond (has_point words (i + 1)) ((i + 1) ∷ []) [] → done ++ members_from words (256 - i) (i + 1) ≡ members words → more ++ members_from words (256 - (i + 1)) (i + 1 + 1) ≡ members words
-members_more words done more i lt e told = ap (λ l. l ++ rest) e ∙ append_assoc done (cond (has_point words (i + 1)) ((i + 1) ∷ []) []) rest ∙ ap (λ l. done ++ l) (go (has_point words (i + 1))) ∙ ap (λ n. done ++ members_from words n (i + 1)) (sym left) ∙ told
-  where
-    rest : List ℕ
-    rest = members_from words (256 - (i + 1)) (i + 1 + 1)
-
-    left : 256 - i ≡ suc (256 - (i + 1))
-    left = omega (arith, lt)
-
-    go : (b : Bool) → cond b ((i + 1) ∷ []) [] ++ rest ≡ cond b ((i + 1) ∷ rest) rest
-    go true = refl
-    go false = refl
 
 pub members_all : (words done : List ℕ) (i : ℕ) → 256 ≤ i → done ++ members_from words (256 - i) (i + 1) ≡ members words → done ≡ members words
 members_all words done i past told = let none : 256 - i ≡ 0 = omega (arith, past) in sym (append-nil done) ∙ ap (λ n. done ++ members_from words n (i + 1)) (sym none) ∙ told

@@ -12,5 +12,5 @@ returns c =
       role = refl;
       kept = c.kept.ensures;
       raw = c.raw-raw.ensures;
-      word = subst (IsWordOf (rules_of c.args.book.now.setup) (state_of c.args.book.now) c.args.role) (sym c.word_of.ensures) (is_word (rules_of c.args.book.now.setup) (state_of c.args.book.now) c.args.role c.done.result c.raw-raw.result c.limit.result (c.limit.ensures ∙ ap (λ v. (rules_of v).limit) c.setup.ensures) c.raw-raw.ensures c.done.ensures);
+      word = subst (IsWordOf (rules_of c.args.book.now.setup) (state_of c.args.book.now) c.args.role) (sym c.word_of.ensures) (is_word (rules_of c.args.book.now.setup) (state_of c.args.book.now) c.args.role c.done.result c.raw-raw.result c.limit.result (c.limit.ensures.value ∙ ap (λ v. (rules_of v).limit) c.setup.ensures) c.raw-raw.ensures c.done.ensures);
     }

@@ -11,20 +11,20 @@ use Rattle.rcv_next.proofs.search.add_others.Goals as goal
 use Rattle.rcv_next.proofs.search.add_others.Goals.{then-not-is_of, else-not-is_of}
 
 pub is_of-requires-clause-first : goal.is_of-requires-clause-first
-is_of-requires-clause-first c = (offered_is c.args.points.now c.args.place c.offered-point-items.result.now c.loop-point.point-index c.point.inside.0 c.count.ensures.within c.offered-point-items.ensures c.loop-point-test.true (c.point.view_is ∙ item_of c.offered-point-items.result.now c.loop-point.point-index c.point-item.result c.loop-point-test.true c.point-item.is)).first
+is_of-requires-clause-first c = (offered_is c.args.points.now c.args.place c.offered-offered.result.now c.loop-point.point-index c.point.inside.0 c.count.ensures.within c.offered-offered.ensures c.loop-point-test.true (c.point.view_is ∙ item_of c.offered-offered.result.now c.loop-point.point-index c.point-item.result c.loop-point-test.true c.point-item.is)).first
 
 pub is_of-requires-clause-last : goal.is_of-requires-clause-last
-is_of-requires-clause-last c = (offered_is c.args.points.now c.args.place c.offered-point-items.result.now c.loop-point.point-index c.point.inside.0 c.count.ensures.within c.offered-point-items.ensures c.loop-point-test.true (c.point.view_is ∙ item_of c.offered-point-items.result.now c.loop-point.point-index c.point-item.result c.loop-point-test.true c.point-item.is)).last
+is_of-requires-clause-last c = (offered_is c.args.points.now c.args.place c.offered-offered.result.now c.loop-point.point-index c.point.inside.0 c.count.ensures.within c.offered-offered.ensures c.loop-point-test.true (c.point.view_is ∙ item_of c.offered-offered.result.now c.loop-point.point-index c.point-item.result c.loop-point-test.true c.point-item.is)).last
 
 pub add-requires : goal.add-requires
-add-requires c = (offered_is c.args.points.now c.args.place c.offered-point-items.result.now c.loop-point.point-index c.point.inside.0 c.count.ensures.within c.offered-point-items.ensures c.loop-point-test.true (c.point.view_is ∙ item_of c.offered-point-items.result.now c.loop-point.point-index c.point-item.result c.loop-point-test.true c.point-item.is)).few
+add-requires c = (offered_is c.args.points.now c.args.place c.offered-offered.result.now c.loop-point.point-index c.point.inside.0 c.count.ensures.within c.offered-offered.ensures c.loop-point-test.true (c.point.view_is ∙ item_of c.offered-offered.result.now c.loop-point.point-index c.point-item.result c.loop-point-test.true c.point-item.is)).few
 
 pub loop-point-preserved : goal.loop-point-preserved
 loop-point-preserved c =
-    let q = c.point.view_is ∙ item_of c.offered-point-items.result.now c.loop-point.point-index c.point-item.result c.loop-point-test.true c.point-item.is in
+    let q = c.point.view_is ∙ item_of c.offered-offered.result.now c.loop-point.point-index c.point-item.result c.loop-point-test.true c.point-item.is in
     elim c.if-not-is_of.branch [
-      | then-not-is_of w ↦ more_yes (λ p. IsOf (net_in c.args.points.now) c.args.role p → ⊥) c.offered-point-items.result.now c.loop-point.point-index c.point.inside.0 c.args.places.now c.loop-point.places c.if-not-is_of.places c.loop-point-test.true q (λ o. no_flag_is_up (w.if-not-is_of.ensures.1 o)) c.loop-point.invariant (subst (λ l. Adds (λ j. j ≡ c.point.inside.0) c.loop-point.places l) (sym w.places-is) w.add.ensures.adds)
-      | else-not-is_of w ↦ subst (λ l. Adds (Others (net_in c.args.points.now) c.args.role (take (c.loop-point.point-index + 1) c.offered-point-items.result.now)) c.args.places.now l) (sym w.places-is) (more_no (λ p. IsOf (net_in c.args.points.now) c.args.role p → ⊥) c.offered-point-items.result.now c.loop-point.point-index c.point.inside.0 c.args.places.now c.loop-point.places c.loop-point-test.true q (λ n. n (w.if-not-is_of.ensures.0 refl)) c.loop-point.invariant)
+      | then-not-is_of w ↦ more_yes (λ p. IsOf (net_in c.args.points.now) c.args.role p → ⊥) c.offered-offered.result.now c.loop-point.point-index c.point.inside.0 c.args.places.now c.loop-point.places c.if-not-is_of.places c.loop-point-test.true q (λ o. no_flag_is_up (w.if-not-is_of.ensures.1 o)) c.loop-point.invariant (subst (λ l. Adds (λ j. j ≡ c.point.inside.0) c.loop-point.places l) (sym w.places-is) w.add.ensures.adds)
+      | else-not-is_of w ↦ subst (λ l. Adds (Others (net_in c.args.points.now) c.args.role (take (c.loop-point.point-index + 1) c.offered-offered.result.now)) c.args.places.now l) (sym w.places-is) (more_no (λ p. IsOf (net_in c.args.points.now) c.args.role p → ⊥) c.offered-offered.result.now c.loop-point.point-index c.point.inside.0 c.args.places.now c.loop-point.places c.loop-point-test.true q (λ n. n (w.if-not-is_of.ensures.0 refl)) c.loop-point.invariant)
     ]
 
 pub returns-then-is_empty : goal.returns-then-is_empty

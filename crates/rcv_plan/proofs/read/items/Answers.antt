@@ -1,5 +1,5 @@
 use Rattle.std.proofs.Common.{refl}
-use Rattle.rcv_plan.proofs.Exactly.{one_more, done, fails}
+use Rattle.rcv_plan.proofs.Exactly.{one_more, done, fails, planned}
 use Rattle.std.proofs.lemmas.Result.{err_from_is_err_and}
 use Rattle.rcv_plan.proofs.read.items.Goals as goal
 
@@ -9,6 +9,9 @@ loop-alloc-preserved c =
 
 pub returns-clause-ok : goal.returns-clause-ok
 returns-clause-ok c = done c.args.roles.now c.args.reader.now.rest c.loop-alloc.reader.rest c.loop-alloc.known c.loop-alloc.invariant (c.loop-alloc-test.ensures.done refl)
+
+pub returns-clause-planned : goal.returns-clause-planned
+returns-clause-planned c = planned c.args.roles.now c.args.reader.now.rest c.loop-alloc.reader.rest c.loop-alloc.known c.loop-alloc.invariant
 
 pub returns-in_err-item-clause-err : goal.returns-in_err-item-clause-err
 returns-in_err-item-clause-err c =

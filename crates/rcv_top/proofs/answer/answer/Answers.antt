@@ -12,26 +12,26 @@ use Rattle.rcv_top.proofs.answer.answer.Goals as goal
 
 pub returns-in-Run : goal.returns-in-Run
 returns-in-Run c =
-    let session : SessionView = record { protocol = c.in-Ok.taken.accepted.protocol; scripts = c.in-Ok.taken.scripts.lines } in
+    let session : SessionView = record { protocol = c.in-Ok.taken.accepted.protocol; scripts = c.in-Ok.taken.scripts.lines; plan = c.in-Ok.taken.plan } in
     subst (λ (d : Command). IfOk c.run.result (λ output. IsOutcome (words_of (view_of d)) c.args.input.now output.status output.bytes.items)) (sym c.in-Run.is)
     (made_of c.args.input.now Run session c.run.result c.requires c.in-Ok.ensures.taken c.run.ensures)
 
 pub returns-in-Check : goal.returns-in-Check
 returns-in-Check c =
-    let session : SessionView = record { protocol = c.in-Ok.taken.accepted.protocol; scripts = c.in-Ok.taken.scripts.lines } in
+    let session : SessionView = record { protocol = c.in-Ok.taken.accepted.protocol; scripts = c.in-Ok.taken.scripts.lines; plan = c.in-Ok.taken.plan } in
     let written = subst (λ (p : Protocol). IfOk c.check.result (λ output. (output.status ≡ statuses.Completed) × (output.bytes.items ≡ canonical p))) c.protocol.ensures.value c.check.ensures in
     subst (λ (d : Command). IfOk c.check.result (λ output. IsOutcome (words_of (view_of d)) c.args.input.now output.status output.bytes.items)) (sym c.in-Check.is)
     (made_of c.args.input.now Check session c.check.result c.requires c.in-Ok.ensures.taken written)
 
 pub returns-in-Table : goal.returns-in-Table
 returns-in-Table c =
-    let session : SessionView = record { protocol = c.in-Ok.taken.accepted.protocol; scripts = c.in-Ok.taken.scripts.lines } in
+    let session : SessionView = record { protocol = c.in-Ok.taken.accepted.protocol; scripts = c.in-Ok.taken.scripts.lines; plan = c.in-Ok.taken.plan } in
     subst (λ (d : Command). IfOk c.write_tables.result (λ output. IsOutcome (words_of (view_of d)) c.args.input.now output.status output.bytes.items)) (sym c.in-Table.is)
     (made_of c.args.input.now Table session c.write_tables.result c.requires c.in-Ok.ensures.taken c.write_tables.ensures)
 
 pub returns-in-Project : goal.returns-in-Project
 returns-in-Project c =
-    let session : SessionView = record { protocol = c.in-Ok.taken.accepted.protocol; scripts = c.in-Ok.taken.scripts.lines } in
+    let session : SessionView = record { protocol = c.in-Ok.taken.accepted.protocol; scripts = c.in-Ok.taken.scripts.lines; plan = c.in-Ok.taken.plan } in
     subst (λ (d : Command). IfOk c.project_role.result (λ output. IsOutcome (words_of (view_of d)) c.args.input.now output.status output.bytes.items)) (sym c.in-Project.is)
     (made_of c.args.input.now (Project c.in-Project.role.now) session c.project_role.result c.requires c.in-Ok.ensures.taken c.project_role.ensures)
 

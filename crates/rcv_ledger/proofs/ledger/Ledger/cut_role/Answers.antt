@@ -40,7 +40,7 @@ pub loop-self-preserved : goal.loop-self-preserved
 loop-self-preserved c =
     let size = c.made.ensures ∙ ap (λ (l : LedgerView). length (log_at l.logs c.args.role)) c.self.view_is in
     let more = c.loop-self-test.true in
-    less (net_in c.args.points.now) c.args.self.now c.loop-self.self c.drop_last.new.self c.args.role c.args.count c.loop-self.invariant c.requires.role (omega (arith, size, more)) c.drop_last.ensures.carried c.drop_last.ensures.logs c.drop_last.ensures.stacks
+    less (net_in c.args.points.now) c.args.self.now c.loop-self.self c.drop_last.new.self c.args.role c.args.count c.loop-self.invariant c.requires.role (omega (arith, size, more)) c.drop_last.ensures.carried c.drop_last.ensures.logs c.drop_last.ensures.stacks c.drop_last.ensures.room
 
 pub index_mut-requires : goal.index_mut-requires
 index_mut-requires c =

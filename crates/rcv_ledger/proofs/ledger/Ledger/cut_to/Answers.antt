@@ -57,7 +57,7 @@ loop-role-preserved c =
     let lt = c.loop-role-test.true in
     let size = c.len-role-end.ensures in
     let ok = c.self.inside.logs.ok.0 in
-    one_cut (net_in c.args.points.now) c.args.self.now c.loop-role.self c.cut_role.new.self c.args.counts.now c.loop-role.role c.loop-role.invariant (omega (arith, n, logs, lt, size, ok)) c.cut_role.ensures.carried c.cut_role.ensures.logs c.cut_role.ensures.stacks
+    one_cut (net_in c.args.points.now) c.args.self.now c.loop-role.self c.cut_role.new.self c.args.counts.now c.loop-role.role c.loop-role.invariant (omega (arith, n, logs, lt, size, ok)) c.cut_role.ensures.carried c.cut_role.ensures.logs c.cut_role.ensures.stacks c.cut_role.ensures.room
 
 pub returns : goal.returns
 returns c =

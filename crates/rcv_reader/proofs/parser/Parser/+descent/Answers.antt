@@ -1,7 +1,7 @@
 use Rattle.std.proofs.Common.{◌∷◌, [], ℕ, List, ◌++◌, refl, sym, ap, ◌∙◌, arith}
 use Rattle.std.proofs.lemmas.Result.{err_from_is_err_and}
 use Rattle.rcv_tree.specs.declared.statement.Block.{Block}
-use Rattle.rcv_reader.specs.Symbols.{Name}
+use Rattle.rcv_reader.specs.Symbols.{Word}
 use Rattle.rcv_reader.specs.Machine.{RecName, First}
 use Rattle.rcv_reader.specs.Descent.{place_at}
 use Rattle.rcv_reader.proofs.Stops.{no_name}
@@ -40,7 +40,7 @@ recursion-returns-in_default-clause-goes t c = no_name _ (RecName (place_at c.ar
 
 pub recursion-returns-clause-read : goal.recursion-returns-clause-read
 recursion-returns-clause-read t c =
-    rec_read _ _ _ _ _ c.in_ok-name.name c.in_ok-body.body _ _ _ c.in-Some.after _ (c.in-Some.ensures.some ∙ ap (λ (x : List ℕ). Name x ∷ c.in-Some.after) (sym c.in_ok-name.ensures)) refl refl
+    rec_read _ _ _ _ _ c.in_ok-name.name c.in_ok-body.body _ _ _ c.in-Some.after _ (c.in-Some.ensures.some ∙ ap (λ (x : List ℕ). Word x ∷ c.in-Some.after) (sym c.in_ok-name.ensures)) refl refl
     c.in_ok-body.ensures.read c.in_ok-push-2.ensures.ok
 
 pub stmts-loop-alloc-init : goal.stmts-loop-alloc-init

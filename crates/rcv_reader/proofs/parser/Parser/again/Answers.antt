@@ -1,5 +1,5 @@
 use Rattle.std.proofs.Common.{◌∷◌, ℕ, List, refl, sym, ap, ◌∙◌}
-use Rattle.rcv_reader.specs.Symbols.{Name}
+use Rattle.rcv_reader.specs.Symbols.{Word}
 use Rattle.rcv_reader.proofs.Blocks.{again_read}
 use Rattle.rcv_reader.specs.Descent.{place_at}
 use Rattle.rcv_reader.specs.Machine.{AgainName}
@@ -11,5 +11,5 @@ returns-in_default-clause-goes c = no_name _ (AgainName (place_at c.args.self.no
 
 pub returns-clause-read : goal.returns-clause-read
 returns-clause-read c =
-    again_read _ _ _ c.in_ok-name.name _ _ _ c.in-Some.after _ (c.in-Some.ensures.some ∙ ap (λ (x : List ℕ). Name x ∷ c.in-Some.after) (sym c.in_ok-name.ensures))
+    again_read _ _ _ c.in_ok-name.name _ _ _ c.in-Some.after _ (c.in-Some.ensures.some ∙ ap (λ (x : List ℕ). Word x ∷ c.in-Some.after) (sym c.in_ok-name.ensures))
     c.in_ok-expect.ensures.read c.expect.ensures.kept.2 c.in_ok-push.ensures.ok

@@ -1,4 +1,4 @@
-use Rattle.std.proofs.Common.{◌≡◌, ◌<◌, ◌^◌, get_or, arith}
+use Rattle.std.proofs.Common.{◌≡◌, arith}
 use Rattle.std.proofs.lemmas.Bool.Decides.{nat_tests}
 use Rattle.rcv_tree.proofs.Meets.{all_words, empty_has_none, none_is_empty}
 use Rattle.rcv_tree.proofs.point.PointSet.is_empty.Goals as goal
