@@ -1,6 +1,6 @@
 -- How the state after each count follows from what a stack keeps.
 use Prim.Native.Nat.{zero, suc}
-use Rattle.std.specs.Prelude.{◌≡◌, ℕ, ℤ, ◌+◌, ◌*◌, ◌/◌, ◌<◌, ◌≤◌, List, [], ◌∷◌, ◌++◌, length, take, drop, map, slice_index}
+use Rattle.std.specs.Prelude.{◌≡◌, ℕ, ℤ, pos, ◌+◌, ◌*◌, ◌/◌, ◌<◌, ◌≤◌, List, [], ◌∷◌, ◌++◌, length, take, drop, map, slice_index}
 use Rattle.std.specs.Prelude.{slice_index_or, slice_set, vec_len, vec_capacity}
 use Rattle.std.specs.List.{range_with_len}
 use Rattle.rcv_checkpoint.specs.declared.state.State.{State}
@@ -96,6 +96,10 @@ pub record KeepsRoom (old now : Rows) : Type 0 where
   pub values : vec_capacity old.values ≤ vec_capacity now.values
   pub fulls : vec_capacity old.fulls ≤ vec_capacity now.fulls
   pub starts : vec_capacity old.starts ≤ vec_capacity now.starts
+
+-- Four variables from this place on are the same.
+abbrev pub AreSame : List ℤ → List ℤ → ℕ → Type 0
+AreSame from to start = (i : ℕ) → start ≤ i → i < start + 4 → slice_index_or from i (pos 0) ≡ slice_index_or to i (pos 0)
 
 -- Behind the places and the values stand those that take the first variables to the other ones: so many.
 pub record IsNoted (places places_now : List ℕ) (values values_now from to : List ℤ) (changed : ℕ) : Type 0 where

@@ -1,9 +1,9 @@
 // What a stack keeps: full states, and for each event what it changed.
 
 ghost use Rattle.std.specs.Prelude.{◌≡◌, ◌+◌, ◌*◌, ◌<◌, ◌≤◌, ℕ, [], ◌∷◌, ◌++◌, length, take, slice_index, vec_len};
-ghost use Rattle.std.specs.Prelude.{vec_capacity, IfOk, IsOk, OnOk};
+ghost use Rattle.std.specs.Prelude.{vec_capacity, IfOk, IsOk, IsTrue, OnOk};
 ghost use Rattle.rcv_checkpoint.specs.Rows.{patched, states_of, state_in, AreRows, HasRoom, HasRoomForOne, KeepsRoom};
-ghost use Rattle.rcv_checkpoint.specs.Rows.{IsNoted, changes_before, lists_of};
+ghost use Rattle.rcv_checkpoint.specs.Rows.{AreSame, IsNoted, changes_before, lists_of};
 
 use crate::state::State;
 use rcv_tree::variables::Vars;
@@ -49,13 +49,18 @@ impl Rows {
         Ok(rows)
     }
 
-    /// Room for one event more, if it isn't there. Fails where memory runs out.
-    pub fn make_room(&mut self) -> Result<(), AllocError>
+    /// Room for one event more. Within the room for so many events it is there; else it fails where memory runs out.
+    pub fn make_room(&mut self, room: u32) -> Result<(), AllocError>
+        requires rows { AreRows (lists_of self.old) }
+        requires room { HasRoom self.old room }
         ensures lists { lists_of self.new ≡ lists_of self.old }
         ensures room { KeepsRoom self.old self.new }
         ensures ok { OnOk result (HasRoomForOne self.new) }
-        ensures succeeds { HasRoomForOne self.old → IsOk result }
+        ensures succeeds { length self.old.points.items < room → IsOk result }
     {
+        if self.points.len() < room as usize {
+            return Ok(());
+        }
         self.points.reserve(1)?;
         self.changed.reserve(1)?;
         self.places.reserve(VARS)?;
@@ -65,18 +70,26 @@ impl Rows {
         Ok(())
     }
 
-    /// Adds the state after one event more, where `last` is the one before it.
-    pub fn push(&mut self, last: &State, state: &State)
+    /// Adds the state after one event more, where `last` is the one before it, and becomes it.
+    #[inline(always)]
+    pub fn push(&mut self, last: &mut State, state: &State)
         requires rows { AreRows (lists_of self.old) }
-        requires last { last.now ≡ state_in (lists_of self.old) (length self.old.points.items) }
+        requires last { last.old ≡ state_in (lists_of self.old) (length self.old.points.items) }
         requires room { HasRoomForOne self.old }
         ensures rows { AreRows (lists_of self.new) }
         ensures states { states_of (lists_of self.new) ≡ states_of (lists_of self.old) ++ state.now ∷ [] }
         ensures count { length self.new.points.items ≡ length self.old.points.items + 1 }
         ensures last { state.now ≡ state_in (lists_of self.new) (length self.new.points.items) }
+        ensures becomes { last.new ≡ state.now }
         ensures room { KeepsRoom self.old self.new }
     {
-        let changed = note(&mut self.places, &mut self.values, &last.vars, &state.vars);
+        let changed = note(
+            &mut self.places,
+            &mut self.values,
+            &mut last.vars,
+            &state.vars,
+        );
+        last.k = state.k;
         put(&mut self.points, state.k);
         put(&mut self.changed, changed);
         if self.points.len() % BLOCK == 0 {
@@ -86,6 +99,7 @@ impl Rows {
     }
 
     /// The state after so many events, and how many changes they made. Goes over at most 63 events.
+    #[inline(always)]
     pub fn find(&self, count: usize) -> Found
         requires rows { AreRows (lists_of self.now) }
         requires held { count ≤ length self.now.points.items }
@@ -117,6 +131,7 @@ impl Rows {
     }
 
     /// Keeps the states up to this count, of which `changes` changes tell.
+    #[inline(always)]
     pub fn cut(&mut self, count: usize, changes: usize)
         requires rows { AreRows (lists_of self.old) }
         requires held { count ≤ length self.old.points.items }
@@ -143,26 +158,48 @@ pub struct Found {
     pub changes: usize,
 }
 
-// Notes the variables that differ, and answers how many.
-fn note(places: &mut Vec<u8>, values: &mut Vec<i64>, from: &Vars, to: &Vars) -> u8
+// Notes the variables that differ, answers how many, and makes them the same. Most events change one or none: so it goes
+// over a quarter only where that differs.
+#[inline(always)]
+fn note(places: &mut Vec<u8>, values: &mut Vec<i64>, vars: &mut Vars, to: &Vars) -> u8
     requires places { vec_len places.old + 16 ≤ vec_capacity places.old }
     requires values { vec_len values.old + 16 ≤ vec_capacity values.old }
-    ensures noted { IsNoted places.old.items places.new.items values.old.items values.new.items from.now to.now result }
+    ensures noted { IsNoted places.old.items places.new.items values.old.items values.new.items vars.old to.now result }
+    ensures vars { vars.new ≡ to.now }
     ensures places { vec_capacity places.old ≤ vec_capacity places.new }
     ensures values { vec_capacity values.old ≤ vec_capacity values.new }
 {
     let mut changed = 0;
-    for place in 0..VARS {
-        if from.0[place] != to.0[place] {
-            put(places, place as u8);
-            put(values, to.0[place]);
-            changed += 1;
+    for quarter in 0..VARS / 4 {
+        let start = quarter * 4;
+        if !are_same(vars, to, start) {
+            for place in start..start + 4 {
+                if vars.0[place] != to.0[place] {
+                    put(places, place as u8);
+                    put(values, to.0[place]);
+                    vars.0[place] = to.0[place];
+                    changed += 1;
+                }
+            }
         }
     }
     changed
 }
 
+// Whether four variables from this place on are the same.
+#[inline(always)]
+fn are_same(from: &Vars, to: &Vars, start: usize) -> bool
+    requires { start + 4 ≤ 16 }
+    ensures { IsTrue result → AreSame from.now to.now start }
+{
+    from.0[start] == to.0[start]
+        && from.0[start + 1] == to.0[start + 1]
+        && from.0[start + 2] == to.0[start + 2]
+        && from.0[start + 3] == to.0[start + 3]
+}
+
 // Adds an item to a list that has room for it.
+#[inline(always)]
 fn put<T: Copy + Drop>(list: &mut Vec<T>, item: T)
     requires { vec_len list.old < vec_capacity list.old }
     ensures items { list.new.items ≡ list.old.items ++ item ∷ [] }

@@ -47,15 +47,15 @@ impl Stack {
 
     /// Adds the state after one event more, of at most 2^32 - 1. Within the room of the stack it takes no memory and
     /// succeeds. Else it fails where memory runs out; then the stack is as before.
-    pub fn save(&mut self, state: State) -> Result<(), AllocError>
+    #[inline(always)]
+    pub fn save(&mut self, state: &State) -> Result<(), AllocError>
         requires { held self.old + 1 < 2 ^ 32 }
-        ensures ok { OnOk result (self.new ≡ with_states self.old (self.old.states ++ state ∷ [])) }
+        ensures ok { OnOk result (self.new ≡ with_states self.old (self.old.states ++ state.now ∷ [])) }
         ensures err { OnErr result (self.new ≡ self.old) }
         ensures room { held self.old < self.old.room → IsOk result }
     {
-        self.rows.make_room()?;
-        self.rows.push(&self.last, &state);
-        self.last = state;
+        self.rows.make_room(self.room)?;
+        self.rows.push(&mut self.last, state);
         Ok(())
     }
 
@@ -86,6 +86,10 @@ impl Stack {
         requires { count ≤ held self.old }
         ensures { self.new ≡ with_states self.old (take (count + 1) self.old.states) }
     {
+        // Most roles keep all that they have.
+        if count as usize == self.rows.points.len() {
+            return;
+        }
         let found = self.rows.find(count as usize);
         self.rows.cut(count as usize, found.changes);
         self.last = found.state;

@@ -27,7 +27,7 @@ fn saved(alloc: Global, every: u32, room: u32) -> Result<Stack, AllocError>
 {
     let mut stack = Stack::new(alloc, counted(0), every, room)?;
     for count in 0..room {
-        stack.save(counted(count + 1))?;
+        stack.save(&counted(count + 1))?;
     }
     Ok(stack)
 }
@@ -35,9 +35,9 @@ fn saved(alloc: Global, every: u32, room: u32) -> Result<Stack, AllocError>
 #[test]
 fn of_three_states_two_are_durable(rt: HostRuntime) -> Result<(), Fail> {
     let mut stack = Stack::new(rt.alloc(), counted(0), 2, 4)?;
-    stack.save(counted(1))?;
-    stack.save(counted(2))?;
-    stack.save(counted(3))?;
+    stack.save(&counted(1))?;
+    stack.save(&counted(2))?;
+    stack.save(&counted(3))?;
     assert_eq!(rt; stack.durable(), 2);
     Ok(())
 }

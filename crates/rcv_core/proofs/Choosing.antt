@@ -71,17 +71,12 @@ module _ (setup : SessionView) (standings : List Standing) (stacks : List StackV
           (λ other. ap (λ (y : Standing). y.attempt) (get_or-set_other standings p r (failed (standing_at standings p)) at_start (λ f. other (sym f))))
           (cases_eq p r)
 
--- one role after the other chooses
-pub one_chosen : (setup : SessionView) (standings : List Standing) (stacks : List StackView) (choices : List Choice) (i n : ℕ) (x : State) (choice : Choice) → i < length choices → slice_get (stack_at stacks i).states (held (stack_at stacks i)) ≡ Some x → n ≡ (standing_at standings i).attempt → IsChoice setup i x n choice → ((r : ℕ) (state : State) → r < i → slice_get (stack_at stacks r).states (held (stack_at stacks r)) ≡ Some state → IsChoice setup r state (standing_at standings r).attempt (choice_at choices r)) → (r : ℕ) (state : State) → r < i + 1 → slice_get (stack_at stacks r).states (held (stack_at stacks r)) ≡ Some state → IsChoice setup r state (standing_at standings r).attempt (choice_at (slice_set choices i choice) r)
-one_chosen setup standings stacks choices i n x choice lt here attempt is done r state low at = ⊎_elim
-    (λ f. subst (λ q. slice_get (stack_at stacks q).states (held (stack_at stacks q)) ≡ Some state → IsChoice setup q state (standing_at standings q).attempt (choice_at (slice_set choices i choice) q)) f own at)
-    (λ other. subst (IsChoice setup r state (standing_at standings r).attempt) (sym (get_or-set_other choices i r choice no_choice (λ f. other (sym f)))) (done r state (omega (arith, low, other)) at))
+-- one role chooses, and what is said of the others stays
+pub set_chosen : (P : ℕ → Choice → Type 0) (choices : List Choice) (i : ℕ) (choice : Choice) → i < length choices → P i choice → (r : ℕ) → ((i ≡ r → ⊥) → P r (choice_at choices r)) → P r (choice_at (slice_set choices i choice) r)
+set_chosen P choices i choice lt is r others = ⊎_elim
+    (λ f. subst (λ q. P q (choice_at (slice_set choices i choice) q)) f (subst (P i) (sym (get_or-set_same choices i choice no_choice lt)) is))
+    (λ other. subst (P r) (sym (get_or-set_other choices i r choice no_choice (λ f. other (sym f)))) (others other))
     (cases_eq i r)
-  where
-    own : slice_get (stack_at stacks i).states (held (stack_at stacks i)) ≡ Some state → IsChoice setup i state (standing_at standings i).attempt (choice_at (slice_set choices i choice) i)
-    own seen =
-        subst (IsChoice setup i state (standing_at standings i).attempt) (sym (get_or-set_same choices i choice no_choice lt))
-        (subst (λ k. IsChoice setup i state k choice) attempt (subst (λ (z : State). IsChoice setup i z n choice) (some_same (sym here ∙ seen)) is))
 
 -- a list of choices with one more
 at_left : {A : Type 0} (xs ys : List A) (d : A) (r : ℕ) → r < length xs → slice_index_or (xs ++ ys) r d ≡ slice_index_or xs r d

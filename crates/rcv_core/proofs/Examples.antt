@@ -14,7 +14,7 @@ use Rattle.rcv_model.specs.Places.{net_of}
 use Rattle.rcv_model.specs.Plain.{bare_rules}
 use Rattle.rcv_model.specs.Plan.{CrashLine, session_rules}
 use Rattle.rcv_model.specs.Script.{Line, pick, number_for}
-use Rattle.rcv_session.specs.Session.{SessionView, roles_of, net_for, lines_of}
+use Rattle.rcv_session.specs.Session.{SessionView, roles_of, net_for, lines_of, rules_of}
 use Rattle.rcv_model.specs.Text.{Body, End, Single}
 use Rattle.rcv_model.proofs.Checked.{next_by}
 use Rattle.rcv_model.proofs.Same.{one_next}
@@ -25,7 +25,10 @@ use Rattle.rcv_ledger.specs.Ledger.{stack_at}
 use Rattle.std.specs.Prelude.{slice_index, if◌then◌else◌}
 use Rattle.rcv_project.specs.Act.{ActView}
 use Rattle.rcv_core.specs.declared.outcome.Outcome.TheVariants.{Completed}
-use Rattle.rcv_core.specs.Book.{BookView, most_entries, IsFrontOf, Awaits, IsOutcome}
+use Rattle.rcv_core.specs.declared.skip.Skip.{Skip}
+use Rattle.rcv_core.specs.Book.{BookView, state_of, most_entries, IsFrontOf, Awaits, IsOutcome}
+use Rattle.rcv_core.specs.Skips.{IsSkip, no_skip}
+use Rattle.rcv_model.specs.Final.{IsCrashed, CanAct}
 use Rattle.rcv_core.specs.Setup.{AreLocals}
 
 -- ping from A to B, pong from B to A
@@ -182,3 +185,17 @@ first_keeps_all : AreUnlisted ((sent_at 1 ∷ sent_at 3 ∷ []) ∷ (sent_at 1 �
 first_keeps_all zero lt = refl
 first_keeps_all (suc zero) lt = refl
 first_keeps_all (suc (suc r)) lt = absurd (omega (arith, lt))
+
+-- where nothing is known, nothing is passed over
+nothing_known : (book : BookView) → IsSkip book no_skip
+nothing_known book = record {
+  calm = λ t. absurd (cc);
+  idle = λ r lt act. absurd (omega (arith, lt));
+}
+
+-- who can act isn't, and nobody is calm beside one that is crashed
+never_the_able : (book : BookView) (skip : Skip) (r : ℕ) → r < skip.idle → CanAct (rules_of book.setup) (state_of book) r → IsSkip book skip → ⊥
+never_the_able book skip r lt act known = known.idle r lt act
+
+never_calm : (book : BookView) (skip : Skip) (r : ℕ) → skip.calm ≡ true → IsCrashed (state_of book) r → IsSkip book skip → ⊥
+never_calm book skip r t marked known = (known.calm t).none_crashed r marked

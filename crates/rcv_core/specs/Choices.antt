@@ -1,5 +1,6 @@
 -- What a role that is to send has chosen: once for each of its places, by its script's variables there and its attempt.
-use Rattle.std.specs.Prelude.{◌≡◌, ◌≢◌, ℕ, ℤ, pos, ◌<◌, Some, List, [], length, slice_get, slice_index_or}
+use Rattle.std.specs.Prelude.{◌≡◌, ◌≢◌, ℕ, ℤ, pos, ◌<◌, false, Some, List, [], length, slice_get, slice_index_or}
+use Rattle.rcv_tree.specs.Bits.{has_bit}
 use Rattle.rcv_tree.specs.declared.event.Event.{Event}
 use Rattle.rcv_model.specs.Net.{Net, IsIn}
 use Rattle.rcv_model.specs.Next.{IsPlaceOf, AreNext}
@@ -44,6 +45,17 @@ pub record HaveChosen (session : SessionView) (standings : List Standing) (stack
   pub each : (r : ℕ) (state : State) → r < roles_of session
       → slice_get (stack_at stacks r).states (held (stack_at stacks r)) ≡ Some state
       → IsChoice session r state (standing_at standings r).attempt (choice_at choices r)
+
+-- Role r has this choice, by the last state of its stack and by its attempt.
+abbrev pub HasChosen : SessionView → List Standing → List StackView → ℕ → Choice → Type 0
+HasChosen session standings stacks r choice =
+    (state : State) → slice_get (stack_at stacks r).states (held (stack_at stacks r)) ≡ Some state
+    → IsChoice session r state (standing_at standings r).attempt choice
+
+-- The roles that aren't in a set have chosen so.
+abbrev pub HaveStayed : SessionView → List Standing → List StackView → List Choice → ℕ → Type 0
+HaveStayed session standings stacks choices set =
+    (r : ℕ) → r < roles_of session → has_bit set r ≡ false → HasChosen session standings stacks r (choice_at choices r)
 
 -- A state of role r: at a place of it, with the variables behind some events of it.
 pub record IsReady (session : SessionView) (r : ℕ) (state : State) : Type 0 where

@@ -1,5 +1,5 @@
--- The entries of a legal journal name declared roles and points of the text.
-use Rattle.std.proofs.Common.{◌≡◌, ℕ, ◌<◌, true, List, [], ◌∷◌, length, ◌∙◌, subst}
+-- The entries of a legal journal name declared roles and points of the text, of which the roles are the ends.
+use Rattle.std.proofs.Common.{◌≡◌, ℕ, ◌<◌, ◌≤◌, true, List, [], ◌∷◌, length, sym, ◌∙◌, subst}
 use Rattle.std.proofs.lemmas.List.{length-set, length-replicate}
 use Rattle.std.proofs.lemmas.List.Elements.{All-nil, All-cons}
 use Rattle.std.proofs.lemmas.Option.{slice_get_within}
@@ -12,9 +12,16 @@ use Rattle.rcv_model.specs.Journal.{State, start, group_of, after, May, IsLegalF
 use Rattle.rcv_model.proofs.Forms.{proper}
 use Rattle.rcv_model.proofs.NextLists.{next_offered}
 use Rattle.rcv_model.proofs.Numbers.{length_unmarked}
+use Rattle.rcv_model.proofs.Ways.{ends_declared}
 use Rattle.rcv_accept.specs.Accepted.{IsAcceptedProtocol}
 use Rattle.rcv_session.specs.Session.{SessionView, text_of, roles_of, net_for, rules_of}
 use Rattle.rcv_journal.specs.JournalText.{IsNamedEvent, IsNamed, AreNamed}
+
+-- the ends of each point of an accepted text are declared
+pub ends_named : (setup : SessionView) (p : ℕ) → IsAcceptedProtocol setup.protocol → 1 ≤ p → p ≤ (net_for setup).count → ((net_for setup).sender p < roles_of setup) × ((net_for setup).receiver p < roles_of setup)
+ends_named setup p plain first last =
+    let way = plain.accepted.reached p first last in
+    ends_declared (net_for setup) (roles_of setup) p way.0 [] (proper (text_of setup) (roles_of setup) plain.form) way.1
 
 module _ (setup : SessionView) (form : IsProper (net_for setup) (roles_of setup)) where
   at_next : (e : Event) (k : ℕ) (offered : List ℕ) → e.role < roles_of setup → AreNext (net_for setup) e.role k offered → IsIn e.point offered → IsNamedEvent setup e
@@ -25,8 +32,8 @@ module _ (setup : SessionView) (form : IsProper (net_for setup) (roles_of setup)
       record { role = declared; first = inside.0; last = inside.1 }
 
   named : (s : State) (e : Entry) → length s.crashed ≡ roles_of setup → May (rules_of setup) s e → IsNamed setup e
-  named s (Send e) size may = at_next e _ may.offered may.free.declared may.next may.among
-  named s (Recv e) size may = at_next e _ may.offered may.free.declared may.next may.among
+  named s (Send e) size may = (at_next e _ may.offered may.free.declared may.next may.among, sym (may.sends e.point may.among))
+  named s (Recv e) size may = (at_next e _ may.offered may.free.declared may.next may.among, sym (may.receives e.point may.among).0)
   named s (Crash p) size may = may.0
   named s (Recover p concerned kept undone) size may = subst (λ n. p < n) size (slice_get_within s.crashed p true may.crashed)
 

@@ -1,5 +1,5 @@
 -- The text of a journal: a line for each entry, a line for each role, and how the session ended.
-use Rattle.std.specs.Prelude.{ℕ, ◌<◌, ◌≤◌, Bool, true, false, if◌then◌else◌, List, [], ◌++◌, flat_map, slice_index, slice_index_or, codes, decimal, All}
+use Rattle.std.specs.Prelude.{◌≡◌, ℕ, ◌<◌, ◌≤◌, Bool, true, false, if◌then◌else◌, List, [], ◌++◌, flat_map, slice_index, slice_index_or, codes, decimal, All}
 use Rattle.std.specs.Fmt.{signed_decimal}
 use Rattle.std.specs.List.{list_all, range_with_len}
 use Rattle.rcv_tree.specs.Bits.{has_bit}
@@ -17,10 +17,11 @@ pub record IsNamedEvent (setup : SessionView) (e : Event) : Type 0 where
   pub first : 1 ≤ e.point
   pub last : e.point ≤ (net_for setup).count
 
--- Each role and each point that the entry names is one of the protocol.
+-- Each role and each point that the entry names is one of the protocol; who sends at a point is its sender, and who
+-- receives there its receiver.
 abbrev pub IsNamed : SessionView → Entry → Type 0
-IsNamed setup (Send e) = IsNamedEvent setup e
-IsNamed setup (Recv e) = IsNamedEvent setup e
+IsNamed setup (Send e) = IsNamedEvent setup e × (e.role ≡ (net_for setup).sender e.point)
+IsNamed setup (Recv e) = IsNamedEvent setup e × (e.role ≡ (net_for setup).receiver e.point)
 IsNamed setup (Crash p) = p < roles_of setup
 IsNamed setup (Recover p concerned kept undone) = p < roles_of setup
 

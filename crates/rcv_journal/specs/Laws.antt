@@ -9,7 +9,7 @@ use Rattle.rcv_journal.specs.declared.line.RoleLine.{RoleLine}
 use Rattle.rcv_journal.specs.JournalText.{AreNamed, last_line}
 use Rattle.rcv_journal.specs.Lines.{AreLinesOf, IsTextOf}
 
--- Each role and each point in a legal journal has a name.
+-- Each role and each point in a legal journal has a name, and events are made by the ends of their points.
 abbrev pub LegalJournalsAreNamed : Type 0
 LegalJournalsAreNamed =
     (setup : SessionView) (entries : List Entry)

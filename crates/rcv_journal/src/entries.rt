@@ -1,10 +1,11 @@
 // The lines of entries.
 
-ghost use Rattle.std.specs.Prelude.{◌≡◌, ◌<◌, ◌≤◌, ◌++◌, OnOk, flat_map, codes, decimal};
+ghost use Rattle.std.specs.Prelude.{◌≡◌, ◌<◌, ◌++◌, OnOk, flat_map, codes};
 ghost use Rattle.std.specs.List.{range_with_len};
-ghost use Rattle.rcv_session.specs.Session.{roles_of, net_for};
-ghost use Rattle.rcv_journal.specs.Heads.{head_text, AreHeads};
-ghost use Rattle.rcv_journal.specs.JournalText.{IsNamedEvent, IsNamed, AreNamed, name_of, event_text, kept_text, entry_line};
+ghost use Rattle.rcv_tree.specs.declared.entry.Entry.TheVariants.{Send, Recv};
+ghost use Rattle.rcv_session.specs.Session.{roles_of};
+ghost use Rattle.rcv_journal.specs.Heads.{rest_text, AreHeads};
+ghost use Rattle.rcv_journal.specs.JournalText.{IsNamed, AreNamed, event_text, kept_text, entry_line};
 
 use crate::head::{Head, heads};
 use crate::name::write_name;
@@ -12,41 +13,51 @@ use rcv_core::setup::Setup;
 use rcv_text::writer::Writer;
 use rcv_tree::entry::Entry;
 use rcv_tree::event::Event;
-use rcv_tree::point::Point;
 use rcv_tree::role::{RoleId, RoleSet};
 use std::alloc::{AllocError, Global};
 
-// A point with its label, spaces about them. The setup only tells the proof of which text it is a point.
-fn write_point(
-    text: &mut Writer,
-    setup: &Setup,
-    heads: &[Head],
-    point: Point,
-) -> Result<(), AllocError>
-    requires heads { AreHeads setup.now heads.now }
-    requires first { 1 ≤ point }
-    requires last { point ≤ (net_for setup.now).count }
-    ensures { OnOk result (text.new ≡ text.old ++ head_text setup.now point) }
+// What a Send and a Recv have in common behind how they begin: `VALUE @STAMP`.
+#[inline(always)]
+fn write_rest(text: &mut Writer, event: &Event) -> Result<(), AllocError>
+    ensures { OnOk result (text.new ≡ text.old ++ rest_text event.now) }
 {
-    text.word(heads[point.0 as usize - 1].as_slice())
+    text.signed_number(event.value)?;
+    text.word(b" @")?;
+    text.large_number(event.stamp)
 }
 
-// What a Send and a Recv have in common.
-fn write_event(
+// The line of a Send, but for its end. The setup only tells the proof of which text it is an event.
+#[inline(always)]
+fn write_send(
     text: &mut Writer,
     setup: &Setup,
     heads: &[Head],
     event: &Event,
 ) -> Result<(), AllocError>
     requires heads { AreHeads setup.now heads.now }
-    requires named { IsNamedEvent setup.now event.now }
-    ensures { OnOk result (text.new ≡ text.old ++ event_text setup.now event.now) }
+    requires named { IsNamed setup.now (Send event.now) }
+    ensures { OnOk result (text.new ≡ text.old ++ codes "send " ++ event_text setup.now event.now) }
 {
-    write_name(text, setup, event.role)?;
-    write_point(text, setup, heads, event.point)?;
-    text.signed_number(event.value)?;
-    text.word(b" @")?;
-    text.large_number(event.stamp)
+    let head = &heads[event.point.0 as usize - 1];
+    text.word(head.send.as_slice())?;
+    write_rest(text, event)
+}
+
+// The line of a Recv up to its stamp.
+#[inline(always)]
+fn write_recv(
+    text: &mut Writer,
+    setup: &Setup,
+    heads: &[Head],
+    event: &Event,
+) -> Result<(), AllocError>
+    requires heads { AreHeads setup.now heads.now }
+    requires named { IsNamed setup.now (Recv event.now) }
+    ensures { OnOk result (text.new ≡ text.old ++ codes "recv " ++ event_text setup.now event.now) }
+{
+    let head = &heads[event.point.0 as usize - 1];
+    text.word(head.recv.as_slice())?;
+    write_rest(text, event)
 }
 
 // What a recovery says of one role.
@@ -88,6 +99,7 @@ fn write_concerned(
 }
 
 // The line of an entry.
+#[inline(always)]
 fn write_entry(
     text: &mut Writer,
     setup: &Setup,
@@ -100,14 +112,11 @@ fn write_entry(
 {
     match entry {
         Entry::Send(event) => {
-            text.word(b"send ")?;
-            write_event(text, setup, heads, event)?;
+            write_send(text, setup, heads, event)?;
         }
         Entry::Recv(event) => {
-            text.word(b"recv ")?;
-            write_event(text, setup, heads, event)?;
-            text.byte(b' ')?;
-            text.byte(b'<')?;
+            write_recv(text, setup, heads, event)?;
+            text.word(b" <")?;
             text.large_number(event.sent)?;
         }
         Entry::Crash(role) => {

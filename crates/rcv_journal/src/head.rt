@@ -1,27 +1,57 @@
-// What the lines of events at one point have in common, made once.
+// How the lines of events at one point begin, made once.
 
-ghost use Rattle.std.specs.Prelude.{◌≡◌, ◌≤◌, IfOk};
-ghost use Rattle.rcv_session.specs.Session.{net_for};
-ghost use Rattle.rcv_journal.specs.Heads.{head_text, AreHeads};
+ghost use Rattle.std.specs.Prelude.{◌≡◌, ◌<◌, ◌≤◌, IfOk};
+ghost use Rattle.rcv_session.specs.Session.{roles_of, net_for};
+ghost use Rattle.rcv_journal.specs.Heads.{head_text, head_of, AreHeads};
 
+use crate::name::write_name;
 use rcv_core::setup::Setup;
 use rcv_text::writer::Writer;
 use rcv_tree::point::Point;
+use rcv_tree::role::RoleId;
 use std::alloc::{AllocError, Global};
 use std::marker::Model;
 
-/// A point as the line of an event has it: ` POINT LABEL `.
+// Most beginnings have so many bytes at most.
+const BEGINNING: usize = 32;
+
+/// How the lines of a Send and of a Recv at one point begin, up to the value.
 #[derive(Drop)]
 pub struct Head {
-    text: Vec<u8>,
+    pub send: Vec<u8>,
+    pub recv: Vec<u8>,
 }
 
 impl Model for Head {
-    ghost use Rattle.std.specs.Prelude.{List, ℕ};
+    ghost use Rattle.rcv_journal.specs.Heads.{HeadView};
 
-    ghost Value = { List ℕ };
+    ghost Value = { HeadView };
 
-    ghost view = { λ a. a.text.items };
+    ghost view = { λ a. record { send = a.send.items; recv = a.recv.items } };
+}
+
+// How a line of this kind begins where it tells of a declared role at a point of the text. Fails where memory runs out.
+fn beginning(
+    alloc: Global,
+    setup: &Setup,
+    kind: &[u8],
+    role: RoleId,
+    point: Point,
+) -> Result<Vec<u8>, AllocError>
+    requires declared { role < roles_of setup.now }
+    requires first { 1 ≤ point }
+    requires last { point ≤ (net_for setup.now).count }
+    ensures { IfOk result (λ text. text.items ≡ head_text setup.now kind.now role point) }
+{
+    let mut text = Writer::with_room(alloc, BEGINNING)?;
+    text.word(kind)?;
+    write_name(&mut text, setup, role)?;
+    text.byte(b' ')?;
+    text.number(point.0)?;
+    text.byte(b' ')?;
+    text.word(setup.label(point))?;
+    text.byte(b' ')?;
+    Ok(text.finish())
 }
 
 impl Head {
@@ -29,24 +59,14 @@ impl Head {
     fn of(alloc: Global, setup: &Setup, point: Point) -> Result<Head, AllocError>
         requires first { 1 ≤ point }
         requires last { point ≤ (net_for setup.now).count }
-        ensures { IfOk result (λ head. head ≡ head_text setup.now point) }
+        ensures { IfOk result (λ head. head ≡ head_of setup.now point) }
     {
-        let mut text = Writer::new(alloc);
-        text.byte(b' ')?;
-        text.number(point.0)?;
-        text.byte(b' ')?;
-        text.word(setup.label(point))?;
-        text.byte(b' ')?;
+        // Tells the proof that the protocol is accepted, and so the ends of its points are declared.
+        let _protocol = setup.protocol();
         Ok(Head {
-            text: text.finish(),
+            send: beginning(alloc, setup, b"send ", setup.sender(point), point)?,
+            recv: beginning(alloc, setup, b"recv ", setup.receiver(point), point)?,
         })
-    }
-
-    /// Its bytes.
-    pub fn as_slice(&self) -> &[u8]
-        ensures { result.now ≡ self.now }
-    {
-        self.text.as_slice()
     }
 }
 

@@ -15,7 +15,8 @@ use std::alloc::{AllocError, Global};
 const LINE: usize = 48;
 
 /// The text of a journal: a line for each entry, then a line for each role, and a last one that says how the session
-/// ended. The roles and points that they name are declared. It fails where memory runs out.
+/// ended. The roles and points that they name are declared, and the ends of a point make its events. It fails where
+/// memory runs out.
 pub fn write_journal(
     alloc: Global,
     setup: &Setup,

@@ -14,7 +14,8 @@ pub mod text;
 /// Want of memory, which is the one error of the calls of this crate.
 pub use std::alloc::AllocError as Memory;
 
-/// Each role and each point in a legal journal of an accepted protocol has a name.
+/// Each role and each point in a legal journal of an accepted protocol has a name, and its events are made by the ends of
+/// their points.
 pub fn legal_journals_are_named()
     ensures { LegalJournalsAreNamed }
 {}

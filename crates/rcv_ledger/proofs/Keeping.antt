@@ -18,7 +18,7 @@ use Rattle.rcv_depend.specs.Keeps.{fails, bound_of}
 use Rattle.rcv_depend.specs.Cuts.{AreLogsOf}
 use Rattle.rcv_depend.proofs.Scans.{failed_bound}
 use Rattle.rcv_depend.proofs.Losing.{IsLow}
-use Rattle.rcv_ledger.specs.Channels.{ChannelView, between}
+use Rattle.rcv_ledger.specs.Channels.{ChannelView, between, channel_at}
 use Rattle.rcv_ledger.specs.Ledger.{log_at, AreCarried}
 use Rattle.rcv_ledger.specs.declared.cut.Counted.{Counted}
 use Rattle.rcv_ledger.specs.Cut.{put_within, taken_within, IsCounted, AllCounted, AllEven, IsAbove, IsKeptOf, Owes}
@@ -53,7 +53,7 @@ module _ (net : Net) (h : List Event) (logs : List (List Event)) (are : AreLogsO
           omega (arith, lt, t, p, counts, more)
 
   -- Where no channel owes, the counts are what is kept.
-  pub reached : ((r : ℕ) → kept_counts net bound h r ≤ slice_index cs r) → ((r : ℕ) → slice_index cs r ≤ bound r) → ((r : ℕ) → slice_index cs r ≤ length (log_at logs r)) → ((a b : ℕ) → a < 8 → b < 8 → taken_within net logs cs a b ≤ put_within net logs cs a b) → (r : ℕ) → slice_index cs r ≡ kept_counts net bound h r
+  pub reached : ((r : ℕ) → kept_counts net bound h r ≤ slice_index cs r) → ((r : ℕ) → slice_index cs r ≤ bound r) → ((r : ℕ) → slice_index cs r ≤ length (log_at logs r)) → ((a b : ℕ) → a < length logs → b < length logs → taken_within net logs cs a b ≤ put_within net logs cs a b) → (r : ℕ) → slice_index cs r ≡ kept_counts net bound h r
   reached above low made even r =
       let high = above r in
       let le = g.greatest (slice_index cs) (record { made = made_all; sends = closed_of_counts net h (slice_index cs) counts }) low r in
@@ -62,9 +62,8 @@ module _ (net : Net) (h : List Event) (logs : List (List Event)) (are : AreLogsO
       made_all : (q : ℕ) → slice_index cs q ≤ length (acts q h)
       made_all q = let a = made q in let b = ap length (are.lists q) in let n = as_many q h in omega (arith, a, b, n)
 
-      -- no role above the eighth has a log
-      no_log : (q : ℕ) → 8 ≤ q → log_at logs q ≡ []
-      no_log q le = none_there logs q [] (let n = are.eight in omega (arith, le, n))
+      no_log : (q : ℕ) → length logs ≤ q → log_at logs q ≡ []
+      no_log q le = none_there logs q [] le
 
       all_even : (a b : ℕ) → taken_within net logs cs a b ≤ put_within net logs cs a b
       all_even a b = ⊎_elim
@@ -75,14 +74,14 @@ module _ (net : Net) (h : List Event) (logs : List (List Event)) (are : AreLogsO
           let zero_count : slice_index cs b ≡ 0 = (let m = made b in omega (arith, none, m)) in
           let t : taken_within net logs cs a b ≡ 0 = ap (λ n. length (taken net a b (take n (log_at logs b)))) zero_count in
           omega (arith, t))
-          (cases_lt b 8))
+          (cases_lt b (length logs)))
           (λ ha.
           let all = all_taken net a b (slice_index cs b) (log_at logs b) in
           let t = ap length (taken_through net a b h) ∙ ap (λ l. length (taken net a b l)) (sym (are.lists b)) in
           let p : length (put net a b h) ≡ 0 = ap length (put_through net a b h) ∙ ap (λ l. length (put net a b l)) (sym (are.lists a) ∙ no_log a ha) in
           let q = prefix_length _ _ (queued_now net h are.queued a b) in
           omega (arith, all, t, p, q))
-          (cases_lt a 8)
+          (cases_lt a (length logs))
 
       counts : Counts net h (slice_index cs)
       counts a b =
@@ -108,16 +107,19 @@ all_counted net logs channels cut carried all = record {
   as_many_taken = all.as_many_taken;
   made = λ r. let a = all.counts r in omega (arith, a);
   put_is = λ a b la lb.
-      all.put_is (between a b) (omega (arith, la, lb))
-      ∙ ap (λ (c : ChannelView). length c.put) (carried.each a b la lb)
+      all.put_is a b la lb
+      ∙ ap (λ (c : ChannelView). length c.put) (here a b la lb)
       ∙ ap (λ l. length (put net a b l)) (sym (take_whole (log_at logs a)))
       ∙ ap (λ n. length (put net a b (take n (log_at logs a)))) (sym (all.counts a));
   taken_is = λ a b la lb.
-      all.taken_is (between a b) (omega (arith, la, lb))
-      ∙ ap (λ (c : ChannelView). c.taken) (carried.each a b la lb)
+      all.taken_is a b la lb
+      ∙ ap (λ (c : ChannelView). c.taken) (here a b la lb)
       ∙ ap (λ l. length (taken net a b l)) (sym (take_whole (log_at logs b)))
       ∙ ap (λ n. length (taken net a b (take n (log_at logs b)))) (sym (all.counts b));
 }
+  where
+    here : (a b : ℕ) → a < length logs → b < length logs → channel_at channels a b ≡ record { put = put net a b (log_at logs a); taken = length (taken net a b (log_at logs b)) }
+    here a b la lb = let few = carried.few in carried.each a b (omega (arith, la, few)) (omega (arith, lb, few))
 
 -- The role's count with one fewer, where that is still at least what is kept of it.
 one_less : (net : Net) (logs : List (List Event)) (bound : List Event → ℕ → ℕ) (cs : List ℕ) (role : ℕ) → role < length cs → IsAbove net logs bound cs → ((h : List Event) → AreLogsOf net h logs → kept_counts net (bound h) h role < slice_index cs role) → IsAbove net logs bound (slice_set cs role (slice_index cs role - 1))
@@ -140,14 +142,13 @@ lose_above net logs keeps cs role within above t lt = one_less net logs (bound_o
 pub place_parts : (place : ℕ) → between (place / 8) (place % 8) ≡ place
 place_parts place = omega arith
 
-module _ (net : Net) (logs : List (List Event)) (cut : Counted) (place : ℕ) (a : IsCounted net logs cut) (owes : Owes cut place) where
+module _ (net : Net) (logs : List (List Event)) (cut : Counted) (place : ℕ) (a : IsCounted net logs cut) (owes : Owes (length logs) cut place) where
   pub more_within : put_within net logs cut.counts (place / 8) (place % 8) < taken_within net logs cut.counts (place / 8) (place % 8)
   more_within =
       let here = place_parts place in
-      let low = owes.low in
       let more = owes.more in
-      let p = ap (slice_index cut.put) (sym here) ∙ a.put_is (place / 8) (place % 8) (omega (arith, low)) (omega arith) in
-      let t = ap (slice_index cut.taken) (sym here) ∙ a.taken_is (place / 8) (place % 8) (omega (arith, low)) (omega arith) in
+      let p = ap (slice_index cut.put) (sym here) ∙ a.put_is (place / 8) (place % 8) owes.sender owes.receiver in
+      let t = ap (slice_index cut.taken) (sym here) ∙ a.taken_is (place / 8) (place % 8) owes.sender owes.receiver in
       omega (arith, more, p, t)
 
   -- Its receiver has an event that can be taken off.
@@ -161,27 +162,17 @@ module _ (net : Net) (logs : List (List Event)) (cut : Counted) (place : ℕ) (a
       (λ some. omega (arith, some))
       (cases_lt (slice_index cut.counts (place % 8)) 1)
 
-  pub has_log : place % 8 < length logs
-  has_log = ⊎_elim
-      (λ in'. in')
-      (λ out.
-      let none = ap length (none_there logs (place % 8) [] out) in
-      let m = a.made (place % 8) in
-      let some = some_within in
-      absurd (omega (arith, none, m, some)))
-      (cases_lt (place % 8) (length logs))
-
   -- Taking it off leaves the counts at least what is kept.
   pub still_above : (bound : List Event → ℕ → ℕ) → IsAbove net logs bound cut.counts → IsAbove net logs bound (slice_set cut.counts (place % 8) (slice_index cut.counts (place % 8) - 1))
   still_above bound above = one_less net logs bound cut.counts (place % 8) (let n = a.eight in omega (arith, n)) above (λ h are. owes_above net h logs are (bound h) cut.counts (above h are) (place / 8) (place % 8) more_within)
 
 -- Where no channel owes the counts are what is kept.
-pub kept_now : (net : Net) (logs : List (List Event)) (keeps : Keeps) (cut : Counted) (role : ℕ) → length logs ≤ role → IsCounted net logs cut → IsLow keeps cut.counts role → IsAbove net logs (bound_of keeps) cut.counts → AllEven cut → IsKeptOf net logs (bound_of keeps) cut.counts
+pub kept_now : (net : Net) (logs : List (List Event)) (keeps : Keeps) (cut : Counted) (role : ℕ) → length logs ≤ role → IsCounted net logs cut → IsLow keeps cut.counts role → IsAbove net logs (bound_of keeps) cut.counts → AllEven (length logs) cut → IsKeptOf net logs (bound_of keeps) cut.counts
 kept_now net logs keeps cut role all a low above even h are r = reached net h logs are (bound_of keeps h) cut.counts (above h are) bounded a.made channels r
   where
-    channels : (x y : ℕ) → x < 8 → y < 8 → taken_within net logs cut.counts x y ≤ put_within net logs cut.counts x y
+    channels : (x y : ℕ) → x < length logs → y < length logs → taken_within net logs cut.counts x y ≤ put_within net logs cut.counts x y
     channels x y lx ly =
-        let e = even (between x y) (omega (arith, lx, ly)) in
+        let e = even x y lx ly in
         let p = a.put_is x y lx ly in
         let t = a.taken_is x y lx ly in
         omega (arith, e, p, t)

@@ -84,6 +84,9 @@ module _ (net : Net) (logs : List (List Event)) (cs : List ℕ) (r : ℕ) (e : E
   low : e.role < 8
   low = let role = sound_here.role in omega (arith, role, here, few)
 
+  declared : e.role < length logs
+  declared = let role = sound_here.role in omega (arith, role, here)
+
   module _ (put_on taken_from : List ℕ) (a : AreCounted net logs cs put_on taken_from) (to place : ℕ) where
     module _ (sent : e.dir ≡ Sent) (to_is : to ≡ net.receiver e.point) (place_is : place ≡ between e.role to) where
       low_to : to < 8
@@ -91,13 +94,6 @@ module _ (net : Net) (logs : List (List Event)) (cs : List ℕ) (r : ℕ) (e : E
 
       weight : cond {A = ℕ} (puts_on net e.role to e) 1 0 ≡ 1
       weight = ap {B = ℕ} (λ v. cond v 1 0) (sent_here net e.role to e sent refl (sym to_is))
-
-      pub put_some : 1 ≤ slice_index put_on place
-      put_some =
-          let is = ap (slice_index put_on) place_is ∙ a.put_is e.role to low low_to in
-          let down = put_down e.role to in
-          let w = weight in
-          omega (arith, is, down, w)
 
       pub sent_lowered : AreCounted net logs fewer (slice_set put_on place (slice_index put_on place - 1)) taken_from
       sent_lowered = record {
@@ -107,7 +103,7 @@ module _ (net : Net) (logs : List (List Event)) (cs : List ℕ) (r : ℕ) (e : E
         made = λ q. let x = lower_now q in let y = a.made q in omega (arith, x, y);
         put_is = λ p q lp lq. ⊎_elim
             (λ same.
-            ⊎_elim (λ same_to. subst (λ y. slice_index (slice_set put_on place (slice_index put_on place - 1)) (between p y) ≡ put_within net logs fewer p y) (sym same_to) (subst (λ x. slice_index (slice_set put_on place (slice_index put_on place - 1)) (between x to) ≡ put_within net logs fewer x to) (sym same) own))
+            ⊎_elim (λ same_to. subst (λ y. slice_index (slice_set put_on place (slice_index put_on place - 1)) (between p y) ≡ put_within net logs fewer p y) (sym same_to) (subst (λ x. slice_index (slice_set put_on place (slice_index put_on place - 1)) (between x to) ≡ put_within net logs fewer x to) (sym same) (own (omega (arith, lq, same_to)))))
             (λ other. else p q lp lq (λ x. other (sym x.1)))
             (cases_eq q to))
             (λ other. else p q lp lq (λ x. other (sym x.0)))
@@ -115,17 +111,17 @@ module _ (net : Net) (logs : List (List Event)) (cs : List ℕ) (r : ℕ) (e : E
         taken_is = λ p q lp lq. let is = a.taken_is p q lp lq in let down = taken_down p q in let w = ap {B = ℕ} (λ v. cond v 1 0) (not_taken net p q e sent) in omega (arith, is, down, w);
       }
         where
-          own : slice_index (slice_set put_on place (slice_index put_on place - 1)) (between e.role to) ≡ put_within net logs fewer e.role to
-          own =
+          own : to < length logs → slice_index (slice_set put_on place (slice_index put_on place - 1)) (between e.role to) ≡ put_within net logs fewer e.role to
+          own lt =
               let there = get_or-set_at put_on place (between e.role to) (slice_index put_on place - 1) 0 (sym place_is) (let n = a.as_many_put in let x = low in let y = low_to in omega (arith, place_is, n, x, y)) in
-              let is = ap (slice_index put_on) place_is ∙ a.put_is e.role to low low_to in
+              let is = ap (slice_index put_on) place_is ∙ a.put_is e.role to declared lt in
               let down = put_down e.role to in
               let w = weight in
               omega (arith, there, is, down, w)
 
-          else : (p q : ℕ) → p < 8 → q < 8 → ((e.role ≡ p) × (to ≡ q) → ⊥) → slice_index (slice_set put_on place (slice_index put_on place - 1)) (between p q) ≡ put_within net logs fewer p q
+          else : (p q : ℕ) → p < length logs → q < length logs → ((e.role ≡ p) × (to ≡ q) → ⊥) → slice_index (slice_set put_on place (slice_index put_on place - 1)) (between p q) ≡ put_within net logs fewer p q
           else p q lp lq other =
-              let there = get_or-set_other put_on place (between p q) (slice_index put_on place - 1) 0 (λ x. apart e.role to p q low low_to lp lq other (x ∙ place_is)) in
+              let there = get_or-set_other put_on place (between p q) (slice_index put_on place - 1) 0 (λ x. apart e.role to p q low low_to (omega (arith, lp, few)) (omega (arith, lq, few)) other (x ∙ place_is)) in
               let is = a.put_is p q lp lq in
               let down = put_down p q in
               let w = ap {B = ℕ} (λ v. cond v 1 0) (sent_else net p q e (λ x. other (x.0, to_is ∙ x.1))) in
@@ -138,13 +134,6 @@ module _ (net : Net) (logs : List (List Event)) (cs : List ℕ) (r : ℕ) (e : E
       load : cond {A = ℕ} (takes_on net to e.role e) 1 0 ≡ 1
       load = ap {B = ℕ} (λ v. cond v 1 0) (got_here net to e.role e got (sym to_is) refl)
 
-      pub taken_some : 1 ≤ slice_index taken_from place
-      taken_some =
-          let is = ap (slice_index taken_from) place_is ∙ a.taken_is to e.role low_from low in
-          let down = taken_down to e.role in
-          let w = load in
-          omega (arith, is, down, w)
-
       pub got_lowered : AreCounted net logs fewer put_on (slice_set taken_from place (slice_index taken_from place - 1))
       got_lowered = record {
         eight = length-set cs r (slice_index cs r - 1) ∙ eight;
@@ -154,24 +143,24 @@ module _ (net : Net) (logs : List (List Event)) (cs : List ℕ) (r : ℕ) (e : E
         put_is = λ p q lp lq. let is = a.put_is p q lp lq in let down = put_down p q in let w = ap {B = ℕ} (λ v. cond v 1 0) (no_put net p q e got) in omega (arith, is, down, w);
         taken_is = λ p q lp lq. ⊎_elim
             (λ same.
-            ⊎_elim (λ same_from. subst (λ x. slice_index (slice_set taken_from place (slice_index taken_from place - 1)) (between x q) ≡ taken_within net logs fewer x q) (sym same_from) (subst (λ y. slice_index (slice_set taken_from place (slice_index taken_from place - 1)) (between to y) ≡ taken_within net logs fewer to y) (sym same) own))
+            ⊎_elim (λ same_from. subst (λ x. slice_index (slice_set taken_from place (slice_index taken_from place - 1)) (between x q) ≡ taken_within net logs fewer x q) (sym same_from) (subst (λ y. slice_index (slice_set taken_from place (slice_index taken_from place - 1)) (between to y) ≡ taken_within net logs fewer to y) (sym same) (own (omega (arith, lp, same_from)))))
             (λ other. else p q lp lq (λ x. other (sym x.0)))
             (cases_eq p to))
             (λ other. else p q lp lq (λ x. other (sym x.1)))
             (cases_eq q e.role);
       }
         where
-          own : slice_index (slice_set taken_from place (slice_index taken_from place - 1)) (between to e.role) ≡ taken_within net logs fewer to e.role
-          own =
+          own : to < length logs → slice_index (slice_set taken_from place (slice_index taken_from place - 1)) (between to e.role) ≡ taken_within net logs fewer to e.role
+          own lt =
               let there = get_or-set_at taken_from place (between to e.role) (slice_index taken_from place - 1) 0 (sym place_is) (let n = a.as_many_taken in let x = low in let y = low_from in omega (arith, place_is, n, x, y)) in
-              let is = ap (slice_index taken_from) place_is ∙ a.taken_is to e.role low_from low in
+              let is = ap (slice_index taken_from) place_is ∙ a.taken_is to e.role lt declared in
               let down = taken_down to e.role in
               let w = load in
               omega (arith, there, is, down, w)
 
-          else : (p q : ℕ) → p < 8 → q < 8 → ((to ≡ p) × (e.role ≡ q) → ⊥) → slice_index (slice_set taken_from place (slice_index taken_from place - 1)) (between p q) ≡ taken_within net logs fewer p q
+          else : (p q : ℕ) → p < length logs → q < length logs → ((to ≡ p) × (e.role ≡ q) → ⊥) → slice_index (slice_set taken_from place (slice_index taken_from place - 1)) (between p q) ≡ taken_within net logs fewer p q
           else p q lp lq other =
-              let there = get_or-set_other taken_from place (between p q) (slice_index taken_from place - 1) 0 (λ x. apart to e.role p q low_from low lp lq other (x ∙ place_is)) in
+              let there = get_or-set_other taken_from place (between p q) (slice_index taken_from place - 1) 0 (λ x. apart to e.role p q low_from low (omega (arith, lp, few)) (omega (arith, lq, few)) other (x ∙ place_is)) in
               let is = a.taken_is p q lp lq in
               let down = taken_down p q in
               let w = ap {B = ℕ} (λ v. cond v 1 0) (got_else net p q e (λ x. other (to_is ∙ x.0, x.1))) in

@@ -1,12 +1,12 @@
 -- Cuts through the logs of a ledger by counts, with what lies within them on each channel.
-use Rattle.std.specs.Prelude.{◌≡◌, ℕ, ◌<◌, ◌≤◌, ◌^◌, List, length, take, slice_index, slice_index_or}
+use Rattle.std.specs.Prelude.{◌≡◌, ℕ, ◌/◌, ◌%◌, ◌<◌, ◌≤◌, ◌^◌, List, length, take, slice_index}
 use Rattle.rcv_tree.specs.declared.event.Event.{Event}
 use Rattle.rcv_model.specs.Net.{Net}
 use Rattle.rcv_model.specs.Run.{put, taken}
 use Rattle.rcv_theory.specs.Counts.{kept_counts}
 use Rattle.rcv_depend.specs.Cuts.{AreLogsOf}
 use Rattle.rcv_ledger.specs.declared.cut.Counted.{Counted}
-use Rattle.rcv_ledger.specs.Channels.{ChannelView, empty, between}
+use Rattle.rcv_ledger.specs.Channels.{ChannelView, between, channel_at}
 use Rattle.rcv_ledger.specs.Ledger.{log_at}
 
 -- At most eight roles have logs, each of fewer than 2^32 events.
@@ -21,35 +21,37 @@ put_within net logs counts a b = length (put net a b (take (slice_index counts a
 abbrev pub taken_within : Net → List (List Event) → List ℕ → ℕ → ℕ → ℕ
 taken_within net logs counts a b = length (taken net a b (take (slice_index counts b) (log_at logs b)))
 
--- So many of the first events of each role, and by channel how much these put on it and took from it.
+-- So many of the first events of each role, and by channel between two roles with logs how much these put on it and took
+-- from it.
 pub record AreCounted (net : Net) (logs : List (List Event)) (counts put_on taken_from : List ℕ) : Type 0 where
   pub eight : length counts ≡ 8
   pub as_many_put : length put_on ≡ 64
   pub as_many_taken : length taken_from ≡ 64
   pub made : (r : ℕ) → slice_index counts r ≤ length (log_at logs r)
-  pub put_is : (a b : ℕ) → a < 8 → b < 8 → slice_index put_on (between a b) ≡ put_within net logs counts a b
-  pub taken_is : (a b : ℕ) → a < 8 → b < 8 → slice_index taken_from (between a b) ≡ taken_within net logs counts a b
+  pub put_is : (a b : ℕ) → a < length logs → b < length logs → slice_index put_on (between a b) ≡ put_within net logs counts a b
+  pub taken_is : (a b : ℕ) → a < length logs → b < length logs → slice_index taken_from (between a b) ≡ taken_within net logs counts a b
 
 -- The same of a cut as it is held.
 abbrev pub IsCounted : Net → List (List Event) → Counted → Type 0
 IsCounted net logs cut = AreCounted net logs cut.counts cut.put cut.taken
 
--- All events, and all that was put on the channels and taken from them.
+-- All events, and all that was put on the channels between two roles with logs and taken from them.
 pub record AllCounted (logs : List (List Event)) (channels : List ChannelView) (cut : Counted) : Type 0 where
   pub eight : length cut.counts ≡ 8
   pub as_many_put : length cut.put ≡ 64
   pub as_many_taken : length cut.taken ≡ 64
   pub counts : (r : ℕ) → slice_index cut.counts r ≡ length (log_at logs r)
-  pub put_is : (place : ℕ) → place < 64 → slice_index cut.put place ≡ length (slice_index_or channels place empty).put
-  pub taken_is : (place : ℕ) → place < 64 → slice_index cut.taken place ≡ (slice_index_or channels place empty).taken
+  pub put_is : (a b : ℕ) → a < length logs → b < length logs → slice_index cut.put (between a b) ≡ length (channel_at channels a b).put
+  pub taken_is : (a b : ℕ) → a < length logs → b < length logs → slice_index cut.taken (between a b) ≡ (channel_at channels a b).taken
 
--- From a channel more is taken than was put on it; and from none is.
-pub record Owes (cut : Counted) (place : ℕ) : Type 0 where
-  pub low : place < 64
+-- From a channel between two of the first so many roles more is taken than was put on it; and from none is.
+pub record Owes (roles : ℕ) (cut : Counted) (place : ℕ) : Type 0 where
+  pub sender : place / 8 < roles
+  pub receiver : place % 8 < roles
   pub more : slice_index cut.put place < slice_index cut.taken place
 
-abbrev pub AllEven : Counted → Type 0
-AllEven cut = (place : ℕ) → place < 64 → slice_index cut.taken place ≤ slice_index cut.put place
+abbrev pub AllEven : ℕ → Counted → Type 0
+AllEven roles cut = (a b : ℕ) → a < roles → b < roles → slice_index cut.taken (between a b) ≤ slice_index cut.put (between a b)
 
 -- The counts are at least what is kept, whichever events of this protocol have these logs.
 abbrev pub IsAbove : Net → List (List Event) → (List Event → ℕ → ℕ) → List ℕ → Type 0

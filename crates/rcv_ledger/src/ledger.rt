@@ -74,18 +74,19 @@ impl Ledger {
 
     /// Adds a Send to this receiver, of a role with a log, behind which the role has this state. Within the ledger's room it
     /// takes no memory and succeeds. Else it fails where memory runs out; then the ledger is as before.
+    #[inline(always)]
     pub fn add_send(
         &mut self,
-        event: Event,
+        event: &Event,
         receiver: RoleId,
-        state: State,
+        state: &State,
     ) -> Result<(), AllocError>
-        requires role { event.role < length self.old.logs }
+        requires role { event.now.role < length self.old.logs }
         requires receiver { receiver < 8 }
-        requires few { held (stack_at self.old.stacks event.role) + 1 < 2 ^ 32 }
-        ensures ok { OnOk result (self.new ≡ with_send self.old event receiver state) }
+        requires few { held (stack_at self.old.stacks event.now.role) + 1 < 2 ^ 32 }
+        ensures ok { OnOk result (self.new ≡ with_send self.old event.now receiver state.now) }
         ensures err { OnErr result (self.new ≡ self.old) }
-        ensures room { HasRoomToSend self.old event.role receiver → IsOk result }
+        ensures room { HasRoomToSend self.old event.now.role receiver → IsOk result }
     {
         let role = event.role;
         let message = Message {
@@ -94,7 +95,7 @@ impl Ledger {
             stamp: event.stamp,
         };
         self.channels.put(role, receiver, message)?;
-        let added = add_event(&mut self.logs, &mut self.stacks, &event, &state);
+        let added = add_event(&mut self.logs, &mut self.stacks, event, state);
         if added.is_err() {
             self.channels.unput(role, receiver);
         }
@@ -103,17 +104,23 @@ impl Ledger {
 
     /// Adds a Recv of the front message from this sender, of a role with a log, behind which the role has this state. Within
     /// the ledger's room it takes no memory and succeeds. Else it fails where memory runs out; then the ledger is as before.
-    pub fn add_recv(&mut self, event: Event, sender: RoleId, state: State) -> Result<(), AllocError>
-        requires role { event.role < length self.old.logs }
+    #[inline(always)]
+    pub fn add_recv(
+        &mut self,
+        event: &Event,
+        sender: RoleId,
+        state: &State,
+    ) -> Result<(), AllocError>
+        requires role { event.now.role < length self.old.logs }
         requires sender { sender < 8 }
-        requires waits { HasFront (channel_at self.old.channels sender event.role) }
-        requires few { held (stack_at self.old.stacks event.role) + 1 < 2 ^ 32 }
-        ensures ok { OnOk result (self.new ≡ with_recv self.old event sender state) }
+        requires waits { HasFront (channel_at self.old.channels sender event.now.role) }
+        requires few { held (stack_at self.old.stacks event.now.role) + 1 < 2 ^ 32 }
+        ensures ok { OnOk result (self.new ≡ with_recv self.old event.now sender state.now) }
         ensures err { OnErr result (self.new ≡ self.old) }
-        ensures room { HasRoom self.old event.role → IsOk result }
+        ensures room { HasRoom self.old event.now.role → IsOk result }
     {
         let role = event.role;
-        add_event(&mut self.logs, &mut self.stacks, &event, &state)?;
+        add_event(&mut self.logs, &mut self.stacks, event, state)?;
         self.channels.take(sender, role);
         Ok(())
     }
@@ -151,14 +158,6 @@ impl Ledger {
     }
 
     /// The state of a role with a log after all its events. It takes no memory.
-    pub fn state(&self, role: RoleId) -> State
-        requires { role < length self.now.logs }
-        ensures { slice_get (stack_at self.now.stacks role).states (held (stack_at self.now.stacks role)) ≡ Some result }
-    {
-        self.stacks[role.0 as usize].last()
-    }
-
-    /// The same state, which isn't copied.
     pub fn top(&self, role: RoleId) -> &State
         requires { role < length self.now.logs }
         ensures { slice_get (stack_at self.now.stacks role).states (held (stack_at self.now.stacks role)) ≡ Some result.now }
@@ -203,6 +202,7 @@ impl Ledger {
     }
 
     // Takes the last event of a role away, and what it put on its channel or took from it.
+    #[inline(always)]
     fn drop_last(&mut self, points: &Points, role: usize)
         requires carried { AreCarried (net_in points.now) self.old.logs self.old.channels }
         requires role { role < length self.old.logs }
@@ -226,6 +226,7 @@ impl Ledger {
 
 // Adds an event to the log of its role, and the state behind it to its stack. Within the room of both it succeeds. Else it
 // fails where memory runs out; then both are as before.
+#[inline(always)]
 fn add_event(
     logs: &mut Logs,
     stacks: &mut Vec<Stack>,
@@ -246,8 +247,8 @@ fn add_event(
 {
     let role = event.role.0 as usize;
     let before = made(logs, role);
-    add(logs, *event)?;
-    let saved = stacks[role].save(*state);
+    add(logs, event)?;
+    let saved = stacks[role].save(state);
     if saved.is_err() {
         shorten(logs, role, before);
     }

@@ -19,14 +19,14 @@ pub fn made(logs: &Logs, role: usize) -> usize
 
 /// Adds an event to the log of its role, which has one. Within the log's room it takes no memory and succeeds. Else it fails
 /// where memory runs out; then the logs are as before. No log's room gets less.
-pub fn add(logs: &mut Logs, event: Event) -> Result<(), AllocError>
-    requires { event.role < length logs.old.items }
-    ensures ok { OnOk result (lists_in logs.new.items ≡ with_event (lists_in logs.old.items) event) }
+pub fn add(logs: &mut Logs, event: &Event) -> Result<(), AllocError>
+    requires { event.now.role < length logs.old.items }
+    ensures ok { OnOk result (lists_in logs.new.items ≡ with_event (lists_in logs.old.items) event.now) }
     ensures err { OnErr result (lists_in logs.new.items ≡ lists_in logs.old.items) }
-    ensures room { length (log_at (lists_in logs.old.items) event.role) < slice_index (log_rooms logs.old.items) event.role → IsOk result }
+    ensures room { length (log_at (lists_in logs.old.items) event.now.role) < slice_index (log_rooms logs.old.items) event.now.role → IsOk result }
     ensures rooms { (r : ℕ) → slice_index (log_rooms logs.old.items) r ≤ slice_index (log_rooms logs.new.items) r }
 {
-    logs[event.role.0 as usize].push(event)?;
+    logs[event.role.0 as usize].push(*event)?;
     Ok(())
 }
 

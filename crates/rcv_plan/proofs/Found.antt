@@ -1,10 +1,8 @@
 -- A crash line more is found, and the steps of a reader at one number.
-use Rattle.std.proofs.Common.{◌≡◌, ℕ, Bool, true, false, List, [], ◌∷◌, ◌++◌, refl, ◌∙◌, ap, sym, subst, arith}
+use Rattle.std.proofs.Common.{◌≡◌, ℕ, Bool, true, false, List, [], ◌∷◌, ◌++◌, refl, ◌∙◌, ap, sym, subst}
 use Rattle.std.proofs.lemmas.List.Folds.{list_any-append}
-use Rattle.std.proofs.lemmas.Bool.Decides.{nat_tests}
-use Rattle.std.specs.BTreeSet.{BTreeSet, contains_by, Updates}
-use Rattle.std.specs.Ordering.{nat_cmp, ordering_then, is_eq}
-use Rattle.std.specs.Prelude.{cond, Option, Some, None, ◌||◌, ◌&&◌, ◌==◌, nat_lt}
+use Rattle.std.specs.Prelude.{◌<◌, cond, Option, Some, None, ◌||◌, ◌&&◌, ◌==◌}
+use Rattle.rcv_tree.specs.declared.role.RoleSet.{RoleSet}
 use Rattle.rcv_tree.specs.Bits.{is_listed}
 use Rattle.rcv_model.specs.Plan.{PlanLine, CrashLine}
 use Rattle.rcv_plan.specs.declared.sign.Sign.TheVariants.{Comma}
@@ -13,36 +11,21 @@ use Rattle.rcv_plan.specs.declared.fault.Fault.TheVariants.{Twice}
 use Rattle.rcv_plan.specs.Lines.{has_crash, is_crash, is_hosted}
 use Rattle.rcv_plan.specs.Grammar.{place_of}
 use Rattle.rcv_plan.specs.Codes.{within}
-use Rattle.rcv_plan.specs.Items.{KnownView, Step, Takes, Stops, goes_on, found, unhosted, next_member, next_members, next_count}
+use Rattle.rcv_plan.specs.CrashCounts.{crashes_at}
+use Rattle.rcv_plan.specs.Items.{AreFound, KnownView, Step, Takes, Stops, goes_on, found, unhosted, next_member, next_members, next_count}
 
-same_key : (p m r n : ℕ) → is_eq (ordering_then (nat_cmp p r) (nat_cmp m n)) ≡ (p == r && m == n)
-same_key p m r n = go (nat_lt p r) (p == r) (nat_lt m n) (m == n) refl refl refl refl
-  where
-    go : (a b c d : Bool) → nat_lt p r ≡ a → (p == r) ≡ b → nat_lt m n ≡ c → (m == n) ≡ d → is_eq (ordering_then (nat_cmp p r) (nat_cmp m n)) ≡ (p == r && m == n)
-    go true true c d e f g h = absurd (grind (arith, nat_tests))
-    go true false c d e f g h = rw (e, f) refl
-    go false false c d e f g h = rw (e, f) refl
-    go false true true true e f g h = absurd (grind (arith, nat_tests))
-    go false true true false e f g h = rw (e, f, g, h) refl
-    go false true false true e f g h = rw (e, f, g, h) refl
-    go false true false false e f g h = rw (e, f, g, h) refl
-
-either : (is_new is_old : Bool) → cond is_new true is_old ≡ (is_old || (is_new || false))
-either true true = refl
-either true false = refl
-either false true = refl
-either false false = refl
-
-pub found_more : (p m : ℕ) (lines : List PlanLine) (before now : BTreeSet (ℕ × ℕ))
-    → ((r n : ℕ) → contains_by (λ y. ordering_then (nat_cmp r y.0) (nat_cmp n y.1)) before ≡ has_crash r n lines)
-    → Updates (λ x y. ordering_then (nat_cmp x.0 y.0) (nat_cmp x.1 y.1)) before now (p, m) true
-    → (r n : ℕ) → contains_by (λ y. ordering_then (nat_cmp r y.0) (nat_cmp n y.1)) now ≡ has_crash r n (lines ++ CrashLine p m ∷ [])
-found_more p m lines before now ties updates r n =
-    updates.0 (r, n)
-    ∙ ap (λ (b : Bool). cond b true (contains_by (λ y. ordering_then (nat_cmp r y.0) (nat_cmp n y.1)) before)) (same_key p m r n)
-    ∙ ap (λ (b : Bool). cond (p == r && m == n) true b) (ties r n)
-    ∙ either (p == r && m == n) (has_crash r n lines)
+pub found_more : (p m : ℕ) (lines : List PlanLine) (before now : List RoleSet) → AreFound before lines
+    → ((r n : ℕ) → r < 8 → crashes_at r n now ≡ (crashes_at r n before || (p == r && m == n)))
+    → AreFound now (lines ++ CrashLine p m ∷ [])
+found_more p m lines before now ties more r n l =
+    more r n l
+    ∙ ap (λ (b : Bool). b || (p == r && m == n)) (ties r n l)
+    ∙ ap (λ (b : Bool). has_crash r n lines || b) (sym (or_none (p == r && m == n)))
     ∙ sym (list_any-append (is_crash r n) lines (CrashLine p m ∷ []))
+  where
+    or_none : (b : Bool) → (b || false) ≡ b
+    or_none true = refl
+    or_none false = refl
 
 pub count_twice : (k : KnownView) (p n number : ℕ) (old after : List Symbol) → old ≡ Number number ∷ after → n ≡ number → within 0 100000 n ≡ true → has_crash p n k.lines ≡ true
     → next_count k p old ≡ Stops Twice old

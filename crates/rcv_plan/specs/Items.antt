@@ -1,8 +1,7 @@
 -- What the functions of the reader take of the symbols, or where they stop. No public contract cites this.
-use Rattle.std.specs.Prelude.{◌≡◌, ℕ, codes, Bool, ◌||◌, if◌then◌else◌, List, [], ◌∷◌, ◌++◌, Option, Some, None, Result, Ok, Err}
-use Rattle.std.specs.BTreeSet.{BTreeSet, contains_by}
-use Rattle.std.specs.Ordering.{nat_cmp, ordering_then}
+use Rattle.std.specs.Prelude.{◌≡◌, ℕ, ◌<◌, codes, Bool, ◌||◌, if◌then◌else◌, List, [], ◌∷◌, ◌++◌, Option, Some, None, Result, Ok, Err}
 use Rattle.std.specs.Str.{bytes_eq}
+use Rattle.rcv_tree.specs.declared.role.RoleSet.{RoleSet}
 use Rattle.rcv_tree.specs.Bits.{is_listed}
 use Rattle.rcv_model.specs.Plan.{PlanLine, EveryLine, CrashLine, LimitLine, RoomLine, HostLine}
 use Rattle.rcv_plan.specs.declared.sign.Sign.{Sign}
@@ -13,6 +12,7 @@ use Rattle.rcv_plan.specs.declared.fault.Fault.TheVariants.{Token, Role, Twice, 
 use Rattle.rcv_plan.specs.declared.fault.ReadError.{ReadError}
 use Rattle.rcv_plan.specs.declared.fault.ReadError.TheVariants as errors
 use Rattle.rcv_plan.specs.Lines.{has_crash, is_hosted}
+use Rattle.rcv_plan.specs.CrashCounts.{crashes_at}
 use Rattle.rcv_plan.specs.Grammar.{place_of}
 use Rattle.rcv_plan.specs.Codes.{is_among, is_second, within}
 
@@ -21,9 +21,9 @@ pub record KnownView : Type 0 where
   pub lines : List PlanLine
   pub names : List (List ℕ)
 
--- The set has the roles and counts of the crash lines, and no others.
-abbrev pub AreFound : BTreeSet (ℕ × ℕ) → List PlanLine → Type 0
-AreFound set lines = (r n : ℕ) → contains_by (λ y. ordering_then (nat_cmp r y.0) (nat_cmp n y.1)) set ≡ has_crash r n lines
+-- A role crashes at a count exactly where a crash line says so.
+abbrev pub AreFound : List RoleSet → List PlanLine → Type 0
+AreFound sets lines = (r n : ℕ) → r < 8 → crashes_at r n sets ≡ has_crash r n lines
 
 -- Something is taken, and this is left behind it; or the reader stops where this is left.
 pub data Step (X : Type 0) : Type 0 where

@@ -4,5 +4,6 @@ pub mod Plans
 pub mod Grammar
 pub mod Codes
 pub mod Refusing
+pub mod CrashCounts
 pub mod Items
 pub mod Laws

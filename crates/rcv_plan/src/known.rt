@@ -1,24 +1,24 @@
 // What was read so far of a plan.
 
-ghost use Rattle.std.specs.Prelude.{◌≡◌, ℕ, [], map, false, OnOk};
+ghost use Rattle.std.specs.Prelude.{◌≡◌, ◌<◌, ℕ, [], map, false, OnOk};
 ghost use Rattle.rcv_model.specs.Plan.{CrashLine};
 ghost use Rattle.rcv_plan.specs.Lines.{has_every, has_crash, has_limit, has_room, is_hosted, is_crash, line_in};
 ghost use Rattle.rcv_plan.specs.Codes.{is_among};
 ghost use Rattle.rcv_plan.specs.Items.{with_line, with_host};
 
+use crate::crash_counts::CrashCounts;
 use crate::line::Line;
 use rcv_scan::is;
 use rcv_tree::role::{RoleId, Roles};
 use std::alloc::{AllocError, Global};
-use std::collections::BTreeSet;
 use std::marker::Model;
 
 /// The lines so far, and the names of their hosts.
 #[derive(Drop)]
 pub struct Known<'a> {
     lines: Vec<Line>,
-    // Their crash lines by role and count, to find one.
-    crashes: BTreeSet<(u8, u32), Global>,
+    // Where their crash lines let roles crash, to find one.
+    crashes: CrashCounts,
     names: Vec<&'a [u8]>,
 }
 
@@ -41,7 +41,7 @@ impl<'a> Known<'a> {
     {
         Known {
             lines: Vec::new(alloc),
-            crashes: BTreeSet::new(alloc),
+            crashes: CrashCounts::new(alloc),
             names: Vec::new(alloc),
         }
     }
@@ -60,11 +60,12 @@ impl<'a> Known<'a> {
         any_every(self.lines.as_slice(), role)
     }
 
-    /// Whether a line lets this role crash at this count. It takes about the logarithm of their number in comparisons.
+    /// Whether a line lets this role, which is below 8, crash at this count. It takes the same time whatever the lines.
     pub fn has_crash(&self, role: RoleId, number: u32) -> bool
+        requires { role < 8 }
         ensures { result ≡ has_crash role number self.now.lines }
     {
-        self.crashes.contains(&(role.0, number))
+        self.crashes.has(role, number)
     }
 
     /// Whether a line says how many events a role may make.
@@ -104,12 +105,13 @@ impl<'a> Known<'a> {
         Ok(())
     }
 
-    /// Appends a crash line. Fails where memory runs out.
+    /// Appends a crash line of a role below 8. Fails where memory runs out.
     pub fn push_crash(&mut self, role: RoleId, number: u32) -> Result<(), AllocError>
+        requires { role < 8 }
         ensures { OnOk result (self.new ≡ with_line self.old (CrashLine role number)) }
     {
         self.lines.push(Line::Crash { role, number })?;
-        let Ok(_) = self.crashes.insert((role.0, number)) else {
+        let Ok(()) = self.crashes.add(role, number) else {
             self.lines.pop();
             return Err(AllocError);
         };

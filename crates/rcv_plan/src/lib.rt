@@ -3,6 +3,7 @@
 
 ghost use Rattle.rcv_plan.specs.Laws.{PlansHaveOneAnswer, PlansAreShort, ReadPlansArePlanned};
 
+mod crash_counts;
 mod fault;
 mod known;
 mod line;
@@ -10,8 +11,6 @@ pub mod plan;
 mod read;
 mod reader;
 mod sign;
-#[cfg(test)]
-mod tests;
 
 pub use fault::Fault;
 pub use read::read_plan;

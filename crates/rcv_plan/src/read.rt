@@ -21,7 +21,7 @@ use rcv_tree::refusal::Refusal;
 use std::alloc::Global;
 
 // Takes all items.
-pub(crate) fn items<'a>(
+fn items<'a>(
     alloc: Global,
     reader: &mut Reader<'a>,
     roles: &Names,

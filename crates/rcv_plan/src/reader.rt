@@ -1,6 +1,6 @@
 // Reads one item of a plan.
 
-ghost use Rattle.std.specs.Prelude.{◌≡◌, ◌≤◌, ◌<◌, ◌∷◌, length, true, false, IfSome, IfNone, OnOk};
+ghost use Rattle.std.specs.Prelude.{◌≡◌, ◌≤◌, ◌<◌, ◌∷◌, length, true, false, IfSome, IfNone, IfOk, OnOk};
 ghost use Rattle.rcv_plan.specs.Symbols.{Is, IsNotNext};
 ghost use Rattle.rcv_plan.specs.Grammar.{place_of};
 ghost use Rattle.rcv_plan.specs.Codes.{within, is_second, is_second_every};
@@ -88,6 +88,7 @@ impl<'a> Reader<'a> {
     fn role(&mut self, roles: &Names) -> Result<RoleId, ReadError>
         requires { length roles.now ≤ 8 }
         ensures goes { Goes result (λ role. role) self.new.rest (next_role roles.now self.old.rest) }
+        ensures few { IfOk result (λ role. role < 8) }
         ensures shorter { length self.new.rest ≤ length self.old.rest }
     {
         let Some((name, after)) = self.rest.word() else {
@@ -117,6 +118,7 @@ impl<'a> Reader<'a> {
 
     // Takes the number of a crash line that doesn't stand before.
     fn count(&mut self, known: &Known<'a>, role: RoleId) -> Result<u32, ReadError>
+        requires { role < 8 }
         ensures goes { Goes result (λ n. n) self.new.rest (next_count known.now role self.old.rest) }
         ensures shorter { length self.new.rest ≤ length self.old.rest }
     {

@@ -1,5 +1,5 @@
 -- The points of a text of one message, computed: a() from A to B;
-use Rattle.std.proofs.Common.{◌≡◌, ℕ, zero, suc, ◌≤◌, false, List, [], ◌∷◌, codes, refl, arith}
+use Rattle.std.proofs.Common.{◌≡◌, ℕ, zero, suc, ◌≤◌, false, [], ◌∷◌, codes, refl, arith}
 use Rattle.rcv_model.specs.Text.{Body, End, Single}
 use Rattle.rcv_model.specs.Places.{net_of}
 use Rattle.rcv_model.specs.Form.{HasForm}

@@ -12,8 +12,6 @@ pub mod filling;
 pub mod offered;
 pub mod points;
 mod recs;
-#[cfg(test)]
-mod tests;
 
 pub use std::alloc::AllocError as Memory;
 

@@ -7,8 +7,6 @@ mod head;
 mod names;
 mod printer;
 mod statements;
-#[cfg(test)]
-mod tests;
 mod text;
 
 pub use printer::print_protocol;

@@ -65,11 +65,6 @@ pub record MayBegin (p : Place) (ts : List Symbol) : Type 0 where
 abbrev pub IsRoleName : List (List ℕ) → ℕ → List Symbol → List Symbol → Type 0
 IsRoleName roles r old new = (n : List ℕ) × (place_of roles n ≡ Some r) × (old ≡ Word n ∷ new)
 
--- Name , Name ..
-abbrev pub name_list : List (List ℕ) → List Symbol → List Symbol
-name_list [] next = next
-name_list (n ∷ ns) next = Word n ∷ names_behind ns next
-
 -- the messages of one statement, behind n points
 abbrev pub messages : List ℕ → List (List ℕ) → ℕ → List ℕ → ℕ → List Stmt
 messages label sorts sender [] n = []

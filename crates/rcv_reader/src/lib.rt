@@ -20,6 +20,3 @@ pub use sign::Sign;
 pub fn codes_are_fair()
     ensures { CodesAreFair }
 {}
-
-#[cfg(test)]
-mod tests;

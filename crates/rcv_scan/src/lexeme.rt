@@ -18,6 +18,7 @@ pub enum Lexeme<'a, S> {
 }
 
 /// Whether the two are the same.
+#[inline(always)]
 pub fn is(word: &[u8], other: &[u8]) -> bool
     ensures { result ≡ bytes_eq word.now other.now }
 {

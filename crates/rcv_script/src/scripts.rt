@@ -83,6 +83,7 @@ impl Scripts {
 
     /// The point that a role chooses of those that are offered: of the label of its first `pick` line whose label is
     /// offered and whose condition holds, the first one; where no line holds, the first of all.
+    #[inline(always)]
     pub fn choose(&self, role: RoleId, vars: &Vars, attempt: u32, offered: &[Point]) -> Point
         requires some { offered.now ≢ [] }
         requires points { All (HasPoint self.now.messages) offered.now }
@@ -95,6 +96,7 @@ impl Scripts {
     }
 
     /// The number that a role sends with a point: that of the `send` line of the point's label, and 0 where it has none.
+    #[inline(always)]
     pub fn value(&self, role: RoleId, vars: &Vars, attempt: u32, point: Point) -> i64
         requires { HasPoint self.now.messages point }
         ensures { result ≡ number_for ((net_by self.now.messages).label point) (lines_at self.now.lines role) vars.now attempt }
@@ -107,6 +109,7 @@ impl Scripts {
 
     /// The variables of a role behind an event that received this number with a point: the `on` lines of the point's
     /// label are carried out in text order, each seeing the changes of the earlier ones.
+    #[inline(always)]
     pub fn received(&self, role: RoleId, vars: &Vars, point: Point, value: i64) -> Vars
         requires { HasPoint self.now.messages point }
         ensures { result ≡ carry_out ((net_by self.now.messages).label point) value (lines_at self.now.lines role) vars.now }
@@ -189,6 +192,7 @@ impl Script {
     }
 
     // The variables behind an event with this label.
+    #[inline(always)]
     fn behind(&self, label: &[u8], value: i64, vars: &Vars) -> Vars
         ensures { result ≡ carry_out label.now value self.now vars.now }
     {
@@ -210,6 +214,7 @@ impl Script {
     }
 
     // The number that is sent with this label.
+    #[inline(always)]
     fn number(&self, label: &[u8], vars: &Vars, attempt: u32) -> i64
         ensures { result ≡ number_for label.now self.now vars.now attempt }
     {
@@ -228,6 +233,7 @@ impl Script {
     }
 
     // The offered point that is chosen.
+    #[inline(always)]
     fn pick(&self, messages: &[Message], vars: &Vars, attempt: u32, offered: &[Point]) -> Point
         requires some { offered.now ≢ [] }
         requires points { All (HasPoint messages.now) offered.now }

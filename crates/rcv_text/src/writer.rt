@@ -42,6 +42,7 @@ impl Writer {
     }
 
     /// The text goes on with these bytes. Fails where memory runs out.
+    #[inline(always)]
     pub fn word(&mut self, word: &[u8]) -> Result<(), AllocError>
         ensures { OnOk result (self.new ≡ self.old ++ word.now) }
     {
@@ -49,6 +50,7 @@ impl Writer {
     }
 
     /// The text goes on with this byte. Fails where memory runs out.
+    #[inline(always)]
     pub fn byte(&mut self, byte: u8) -> Result<(), AllocError>
         ensures { OnOk result (self.new ≡ self.old ++ byte ∷ []) }
     {
@@ -57,6 +59,7 @@ impl Writer {
     }
 
     /// The text goes on with a number in decimal. Fails where memory runs out.
+    #[inline(always)]
     pub fn number(&mut self, number: u16) -> Result<(), AllocError>
         ensures { OnOk result (self.new ≡ self.old ++ decimal number) }
     {
@@ -65,17 +68,30 @@ impl Writer {
     }
 
     /// The text goes on with a large number in decimal. Fails where memory runs out.
+    #[inline(always)]
     pub fn large_number(&mut self, number: u64) -> Result<(), AllocError>
         ensures { OnOk result (self.new ≡ self.old ++ decimal number) }
     {
+        // One or two digits, as many numbers have, need no buffer.
+        if number < 10 {
+            return self.byte(b'0' + number as u8);
+        }
+        if number < 100 {
+            self.byte(b'0' + (number / 10) as u8)?;
+            return self.byte(b'0' + (number % 10) as u8);
+        }
         let mut digits = Buffer::new();
         self.word(digits.format(number).as_bytes())
     }
 
     /// The text goes on with a number in decimal, with a minus in front where it is below 0. Fails where memory runs out.
+    #[inline(always)]
     pub fn signed_number(&mut self, number: i64) -> Result<(), AllocError>
         ensures { OnOk result (self.new ≡ self.old ++ signed_decimal number) }
     {
+        if number >= 0 {
+            return self.large_number(number as u64);
+        }
         let mut digits = Buffer::new();
         self.word(digits.format(number).as_bytes())
     }

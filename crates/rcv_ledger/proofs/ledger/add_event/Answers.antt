@@ -14,4 +14,4 @@ returns-then-is_err-clause-same_logs c =
     let lt = c.requires.role in
     let size = length-map c.args.logs.now.items (λ log. log.items) in
     let made = c.made-before.ensures ∙ ap (λ q. length (log_at before q)) role in
-    on_err _ c.save-saved.result (c.shorten.ensures.lists ∙ ap (λ l. log_to l c.event.inside.0.0.0 c.made-before.result) c.in_ok-add.ensures.ok ∙ ap (λ (e : Event). log_to (with_event before e) c.event.inside.0.0.0 c.made-before.result) c.event.view_is ∙ ap (λ q. log_to (with_event before c.args.event.now) q c.made-before.result) role ∙ taken_back before c.args.event.now c.made-before.result (omega (arith, lt, size)) made)
+    on_err _ c.save-saved.result (c.shorten.ensures.lists ∙ ap (λ l. log_to l c.event.inside.0.0.0 c.made-before.result) c.in_ok-add.ensures.ok ∙ ap (λ q. log_to (with_event before c.args.event.now) q c.made-before.result) role ∙ taken_back before c.args.event.now c.made-before.result (omega (arith, lt, size)) made)

@@ -8,7 +8,7 @@ use Rattle.rcv_plan.specs.Plans.{IsGroup}
 use Rattle.rcv_session.specs.Session.{rules_of}
 use Rattle.rcv_ledger.specs.Ledger.{MayCut, IsCutTo}
 use Rattle.rcv_core.specs.Book.{BookView, state_of, IsBook}
-use Rattle.rcv_core.specs.Choices.{HaveChosen}
+use Rattle.rcv_core.specs.Choices.{HaveChosen, HaveStayed}
 use Rattle.rcv_core.proofs.Sound.{still_rooms, room_for_entry}
 use Rattle.std.specs.Prelude.{vec_capacity}
 use Rattle.rcv_checkpoint.specs.Stack.{StackView}
@@ -16,6 +16,7 @@ use Rattle.rcv_tree.specs.declared.entry.Entry.TheVariants.{Recover}
 use Rattle.rcv_core.specs.Standings.{AreBehind}
 use Rattle.rcv_core.proofs.Books.{low_role, run_now, ready}
 use Rattle.rcv_core.proofs.Making.{few_logs}
+use Rattle.rcv_core.proofs.Staying.{chosen_still}
 use Rattle.rcv_core.proofs.Recovering.{declared, few_numbers, may_cut, with_recovery}
 use Rattle.rcv_core.proofs.book.Book.push_recover.Goals as goal
 
@@ -75,6 +76,12 @@ choose_anew-requires-clause-ready c =
     let book = subst (λ j. IsBook c.self.inside.setup.now j c.go_back.new.standings.items c.cut_to.new.self) (sym c.in_ok-push.ensures.items)
     (with_recovery c.self.inside.setup.now c.self.inside.entries.items c.self.inside.standings.items c.self.inside.ledger c.self.invariant.book c.args.role c.args.concerned c.args.kept.now c.args.undone may c.unlisted-counts.result c.unlisted-counts.ensures c.group-group.result.0 c.go_back.new.standings.items c.cut_to.new.self group back cut) in
     ready c.self.inside.setup.now c.push.new.self.items c.go_back.new.standings.items c.cut_to.new.self book
+
+pub choose_anew-requires-clause-stayed : goal.choose_anew-requires-clause-stayed
+choose_anew-requires-clause-stayed c =
+    let back = subst (λ (logs : List (List Event)). AreBehind c.self.inside.standings.items c.go_back.new.standings.items c.group-group.result.0 c.args.concerned.0 logs c.unlisted-counts.result) c.logs.ensures c.go_back.ensures in
+    subst (λ t. HaveStayed c.self.inside.setup.now t c.cut_to.new.self.stacks c.self.inside.choices.items c.args.concerned.0) (sym c.as_slice.ensures.value)
+    (chosen_still c.self.inside.setup.now c.self.inside.entries.items c.self.inside.standings.items c.go_back.new.standings.items c.self.inside.ledger c.cut_to.new.self c.self.inside.choices.items c.self.invariant.book c.self.invariant.chosen _ c.group-group.result.0 c.args.concerned.0 c.args.kept.now c.unlisted-counts.result back c.cut_to.ensures c.unlisted-counts.ensures)
 
 pub invariant_of-self-2 : goal.invariant_of-self-2
 invariant_of-self-2 c =

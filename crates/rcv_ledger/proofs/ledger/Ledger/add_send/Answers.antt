@@ -11,7 +11,7 @@ use Rattle.rcv_ledger.proofs.ledger.Ledger.add_send.Goals as goal
 
 pub returns-then-is_err-clause-err : goal.returns-then-is_err-clause-err
 returns-then-is_err-clause-err c =
-    let channels = put_undone c.self.inside.channels c.put.new.self c.unput.new.self c.args.event.role c.args.receiver _ c.in_ok-put.ensures.ok c.unput.ensures in
+    let channels = put_undone c.self.inside.channels c.put.new.self c.unput.new.self c.args.event.now.role c.args.receiver _ c.in_ok-put.ensures.ok c.unput.ensures in
     let logs = of_err _ c.add_event-added.result c.add_event-added.ensures.same_logs (sym c.if-is_err.ensures.value) in
     let stacks = of_err _ c.add_event-added.result c.add_event-added.ensures.same_stacks (sym c.if-is_err.ensures.value) in
     on_err _ c.add_event-added.result (
@@ -24,23 +24,23 @@ returns-then-is_err-clause-err c =
 pub returns-then-is_err-clause-room : goal.returns-then-is_err-clause-room
 returns-then-is_err-clause-room c has =
     c.add_event-added.ensures.room
-    (log_has_room c.self.inside.logs.items c.self.inside.channels c.self.inside.stacks.items (length c.self.inside.stacks.items) c.args.self.now c.args.event.role c.self.invariant c.self.view_is c.requires.role has.event)
-    (stack_has_room c.self.inside.logs.items c.self.inside.channels c.self.inside.stacks.items (length c.self.inside.stacks.items) c.args.self.now c.args.event.role c.self.invariant c.self.view_is c.requires.role has.event)
+    (log_has_room c.self.inside.logs.items c.self.inside.channels c.self.inside.stacks.items (length c.self.inside.stacks.items) c.args.self.now c.args.event.now.role c.self.invariant c.self.view_is c.requires.role has.event)
+    (stack_has_room c.self.inside.logs.items c.self.inside.channels c.self.inside.stacks.items (length c.self.inside.stacks.items) c.args.self.now c.args.event.now.role c.self.invariant c.self.view_is c.requires.role has.event)
 
 pub invariant_of-self-else-is_err : goal.invariant_of-self-else-is_err
 invariant_of-self-else-is_err c =
     let logs = of_ok _ c.add_event-added.result c.add_event-added.ensures.logs (sym c.if-is_err.ensures.value) in
     let stacks = of_ok _ c.add_event-added.result c.add_event-added.ensures.stacks (sym c.if-is_err.ensures.value) in
     still_ledger c.self.inside.logs.items c.add_event-added.new.logs.items c.self.inside.channels c.put.new.self (length c.self.inside.stacks.items) (length c.add_event-added.new.stacks.items) c.self.invariant
-    (same_count c.self.inside.logs.items c.add_event-added.new.logs.items (lists_in c.self.inside.logs.items) c.args.event.role _ logs refl)
+    (same_count c.self.inside.logs.items c.add_event-added.new.logs.items (lists_in c.self.inside.logs.items) c.args.event.now.role _ logs refl)
     c.add_event-added.ensures.rooms
     (ap (λ (l : ChannelsView). l.roles) c.in_ok-put.ensures.ok)
     (ap (λ (l : ChannelsView). l.room) c.in_ok-put.ensures.ok)
-    (ap length stacks ∙ length-set c.self.inside.stacks.items c.args.event.role _)
+    (ap length stacks ∙ length-set c.self.inside.stacks.items c.args.event.now.role _)
 
 pub invariant_of-self-then-is_err : goal.invariant_of-self-then-is_err
 invariant_of-self-then-is_err c =
-    let channels = put_undone c.self.inside.channels c.put.new.self c.unput.new.self c.args.event.role c.args.receiver _ c.in_ok-put.ensures.ok c.unput.ensures in
+    let channels = put_undone c.self.inside.channels c.put.new.self c.unput.new.self c.args.event.now.role c.args.receiver _ c.in_ok-put.ensures.ok c.unput.ensures in
     let logs = of_err _ c.add_event-added.result c.add_event-added.ensures.same_logs (sym c.if-is_err.ensures.value) in
     let stacks = of_err _ c.add_event-added.result c.add_event-added.ensures.same_stacks (sym c.if-is_err.ensures.value) in
     still_ledger c.self.inside.logs.items c.add_event-added.new.logs.items c.self.inside.channels c.unput.new.self (length c.self.inside.stacks.items) (length c.add_event-added.new.stacks.items) c.self.invariant

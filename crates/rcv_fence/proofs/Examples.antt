@@ -1,0 +1,33 @@
+-- Codes of the first and of the last pair, words that are no codes, and that a code tells its pair.
+use Rattle.std.proofs.Common.{◌≡◌, ℕ, refl, arith}
+use Rattle.rcv_fence.specs.Codes.{code, IsWord, IsPairOf}
+
+first_code : code 0 1 ≡ 1
+first_code = refl
+
+code_of_the_case : code 1 1 ≡ 257
+code_of_the_case = refl
+
+last_code : code 7 256 ≡ 2048
+last_code = refl
+
+no_further_word : IsWord 2049 → ⊥
+no_further_word low = omega arith
+
+-- 0 is no pair's code
+pub no_pair_of_0 : (role point : ℕ) → IsPairOf 0 role point → ⊥
+no_pair_of_0 role point pair = let is = pair.code_is in omega arith
+
+-- one word is the code of one pair
+pub pairs_are_told_apart : (word r q p s : ℕ) → IsPairOf word r p → IsPairOf word q s → (r ≡ q) × (p ≡ s)
+pairs_are_told_apart word r q p s a b =
+    let one = a.code_is in
+    let two = b.code_is in
+    let from = a.point_is.first in
+    let to = a.point_is.last in
+    let from' = b.point_is.first in
+    let to' = b.point_is.last in (omega arith, omega arith)
+
+-- each word but 0 is a code
+pub is_a_code : IsPairOf 300 1 44
+is_a_code = record { role_is = omega arith; point_is = record { first = omega arith; last = omega arith }; code_is = refl }

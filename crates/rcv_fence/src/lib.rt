@@ -1,0 +1,12 @@
+// A fence: one word that some watches write and all look at, on any threads, without waiting.
+#![tactic(auto)]
+
+mod rule;
+#[cfg(test)]
+mod tests;
+mod watch;
+
+pub use watch::{Watch, fence};
+
+/// Want of memory, which is the one error of the calls of this crate.
+pub use std::alloc::AllocError as Memory;

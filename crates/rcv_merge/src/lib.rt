@@ -1,0 +1,10 @@
+// Merging of a round's logs into one list: by stamp, then role, then position.
+#![tactic(auto)]
+
+mod round;
+#[cfg(test)]
+mod tests;
+
+pub use round::{TimedLogs, merge_round};
+/// Want of memory, which is the one error of this crate.
+pub use std::alloc::AllocError as Memory;

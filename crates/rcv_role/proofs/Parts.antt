@@ -1,0 +1,448 @@
+-- What a part keeps, what follows from it for what the role does next, and how it is kept.
+use Prim.Native.Nat.{zero, suc}
+use Rattle.std.proofs.Common.{◌≡◌, ◌≢◌, ℕ, ◌+◌, ◌*◌, ◌/◌, ◌<◌, ◌≤◌, Bool, true, false, cond, Option, Some, None, List, [], ◌∷◌, ◌++◌, length, take, refl, sym, ◌∙◌, ap, subst, ◌⊎◌, inl, inr, ⊎_elim, arith, length-append, eq-eqb, le_antisymm, mul-le-mul_right, div-mul-le_self, le-div_iff_mul-le}
+use Rattle.std.specs.Prelude.{ℤ, pos, min, ◌↔◌, IsTrue, IfSome, nat_le, nat_lt, slice_get, slice_index_or}
+use Rattle.std.specs.List.{All, cons_option, count_by}
+use Rattle.std.proofs.lemmas.Nat.{le-div}
+use Rattle.std.proofs.lemmas.Bool.{cases_lt}
+use Rattle.std.proofs.lemmas.List.{length-take, take-take}
+use Rattle.std.proofs.lemmas.List.Sums.{count_by-le-length}
+use Rattle.rcv_tree.specs.Bits.{IsPoint}
+use Rattle.rcv_tree.specs.declared.entry.Entry.TheVariants.{Crash}
+use Rattle.rcv_tree.specs.declared.entry.Timed.{Timed}
+use Rattle.rcv_tree.specs.declared.event.Event.{Event}
+use Rattle.rcv_tree.specs.declared.event.Dir.{Dir}
+use Rattle.rcv_tree.specs.declared.event.Dir.TheVariants.{Sent, Got}
+use Rattle.rcv_model.specs.Net.{Net, IsIn, last_of}
+use Rattle.rcv_model.specs.Run.{acts, place_of, taken, takes_on}
+use Rattle.rcv_model.specs.Next.{AreNext, IsPlaceOf, IsProper, IsAccepted, IsNext}
+use Rattle.rcv_model.specs.Plan.{PlanLine, crashes_in}
+use Rattle.rcv_model.specs.Script.{pick, number_for}
+use Rattle.rcv_model.proofs.Choosing.{chosen_in}
+use Rattle.rcv_model.proofs.Forms.{proper}
+use Rattle.rcv_model.proofs.Keeping.{is_recv}
+use Rattle.rcv_model.proofs.Lists.{some_same}
+use Rattle.rcv_model.proofs.Steps.{not_taken}
+use Rattle.rcv_model.proofs.Walks.{walk_back}
+use Rattle.rcv_theory.specs.Own.{Own, own_place, own_event, own_after, own_back, IsOwnDue, MayOwnSend}
+use Rattle.rcv_plan.proofs.Few.{plans_are_short}
+use Rattle.rcv_session.specs.Session.{SessionView, text_of, roles_of, net_for, lines_of, rules_of, IsPointOf}
+use Rattle.rcv_checkpoint.specs.declared.state.State.{State}
+use Rattle.rcv_checkpoint.specs.Stack.{StackView, held, with_states, IsDurable}
+use Rattle.rcv_ledger.specs.Ledger.{state_behind, AreStates}
+use Rattle.rcv_ledger.proofs.Lists.{get_left, get_end, get_within, get_taken, get_more, take_left, take_whole}
+use Rattle.rcv_core.specs.Setup.{vars_by, vars_behind}
+use Rattle.rcv_core.proofs.Books.{two_ends, less_by, low_role}
+use Rattle.rcv_core.proofs.Pushing.{behind_told}
+use Rattle.rcv_core.proofs.Ranges.{ranges}
+use Rattle.rcv_role.specs.Part.{PartView, IsOwn, AreOwn, IsOwnSend, Offers, AllSends, AllRecvs, IsBelow, HasNoStrangers, HoldsStates, IsPart, with_crash, point_in}
+
+abbrev pub IsPartOf : PartView → StackView → Type 0
+IsPartOf p stack = IsPart p.setup p.role p.own p.held stack
+
+-- one more event of the role behind another
+acts_cons : (r : ℕ) (e : Event) (h : List Event) → e.role ≡ r → acts r (e ∷ h) ≡ record { dir = e.dir; point = e.point } ∷ acts r h
+acts_cons r e h f = ap (λ b. cons_option (cond b (Some (record { dir = e.dir; point = e.point })) None) (acts r h)) (eq-eqb e.role r f)
+
+-- the place behind the role's own events is one of it
+place_from : (setup : SessionView) (r k : ℕ) (events : List Event) → IsPlaceOf (net_for setup) r k → AreOwn setup r events → IsPlaceOf (net_for setup) r (place_of k (acts r events))
+place_from setup r k [] here own = here
+place_from setup r k (e ∷ events) here own =
+    let o = own zero e refl in
+    subst (λ l. IsPlaceOf (net_for setup) r (place_of k l)) (sym (acts_cons r e events o.role)) (place_from setup r e.point events (inr (o.first, o.last, o.of)) (λ n. own (suc n)))
+
+-- the role takes nothing from itself or from an undeclared role
+else_takes : (net : Net) (t r : ℕ) (e : Event) → (net.sender e.point ≡ t → ⊥) → takes_on net t r e ≡ false
+else_takes net t r e n = go (takes_on net t r e) refl
+  where
+    go : (b : Bool) → takes_on net t r e ≡ b → b ≡ false
+    go true f = absurd (n (is_recv net t r e f).2)
+    go false f = refl
+
+takes_none : (setup : SessionView) (r t : ℕ) (e : Event) → (t ≡ r) ⊎ (roles_of setup ≤ t) → IsOwn setup r e → (d : Dir) → e.dir ≡ d → takes_on (net_for setup) t r e ≡ false
+takes_none setup r t e out own Sent f = not_taken (net_for setup) t r e f
+takes_none setup r t e out own Got f = else_takes (net_for setup) t r e (apart out)
+  where
+    apart : (t ≡ r) ⊎ (roles_of setup ≤ t) → (net_for setup).sender e.point ≡ t → ⊥
+    apart (inl g) h = (own.partner f).0 (h ∙ g)
+    apart (inr le) h = let l = (own.partner f).1 in omega (arith, l, le, h)
+
+no_strangers : (setup : SessionView) (r t : ℕ) (events : List Event) → (t ≡ r) ⊎ (roles_of setup ≤ t) → AreOwn setup r events → taken (net_for setup) t r events ≡ []
+no_strangers setup r t [] out own = refl
+no_strangers setup r t (e ∷ events) out own =
+    ap (λ b. cons_option (cond b (Some (record { point = e.point; value = e.value; stamp = e.sent })) None) (taken (net_for setup) t r events)) (takes_none setup r t e out (own zero e refl) e.dir refl)
+    ∙ no_strangers setup r t events out (λ n. own (suc n))
+
+-- one state more, and fewer
+more_states : (vars : ℕ → List Event → List ℤ) (r : ℕ) (es : List Event) (e : Event) (states : List State) (state : State) → AreStates vars r es states → state ≡ state_behind vars r (es ++ e ∷ []) → AreStates vars r (es ++ e ∷ []) (states ++ state ∷ [])
+more_states vars r es e states state are behind = record {
+  all = (let a = are.all in let b = length-append states (state ∷ []) in let c = length-append es (e ∷ []) in omega (arith, a, b, c));
+  each = λ n le. each n le (cases_lt n (length states));
+}
+  where
+    each : (n : ℕ) → n ≤ length (es ++ e ∷ []) → (n < length states) ⊎ (length states ≤ n) → slice_get (states ++ state ∷ []) n ≡ Some (state_behind vars r (take n (es ++ e ∷ [])))
+    each n le (inl lt) =
+        let within : n ≤ length es = (let a = are.all in omega (arith, lt, a)) in
+        get_left states (state ∷ []) n lt ∙ are.each n within ∙ ap (λ l. Some (state_behind vars r l)) (sym (take_left es (e ∷ []) n within))
+    each n le (inr high) =
+        let here : n ≡ length states = (let a = are.all in let c = length-append es (e ∷ []) in omega (arith, le, high, a, c)) in
+        let there : length (es ++ e ∷ []) ≡ n = (let a = are.all in let c = length-append es (e ∷ []) in omega (arith, here, a, c)) in
+        ap (slice_get (states ++ state ∷ [])) here
+        ∙ get_end states state
+        ∙ ap Some behind
+        ∙ ap (λ l. Some (state_behind vars r l)) (sym (take_whole (es ++ e ∷ [])))
+        ∙ ap (λ k. Some (state_behind vars r (take k (es ++ e ∷ [])))) there
+
+fewer_states : (vars : ℕ → List Event → List ℤ) (r c : ℕ) (es : List Event) (states : List State) → AreStates vars r es states → c ≤ length es → AreStates vars r (take c es) (take (c + 1) states)
+fewer_states vars r c es states are le = record {
+  all = (let a = are.all in let x = length-take (c + 1) states in let y = length-take c es in omega (arith, a, x, y, le));
+  each = λ n within.
+      let low : n ≤ c = (let y = length-take c es in omega (arith, within, y)) in
+      get_within (c + 1) states n (omega (arith, low))
+      ∙ are.each n (omega (arith, low, le))
+      ∙ ap (λ l. Some (state_behind vars r l)) (sym (take-take n c es low));
+}
+
+-- the greatest multiple is what a division leaves
+durable_is : (n every count : ℕ) → 0 < every → (k : ℕ) → k * every ≡ count → count ≤ n → ((other : ℕ) → ((i : ℕ) × (i * every ≡ other)) → other ≤ n → other ≤ count) → count ≡ n / every * every
+durable_is n every count some k is within greatest =
+    let low : k ≤ n / every = (le-div_iff_mul-le {k = every} {x = k} {y = n} some).1 (subst (λ c. c ≤ n) (sym is) within) in
+    let below : count ≤ n / every * every = subst (λ c. c ≤ n / every * every) is (mul-le-mul_right {m = k} {n = n / every} every low) in
+    le_antisymm below (greatest (n / every * every) (n / every, refl) (div-mul-le_self n every))
+
+-- fewer events, fewer saved ones
+saved_less : (m n every : ℕ) → 0 < every → m ≤ n → m / every * every ≤ n / every * every
+saved_less m n every some le = mul-le-mul_right {m = m / every} {n = n / every} every (le-div (m / every) n every some (let a = div-mul-le_self m every in omega (arith, a, le)))
+
+module _ (p : PartView) (stack : StackView) (part : IsPartOf p stack) where
+  pub place_is : IsPlaceOf (net_for p.setup) p.role (own_place p.role p.own)
+  place_is = place_from p.setup p.role 0 p.own.events (inl refl) part.sound
+
+  pub strangers_none : HasNoStrangers p
+  strangers_none t out = no_strangers p.setup p.role t p.own.events out part.sound
+
+  pub holds_states : HoldsStates p
+  holds_states = record { within = part.within; running = part.running; saved = part.saved }
+
+  steps : 0 < (rules_of p.setup).every p.role
+  steps = let a = (ranges p.setup part.planned).every_first p.role in omega (arith, a)
+
+  -- where the role runs, all states are held, and the last one is the present one
+  module _ (running : p.own.crashed ≡ false) where
+    all_held : AreStates (vars_by p.setup) p.role p.own.events stack.states
+    all_held = subst (λ l. AreStates (vars_by p.setup) p.role l stack.states) (ap (λ k. take k p.own.events) (part.running running) ∙ take_whole p.own.events) part.states
+
+    pub top_is : (x : State) → slice_get stack.states (held stack) ≡ Some x → x ≡ state_behind (vars_by p.setup) p.role p.own.events
+    top_is x at = some_same (
+        sym at
+        ∙ ap (slice_get stack.states) (sym part.count_is ∙ part.running running)
+        ∙ all_held.each (length p.own.events) (omega arith)
+        ∙ ap (λ l. Some (state_behind (vars_by p.setup) p.role l)) (take_whole p.own.events))
+
+    pub top_place : (x : State) → slice_get stack.states (held stack) ≡ Some x → IsPlaceOf (net_for p.setup) p.role x.k
+    top_place x at = subst (λ (y : State). IsPlaceOf (net_for p.setup) p.role y.k) (sym (top_is x at)) place_is
+
+    pub top_offers : (x : State) (zs : List ℕ) → slice_get stack.states (held stack) ≡ Some x → AreNext (net_for p.setup) p.role x.k zs → Offers p zs
+    top_offers x zs at next = subst (λ (y : State). AreNext (net_for p.setup) p.role y.k zs) (top_is x at) next
+
+    pub top_vars : (x : State) → slice_get stack.states (held stack) ≡ Some x → x.vars ≡ vars_by p.setup p.role p.own.events
+    top_vars x at = ap (λ (y : State). y.vars) (top_is x at)
+
+    pub next_state : (e : Event) (x state : State) → IsOwn p.setup p.role e → slice_get stack.states (held stack) ≡ Some x → state.k ≡ e.point → state.vars ≡ vars_behind p.setup e x.vars → state ≡ state_behind (vars_by p.setup) p.role (p.own.events ++ e ∷ [])
+    next_state e x state own at point vars =
+        subst (λ q. state ≡ state_behind (vars_by p.setup) q (p.own.events ++ e ∷ [])) own.role
+        (behind_told p.setup p.own.events e state point (vars ∙ ap (vars_behind p.setup e) (top_vars x at ∙ ap (λ q. vars_by p.setup q p.own.events) (sym own.role))))
+
+    pub part_more : (e : Event) (state : State) → IsOwn p.setup p.role e → IsBelow p → state ≡ state_behind (vars_by p.setup) p.role (p.own.events ++ e ∷ []) → IsPart p.setup p.role (own_event p.own e) (p.held + 1) (with_states stack (stack.states ++ state ∷ []))
+    part_more e state own below behind = record {
+      protocol = part.protocol;
+      planned = part.planned;
+      declared = part.declared;
+      sound = λ n y at. ⊎_elim (λ f. part.sound n y f) (λ f. subst (IsOwn p.setup p.role) f own) (get_more p.own.events e y n at);
+      within = let r = part.running running in omega (arith, r, more);
+      states = subst (λ l. AreStates (vars_by p.setup) p.role l (stack.states ++ state ∷ [])) (sym (ap (λ k. take k (p.own.events ++ e ∷ [])) (let r = part.running running in omega (arith, r, more)) ∙ take_whole (p.own.events ++ e ∷ []))) (more_states (vars_by p.setup) p.role p.own.events e stack.states state all_held behind);
+      count_is = let c = part.count_is in let a = all_held.all in let b = length-append stack.states (state ∷ []) in omega (arith, c, a, b);
+      saved = let r = part.running running in let d = div-mul-le_self (length (p.own.events ++ e ∷ [])) ((rules_of p.setup).every p.role) in omega (arith, r, more, d);
+      running = λ f. let r = part.running running in omega (arith, r, more);
+      every_is = part.every_is;
+      room_is = part.room_is;
+      few = let f = part.few in omega (arith, f, more);
+      most = let b = below.raw in omega (arith, b);
+    }
+      where
+        more : length (p.own.events ++ e ∷ []) ≡ length p.own.events + 1
+        more = length-append p.own.events (e ∷ [])
+
+    pub saved_is : (count : ℕ) → IsDurable stack count → count ≡ length p.own.events / (rules_of p.setup).every p.role * (rules_of p.setup).every p.role
+    saved_is count durable =
+        let e : held stack ≡ length p.own.events = sym part.count_is ∙ part.running running in
+        durable_is (length p.own.events) ((rules_of p.setup).every p.role) count steps durable.multiple.0
+        (ap (λ n. durable.multiple.0 * n) (sym part.every_is) ∙ durable.multiple.1)
+        (let w = durable.within in omega (arith, w, e))
+        (λ other m le. durable.greatest other (m.0, ap (λ n. m.0 * n) part.every_is ∙ m.1) (omega (arith, le, e)))
+
+    pub part_crashed : (count : ℕ) → IsDurable stack count → IsPart p.setup p.role (own_after p.own (Crash p.role)) count (with_states stack (take (count + 1) stack.states))
+    part_crashed count durable = record {
+      protocol = part.protocol;
+      planned = part.planned;
+      declared = part.declared;
+      sound = part.sound;
+      within = low;
+      states = fewer_states (vars_by p.setup) p.role count p.own.events stack.states all_held low;
+      count_is = let a = all_held.all in let x = length-take (count + 1) stack.states in omega (arith, a, x, low);
+      saved = let s = saved_is count durable in omega (arith, s);
+      running = λ f. absurd (cc);
+      every_is = part.every_is;
+      room_is = part.room_is;
+      few = part.few;
+      most = part.most;
+    }
+      where
+        low : count ≤ length p.own.events
+        low = let s = saved_is count durable in let d = div-mul-le_self (length p.own.events) ((rules_of p.setup).every p.role) in omega (arith, s, d)
+
+  -- a role that is due has fewer crashes than lines
+  pub few_crashes : IsOwnDue (rules_of p.setup) p.role p.own → p.own.crashes < 100001
+  few_crashes due =
+      let lines = crashes_in p.setup.plan p.role in
+      let a = due.1 in
+      let b = count_by-le-length (λ n. nat_le n p.own.raw) lines in
+      let c = plans_are_short.role (roles_of p.setup) p.setup.plan p.role part.planned in
+      omega (arith, a, b, c)
+
+  -- fewer events
+  sound_first : (keep : ℕ) → AreOwn p.setup p.role (take keep p.own.events)
+  sound_first keep n e at = part.sound n e (get_taken keep p.own.events n e at)
+
+  pub part_back : (keep clock : ℕ) → keep ≤ p.held → IsPart p.setup p.role (own_back p.own keep true clock) keep (with_states stack (take (keep + 1) stack.states))
+  part_back keep clock le = record {
+    protocol = part.protocol;
+    planned = part.planned;
+    declared = part.declared;
+    sound = sound_first keep;
+    within = omega (arith, size);
+    states = subst (λ l. AreStates (vars_by p.setup) p.role l (take (keep + 1) stack.states)) (take-take keep p.held p.own.events le ∙ sym (take-take keep keep p.own.events (omega arith))) (fewer_states (vars_by p.setup) p.role keep (take p.held p.own.events) stack.states part.states (let l = length-take p.held p.own.events in let w = part.within in omega (arith, l, w, le)));
+    count_is = let a = part.states.all in let l = length-take p.held p.own.events in let w = part.within in let x = length-take (keep + 1) stack.states in omega (arith, a, l, w, x, le);
+    saved = let d = div-mul-le_self (length (take keep p.own.events)) ((rules_of p.setup).every p.role) in omega (arith, d, size);
+    running = λ f. sym size;
+    every_is = part.every_is;
+    room_is = part.room_is;
+    few = let f = part.few in let w = part.within in omega (arith, f, size, w, le);
+    most = part.most;
+  }
+    where
+      size : length (take keep p.own.events) ≡ keep
+      size = let l = length-take keep p.own.events in let w = part.within in omega (arith, l, w, le)
+
+  pub part_cut : (keep clock : ℕ) → p.own.crashed ≡ true → keep ≤ length p.own.events → IsPart p.setup p.role (own_back p.own keep false clock) (min keep p.held) (with_states stack (take (min keep p.held + 1) stack.states))
+  part_cut keep clock crashed le = record {
+    protocol = part.protocol;
+    planned = part.planned;
+    declared = part.declared;
+    sound = sound_first keep;
+    within = omega (arith, size);
+    states = subst (λ l. AreStates (vars_by p.setup) p.role l (take (min keep p.held + 1) stack.states)) (take-take (min keep p.held) p.held p.own.events (omega arith) ∙ sym (take-take (min keep p.held) keep p.own.events (omega arith))) (fewer_states (vars_by p.setup) p.role (min keep p.held) (take p.held p.own.events) stack.states part.states (let l = length-take p.held p.own.events in let w = part.within in omega (arith, l, w)));
+    count_is = let a = part.states.all in let l = length-take p.held p.own.events in let w = part.within in let x = length-take (min keep p.held + 1) stack.states in omega (arith, a, l, w, x);
+    saved = let s = part.saved in let d = div-mul-le_self (length (take keep p.own.events)) ((rules_of p.setup).every p.role) in let m = saved_less (length (take keep p.own.events)) (length p.own.events) ((rules_of p.setup).every p.role) steps (omega (arith, size, le)) in omega (arith, s, d, m, size);
+    running = λ f. absurd (cc);
+    every_is = part.every_is;
+    room_is = part.room_is;
+    few = let f = part.few in omega (arith, f, size, le);
+    most = part.most;
+  }
+    where
+      size : length (take keep p.own.events) ≡ keep
+      size = let l = length-take keep p.own.events in omega (arith, l, le)
+
+-- the part's Send with this point and number
+abbrev pub sent_event : PartView → ℕ → ℤ → Event
+sent_event p point value = record { role = p.role; dir = Sent; point = point; value = value; stamp = p.own.clock + 1; sent = p.own.clock + 1 }
+
+module _ (p : PartView) (stack : StackView) (zs : List ℕ) (part : IsPartOf p stack) (offers : Offers p zs) where
+  known : IsProper (net_for p.setup) (roles_of p.setup)
+  known = proper (text_of p.setup) (roles_of p.setup) part.protocol.form
+
+  accepted : IsAccepted (net_for p.setup) (roles_of p.setup)
+  accepted = part.protocol.accepted
+
+  here : IsPlaceOf (net_for p.setup) p.role (own_place p.role p.own)
+  here = place_is p stack part
+
+  -- a next point is one of the text
+  pub text_point : (z : ℕ) → IsIn z zs → (1 ≤ z) × (z ≤ (net_for p.setup).count) × ((net_for p.setup).sender z < roles_of p.setup) × ((net_for p.setup).receiver z < roles_of p.setup)
+  text_point z i =
+      let next : IsNext (net_for p.setup) p.role (own_place p.role p.own) z = offers.sound z i in
+      let on : IsIn z ((net_for p.setup).offers (last_of (own_place p.role p.own) next.way)) = (walk_back (net_for p.setup) (own_place p.role p.own) next.way (z ∷ []) next.walk).0 in
+      let k : ℕ = last_of (own_place p.role p.own) next.way in
+      ((known.in_text k z on).0, (known.in_text k z on).1, known.senders k z on, known.receivers k z on)
+
+  -- next points are all sends, or all receives from one role
+  pub all_sends : (x : ℕ) → IsIn x zs → (net_for p.setup).sender x ≡ p.role → AllSends p zs
+  all_sends x i e z j = ⊎_elim (λ f. f) (λ f. absurd (accepted.unmixed p.role _ x z part.declared here (offers.sound x i) (offers.sound z j) e f)) (offers.sound z j).own
+
+  pub all_recvs : (x : ℕ) → IsIn x zs → ((net_for p.setup).sender x ≡ p.role → ⊥) → AllRecvs p zs ((net_for p.setup).sender x)
+  all_recvs x i n = record {
+    receives = λ z j.
+        let g : (net_for p.setup).receiver x ≡ p.role = ⊎_elim (λ f. absurd (n f)) (λ f. f) (offers.sound x i).own in
+        let h : (net_for p.setup).receiver z ≡ p.role = ⊎_elim (λ f. absurd (accepted.unmixed p.role _ z x part.declared here (offers.sound z j) (offers.sound x i) f g)) (λ f. f) (offers.sound z j).own in
+        (h, accepted.one_sender p.role _ z x part.declared here (offers.sound z j) (offers.sound x i) h g);
+    apart = n;
+    declared = (text_point x i).2;
+  }
+
+  module _ (x : State) (running : p.own.crashed ≡ false) (at : slice_get stack.states (held stack) ≡ Some x) (point : ℕ) (value : ℤ) (some : zs ≢ []) (sends : AllSends p zs) (chosen : point ≡ pick (net_for p.setup) (lines_of p.setup p.role) x.vars p.own.attempt zs) where
+    pub among : IsIn point zs
+    among = subst (λ z. IsIn z zs) (sym (chosen ∙ ap (λ v. pick (net_for p.setup) (lines_of p.setup p.role) v p.own.attempt zs) (top_vars p stack part running x at))) (chosen_in (net_for p.setup) (lines_of p.setup) p.role p.own.events p.own.attempt zs some)
+
+    pub may_send : (IsOwnDue (rules_of p.setup) p.role p.own → ⊥) → IsBelow p → value ≡ number_for ((net_for p.setup).label point) (lines_of p.setup p.role) x.vars p.own.attempt → MayOwnSend (rules_of p.setup) p.own (sent_event p point value)
+    may_send calm below number = record {
+      free = record { declared = part.declared; running = running; not_due = calm; below_limit = below.raw };
+      offered = zs;
+      next = offers;
+      sends = sends;
+      is_send = refl;
+      among = among;
+      point = chosen ∙ ap (λ v. pick (net_for p.setup) (lines_of p.setup p.role) v p.own.attempt zs) (top_vars p stack part running x at);
+      value = number ∙ ap (λ v. number_for ((net_for p.setup).label point) (lines_of p.setup p.role) v p.own.attempt) (top_vars p stack part running x at);
+      stamp = refl;
+      sent = refl;
+    }
+
+    pub own_send : IsBelow p → IsOwnSend p (sent_event p point value)
+    own_send below = record {
+      own = record { role = refl; first = (text_point point among).0; last = (text_point point among).1; of = inl (sends point among); partner = λ e. absurd (cc) };
+      dir = refl;
+      sender = sends point among;
+      receiver = (text_point point among).3;
+      apart = λ e. two_ends p.setup part.protocol point (sends point among ∙ sym e);
+      stamp = let low = below.clock in omega (arith, low);
+    }
+
+in_at : (zs : List ℕ) (k d : ℕ) → k < length zs → IsIn (slice_index_or zs k d) zs
+in_at [] k d lt = absurd (omega (arith, lt))
+in_at (z ∷ zs) zero d lt = inl refl
+in_at (z ∷ zs) (suc k) d lt = inr (in_at zs k d (omega (arith, lt)))
+
+-- the same of the part as contracts see it
+module _ (v q : PartView) (stack : StackView) (is : v ≡ q) (part : IsPartOf v stack) where
+  pub seen : IsPartOf q stack
+  seen = subst (λ p. IsPartOf p stack) is part
+
+  pub seen_place : (x : State) → q.own.crashed ≡ false → slice_get stack.states (held stack) ≡ Some x → IsPlaceOf (net_for v.setup) v.role x.k
+  seen_place x running at = subst (λ (p : PartView). IsPlaceOf (net_for p.setup) p.role x.k) (sym is) (top_place q stack seen running x at)
+
+  pub seen_offers : (x : State) (zs : List ℕ) → q.own.crashed ≡ false → slice_get stack.states (held stack) ≡ Some x → AreNext (net_for v.setup) v.role x.k zs → Offers q zs
+  seen_offers x zs running at next = top_offers q stack seen running x zs at (subst (λ (p : PartView). AreNext (net_for p.setup) p.role x.k zs) is next)
+
+  pub seen_state : (e : Event) (x state : State) → q.own.crashed ≡ false → IsOwn q.setup q.role e → slice_get stack.states (held stack) ≡ Some x → state.k ≡ e.point → state.vars ≡ vars_behind v.setup e x.vars → state ≡ state_behind (vars_by q.setup) q.role (q.own.events ++ e ∷ [])
+  seen_state e x state running own at point vars = next_state q stack seen running e x state own at point (subst (λ (p : PartView). state.vars ≡ vars_behind p.setup e x.vars) is vars)
+
+  module _ (zs : List ℕ) (offers : Offers q zs) where
+    pub offered_point : (z : ℕ) → IsIn z zs → IsPointOf v.setup z
+    offered_point z i = subst (λ (p : PartView). IsPointOf p.setup z) (sym is) (let t = text_point q stack zs seen offers z i in record { first = t.0; last = t.1 })
+
+    pub offered_points : All (IsPointOf v.setup) zs
+    offered_points k d lt = offered_point (slice_index_or zs k d) (in_at zs k d lt)
+
+    module _ (x : State) (running : q.own.crashed ≡ false) (at : slice_get stack.states (held stack) ≡ Some x) (point : ℕ) (some : zs ≢ []) (sends : AllSends q zs) (chosen : point ≡ pick (net_for v.setup) (lines_of v.setup v.role) x.vars v.own.attempt zs) where
+      chosen_now : point ≡ pick (net_for q.setup) (lines_of q.setup q.role) x.vars q.own.attempt zs
+      chosen_now = subst (λ (p : PartView). point ≡ pick (net_for p.setup) (lines_of p.setup p.role) x.vars p.own.attempt zs) is chosen
+
+      pub chosen_point : IsPointOf v.setup point
+      chosen_point = offered_point point (among q stack zs seen offers x running at point (pos 0) some sends chosen_now)
+
+      pub sent_may : (value : ℤ) → (IsOwnDue (rules_of q.setup) q.role q.own → ⊥) → IsBelow q → value ≡ number_for ((net_for v.setup).label point) (lines_of v.setup v.role) x.vars v.own.attempt → MayOwnSend (rules_of q.setup) q.own (sent_event v point value)
+      sent_may value calm below number =
+          subst (λ (p : PartView). MayOwnSend (rules_of q.setup) q.own (sent_event p point value)) (sym is)
+          (may_send q stack zs seen offers x running at point value some sends chosen_now calm below (subst (λ (p : PartView). value ≡ number_for ((net_for p.setup).label point) (lines_of p.setup p.role) x.vars p.own.attempt) is number))
+
+      pub sent_own : (value : ℤ) → IsBelow q → IsOwnSend q (sent_event v point value)
+      sent_own value below = subst (λ (p : PartView). IsOwnSend q (sent_event p point value)) (sym is) (own_send q stack zs seen offers x running at point value some sends chosen_now below)
+
+    pub whose_sends : (x sender : ℕ) → IsIn x zs → sender ≡ (net_for v.setup).sender x → sender ≡ v.role → AllSends q zs
+    whose_sends x sender i e g = all_sends q stack zs seen offers x i (subst (λ (p : PartView). (net_for p.setup).sender x ≡ p.role) is (sym e ∙ g))
+
+    pub whose_recvs : (x sender : ℕ) → IsIn x zs → sender ≡ (net_for v.setup).sender x → (sender ≡ v.role → ⊥) → AllRecvs q zs sender
+    whose_recvs x sender i e n =
+        let f : sender ≡ (net_for q.setup).sender x = subst (λ (p : PartView). sender ≡ (net_for p.setup).sender x) is e in
+        subst (AllRecvs q zs) (sym f) (all_recvs q stack zs seen offers x i (λ h. n (f ∙ h ∙ ap (λ (p : PartView). p.role) (sym is))))
+
+  -- what was asked of the part as contracts see it is asked of its fields
+  pub fields : (P : PartView → Type 0) → P q → P v
+  fields P x = subst P (sym is) x
+
+  -- a test of crash lines
+  pub due_is : (plan : List PlanLine) (b : Bool) → q.own.crashed ≡ false → plan ≡ v.setup.plan → b ≡ nat_lt v.own.crashes (count_by (λ n. nat_le n v.own.raw) (crashes_in plan v.role)) → IsTrue b ↔ IsOwnDue (rules_of q.setup) q.role q.own
+  due_is plan b running same e =
+      let calm : v.own.crashed ≡ false = fields (λ p. p.own.crashed ≡ false) running in
+      let t = less_by v.own.crashes (count_by (λ n. nat_le n v.own.raw) (crashes_in v.setup.plan v.role)) b (e ∙ ap (λ (l : List PlanLine). nat_lt v.own.crashes (count_by (λ n. nat_le n v.own.raw) (crashes_in l v.role))) same) in
+      subst (λ (p : PartView). IsTrue b ↔ IsOwnDue (rules_of p.setup) p.role p.own) is ((λ u. (calm, t.0 u)), λ d. t.1 d.1)
+
+-- the same of other own numbers, as far as a part keeps something of them
+pub same_part : (setup : SessionView) (r : ℕ) (own own' : Own) (count : ℕ) (stack stack' : StackView) → IsPart setup r own count stack → own'.events ≡ own.events → own'.raw ≡ own.raw → (own'.crashed ≡ false → own.crashed ≡ false) → stack' ≡ stack → IsPart setup r own' count stack'
+same_part setup r own own' count stack stack' part events raw runs same = subst (IsPart setup r own' count) (sym same) (record {
+  protocol = part.protocol;
+  planned = part.planned;
+  declared = part.declared;
+  sound = subst (AreOwn setup r) (sym events) part.sound;
+  within = subst (λ (l : List Event). count ≤ length l) (sym events) part.within;
+  states = subst (λ (l : List Event). AreStates (vars_by setup) r (take count l) stack.states) (sym events) part.states;
+  count_is = part.count_is;
+  saved = subst (λ (l : List Event). length l / (rules_of setup).every r * (rules_of setup).every r ≤ count) (sym events) part.saved;
+  running = λ f. part.running (runs f) ∙ ap length (sym events);
+  every_is = part.every_is;
+  room_is = part.room_is;
+  few = let f = part.few in let e = ap length events in omega (arith, f, e, raw);
+  most = let m = part.most in omega (arith, m, raw);
+})
+
+-- the part's fields behind an event, behind a crash, and behind a recovery
+module _ (v q : PartView) (stack stack' : StackView) (is : v ≡ q) (part : IsPartOf v stack) where
+  pub more_is : (e : Event) (state : State) (own' : Own) → q.own.crashed ≡ false → IsOwn q.setup q.role e → IsBelow q → state ≡ state_behind (vars_by q.setup) q.role (q.own.events ++ e ∷ []) → stack' ≡ with_states stack (stack.states ++ state ∷ []) → own'.events ≡ v.own.events ++ e ∷ [] → own'.raw ≡ v.own.raw + 1 → own'.crashed ≡ v.own.crashed → IsPart v.setup v.role own' (v.held + 1) stack'
+  more_is e state own' running own below behind same events raw crashed =
+      same_part v.setup v.role (own_event v.own e) own' (v.held + 1) (with_states stack (stack.states ++ state ∷ [])) stack'
+      (part_more v stack part (fields v q stack is part (λ p. p.own.crashed ≡ false) running) e state (fields v q stack is part (λ p. IsOwn p.setup p.role e) own) (fields v q stack is part IsBelow below) (fields v q stack is part (λ p. state ≡ state_behind (vars_by p.setup) p.role (p.own.events ++ e ∷ [])) behind))
+      events raw (λ f. sym crashed ∙ f) same
+
+  pub crashed_is : (count : ℕ) (own' : Own) → IsOwnDue (rules_of q.setup) q.role q.own → IsDurable stack count → stack' ≡ with_states stack (take (count + 1) stack.states) → own'.events ≡ v.own.events → own'.raw ≡ v.own.raw → own'.crashed ≡ true → IsPart v.setup v.role own' count stack'
+  crashed_is count own' due durable same events raw crashed =
+      same_part v.setup v.role (own_after v.own (Crash v.role)) own' count (with_states stack (take (count + 1) stack.states)) stack'
+      (part_crashed v stack part (fields v q stack is part (λ p. p.own.crashed ≡ false) due.0) count durable)
+      events raw (λ f. absurd (let g = sym crashed ∙ f in cc)) same
+
+  pub crashed_view : (count : ℕ) (log : List Timed) → IsOwnDue (rules_of q.setup) q.role q.own → IsDurable stack count → log ≡ v.log ++ record { stamp = v.own.clock; step = Crash v.role } ∷ [] → record { setup = v.setup; role = v.role; own = own_after v.own (Crash v.role); held = count; log = log } ≡ with_crash q
+  crashed_view count log due durable logged =
+      ap (λ (x : ℕ × List Timed). record { setup = v.setup; role = v.role; own = own_after v.own (Crash v.role); held = x.0; log = x.1 }) (λ i. (saved_is v stack part (fields v q stack is part (λ p. p.own.crashed ≡ false) due.0) count durable i, logged i))
+      ∙ ap with_crash is
+
+  pub few_crashes_is : IsOwnDue (rules_of q.setup) q.role q.own → v.own.crashes < 100001
+  few_crashes_is due = few_crashes v stack part (fields v q stack is part (λ p. IsOwnDue (rules_of p.setup) p.role p.own) due)
+
+  pub back_is : (keep clock : ℕ) (own' : Own) → keep ≤ q.held → stack' ≡ with_states stack (take (keep + 1) stack.states) → own'.events ≡ take keep v.own.events → own'.raw ≡ v.own.raw → IsPart v.setup v.role own' keep stack'
+  back_is keep clock own' le same events raw =
+      same_part v.setup v.role (own_back v.own keep true clock) own' keep (with_states stack (take (keep + 1) stack.states)) stack'
+      (part_back v stack part keep clock (fields v q stack is part (λ p. keep ≤ p.held) le))
+      events raw (λ f. refl) same
+
+  pub cut_is : (keep clock count : ℕ) (own' : Own) → count ≡ min keep v.held → q.own.crashed ≡ true → keep ≤ length q.own.events → stack' ≡ with_states stack (take (count + 1) stack.states) → own'.events ≡ take keep v.own.events → own'.raw ≡ v.own.raw → own'.crashed ≡ v.own.crashed → IsPart v.setup v.role own' count stack'
+  cut_is keep clock count own' least crashed le same events raw stays =
+      subst (λ n. IsPart v.setup v.role own' n stack') (sym least)
+      (same_part v.setup v.role (own_back v.own keep false clock) own' (min keep v.held) (with_states stack (take (min keep v.held + 1) stack.states)) stack'
+      (part_cut v stack part keep clock (fields v q stack is part (λ p. p.own.crashed ≡ true) crashed) (fields v q stack is part (λ p. keep ≤ length p.own.events) le))
+      events raw (λ f. sym stays ∙ f) (same ∙ ap (λ n. with_states stack (take (n + 1) stack.states)) least))
+
+-- the events of a part are at points that a set can hold
+pub event_point : (v q : PartView) (stack : StackView) (n : ℕ) (o : Option ℕ) → v ≡ q → IsPartOf v stack → o ≡ point_in (slice_get q.own.events n) → IfSome o IsPoint
+event_point v q stack n o is part e = subst (λ (x : Option ℕ). IfSome x IsPoint) (sym e) (go (slice_get q.own.events n) refl)
+  where
+    go : (x : Option Event) → slice_get q.own.events n ≡ x → IfSome (point_in x) IsPoint
+    go None at = tt
+    go (Some e) at =
+        let kept = seen v q stack is part in
+        let own = kept.sound n e at in
+        let few = kept.protocol.form.few_points in
+        let last = own.last in
+        record { first = own.first; last = omega (arith, few, last) }
+
+pub low : (v q : PartView) (stack : StackView) → v ≡ q → IsPartOf v stack → q.role < 8
+low v q stack is part = subst (λ (p : PartView). p.role < 8) is (low_role v.setup v.role part.protocol part.declared)

@@ -1,0 +1,11 @@
+-- A part keeps its facts with fewer events.
+use Rattle.std.proofs.Common.{rules, refl}
+use Rattle.rcv_role.proofs.Parts.{back_is}
+use Rattle.rcv_role.proofs.part.Part.back_to.Goals as goal
+
+pub invariant_of-self : goal.invariant_of-self
+invariant_of-self c = (
+  back_is _ c.args.self.now c.self.inside.stack _ c.self.view_is c.self.invariant.0 c.args.keep c.args.clock _ c.requires.held c.rewind.ensures c.truncate.ensures.items refl,
+  search rules,
+  search rules,
+)

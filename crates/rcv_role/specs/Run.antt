@@ -1,0 +1,68 @@
+-- What a run did, by what it answers.
+use Rattle.std.specs.Prelude.{◌≡◌, ℕ, ◌+◌, ◌<◌, Option, Some, None, List, [], ◌∷◌, ◌++◌}
+use Rattle.rcv_fence.specs.Codes.{code, IsPairOf}
+use Rattle.rcv_fence.specs.Shown.{Shown}
+use Rattle.rcv_role.specs.declared.poll.Poll.{Poll}
+use Rattle.rcv_role.specs.declared.poll.Poll.TheVariants as polls
+use Rattle.rcv_role.specs.declared.poll.Stop.{Stop}
+use Rattle.rcv_role.specs.declared.poll.Stop.TheVariants.{Waiting, Done, Crashed, Tired, Spent, Fenced}
+use Rattle.rcv_role.specs.Part.{PartView, IsReached, first_lost}
+use Rattle.rcv_role.specs.Cell.{CellView}
+use Rattle.rcv_role.specs.Poll.{Polled}
+
+-- The word of the fence is a role's point, and a failure of that role that goes back to it reaches the part's role.
+pub record IsFencedBy (p : PartView) (word : ℕ) : Type 0 where
+  pub role : ℕ
+  pub point : ℕ
+  pub pair : IsPairOf word role point
+  pub reaches : IsReached p.setup role point p.role
+
+-- What a crashed role raises: its first event that it hasn't saved; nothing where it has saved all.
+abbrev pub signal : ℕ → Option ℕ → List ℕ
+signal r None = []
+signal r (Some n) = code r n ∷ []
+
+abbrev pub signal_of : PartView → List ℕ
+signal_of p = signal p.role (first_lost p)
+
+-- So many polls after one another made a step each.
+pub data Moves (from : CellView) : ℕ → CellView → Type 0 where
+  unmoved : Moves from 0 from
+  step : {n : ℕ} {a b : CellView} → Moves from n a → Polled a b polls.Moved → Moves from (n + 1) b
+
+-- Behind some steps, fewer than the turns, a poll answered this. Each poll had its look before it, and the last look showed
+-- no failure that reaches the role.
+pub record EndsBy (turns : ℕ) (old new : CellView) (watch now : Shown) (poll : Poll) : Type 0 where
+  pub steps : ℕ
+  pub few : steps < turns
+  pub before : CellView
+  pub made : Moves old steps before
+  pub last : Polled before new poll
+  pub looks : now.looks ≡ watch.looks + steps + 1
+  pub unfenced : IsFencedBy old.part now.last → ⊥
+
+-- Behind some steps, fewer than the turns, a look showed a failure that reaches the role, and no poll came after it.
+pub record EndsFenced (turns : ℕ) (old new : CellView) (watch now : Shown) : Type 0 where
+  pub steps : ℕ
+  pub few : steps < turns
+  pub made : Moves old steps new
+  pub looks : now.looks ≡ watch.looks + steps + 1
+  pub fenced : IsFencedBy old.part now.last
+  pub raised : now.raised ≡ watch.raised
+
+-- Each turn made a step.
+pub record EndsSpent (turns : ℕ) (old new : CellView) (watch now : Shown) : Type 0 where
+  pub made : Moves old turns new
+  pub looks : now.looks ≡ watch.looks + turns
+  pub unfenced : IsFencedBy old.part now.last → ⊥
+  pub raised : now.raised ≡ watch.raised
+
+-- Only a crash raises the fence: once, where an event is to be undone.
+abbrev pub Ran : ℕ → CellView → CellView → Shown → Shown → Stop → Type 0
+Ran turns old new watch now Waiting = EndsBy turns old new watch now polls.Waiting × (now.raised ≡ watch.raised)
+Ran turns old new watch now Done = EndsBy turns old new watch now polls.Done × (now.raised ≡ watch.raised)
+Ran turns old new watch now Tired = EndsBy turns old new watch now polls.Tired × (now.raised ≡ watch.raised)
+Ran turns old new watch now Crashed =
+    EndsBy turns old new watch now polls.Crashed × (now.raised ≡ watch.raised ++ signal_of new.part)
+Ran turns old new watch now Spent = EndsSpent turns old new watch now
+Ran turns old new watch now Fenced = EndsFenced turns old new watch now
