@@ -3,6 +3,7 @@
 use rcv_io::{MemSink, MemSource};
 use rcv_top::{NoGate, recover};
 use std::io;
+use std::thread::Threads;
 
 const PING: &[u8] =
     b"module ping; global protocol Ping(role A, role B) { ping() from A to B; pong() from B to A; }";
@@ -45,7 +46,7 @@ const CALLS: [Call; 3] = [
 ];
 
 /// Prints each call that ends otherwise than it has to, or writes other bytes.
-pub fn try_calls(rt: &HostRuntime) -> io::Result<()> {
+pub fn try_calls<R: AllocGlobal + Print + Threads + Sync>(rt: &R) -> io::Result<()> {
     for call in CALLS.iter() {
         try_call(rt, call)?;
     }
@@ -53,13 +54,13 @@ pub fn try_calls(rt: &HostRuntime) -> io::Result<()> {
 }
 
 // Prints what differs in this call. The sink takes 8 bytes at a time.
-fn try_call(rt: &HostRuntime, call: &Call) -> io::Result<()> {
+fn try_call<R: AllocGlobal + Print + Threads + Sync>(rt: &R, call: &Call) -> io::Result<()> {
     let alloc = rt.alloc();
     let words = [String::from_str(alloc, "run")?];
     let input = Vec::from_slice(alloc, PING)?;
     let mut source = MemSource::new(input, 4096, vec![in alloc; call.read]?);
     let mut sink = MemSink::new(alloc, 8, vec![in alloc; call.write]?, call.room)?;
-    let number = recover(alloc, words.as_slice(), &mut source, &mut sink, &NoGate).number();
+    let number = recover(rt, alloc, words.as_slice(), &mut source, &mut sink, &NoGate).number();
     if number != call.status || sink.written() != call.written {
         let written = String::from_utf8_lossy(alloc, sink.written())?;
         println!(rt;

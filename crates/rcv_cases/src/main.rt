@@ -3,6 +3,7 @@
 
 mod calls;
 mod case;
+mod kept;
 mod piece;
 mod trial;
 

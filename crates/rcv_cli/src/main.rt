@@ -7,12 +7,24 @@ use std::process::ExitCode;
 use std::{env, io};
 
 fn main(rt: HostRuntime) -> ExitCode {
-    let status = match words(&rt) {
-        Ok(words) => call(&rt, words.as_slice()),
-        Err(error) if error.kind() == io::ErrorKind::OutOfMemory => Status::Memory,
+    let words = match words(&rt) {
+        Ok(words) => words,
+        Err(error) if error.kind() == io::ErrorKind::OutOfMemory => {
+            return ExitCode::from(Status::Memory.number());
+        }
         // A word that is no UTF-8 is no word of a command.
-        Err(_) => call(&rt, &[]),
+        Err(_) => Vec::new(rt.alloc()),
     };
+    let mut source = StdSource::new(rt.stdin());
+    let mut sink = StdSink::new(rt.stdout());
+    let status = recover(
+        &rt,
+        rt.alloc(),
+        words.as_slice(),
+        &mut source,
+        &mut sink,
+        &NoGate,
+    );
     ExitCode::from(status.number())
 }
 
@@ -23,11 +35,4 @@ fn words(rt: &HostRuntime) -> io::Result<Vec<String>> {
         words.push(word)?;
     }
     Ok(words)
-}
-
-// The top call from standard input to standard output.
-fn call(rt: &HostRuntime, words: &[String]) -> Status {
-    let mut source = StdSource::new(rt.stdin());
-    let mut sink = StdSink::new(rt.stdout());
-    recover(rt.alloc(), words, &mut source, &mut sink, &NoGate)
 }

@@ -1,4 +1,4 @@
--- What the roles have chosen, as the entries come.
+-- What is remembered of the roles' choices, as the entries come.
 use Rattle.std.proofs.Common.{◌≡◌, ℕ, zero, suc, ◌+◌, ◌-◌, ◌<◌, Some, List, [], ◌∷◌, ◌++◌, length, length-append, length-set, refl, sym, ◌∙◌, ap, subst, inr, ⊎_elim, arith}
 use Rattle.std.specs.Prelude.{ℤ, slice_get, slice_index_or, slice_set}
 use Rattle.std.proofs.lemmas.Bool.{cases_eq, cases_lt}
@@ -16,7 +16,7 @@ use Rattle.rcv_core.specs.declared.choice.Choice.{Choice}
 use Rattle.rcv_core.specs.declared.standing.Standing.{Standing}
 use Rattle.rcv_core.specs.Setup.{vars_behind, vars_by}
 use Rattle.rcv_core.specs.Standings.{at_start, standing_at, advanced, failed, with_advanced, with_failed}
-use Rattle.rcv_core.specs.Choices.{no_choice, choice_at, IsChoice, HaveChosen, IsReady}
+use Rattle.rcv_core.specs.Choices.{no_choice, choice_at, IsChoice, IsRemembered, HaveChosen, IsReady}
 use Rattle.rcv_core.proofs.Books.{IsOfText}
 use Rattle.rcv_core.proofs.Starting.{get_end}
 use Rattle.rcv_core.proofs.Pushing.{no_stack, behind_told}
@@ -36,33 +36,33 @@ ready_behind setup events e state k of next point vars = record {
 }
 
 module _ (setup : SessionView) (standings : List Standing) (stacks : List StackView) (choices : List Choice) (chosen : HaveChosen setup standings stacks choices) where
-  -- one event more, behind which its role chooses
-  pub chosen_more : (e : Event) (state : State) (choice : Choice) → e.role < roles_of setup → e.role < length stacks → e.role < length standings → IsChoice setup e.role state (standing_at standings e.role).attempt choice → HaveChosen setup (with_advanced standings e) (with_state stacks e.role state) (slice_set choices e.role choice)
+  -- one event more, with what is remembered of its role's choice behind it
+  pub chosen_more : (e : Event) (state : State) (choice : Choice) → e.role < roles_of setup → e.role < length stacks → e.role < length standings → IsRemembered setup e.role state (standing_at standings e.role).attempt choice → HaveChosen setup (with_advanced standings e) (with_state stacks e.role state) (slice_set choices e.role choice)
   chosen_more e state choice lt stacked stands is = record {
     all = length-set choices e.role choice ∙ chosen.all;
     each = λ r x low at. ⊎_elim
-        (λ f. subst (λ q. slice_get (stack_at (with_state stacks e.role state) q).states (held (stack_at (with_state stacks e.role state) q)) ≡ Some x → IsChoice setup q x (standing_at (with_advanced standings e) q).attempt (choice_at (slice_set choices e.role choice) q)) f (own x) at)
+        (λ f. subst (λ q. slice_get (stack_at (with_state stacks e.role state) q).states (held (stack_at (with_state stacks e.role state) q)) ≡ Some x → IsRemembered setup q x (standing_at (with_advanced standings e) q).attempt (choice_at (slice_set choices e.role choice) q)) f (own x) at)
         (λ other. others r x low (λ f. other (sym f)) at)
         (cases_eq e.role r);
   }
     where
-      own : (x : State) → slice_get (stack_at (with_state stacks e.role state) e.role).states (held (stack_at (with_state stacks e.role state) e.role)) ≡ Some x → IsChoice setup e.role x (standing_at (with_advanced standings e) e.role).attempt (choice_at (slice_set choices e.role choice) e.role)
+      own : (x : State) → slice_get (stack_at (with_state stacks e.role state) e.role).states (held (stack_at (with_state stacks e.role state) e.role)) ≡ Some x → IsRemembered setup e.role x (standing_at (with_advanced standings e) e.role).attempt (choice_at (slice_set choices e.role choice) e.role)
       own x at =
-          subst (λ (c : Choice). IsChoice setup e.role x (standing_at (with_advanced standings e) e.role).attempt c) (sym (get_or-set_same choices e.role choice no_choice (omega (arith, lt, chosen.all))))
-          (subst (λ (y : Standing). IsChoice setup e.role x y.attempt choice) (sym (get_or-set_same standings e.role (advanced (standing_at standings e.role) e.stamp) at_start stands))
-          (subst (λ (z : State). IsChoice setup e.role z (standing_at standings e.role).attempt choice) (some_same (sym (last_more stacks e.role state stacked) ∙ at)) is))
+          subst (λ (c : Choice). IsRemembered setup e.role x (standing_at (with_advanced standings e) e.role).attempt c) (sym (get_or-set_same choices e.role choice no_choice (omega (arith, lt, chosen.all))))
+          (subst (λ (y : Standing). IsRemembered setup e.role x y.attempt choice) (sym (get_or-set_same standings e.role (advanced (standing_at standings e.role) e.stamp) at_start stands))
+          (subst (λ (z : State). IsRemembered setup e.role z (standing_at standings e.role).attempt choice) (some_same (sym (last_more stacks e.role state stacked) ∙ at)) is))
 
-      others : (r : ℕ) (x : State) → r < roles_of setup → (r ≡ e.role → ⊥) → slice_get (stack_at (with_state stacks e.role state) r).states (held (stack_at (with_state stacks e.role state) r)) ≡ Some x → IsChoice setup r x (standing_at (with_advanced standings e) r).attempt (choice_at (slice_set choices e.role choice) r)
+      others : (r : ℕ) (x : State) → r < roles_of setup → (r ≡ e.role → ⊥) → slice_get (stack_at (with_state stacks e.role state) r).states (held (stack_at (with_state stacks e.role state) r)) ≡ Some x → IsRemembered setup r x (standing_at (with_advanced standings e) r).attempt (choice_at (slice_set choices e.role choice) r)
       others r x low other at =
-          subst (λ (c : Choice). IsChoice setup r x (standing_at (with_advanced standings e) r).attempt c) (sym (get_or-set_other choices e.role r choice no_choice other))
-          (subst (λ (y : Standing). IsChoice setup r x y.attempt (choice_at choices r)) (sym (get_or-set_other standings e.role r (advanced (standing_at standings e.role) e.stamp) at_start other))
+          subst (λ (c : Choice). IsRemembered setup r x (standing_at (with_advanced standings e) r).attempt c) (sym (get_or-set_other choices e.role r choice no_choice other))
+          (subst (λ (y : Standing). IsRemembered setup r x y.attempt (choice_at choices r)) (sym (get_or-set_other standings e.role r (advanced (standing_at standings e.role) e.stamp) at_start other))
           (chosen.each r x low (subst (λ (s : StackView). slice_get s.states (held s) ≡ Some x) (get_or-set_other stacks e.role r (with_states (stack_at stacks e.role) ((stack_at stacks e.role).states ++ state ∷ [])) no_stack other) at)))
 
   -- a crash changes no choice
   pub chosen_failed : (p : ℕ) → p < length standings → HaveChosen setup (with_failed standings p) stacks choices
   chosen_failed p lt = record {
     all = chosen.all;
-    each = λ r x low at. subst (λ n. IsChoice setup r x n (choice_at choices r)) (sym (same r)) (chosen.each r x low at);
+    each = λ r x low at. subst (λ n. IsRemembered setup r x n (choice_at choices r)) (sym (same r)) (chosen.each r x low at);
   }
     where
       same : (r : ℕ) → (standing_at (with_failed standings p) r).attempt ≡ (standing_at standings r).attempt
@@ -105,7 +105,7 @@ first_state vars = record { k = 0; vars = vars }
 pub chosen_first : (setup : SessionView) (standings : List Standing) (choices : List Choice) (firsts : List (List ℤ)) (everys : List ℕ) (room : ℕ) (ledger : LedgerView) → IsStart firsts everys room ledger → length choices ≡ roles_of setup → ((r : ℕ) → r < roles_of setup → IsChoice setup r (first_state (first_vars (lines_of setup r))) 0 (choice_at choices r)) → ((r : ℕ) → r < roles_of setup → slice_get standings r ≡ Some at_start) → length firsts ≡ roles_of setup → ((r : ℕ) → r < roles_of setup → slice_get firsts r ≡ Some (first_vars (lines_of setup r))) → HaveChosen setup standings ledger.stacks choices
 chosen_first setup standings choices firsts everys room ledger begun size chosen stand many first = record {
   all = size;
-  each = λ r x lt at.
+  each = λ r x lt at some.
       let here : slice_get (first_stack firsts everys room r).states (held (first_stack firsts everys room r)) ≡ Some x = subst (λ (s : StackView). slice_get s.states (held s) ≡ Some x) (begun.stacks r (omega (arith, lt, many))) at in
       let same : first_state (slice_index_or firsts r []) ≡ x = some_same here in
       subst (λ (y : State). IsChoice setup r y (standing_at standings r).attempt (choice_at choices r)) same

@@ -6,7 +6,7 @@ use Rattle.rcv_tree.specs.declared.event.Message.{Message}
 use Rattle.rcv_depend.specs.declared.keeps.Keeps.{Keeps}
 use Rattle.rcv_core.specs.declared.standing.Standing.{Standing}
 use Rattle.rcv_core.specs.Failing.{AreSaved, first_lost, AreListed, AreUnlisted}
-use Rattle.rcv_core.specs.Choices.{IsChoice, no_choice}
+use Rattle.rcv_core.specs.Choices.{IsChoice, IsRemembered, no_choice}
 use Rattle.rcv_core.specs.Standings.{gone_back, latest}
 use Rattle.rcv_model.specs.Net.{Net}
 use Rattle.rcv_model.specs.Next.{IsNext, AreNext}
@@ -138,6 +138,16 @@ a_doesnt_choose_the_pong setup is none chosen =
     (record { some = λ e. absurd (cc); sends = λ z i. ⊎_elim (λ e. ap (λ net. net.sender z) is ∙ ap ping.sender e) (λ f. absurd f) i }) in
     let e : 2 ≡ 1 = picked.point ∙ ap (λ l. pick (net_for setup) l [] 0 (1 ∷ [])) none in
     absurd (omega (arith, e))
+
+-- where nothing is remembered, nothing is said; but what is remembered is the choice
+nothing_is_remembered : (setup : SessionView) → IsRemembered setup 0 before 0 no_choice
+nothing_is_remembered setup some = absurd (some refl)
+
+a_remembers_the_ping : (setup : SessionView) → net_for setup ≡ ping → lines_of setup 0 ≡ [] → IsRemembered setup 0 before 0 (record { point = 1; value = pos 0 })
+a_remembers_the_ping setup is none some = a_chooses_the_ping setup is none
+
+a_doesnt_remember_the_pong : (setup : SessionView) → net_for setup ≡ ping → lines_of setup 0 ≡ [] → IsRemembered setup 0 before 0 (record { point = 2; value = pos 0 }) → ⊥
+a_doesnt_remember_the_pong setup is none remembered = a_doesnt_choose_the_pong setup is none (remembered (λ e. absurd (omega (arith, e))))
 
 -- of three events a role that saves each second one has saved two
 abbrev three_events : List StackView

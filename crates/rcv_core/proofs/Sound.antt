@@ -24,7 +24,7 @@ use Rattle.rcv_core.specs.declared.choice.Choice.{Choice}
 use Rattle.rcv_core.specs.declared.standing.Standing.{Standing}
 use Rattle.rcv_core.specs.Setup.{vars_behind, vars_by}
 use Rattle.rcv_core.specs.Standings.{with_advanced}
-use Rattle.rcv_core.specs.Choices.{IsChoice, HaveChosen}
+use Rattle.rcv_core.specs.Choices.{IsRemembered, HaveChosen}
 use Rattle.rcv_core.specs.Book.{HasRooms, IsSoundBook}
 use Rattle.rcv_core.proofs.Books.{left_by, stands_at, held_is, made, no_longer, two_ends, low_role}
 use Rattle.rcv_core.proofs.Choosing.{chosen_more}
@@ -104,10 +104,10 @@ same_chosen setup standings now_standings ledger now_ledger choices now_choices 
     subst (HaveChosen setup now_standings now_ledger.stacks) (sym k) (subst (λ x. HaveChosen setup x now_ledger.stacks choices) (sym t) (subst (λ (x : LedgerView). HaveChosen setup standings x.stacks choices) (sym l) chosen))
 
 -- a book with one event more, for a call that may find no memory
-module _ (setup : SessionView) (entries now_entries : List Entry) (standings now_standings : List Standing) (ledger now_ledger : LedgerView) (choices now_choices : List Choice) (capacity now_capacity : ℕ) (sound : IsSoundBook setup entries standings ledger choices capacity) (grown : capacity ≤ now_capacity) (e : Event) (end : ℕ) (state : checkpoints.State) (choice : Choice) (point : state.k ≡ e.point) (vars : state.vars ≡ vars_behind setup e (vars_by setup e.role (events_of e.role (left_by setup entries).kept))) (is : IsChoice setup e.role state (slice_index (left_by setup entries).attempts e.role) choice) where
+module _ (setup : SessionView) (entries now_entries : List Entry) (standings now_standings : List Standing) (ledger now_ledger : LedgerView) (choices now_choices : List Choice) (capacity now_capacity : ℕ) (sound : IsSoundBook setup entries standings ledger choices capacity) (grown : capacity ≤ now_capacity) (e : Event) (end : ℕ) (state : checkpoints.State) (choice : Choice) (point : state.k ≡ e.point) (vars : state.vars ≡ vars_behind setup e (vars_by setup e.role (events_of e.role (left_by setup entries).kept))) (is : IsRemembered setup e.role state (slice_index (left_by setup entries).attempts e.role) choice) where
   chosen_behind : e.role < roles_of setup → HaveChosen setup (with_advanced standings e) (with_state ledger.stacks e.role state) (slice_set choices e.role choice)
   chosen_behind lt = chosen_more setup standings ledger.stacks choices sound.chosen e state choice lt (omega (arith, lt, sound.book.holds.stacks)) (omega (arith, lt, sound.book.stand.all))
-      (subst (λ n. IsChoice setup e.role state n choice) (sym (ap (λ (y : Standing). y.attempt) (stands_at setup entries standings ledger sound.book e.role lt))) is)
+      (subst (λ n. IsRemembered setup e.role state n choice) (sym (ap (λ (y : Standing). y.attempt) (stands_at setup entries standings ledger sound.book e.role lt))) is)
 
   rooms_behind : e.role < roles_of setup → (r : ℕ) → r < roles_of setup → (stack_at (with_state ledger.stacks e.role state) r).room ≡ (stack_at ledger.stacks r).room
   rooms_behind lt r low = rooms_more ledger.stacks e.role r state (omega (arith, lt, sound.book.holds.stacks))

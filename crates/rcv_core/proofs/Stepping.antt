@@ -22,12 +22,12 @@ use Rattle.rcv_ledger.specs.Ledger.{LedgerView, stack_at, state_behind}
 use Rattle.rcv_core.specs.declared.choice.Choice.{Choice}
 use Rattle.rcv_core.specs.declared.standing.Standing.{Standing}
 use Rattle.rcv_core.specs.Setup.{vars_by}
-use Rattle.rcv_core.specs.Choices.{no_choice, choice_at, IsPicked}
+use Rattle.rcv_core.specs.Choices.{no_choice, choice_at, IsPicked, IsChoice, IsRemembered, HaveChosen}
 use Rattle.rcv_core.specs.Standings.{standing_at, standing_of}
-use Rattle.rcv_core.specs.Book.{BookView, state_of, most_entries, IsBook, IsSoundBook, IsNextStep, IsNextSend, IsNextRecv}
+use Rattle.rcv_core.specs.Book.{BookView, state_of, most_entries, IsBook, IsChoiceIn, IsNextStep, IsNextSend, IsNextRecv}
 use Rattle.rcv_core.proofs.Acting.{can_send, can_recv, none_without_next, none_without_room, none_without_message}
 use Rattle.rcv_core.proofs.Picking.{all_sent}
-use Rattle.rcv_core.proofs.Books.{IsOfText, of_next, two_ends, low_role, left_by, whole, run_now, standing_told, stands_at, few_clocks, few_stamp, place_told, last_at, stood, told, much, front_told, front_of, no_front}
+use Rattle.rcv_core.proofs.Books.{IsOfText, of_next, two_ends, low_role, left_by, whole, run_now, standing_told, stands_at, few_clocks, few_stamp, place_told, state_told, last_at, stood, told, much, front_told, front_of, no_front}
 
 module _ (setup : SessionView) (entries : List Entry) (standings : List Standing) (ledger : LedgerView) (kept : IsBook setup entries standings ledger) (r : ℕ) (x : checkpoints.State) (lt : r < roles_of setup) (at : slice_get (stack_at ledger.stacks r).states (held (stack_at ledger.stacks r)) ≡ Some x) where
   stands : IsPlaceOf (net_for setup) r x.k
@@ -69,41 +69,45 @@ module _ (setup : SessionView) (entries : List Entry) (standings : List Standing
         receives = λ w i. let a = all_receives y zs next (λ f. other (same ∙ f)) w i in (a.0, a.1 ∙ sym same);
       }
 
--- a Send, by what its role has chosen and where it stands
-module _ (setup : SessionView) (entries : List Entry) (standings : List Standing) (ledger : LedgerView) (choices : List Choice) (capacity : ℕ) (sound : IsSoundBook setup entries standings ledger choices capacity) (r : ℕ) (y : Standing) (choice : Choice) (step : IsNextSend (whole setup entries) r) (is : y ≡ get_or standings r y) (which : choice ≡ get_or choices r choice) where
-  kept : IsBook setup entries standings ledger
-  kept = sound.book
+-- what is remembered of a role's choice, where it has a point, and what its script says there
+module _ (setup : SessionView) (entries : List Entry) (standings : List Standing) (ledger : LedgerView) (kept : IsBook setup entries standings ledger) (r : ℕ) (lt : r < roles_of setup) (choice : Choice) where
+  attempt_is : (standing_at standings r).attempt ≡ slice_index (left_by setup entries).attempts r
+  attempt_is = ap (λ (z : Standing). z.attempt) (stands_at setup entries standings ledger kept r lt)
 
+  pub remembered : (choices : List Choice) → HaveChosen setup standings ledger.stacks choices → choice ≡ get_or choices r choice → (choice.point ≡ 0 → ⊥) → (book : BookView) → whole setup entries ≡ book → IsChoiceIn book r choice
+  remembered choices chosen which some book view =
+      let x = state_behind (vars_by setup) r (events_of r (left_by setup entries).kept) in
+      let same : choice ≡ choice_at choices r = which ∙ get_or_default choices r choice no_choice (omega (arith, lt, chosen.all)) in
+      let is = chosen.each r x lt (last_at setup entries standings ledger kept r lt) in
+      subst (λ (b : BookView). IsChoiceIn b r choice) view
+      (subst (λ n. IsChoice setup r x n choice) attempt_is
+      ((subst (λ (z : Choice). IsRemembered setup r x (standing_at standings r).attempt z) (sym same) is) some))
+
+  pub asked : (x : checkpoints.State) (attempt : ℕ) → slice_get (stack_at ledger.stacks r).states (held (stack_at ledger.stacks r)) ≡ Some x → IsChoice setup r x attempt choice → (book : BookView) → whole setup entries ≡ book → attempt ≡ slice_index (state_of book).attempts r → IsChoiceIn book r choice
+  asked x attempt at is book view number =
+      subst (λ (b : BookView). IsChoiceIn b r choice) view
+      (subst (λ n. IsChoice setup r (state_behind (vars_by setup) r (events_of r (left_by setup entries).kept)) n choice) (number ∙ ap (λ (b : BookView). slice_index (state_of b).attempts r) (sym view))
+      (subst (λ (z : checkpoints.State). IsChoice setup r z attempt choice) (state_told setup entries standings ledger kept r x lt at) is))
+
+-- a Send, by what its role chooses and where it stands
+module _ (setup : SessionView) (entries : List Entry) (standings : List Standing) (ledger : LedgerView) (kept : IsBook setup entries standings ledger) (r : ℕ) (y : Standing) (choice : Choice) (step : IsNextSend (whole setup entries) r) (is : y ≡ get_or standings r y) (which : IsChoiceIn (whole setup entries) r choice) where
   lt : r < roles_of setup
   lt = step.step.free.declared
 
   own : y ≡ standing_of (own_of (left_by setup entries) r)
   own = standing_told setup entries standings ledger kept r y lt is
 
-  same : choice ≡ choice_at choices r
-  same = which ∙ get_or_default choices r choice no_choice (omega (arith, lt, sound.chosen.all))
-
-  picked : IsPicked setup r (vars_by setup r (events_of r (left_by setup entries).kept)) (standing_at standings r).attempt step.zs (choice_at choices r)
+  picked : IsPicked setup r (vars_by setup r (events_of r (left_by setup entries).kept)) (slice_index (left_by setup entries).attempts r) step.zs choice
   picked =
       let x = state_behind (vars_by setup) r (events_of r (left_by setup entries).kept) in
       let at = last_at setup entries standings ledger kept r lt in
-      sound.chosen.each r x lt at step.zs (subst (λ k. AreNext (net_for setup) r k step.zs) (sym (place_told setup entries standings ledger kept r x lt at)) step.step.next) step.are_sent
-
-  attempt_is : (standing_at standings r).attempt ≡ slice_index (left_by setup entries).attempts r
-  attempt_is = ap (λ (z : Standing). z.attempt) (stands_at setup entries standings ledger kept r lt)
+      which step.zs (subst (λ k. AreNext (net_for setup) r k step.zs) (sym (place_told setup entries standings ledger kept r x lt at)) step.step.next) step.are_sent
 
   chosen_told : choice.point ≡ pick (net_for setup) (lines_of setup r) (vars_by setup r (events_of r (left_by setup entries).kept)) (slice_index (left_by setup entries).attempts r) step.zs
-  chosen_told =
-      ap (λ (z : Choice). z.point) same
-      ∙ picked.point
-      ∙ ap (λ n. pick (net_for setup) (lines_of setup r) (vars_by setup r (events_of r (left_by setup entries).kept)) n step.zs) attempt_is
+  chosen_told = picked.point
 
   number_told : choice.value ≡ number_for ((net_for setup).label choice.point) (lines_of setup r) (vars_by setup r (events_of r (left_by setup entries).kept)) (slice_index (left_by setup entries).attempts r)
-  number_told =
-      ap (λ (z : Choice). z.value) same
-      ∙ picked.value
-      ∙ ap (λ (z : Choice). number_for ((net_for setup).label z.point) (lines_of setup r) (vars_by setup r (events_of r (left_by setup entries).kept)) (standing_at standings r).attempt) (sym same)
-      ∙ ap (λ n. number_for ((net_for setup).label choice.point) (lines_of setup r) (vars_by setup r (events_of r (left_by setup entries).kept)) n) attempt_is
+  number_told = picked.value
 
   chosen_among : IsIn choice.point step.zs
   chosen_among = subst (λ z. IsIn z step.zs) (sym chosen_told) (chosen_in (net_for setup) (lines_of setup) r (events_of r (left_by setup entries).kept) (slice_index (left_by setup entries).attempts r) step.zs step.are_sent.some)

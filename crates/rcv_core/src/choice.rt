@@ -1,4 +1,5 @@
-// What a role that is to send has chosen, so that its script isn't evaluated again while it waits for room.
+// What a book remembers of the choice of a role that is to send, so that its script isn't evaluated again while the role
+// waits for room.
 
 ghost use Rattle.std.specs.Prelude.{◌≡◌, ◌<◌, false, length};
 ghost use Rattle.rcv_tree.specs.Bits.{has_bit};
@@ -19,7 +20,7 @@ pub struct Choice {
 }
 
 impl Choice {
-    /// Of a role that doesn't send.
+    /// Of a role that doesn't send, and of one of whose choice nothing is remembered.
     pub fn none() -> Choice
         ensures { result ≡ no_choice }
     {
@@ -30,8 +31,8 @@ impl Choice {
     }
 }
 
-/// Each role of a set chooses anew, by the last state of its stack and its attempt; the others have chosen by theirs. It
-/// takes no memory.
+/// Each role of a set chooses anew, by the last state of its stack and its attempt; what is remembered of the others
+/// stays. It takes no memory.
 pub fn choose_anew(
     choices: &mut Vec<Choice>,
     setup: &Setup,
@@ -52,7 +53,7 @@ pub fn choose_anew(
     }
 }
 
-// What a role chooses: anew if it is in the set, else as before.
+// What is remembered of a role: a new choice if it is in the set, else what was before.
 fn chosen(
     setup: &Setup,
     ledger: &Ledger,

@@ -1,6 +1,9 @@
--- Codes of the first and of the last pair, words that are no codes, and that a code tells its pair.
-use Rattle.std.proofs.Common.{◌≡◌, ℕ, refl, arith}
+-- Codes of the first and of the last pair, words that are no codes, that a code tells its pair, and what a watch tells of
+-- its looks.
+use Rattle.std.proofs.Common.{◌≡◌, ℕ, List, [], ◌∷◌, get_or, refl, ap, arith}
 use Rattle.rcv_fence.specs.Codes.{code, IsWord, IsPairOf}
+use Rattle.rcv_fence.specs.Shown.{Shown}
+use Rattle.rcv_fence.specs.Fence.{unlooked, shown, after_look, after_write}
 
 first_code : code 0 1 ≡ 1
 first_code = refl
@@ -31,3 +34,13 @@ pairs_are_told_apart word r q p s a b =
 -- each word but 0 is a code
 pub is_a_code : IsPairOf 300 1 44
 is_a_code = record { role_is = omega arith; point_is = record { first = omega arith; last = omega arith }; code_is = refl }
+
+-- a watch that looked, wrote 300 and looked again tells what each of its looks loaded, and not its last look alone
+abbrev twice : Shown
+twice = shown (after_look (after_write (after_look unlooked 257) 300) 0)
+
+loaded : twice ≡ record { looks = 2; last = 0; seen = 257 ∷ 0 ∷ []; raised = 300 ∷ [] }
+loaded = refl
+
+first_look_stays : twice.seen ≡ 0 ∷ 0 ∷ [] → ⊥
+first_look_stays e = let same : 257 ≡ 0 = ap (λ (l : List ℕ). get_or l 0 0) e in omega (arith, same)

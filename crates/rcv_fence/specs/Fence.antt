@@ -17,10 +17,10 @@ Mine = Me (Unit {0}) Sight
 
 -- Nothing was looked at or written.
 abbrev pub unlooked : Sight
-unlooked = record { looks = 0; last = 0; raised = [] }
+unlooked = record { looks = 0; last = 0; seen = []; raised = [] }
 
 abbrev pub shown : Sight → Shown
-shown sight = record { looks = sight.looks; last = sight.last; raised = sight.raised }
+shown sight = record { looks = sight.looks; last = sight.last; seen = sight.seen; raised = sight.raised }
 
 -- What each seat saw last is 0 or a code.
 abbrev pub AllSawWords : List Sight → Type 0
@@ -33,12 +33,13 @@ pub record Keeps (s : Fence) : Type 0 where
   pub word_is : IsWord word
   pub seen : AllSawWords s.views
 
--- A look adds 1 to the looks and keeps the word found; a write appends its word. All else stays.
+-- A look adds 1 to the looks, keeps the word found and appends it to those seen; a write appends its word to those
+-- written. All else stays.
 abbrev pub after_look : Sight → ℕ → Sight
-after_look v found = record { looks = v.looks + 1; last = found; raised = v.raised }
+after_look v found = record { looks = v.looks + 1; last = found; seen = v.seen ++ found ∷ []; raised = v.raised }
 
 abbrev pub after_write : Sight → ℕ → Sight
-after_write v word = record { looks = v.looks; last = v.last; raised = v.raised ++ word ∷ [] }
+after_write v word = record { looks = v.looks; last = v.last; seen = v.seen; raised = v.raised ++ word ∷ [] }
 
 abbrev pub Looked : Step (Unit {0}) → Mine → ℕ → Mine → Type 0
 Looked st m found m' = (m'.0 ≡ after_look m.0 found) × IsWord found

@@ -3,11 +3,12 @@ use atomic_table::{Play, Split, Table, TableRule};
 use std::alloc::Global;
 use std::collections::LinkedList;
 
-/// What a watch knows: how often it looked, the word that its last look loaded, and the words that it wrote. No value
-/// of it is made.
+/// What a watch knows: how often it looked, the word that its last look loaded, the words that all its looks loaded, in
+/// order, and the words that it wrote. No value of it is made.
 pub struct Sight {
     pub looks: u64,
     pub last: u64,
+    pub seen: LinkedList<u64>,
     pub raised: LinkedList<u64>,
 }
 

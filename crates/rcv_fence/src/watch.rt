@@ -15,7 +15,8 @@ use std::marker::Model;
 use std::sync::Arc;
 
 /// A watch of a fence, which lies on any thread. Contracts see how often it looked, the word that its last look loaded
-/// (0 before the first), and the words that it wrote, in order. What other watches write changes none of the three.
+/// (0 before the first), the words that all its looks loaded, and the words that it wrote, in order. What other watches
+/// write changes none of the four.
 #[derive(Drop)]
 pub struct Watch {
     table: Arc<Word, Global>,
@@ -42,6 +43,7 @@ impl Watch {
         ensures looks { self.new.looks ≡ self.old.looks + 1 }
         ensures raised { self.new.raised ≡ self.old.raised }
         ensures word { IsWord self.new.last }
+        ensures seen { self.new.seen ≡ self.old.seen ++ self.new.last ∷ [] }
         ensures none { IsNone result ↔ (self.new.last ≡ 0) }
         ensures some { IfSome result (λ pair. IsPairOf self.new.last pair.0 pair.1) }
     {
@@ -70,6 +72,7 @@ impl Watch {
         ensures looks { self.new.looks ≡ self.old.looks + 1 }
         ensures raised { self.new.raised ≡ self.old.raised }
         ensures last { self.new.last ≡ result }
+        ensures seen { self.new.seen ≡ self.old.seen ++ result ∷ [] }
         ensures word { IsWord result }
     {
         self.table.shared.load::<Looks>(&mut self.seat, 0)

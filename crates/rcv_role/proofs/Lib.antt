@@ -8,3 +8,4 @@ pub mod Meeting
 pub mod Running
 pub mod Lawful
 mod Examples
+mod Worked

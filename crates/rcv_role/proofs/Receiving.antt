@@ -3,6 +3,8 @@ use Rattle.std.proofs.Common.{◌≡◌, ◌≢◌, ℕ, ◌+◌, ◌^◌, ◌<�
 use Rattle.std.specs.Prelude.{slice_index_or}
 use Rattle.std.proofs.lemmas.Bool.{cases_eq}
 use Rattle.rcv_tree.specs.declared.event.Event.{Event}
+use Rattle.rcv_tree.specs.declared.event.Dir.{Dir}
+use Rattle.rcv_tree.specs.declared.event.Dir.TheVariants.{Sent, Got}
 use Rattle.rcv_tree.specs.declared.event.Message.{Message}
 use Rattle.rcv_model.specs.Run.{takes_on, taken_by, put, taken}
 use Rattle.rcv_model.proofs.Keeping.{taken_none, taken_some, put_none}
@@ -15,11 +17,14 @@ use Rattle.rcv_mailbox.specs.Ends.{End, IsChannel}
 use Rattle.rcv_session.specs.Session.{roles_of, net_for, rules_of}
 use Rattle.rcv_role.specs.declared.poll.Poll.TheVariants.{Moved, Waiting}
 use Rattle.rcv_role.specs.Part.{PartView, IsOwn, IsRecvOf, Offers, AllRecvs, IsBelow, HasNoStrangers, with_event, entry_of}
-use Rattle.rcv_role.specs.Ends.{slot, end_at, IsInboxFrom, AreEnds, IsSettledWith, HasReceived, OthersStay}
+use Rattle.rcv_role.specs.Ends.{slot, end_at, IsInboxFrom, AreEnds, IsSettledWith, message_got, HasReceived, HasTaken, OthersStay}
 use Rattle.rcv_role.specs.Cell.{CellView, cell_of, IsSettled, Goes}
-use Rattle.rcv_role.specs.Poll.{IsDue, FoundEmpty, Polled}
+use Rattle.rcv_role.specs.Poll.{IsDue, FoundEmpty, EndsOfRecv, Polled}
 use Rattle.rcv_role.proofs.Slots.{slot_apart, slot_within, fewer, recv_puts, else_takes, take_more, one_more, taken_length}
 use Rattle.rcv_role.proofs.Going.{one_recv, ready}
+
+not_both : (d : Dir) → d ≡ Sent → d ≡ Got → ⊥
+not_both d f g = cc
 
 module _ (p : PartView) (posts inboxes inboxes' : List End) (from : ℕ) (ends : AreEnds (rules_of p.setup) p.role posts inboxes) (settled : IsSettled (cell_of p posts inboxes)) (low : from < roles_of p.setup) (apart : from ≡ p.role → ⊥) (others : OthersStay inboxes inboxes' (slot p.role from)) where
   same_inbox : (q : ℕ) (d : End) → (q ≡ p.role → ⊥) → (q ≡ from → ⊥) → end_at inboxes' p.role q d ≡ end_at inboxes p.role q d
@@ -77,7 +82,20 @@ module _ (p : PartView) (posts inboxes inboxes' : List End) (from : ℕ) (ends :
     receives = receives;
     received = λ d. ((received d).empty refl).0;
     empty = λ d. ((received d).empty refl).1;
+    stay = record { posts = refl; others = others };
+    list = λ d. (received d).kept refl;
+    got = λ d. (received d).got;
   }
+
+  ends_of_recv : (m : Message) (e : Event) (p' : PartView) → IsRecvOf p m e → (net_for p.setup).sender m.point ≡ from → ((d : End) → HasReceived (end_at inboxes p.role from d) (end_at inboxes' p.role from d) (Some m)) → EndsOfRecv (cell_of p posts inboxes) (cell_of p' posts inboxes') e
+  ends_of_recv m e p' own sender received = record {
+    stay = record { posts = refl; others = subst (λ t. OthersStay inboxes inboxes' (slot p.role t)) (sym of) others };
+    taken = λ d. subst (λ t. HasTaken (end_at inboxes p.role t d) (end_at inboxes' p.role t d) (message_got e)) (sym of)
+        (subst (HasTaken (end_at inboxes p.role from d) (end_at inboxes' p.role from d)) (sym own.message) (record { got = (received d).got; message = (received d).front.0; begins = (received d).begins; again = (received d).again; front = (received d).takes }));
+  }
+    where
+      of : (net_for p.setup).sender e.point ≡ from
+      of = ap (λ (y : Message). (net_for p.setup).sender y.point) own.message ∙ sender
 
   recv_moves : (m : Message) (e : Event) → HasNoStrangers p → IsRecvOf p m e → (net_for p.setup).sender m.point ≡ from → MayOwnRecv (rules_of p.setup) p.own e → ((d : End) → HasReceived (end_at inboxes p.role from d) (end_at inboxes' p.role from d) (Some m)) → Goes (cell_of p posts inboxes) (cell_of (with_event p e (entry_of e)) posts inboxes')
   recv_moves m e strangers own sender may received = record {
@@ -178,9 +196,6 @@ module _ (p : PartView) (posts inboxes : List End) (q : CellView) (from role at 
         ap (λ (c : CellView). c.part) is,
       )
 
-      pub received_moved : (p' : PartView) (e : Event) → p' ≡ with_event p e (entry_of e) → Polled q (cell_of p' posts inboxes') Moved
-      received_moved p' e g = (ready q.part zs calm offers some below, record { event = e; part = g ∙ ap (λ (c : CellView). with_event c.part e (entry_of e)) is })
-
     module _ (m : Message) (some : o ≡ Some m) (d : End) where
       front : CanPass (end_at inboxes p.role from d).base.points m
       front = (subst (HasReceived (end_at inboxes p.role from d) (end_at inboxes' p.role from d)) some (received' d)).front.1
@@ -206,3 +221,14 @@ module _ (p : PartView) (posts inboxes : List End) (q : CellView) (from role at 
 
       pub received_moves : (p' : PartView) (e : Event) → p' ≡ with_event p e (entry_of e) → HasNoStrangers p → IsRecvOf p m e → MayOwnRecv (rules_of p.setup) p.own e → Goes q (cell_of p' posts inboxes')
       received_moves p' e g strangers own may = subst (λ c. Goes c (cell_of p' posts inboxes')) is (subst (λ z. Goes (cell_of p posts inboxes) (cell_of z posts inboxes')) (sym g) (recv_moves p posts inboxes inboxes' from ends within froms.declared froms.apart else' m e strangers own message_sender may (λ x. subst (HasReceived (end_at inboxes p.role from x) (end_at inboxes' p.role from x)) some (received' x))))
+
+      pub received_moved : (IsDue q.part → ⊥) → Offers q.part zs → zs ≢ [] → IsBelow q.part → (p' : PartView) (e : Event) → p' ≡ with_event p e (entry_of e) → IsRecvOf p m e → Polled q (cell_of p' posts inboxes') Moved
+      received_moved calm offers next below p' e g own = (
+        ready q.part zs calm offers next below,
+        record {
+          event = e;
+          part = g ∙ ap (λ (c : CellView). with_event c.part e (entry_of e)) is;
+          sent = λ f. absurd (not_both e.dir f own.dir);
+          got = λ f. subst (λ c. EndsOfRecv c (cell_of p' posts inboxes') e) is (ends_of_recv p posts inboxes inboxes' from ends within froms.declared froms.apart else' m e p' own message_sender (λ x. subst (HasReceived (end_at inboxes p.role from x) (end_at inboxes' p.role from x)) some (received' x)));
+        },
+      )

@@ -3,6 +3,7 @@ use Rattle.std.proofs.Common.{◌≡◌, ◌≢◌, ℕ, ◌+◌, ◌^◌, ◌<�
 use Rattle.std.specs.Prelude.{slice_index_or}
 use Rattle.std.proofs.lemmas.Bool.{cases_eq}
 use Rattle.rcv_tree.specs.declared.event.Event.{Event}
+use Rattle.rcv_tree.specs.declared.event.Dir.TheVariants.{Got}
 use Rattle.rcv_model.specs.Run.{put_by, taken}
 use Rattle.rcv_model.proofs.Keeping.{taken_none, put_none}
 use Rattle.rcv_model.proofs.Steps.{not_taken}
@@ -12,9 +13,9 @@ use Rattle.rcv_mailbox.specs.Ends.{End, through, IsChannel, WasFull}
 use Rattle.rcv_session.specs.Session.{roles_of, net_for, rules_of}
 use Rattle.rcv_role.specs.declared.poll.Poll.TheVariants.{Moved, Waiting}
 use Rattle.rcv_role.specs.Part.{PartView, IsOwnSend, Offers, IsBelow, HasNoStrangers, with_event, entry_of}
-use Rattle.rcv_role.specs.Ends.{slot, end_at, IsPostTo, AreEnds, IsSettledWith, message_of, HasSent, OthersStay}
+use Rattle.rcv_role.specs.Ends.{slot, end_at, IsPostTo, AreEnds, IsSettledWith, message_of, HasSent, HasPut, OthersStay}
 use Rattle.rcv_role.specs.Cell.{CellView, cell_of, IsSettled, Goes}
-use Rattle.rcv_role.specs.Poll.{IsDue, FoundFull, Polled}
+use Rattle.rcv_role.specs.Poll.{IsDue, OnePost, FoundFull, EndsOfSend, Polled}
 use Rattle.rcv_role.proofs.Slots.{slot_apart, slot_within, fewer, put_some, own_puts, else_puts}
 use Rattle.rcv_role.proofs.Going.{one_send, ready}
 
@@ -102,6 +103,9 @@ module _ (p : PartView) (posts posts' inboxes : List End) (e : Event) (to : ℕ)
             taken = old.taken ∙ sym (got_same q);
           }
 
+  one_post : (p' : PartView) → OnePost (cell_of p posts inboxes) (cell_of p' posts' inboxes) ((net_for p.setup).receiver e.point)
+  one_post p' = record { inboxes = refl; others = subst (λ t. OthersStay posts posts' (slot p.role t)) is others }
+
   found_full : MayOwnSend (rules_of p.setup) p.own e → ((d : End) → HasSent (end_at posts p.role to d) (end_at posts' p.role to d) (message_of e) false) → FoundFull (cell_of p posts inboxes) (cell_of p posts' inboxes)
   found_full may sent = record {
     offered = may.offered;
@@ -110,7 +114,18 @@ module _ (p : PartView) (posts posts' inboxes : List End) (e : Event) (to : ℕ)
     point = e.point;
     chosen = may.point ∙ ap (λ r. (rules_of p.setup).chosen r p.own.events p.own.attempt may.offered) own.own.role;
     full = λ d. subst (λ t. WasFull (end_at posts p.role t d) (end_at posts' p.role t d)) is ((sent d).full refl);
+    stay = one_post p;
+    list = λ d. subst (λ t. (end_at posts' p.role t d).list ≡ (end_at posts p.role t d).list) is (sent d).list;
   }
+
+  ends_of_send : (p' : PartView) → ((d : End) → HasSent (end_at posts p.role to d) (end_at posts' p.role to d) (message_of e) true) → EndsOfSend (cell_of p posts inboxes) (cell_of p' posts' inboxes) e
+  ends_of_send p' sent = record {
+    stay = one_post p';
+    put = λ d. subst (λ t. HasPut (end_at posts p.role t d) (end_at posts' p.role t d) (message_of e)) is (record { list = (sent d).list });
+  }
+
+  no_recv : e.dir ≡ Got → ⊥
+  no_recv got = let sent = own.dir in cc
 
 -- a poll that sends, as its function has it
 module _ (p : PartView) (posts inboxes : List End) (q : CellView) (e : Event) (to role at : ℕ) (is : cell_of p posts inboxes ≡ q) (ends : AreEnds (rules_of p.setup) p.role posts inboxes) (settled : IsSettled q) (own : IsOwnSend p e) (to_is : to ≡ (net_for p.setup).receiver e.point) (role_is : role ≡ p.role) (at_is : at ≡ slot role to) where
@@ -172,5 +187,13 @@ module _ (p : PartView) (posts inboxes : List End) (q : CellView) (e : Event) (t
       pub sent_moves : ok ≡ true → (p' : PartView) → p' ≡ with_event p e (entry_of e) → HasNoStrangers p → Goes q (cell_of p' posts' inboxes)
       sent_moves f p' g strangers = subst (λ c. Goes c (cell_of p' posts' inboxes)) is (subst (λ z. Goes (cell_of p posts inboxes) (cell_of z posts' inboxes)) (sym g) (send_moves p posts posts' inboxes e to ends inside own to_is others' strangers may (λ d. subst (HasSent (end_at posts p.role to d) (end_at posts' p.role to d) (message_of e)) f (sent' d))))
 
-      pub sent_moved : (p' : PartView) → p' ≡ with_event p e (entry_of e) → Polled q (cell_of p' posts' inboxes) Moved
-      sent_moved p' g = (ready q.part zs calm offers some below, record { event = e; part = g ∙ ap (λ (c : CellView). with_event c.part e (entry_of e)) is })
+      pub sent_moved : ok ≡ true → (p' : PartView) → p' ≡ with_event p e (entry_of e) → Polled q (cell_of p' posts' inboxes) Moved
+      sent_moved f p' g = (
+        ready q.part zs calm offers some below,
+        record {
+          event = e;
+          part = g ∙ ap (λ (c : CellView). with_event c.part e (entry_of e)) is;
+          sent = λ d. subst (λ c. EndsOfSend c (cell_of p' posts' inboxes) e) is (ends_of_send p posts posts' inboxes e to ends inside own to_is others' p' (λ d. subst (HasSent (end_at posts p.role to d) (end_at posts' p.role to d) (message_of e)) f (sent' d)));
+          got = λ d. absurd (no_recv p posts posts' inboxes e to ends inside own to_is others' d);
+        },
+      )

@@ -7,7 +7,7 @@ use Rattle.rcv_model.specs.Run.{put, taken}
 use Rattle.rcv_model.specs.Journal.{Rules}
 use Rattle.rcv_ring.specs.Lists.{Begins}
 use Rattle.rcv_ring.specs.Points.{HasPoint, CanPass}
-use Rattle.rcv_mailbox.specs.Ends.{End, through, IsChannel, WasFull, WasEmpty}
+use Rattle.rcv_mailbox.specs.Ends.{End, through, Knows, IsChannel, WasFull, WasEmpty, ReceivesAgain, TakesFront}
 
 -- Where the ends between role r and another role q stand in r's lists, in order of declaration.
 abbrev pub slot : ℕ → ℕ → ℕ
@@ -56,9 +56,12 @@ pub record IsSettledWith (net : Net) (r q : ℕ) (events : List Event) (raw : �
   pub got : inbox.got ≡ length (taken net q r events)
   pub taken : take inbox.got inbox.list ≡ taken net q r events
 
--- The message of a Send.
+-- The message of a Send, and that of a Recv.
 abbrev pub message_of : Event → Message
 message_of e = record { point = e.point; value = e.value; stamp = e.stamp }
+
+abbrev pub message_got : Event → Message
+message_got e = record { point = e.point; value = e.value; stamp = e.sent }
 
 -- The message went onto the post, or the post was full and holds what it held.
 pub record HasSent (old new : End) (m : Message) (sent : Bool) : Type 0 where
@@ -74,11 +77,27 @@ pub record HasSent (old new : End) (m : Message) (sent : Bool) : Type 0 where
 pub record HasReceived (old new : End) (o : Option Message) : Type 0 where
   pub got : new.got ≡ (if is_some o then old.got + 1 else old.got)
   pub front : IfSome o (λ m. (slice_get new.list old.got ≡ Some m) × CanPass old.base.points m)
+  pub again : ReceivesAgain old new
+  pub takes : IfSome o (TakesFront old new)
   pub empty : is_some o ≡ false → (old.got ≡ length old.list) × WasEmpty old new
+  pub kept : is_some o ≡ false → new.list ≡ old.list
   pub begins : Begins old.list new.list
   pub limit : new.limit ≡ old.limit
   pub points : new.base.points ≡ old.base.points
   pub channel : (e : End) → IsChannel e old → IsChannel e new
+
+-- The message was put on the post, behind all that it held.
+pub record HasPut (old new : End) (m : Message) : Type 0 where
+  pub list : new.list ≡ old.list ++ m ∷ []
+
+-- The message was received from the inbox: the next of those taken before, or else the front of the channel, and no
+-- other was taken.
+pub record HasTaken (old new : End) (m : Message) : Type 0 where
+  pub got : new.got ≡ old.got + 1
+  pub message : slice_get new.list old.got ≡ Some m
+  pub begins : Begins old.list new.list
+  pub again : ReceivesAgain old new
+  pub front : TakesFront old new m
 
 -- The end stays an end of the same channel, and keeps what its maker gave it.
 pub record StaysEnd (old new : End) : Type 0 where
@@ -95,7 +114,8 @@ pub record IsSameAs (old new : End) : Type 0 where
   pub dropped : new.dropped ≡ old.dropped
   pub rewound : new.rewound ≡ old.rewound
 
--- The ends of a channel went back: of what was put the first stay, all of them taken, and of those the first are received.
+-- The ends of a channel went back: of what was put the first stay, all of them taken, and of those the first are
+-- received. Both ends know it, and how many messages were dropped.
 pub record AreRewound (post post_now inbox inbox_now : End) (keep drop_from : ℕ) : Type 0 where
   pub begins : Begins inbox.list post.list
   pub put : post_now.list ≡ take drop_from post.list
@@ -105,6 +125,10 @@ pub record AreRewound (post post_now inbox inbox_now : End) (keep drop_from : �
   pub post_stays : StaysEnd post post_now
   pub inbox_stays : StaysEnd inbox inbox_now
   pub channel : IsChannel post_now inbox_now
+  pub knows : Knows post_now drop_from × Knows inbox_now drop_from
+  pub rewound : (post_now.rewound ≡ drop_from) × (inbox_now.rewound ≡ drop_from)
+  pub post_dropped : post_now.dropped + drop_from ≡ post.dropped + length post.list
+  pub inbox_dropped : inbox_now.dropped + drop_from ≡ inbox.dropped + length post.list
 
 -- All other ends are as they were.
 pub record OthersStay (old new : List End) (at : ℕ) : Type 0 where

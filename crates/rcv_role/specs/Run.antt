@@ -1,5 +1,6 @@
 -- What a run did, by what it answers.
-use Rattle.std.specs.Prelude.{◌≡◌, ℕ, ◌+◌, ◌<◌, Option, Some, None, List, [], ◌∷◌, ◌++◌}
+use Rattle.std.specs.Prelude.{◌≡◌, ℕ, ◌+◌, ◌<◌, Option, Some, None, List, [], ◌∷◌, ◌++◌, length}
+use Rattle.std.specs.List.{All}
 use Rattle.rcv_fence.specs.Codes.{code, IsPairOf}
 use Rattle.rcv_fence.specs.Shown.{Shown}
 use Rattle.rcv_role.specs.declared.poll.Poll.{Poll}
@@ -17,6 +18,17 @@ pub record IsFencedBy (p : PartView) (word : ℕ) : Type 0 where
   pub pair : IsPairOf word role point
   pub reaches : IsReached p.setup role point p.role
 
+-- The word lets the role go on.
+abbrev pub LetsPass : PartView → ℕ → Type 0
+LetsPass p word = IsFencedBy p word → ⊥
+
+-- So many looks loaded these words, behind those that were loaded before, and each of them lets the role go on.
+pub record AllPass (p : PartView) (before now : List ℕ) (looks : ℕ) : Type 0 where
+  pub words : List ℕ
+  pub loaded : now ≡ before ++ words
+  pub count : length words ≡ looks
+  pub pass : All (LetsPass p) words
+
 -- What a crashed role raises: its first event that it hasn't saved; nothing where it has saved all.
 abbrev pub signal : ℕ → Option ℕ → List ℕ
 signal r None = []
@@ -30,8 +42,8 @@ pub data Moves (from : CellView) : ℕ → CellView → Type 0 where
   unmoved : Moves from 0 from
   step : {n : ℕ} {a b : CellView} → Moves from n a → Polled a b polls.Moved → Moves from (n + 1) b
 
--- Behind some steps, fewer than the turns, a poll answered this. Each poll had its look before it, and the last look showed
--- no failure that reaches the role.
+-- Behind some steps, fewer than the turns, a poll answered this. Each poll had its look before it, and none of them
+-- showed a failure that reaches the role.
 pub record EndsBy (turns : ℕ) (old new : CellView) (watch now : Shown) (poll : Poll) : Type 0 where
   pub steps : ℕ
   pub few : steps < turns
@@ -39,21 +51,27 @@ pub record EndsBy (turns : ℕ) (old new : CellView) (watch now : Shown) (poll :
   pub made : Moves old steps before
   pub last : Polled before new poll
   pub looks : now.looks ≡ watch.looks + steps + 1
+  pub passed : AllPass old.part watch.seen now.seen (steps + 1)
   pub unfenced : IsFencedBy old.part now.last → ⊥
 
--- Behind some steps, fewer than the turns, a look showed a failure that reaches the role, and no poll came after it.
+-- Behind some steps, fewer than the turns, a look showed a failure that reaches the role, and no poll came after it. No
+-- look before it showed one.
 pub record EndsFenced (turns : ℕ) (old new : CellView) (watch now : Shown) : Type 0 where
   pub steps : ℕ
   pub few : steps < turns
   pub made : Moves old steps new
   pub looks : now.looks ≡ watch.looks + steps + 1
+  pub seen_before : List ℕ
+  pub passed : AllPass old.part watch.seen seen_before steps
+  pub loaded : now.seen ≡ seen_before ++ now.last ∷ []
   pub fenced : IsFencedBy old.part now.last
   pub raised : now.raised ≡ watch.raised
 
--- Each turn made a step.
+-- Each turn made a step, behind a look that showed no failure that reaches the role.
 pub record EndsSpent (turns : ℕ) (old new : CellView) (watch now : Shown) : Type 0 where
   pub made : Moves old turns new
   pub looks : now.looks ≡ watch.looks + turns
+  pub passed : AllPass old.part watch.seen now.seen turns
   pub unfenced : IsFencedBy old.part now.last → ⊥
   pub raised : now.raised ≡ watch.raised
 

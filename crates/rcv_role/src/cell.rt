@@ -49,9 +49,9 @@ impl<'a> Model for Cell<'a> {
 }
 
 impl<'a> Cell<'a> {
-    /// The cell of a declared role at the start of a session, with the ends of new channels: a post to each other role and
-    /// an inbox from each, in order of declaration, with the plan's room and limit. It reserves what it may need. Fails
-    /// where memory runs out; no later call takes any.
+    /// The cell of a declared role at the start of a session, with the ends of new channels: a post to each other role
+    /// and an inbox from each, in order of declaration, with the plan's room and limit. It reserves what it may need.
+    /// Fails where memory runs out; no later call takes any.
     pub fn new(
         alloc: Global,
         setup: &'a Setup,
@@ -72,8 +72,8 @@ impl<'a> Cell<'a> {
         })
     }
 
-    /// Makes one step of the role, which isn't crashed, if it can: a crash where a line of the plan is due, else the Send
-    /// that its script chooses or the Recv of the message that it awaits. The log holds fewer than 65 entries.
+    /// Makes one step of the role, which isn't crashed, if it can: a crash where a line of the plan is due, else the
+    /// Send that its script chooses or the Recv of the message that it awaits. The log holds fewer than 65 entries.
     pub fn poll(&mut self) -> Poll
         requires running { self.old.part.own.crashed ≡ false }
         requires log { length self.old.part.log < 65 }
@@ -184,9 +184,11 @@ impl<'a> Cell<'a> {
         self.part.clear_log();
     }
 
-    /// What holds of every cell: its role is declared, no event of it is a Recv from a stranger, the role made each of its
-    /// events once, and the states are held that it may go back to.
+    /// What holds of every cell: it has a post to each other role and an inbox from each, its role is declared, no
+    /// event of it is a Recv from a stranger, the role made each of its events once, and the states are held that it
+    /// may go back to.
     pub fn known(&self)
+        ensures ends { AreEnds (rules_of self.now.part.setup) self.now.part.role self.now.posts self.now.inboxes }
         ensures states { HoldsStates self.now.part }
         ensures few { length self.now.part.own.events ≤ self.now.part.own.raw }
         ensures strangers { HasNoStrangers self.now.part }
@@ -195,8 +197,8 @@ impl<'a> Cell<'a> {
         self.part.known();
     }
 
-    /// The ends of the channel from another cell of the session to this one learn what the other end did. The answer is how
-    /// many messages lie between them.
+    /// The ends of the channel from another cell of the session to this one learn what the other end did. The answer is
+    /// how many messages lie between them.
     pub fn meet_from(&mut self, sender: &mut Cell<'a>) -> u32
         requires setup { sender.old.part.setup ≡ self.old.part.setup }
         requires apart { sender.old.part.role ≡ self.old.part.role → ⊥ }

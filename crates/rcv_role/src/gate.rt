@@ -2,8 +2,7 @@
 
 use rcv_tree::role::RoleId;
 
-/// Is told of each step that a role attempts, and of each recovery, and may hold them up. No session makes recoveries
-/// beside running roles yet, so nothing calls `recovering`.
+/// Is told of each step that a role attempts, and of each recovery, and may hold them up.
 pub trait Gate: Sync {
     /// Comes before each attempted step of this role, which made so many events in all, undone ones included.
     fn enter(&self, role: RoleId, count: u32);

@@ -18,7 +18,7 @@ use Rattle.rcv_top.specs.declared.status.Status.TheVariants as statuses
 use Rattle.rcv_top.specs.Commands.{CommandView, Check}
 use Rattle.rcv_top.specs.Outcome.{most_bytes, Makes, IsOutcome, usage, too_long, refused, made}
 use Rattle.rcv_top.specs.Laws.{ChecksStay}
-use Rattle.rcv_top.proofs.Answering.{one_command}
+use Rattle.rcv_top.proofs.Asking.{one_command}
 
 -- an empty part is blank
 nothing_there : (text : List ℕ) (n : ℕ) → slice_range text n n ≡ []

@@ -1,5 +1,5 @@
 -- What the top call says, from what it read and wrote.
-use Rattle.std.proofs.Common.{◌≡◌, ℕ, codes, Some, None, Option, List, [], ◌∷◌, ◌++◌, length, refl, sym, ◌∙◌, ap, subst, ◌⊎◌, inl, inr, ⊎_elim, append-nil, arith}
+use Rattle.std.proofs.Common.{◌≡◌, ℕ, Some, None, Option, List, [], ◌∷◌, ◌++◌, length, refl, sym, ◌∙◌, ap, subst, ◌⊎◌, inl, inr, ⊎_elim, append-nil, arith}
 use Rattle.std.specs.Prelude.{◌<◌, ◌≤◌, Result, Ok, Err, Vec}
 use Rattle.std.proofs.lemmas.Bool.{cases_lt}
 use Rattle.std.specs.declared.alloc.Global.{Global}
@@ -25,12 +25,13 @@ use Rattle.rcv_accept.specs.Accepted.{IsAcceptedProtocol}
 use Rattle.rcv_session.specs.Session.{SessionView, rules_of}
 use Rattle.rcv_top.specs.declared.status.Status.{Status}
 use Rattle.rcv_top.specs.declared.status.Status.TheVariants as statuses
-use Rattle.rcv_top.specs.Commands.{CommandView, Run, Check, Table, Project, words_of, IsCommand, IsSomeCommand, IsNoCommand}
+use Rattle.rcv_top.specs.Commands.{CommandView, Run, Check, Table, Project, IsCommand, IsSomeCommand, IsNoCommand}
 use Rattle.rcv_input.specs.Input.{IsTaken}
-use Rattle.rcv_top.specs.Running.{EndsAs, all_done, at_limit, IsOneThreadRun}
+use Rattle.rcv_top.specs.Running.{EndsAs, all_done, at_limit, IsSomeRun}
 use Rattle.rcv_top.specs.Outcome.{usage_line, most_bytes, Makes, IsOutcome, usage, too_long, refused, made}
 use Rattle.rcv_top.specs.Laws.{SessionsAreLegal}
 use Rattle.rcv_top.specs.Headline.{IsExactRecovery, IsHeadline}
+use Rattle.rcv_top.proofs.Asking.{one_command}
 use Rattle.rcv_top.specs.Calls.{Around, Answers, TellsFault, ReadNothing, WroteNothing, IsInput, TakesTooMuch, WantsMemory, FailsToRead, Says, Wrote, WritesLegalJournal}
 
 nothing_more : (o : Option (List ℕ)) → append_known o [] ≡ o
@@ -55,7 +56,7 @@ run_answers rules s status (all_done done) = tt
 run_answers rules s status (at_limit at) = tt
 
 command_answers : (session : SessionView) (command : CommandView) (status : Status) (bytes : List ℕ) → Makes session command status bytes → IsAnswer status
-command_answers session Run status bytes makes = run_answers (rules_of session) (reading (rules_of session) makes.journal) status makes.is_journal.ends
+command_answers session (Run workers) status bytes makes = run_answers (rules_of session) (reading (rules_of session) makes.some.journal) status makes.some.is_journal.ends
 command_answers session Check status bytes makes = subst IsAnswer (sym makes.0) tt
 command_answers session Table status bytes makes = subst IsAnswer (sym makes.0) tt
 command_answers session (Project name) status bytes (inl makes) = subst IsAnswer (sym makes.2) tt
@@ -137,46 +138,16 @@ headline_of session journal lawful legal final = record {
 pub session_headline : SessionsAreLegal
 session_headline input session journal status bytes taken held = headline_of session journal taken.protocol.accepted held.legal held.final
 
--- ---- the words are one command
-
-same_word : (a b : List ℕ) → a ∷ [] ≡ b ∷ [] → a ≡ b
-same_word a b e = cc
-
-abbrev first : List ℕ → ℕ
-first [] = 0
-first (b ∷ bs) = b
-
-pub one_command : (words : List (List ℕ)) (c d : CommandView) → IsCommand words c → IsCommand words d → c ≡ d
-one_command words Run Run x y = refl
-one_command words Run Check x y = let e = ap first (same_word (codes "run") (codes "check") (sym x ∙ y)) in absurd (omega (arith, e))
-one_command words Run Table x y = let e = ap first (same_word (codes "run") (codes "table") (sym x ∙ y)) in absurd (omega (arith, e))
-one_command words Run (Project name) x y = let e : words_of Run ≡ words_of (Project name) = sym x ∙ y in absurd (omega (arith, ap length e))
-one_command words Check Run x y = let e = ap first (same_word (codes "check") (codes "run") (sym x ∙ y)) in absurd (omega (arith, e))
-one_command words Check Check x y = refl
-one_command words Check Table x y = let e = ap first (same_word (codes "check") (codes "table") (sym x ∙ y)) in absurd (omega (arith, e))
-one_command words Check (Project name) x y = let e : words_of Check ≡ words_of (Project name) = sym x ∙ y in absurd (omega (arith, ap length e))
-one_command words Table Run x y = let e = ap first (same_word (codes "table") (codes "run") (sym x ∙ y)) in absurd (omega (arith, e))
-one_command words Table Check x y = let e = ap first (same_word (codes "table") (codes "check") (sym x ∙ y)) in absurd (omega (arith, e))
-one_command words Table Table x y = refl
-one_command words Table (Project name) x y = let e : words_of Table ≡ words_of (Project name) = sym x ∙ y in absurd (omega (arith, ap length e))
-one_command words (Project name) Run x y = let e : words_of (Project name) ≡ words_of Run = sym x ∙ y in absurd (omega (arith, ap length e))
-one_command words (Project name) Check x y = let e : words_of (Project name) ≡ words_of Check = sym x ∙ y in absurd (omega (arith, ap length e))
-one_command words (Project name) Table x y = let e : words_of (Project name) ≡ words_of Table = sym x ∙ y in absurd (omega (arith, ap length e))
-one_command words (Project name) (Project other) x y =
-    let e : codes "project" ∷ codes "--role" ∷ name ∷ [] ≡ codes "project" ∷ codes "--role" ∷ other ∷ [] = sym x ∙ y in
-    let same : name ≡ other = cc in
-    ap (λ (n : List ℕ). Project n) same
-
 -- the headline of what the call wrote
-pub wrote_headline : (words : List (List ℕ)) (call : Around) (input bytes : List ℕ) (status result : Status) → IsInput words call input → IsCommand words Run → IsOutcome words input status bytes → Wrote call.written_before call.written_after call.write_faults_before call.write_faults_after bytes status result → (result ≡ statuses.Completed) ⊎ (result ≡ statuses.Limited) → WritesLegalJournal call result
-wrote_headline words call input bytes status result is command outcome (inr w) ended = absurd (⊎_elim (λ e. let f = w.0 in cc) (λ e. let f = w.0 in cc) ended)
-wrote_headline words call input bytes status result is command outcome (inl w) ended = subst (WritesLegalJournal call) (sym w.0) (go status bytes refl outcome (⊎_elim (λ e. inl (sym w.0 ∙ e)) (λ e. inr (sym w.0 ∙ e)) ended))
+pub wrote_headline : (words : List (List ℕ)) (call : Around) (input bytes : List ℕ) (status result : Status) (workers : ℕ) → IsInput words call input → IsCommand words (Run workers) → IsOutcome words input status bytes → Wrote call.written_before call.written_after call.write_faults_before call.write_faults_after bytes status result → (result ≡ statuses.Completed) ⊎ (result ≡ statuses.Limited) → WritesLegalJournal call result
+wrote_headline words call input bytes status result workers is command outcome (inr w) ended = absurd (⊎_elim (λ e. let f = w.0 in cc) (λ e. let f = w.0 in cc) ended)
+wrote_headline words call input bytes status result workers is command outcome (inl w) ended = subst (WritesLegalJournal call) (sym w.0) (go status bytes refl outcome (⊎_elim (λ e. inl (sym w.0 ∙ e)) (λ e. inr (sym w.0 ∙ e)) ended))
   where
-    run_of : (s : Status) (session : SessionView) → IsTaken input session → IsOneThreadRun session s bytes → WritesLegalJournal call s
+    run_of : (s : Status) (session : SessionView) → IsTaken input session → IsSomeRun session s bytes → WritesLegalJournal call s
     run_of s session taken held = record {
       input = input;
       takes = is.takes;
-      whole = is.whole (Run, command);
+      whole = is.whole (Run workers, command);
       session = session;
       taken = taken;
       journal = held.journal;
@@ -191,8 +162,8 @@ wrote_headline words call input bytes status result is command outcome (inl w) e
     go s b same (too_long c many) e = absurd (⊎_elim (λ f. cc) (λ f. cc) e)
     go s b same (refused other refusal asked first) e = absurd (⊎_elim (λ f. cc) (λ f. cc) e)
     go s b same (made other session asked taken makes) e =
-        let runs = subst (λ (c : CommandView). Makes session c s b) (one_command words other Run asked.words_are command) makes in
-        run_of s session taken (subst (λ (l : List ℕ). IsOneThreadRun session s l) same runs)
+        let runs = subst (λ (c : CommandView). Makes session c s b) (one_command words other (Run workers) asked.words_are command) makes in
+        run_of s session taken (subst (λ (l : List ℕ). IsSomeRun session s l) same runs.some)
 
 -- nothing was taken
 nothing_taken : (o : Option (List ℕ)) (given : ℕ) → Took o o given given []
@@ -216,9 +187,6 @@ input_of words call input most v command reads end same = record {
   whole = λ c. end;
   unread = λ no_command. absurd (no_command command.0 command.1);
 }
-
-pub asked_outcome : (words : List (List ℕ)) (command : CommandView) (input : List ℕ) (status : Status) (bytes : List ℕ) → IsCommand words command → IsOutcome (words_of command) input status bytes → IsOutcome words input status bytes
-asked_outcome words which input status bytes command outcome = subst (λ w. IsOutcome w input status bytes) (sym command) outcome
 
 -- too much was taken
 pub too_much : (words : List (List ℕ)) (call : Around) (e : ReadError) → IsSomeCommand words → ReadsWhole call.rest_before call.rest_after call.given_before call.given_after most_bytes (Err e) → e ≡ errors.TooLong → WroteNothing call → TakesTooMuch words call

@@ -1,4 +1,4 @@
--- Each law has something to speak of: applied to the input that rcv_input's worked case takes.
+-- Words that are commands. And each law has something to speak of: applied to the input that rcv_input's worked case takes.
 use Rattle.std.proofs.Common.{◌≡◌, ℕ, codes, ◌<◌, ◌≤◌, List, [], ◌∷◌, length, refl, ap, arith}
 use Rattle.std.specs.Prelude.{◌↔◌}
 use Rattle.rcv_session.specs.Session.{rules_of}
@@ -28,17 +28,43 @@ use Rattle.rcv_input.proofs.Planned as planned
 use Rattle.rcv_input.proofs.Worked.{input, symbols, tokens, cut, protocol, its_body, is_read, session, taken}
 use Rattle.rcv_top.specs.declared.status.Status.{Status}
 use Rattle.rcv_top.specs.declared.status.Status.TheVariants.{Completed}
-use Rattle.rcv_top.specs.Commands.{Check}
+use Rattle.rcv_top.specs.Workers.{IsCount}
+use Rattle.rcv_top.specs.Commands.{Check, Run, IsCommand, IsNoCommand, AskForSeveral}
 use Rattle.rcv_top.specs.Running.{IsOneThreadRun}
 use Rattle.rcv_top.specs.Recovering.{IsTableText, accepted_as}
 use Rattle.rcv_top.specs.Headline.{IsHeadline}
 use Rattle.rcv_top.specs.Outcome.{most_bytes, IsOutcome, made}
+use Rattle.rcv_top.proofs.Asking.{one_command, digit_counts, no_digit, is_run, is_counted, no_three, run_is_not_project}
 use Rattle.rcv_top.proofs.Again.{checks_stay}
 use Rattle.rcv_top.proofs.Answering.{session_headline}
 use Rattle.rcv_top.proofs.Ending.{sessions_end}
 use Rattle.rcv_top.proofs.Outcomes.{one_outcome}
 use Rattle.rcv_top.proofs.RoleTexts.{text_exists}
 use Rattle.rcv_top.proofs.TableTexts.{table_exists}
+
+-- ---- words
+
+-- `run` alone asks for one worker, and so does `--workers 1`; `--workers 2` for two
+alone : IsCommand (codes "run" ∷ []) (Run 1)
+alone = is_run (codes "run") refl
+
+abbrev with_workers : List ℕ → List (List ℕ)
+with_workers word = codes "run" ∷ codes "--workers" ∷ word ∷ []
+
+counted : (word : List ℕ) (n : ℕ) → IsCount word n → IsCommand (with_workers word) (Run n)
+counted word n count = is_counted (codes "run") (codes "--workers") word n refl refl count
+
+said : IsCommand (with_workers (codes "1")) (Run 1)
+said = counted (codes "1") 1 (digit_counts 49 (omega arith) (omega arith))
+
+several : AskForSeveral (with_workers (codes "2"))
+several = (2, omega arith, counted (codes "2") 2 (digit_counts 50 (omega arith) (omega arith)))
+
+-- `--workers 9` is no command
+no_nine : IsNoCommand (with_workers (codes "9"))
+no_nine = no_three (codes "run") (codes "--workers") (codes "9") (λ e f n. no_digit 57 n (λ least most. omega (arith, most))) (λ e f. run_is_not_project e)
+
+-- ---- a session
 
 lawful : IsAcceptedProtocol protocol
 lawful = taken.protocol.accepted
@@ -85,8 +111,11 @@ short_again = let body = ap (λ b. length (body_text protocol.roles (inner []) b
 checked_again : IsOutcome (codes "check" ∷ []) (canonical protocol) Completed (canonical protocol)
 checked_again = checks_stay input (canonical protocol) checked short_again
 
+no_workers : AskForSeveral (codes "check" ∷ []) → ⊥
+no_workers several = let e = one_command (codes "check" ∷ []) Check (Run several.0) refl several.2 in cc
+
 no_other : (s : Status) (b : List ℕ) → IsOutcome (codes "check" ∷ []) input s b → (Completed ≡ s) × (canonical protocol ≡ b)
-no_other s b outcome = one_outcome (codes "check" ∷ []) input Completed s (canonical protocol) b checked outcome
+no_other s b outcome = one_outcome (codes "check" ∷ []) input Completed s (canonical protocol) b no_workers checked outcome
 
 read_back : IsReadAs (canonical protocol) protocol
 read_back = reads_back input (parts_of input).protocol tokens protocol cut is_read

@@ -1,3 +1,5 @@
+pub mod Asking
+pub mod Turning
 pub mod Sessions
 pub mod Answering
 pub mod Outcomes

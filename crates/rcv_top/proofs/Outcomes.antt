@@ -1,7 +1,8 @@
 -- The answer to words and an input is one.
-use Rattle.std.proofs.Common.{◌≡◌, ℕ, ◌<◌, Option, Some, None, inl, inr, sym, List, [], ◌∷◌, ◌++◌, length, codes, flat_map, refl, ◌∙◌, ap, subst, arith}
+use Rattle.std.proofs.Common.{◌≡◌, ℕ, ◌<◌, Option, Some, None, inl, inr, ⊎_elim, sym, List, [], ◌∷◌, ◌++◌, length, codes, flat_map, refl, ◌∙◌, ap, subst, arith}
 use Rattle.std.specs.Prelude.{slice_index_or, slice_index, decimal, if◌then◌else◌}
 use Rattle.std.specs.List.{list_all, range_with_len}
+use Rattle.std.proofs.lemmas.Bool.{cases_lt}
 use Rattle.rcv_tree.specs.Bits.{has_bit}
 use Rattle.rcv_tree.specs.declared.role.RoleSet.{RoleSet}
 use Rattle.std.specs.Fmt.{signed_decimal}
@@ -28,7 +29,7 @@ use Rattle.rcv_journal.specs.declared.line.RoleLine.{RoleLine}
 use Rattle.rcv_journal.specs.JournalText.{entry_line, role_line, limit_text, word_text, is_done, is_limit, journal_text}
 use Rattle.rcv_journal.specs.Lines.{AreLinesOf, IsTextOf}
 use Rattle.rcv_journal.proofs.OneText.{one_text}
-use Rattle.rcv_top.specs.Commands.{CommandView, Run, Check, Table, Project, IsNoCommand}
+use Rattle.rcv_top.specs.Commands.{CommandView, Run, Check, Table, Project, IsCommand, IsNoCommand, AskForSeveral}
 use Rattle.rcv_accept.specs.Accepted.{IsAcceptedProtocol}
 use Rattle.rcv_input.specs.Laws.{AreSame}
 use Rattle.rcv_tables.specs.Rows.{TableView, IsTable}
@@ -43,7 +44,7 @@ use Rattle.rcv_project.specs.LocalText as projection
 use Rattle.rcv_project.specs.LocalText.{LineView, AreLinesAt, places_to, line_text}
 use Rattle.rcv_project.proofs.OneText.{roles_have_one_text}
 use Rattle.rcv_top.specs.Laws.{OneOutcome}
-use Rattle.rcv_top.proofs.Answering.{one_command}
+use Rattle.rcv_top.proofs.Asking.{one_command}
 
 -- what two lists of roles and two bodies have in common
 both : {A : Type 0} (f : List (List ℕ) → Body → A) (p q : Protocol) → p.roles ≡ q.roles → body_of p.body ≡ body_of q.body → f p.roles (body_of p.body) ≡ f q.roles (body_of q.body)
@@ -185,28 +186,42 @@ one_projection p q name s t b c lawful say x y = go x y
     go (inr (none, is, line)) (inl (o, there, also, other)) = absurd (let moved = place_moves None none in cc)
     go (inr (none, is, line)) (inr (other, also, same)) = (is ∙ sym also, line ∙ sym same)
 
+-- a command that doesn't ask for several workers
+abbrev IsForOne : CommandView → Type 0
+IsForOne (Run workers) = workers ≡ 1
+IsForOne Check = Unit {0}
+IsForOne Table = Unit {0}
+IsForOne (Project name) = Unit {0}
+
+is_for_one : (words : List (List ℕ)) (command : CommandView) → (AskForSeveral words → ⊥) → IsCommand words command → IsForOne command
+is_for_one words (Run workers) few (inl command) = command.1
+is_for_one words (Run workers) few (inr command) = ⊎_elim (λ many. absurd (few (workers, many, inr command))) (λ most. let least = command.2.1.least in omega (arith, most, least)) (cases_lt 1 workers)
+is_for_one words Check few command = tt
+is_for_one words Table few command = tt
+is_for_one words (Project name) few command = tt
+
 -- what a command makes of two sessions that say the same
-one_making : (s t : SessionView) (command : CommandView) (a b : Status) (x y : List ℕ) → IsAcceptedProtocol t.protocol → AreSame s t → Makes s command a x → Makes t command b y → (a ≡ b) × (x ≡ y)
-one_making s t Run a b x y lawful same m n = one_run s t a b x y lawful same m n
-one_making s t Check a b x y lawful same m n = (m.0 ∙ sym n.0, m.1 ∙ one_text_of s.protocol t.protocol same.protocols ∙ sym n.1)
-one_making s t Table a b x y lawful same m n = (m.0 ∙ sym n.0, one_table s.protocol t.protocol x y lawful same.protocols m.1 n.1)
-one_making s t (Project name) a b x y lawful same m n = one_projection s.protocol t.protocol name a b x y lawful same.protocols m n
+one_making : (s t : SessionView) (command : CommandView) (a b : Status) (x y : List ℕ) → IsForOne command → IsAcceptedProtocol t.protocol → AreSame s t → Makes s command a x → Makes t command b y → (a ≡ b) × (x ≡ y)
+one_making s t (Run workers) a b x y one lawful same m n = one_run s t a b x y lawful same (m.alone one) (n.alone one)
+one_making s t Check a b x y one lawful same m n = (m.0 ∙ sym n.0, m.1 ∙ one_text_of s.protocol t.protocol same.protocols ∙ sym n.1)
+one_making s t Table a b x y one lawful same m n = (m.0 ∙ sym n.0, one_table s.protocol t.protocol x y lawful same.protocols m.1 n.1)
+one_making s t (Project name) a b x y one lawful same m n = one_projection s.protocol t.protocol name a b x y lawful same.protocols m n
 
 pub one_outcome : OneOutcome
-one_outcome words input s t b c (usage n1) (usage n2) = (refl, refl)
-one_outcome words input s t b c (usage n1) (too_long w2 many2) = absurd (n1 w2.0 w2.1)
-one_outcome words input s t b c (usage n1) (refused d2 refusal2 asked2 first2) = absurd (is_asked words input d2 n1 asked2)
-one_outcome words input s t b c (usage n1) (made d2 s2 asked2 taken2 makes2) = absurd (is_asked words input d2 n1 asked2)
-one_outcome words input s t b c (too_long w1 many1) (usage n2) = absurd (n2 w1.0 w1.1)
-one_outcome words input s t b c (too_long w1 many1) (too_long w2 many2) = (refl, refl)
-one_outcome words input s t b c (too_long w1 many1) (refused d2 refusal2 asked2 first2) = absurd (is_short words input d2 many1 asked2)
-one_outcome words input s t b c (too_long w1 many1) (made d2 s2 asked2 taken2 makes2) = absurd (is_short words input d2 many1 asked2)
-one_outcome words input s t b c (refused d1 refusal1 asked1 first1) (usage n2) = absurd (is_asked words input d1 n2 asked1)
-one_outcome words input s t b c (refused d1 refusal1 asked1 first1) (too_long w2 many2) = absurd (is_short words input d1 many2 asked1)
-one_outcome words input s t b c (refused d1 refusal1 asked1 first1) (refused d2 refusal2 asked2 first2) = (refl, one_line input refusal1 refusal2 first1 first2)
-one_outcome words input s t b c (refused d1 refusal1 asked1 first1) (made d2 s2 asked2 taken2 makes2) = absurd (one_answer.either input s2 refusal1 taken2 first1)
-one_outcome words input s t b c (made d1 s1 asked1 taken1 makes1) (usage n2) = absurd (is_asked words input d1 n2 asked1)
-one_outcome words input s t b c (made d1 s1 asked1 taken1 makes1) (too_long w2 many2) = absurd (is_short words input d1 many2 asked1)
-one_outcome words input s t b c (made d1 s1 asked1 taken1 makes1) (refused d2 refusal2 asked2 first2) = absurd (one_answer.either input s1 refusal2 taken1 first2)
-one_outcome words input s t b c (made d1 s1 asked1 taken1 makes1) (made d2 s2 asked2 taken2 makes2) =
-    one_making s1 s2 d2 s t b c taken2.protocol.accepted (one_answer.sessions input s1 s2 taken1 taken2) (subst (λ (d : CommandView). Makes s1 d s b) (one_command words d1 d2 asked1.words_are asked2.words_are) makes1) makes2
+one_outcome words input s t b c few (usage n1) (usage n2) = (refl, refl)
+one_outcome words input s t b c few (usage n1) (too_long w2 many2) = absurd (n1 w2.0 w2.1)
+one_outcome words input s t b c few (usage n1) (refused d2 refusal2 asked2 first2) = absurd (is_asked words input d2 n1 asked2)
+one_outcome words input s t b c few (usage n1) (made d2 s2 asked2 taken2 makes2) = absurd (is_asked words input d2 n1 asked2)
+one_outcome words input s t b c few (too_long w1 many1) (usage n2) = absurd (n2 w1.0 w1.1)
+one_outcome words input s t b c few (too_long w1 many1) (too_long w2 many2) = (refl, refl)
+one_outcome words input s t b c few (too_long w1 many1) (refused d2 refusal2 asked2 first2) = absurd (is_short words input d2 many1 asked2)
+one_outcome words input s t b c few (too_long w1 many1) (made d2 s2 asked2 taken2 makes2) = absurd (is_short words input d2 many1 asked2)
+one_outcome words input s t b c few (refused d1 refusal1 asked1 first1) (usage n2) = absurd (is_asked words input d1 n2 asked1)
+one_outcome words input s t b c few (refused d1 refusal1 asked1 first1) (too_long w2 many2) = absurd (is_short words input d1 many2 asked1)
+one_outcome words input s t b c few (refused d1 refusal1 asked1 first1) (refused d2 refusal2 asked2 first2) = (refl, one_line input refusal1 refusal2 first1 first2)
+one_outcome words input s t b c few (refused d1 refusal1 asked1 first1) (made d2 s2 asked2 taken2 makes2) = absurd (one_answer.either input s2 refusal1 taken2 first1)
+one_outcome words input s t b c few (made d1 s1 asked1 taken1 makes1) (usage n2) = absurd (is_asked words input d1 n2 asked1)
+one_outcome words input s t b c few (made d1 s1 asked1 taken1 makes1) (too_long w2 many2) = absurd (is_short words input d1 many2 asked1)
+one_outcome words input s t b c few (made d1 s1 asked1 taken1 makes1) (refused d2 refusal2 asked2 first2) = absurd (one_answer.either input s1 refusal2 taken1 first2)
+one_outcome words input s t b c few (made d1 s1 asked1 taken1 makes1) (made d2 s2 asked2 taken2 makes2) =
+    one_making s1 s2 d2 s t b c (is_for_one words d2 few asked2.words_are) taken2.protocol.accepted (one_answer.sessions input s1 s2 taken1 taken2) (subst (λ (d : CommandView). Makes s1 d s b) (one_command words d1 d2 asked1.words_are asked2.words_are) makes1) makes2

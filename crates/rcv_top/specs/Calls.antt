@@ -125,8 +125,8 @@ Says words call WriteFault = FailsToWrite words call
 Says words call Memory = WantsMemory words call
 Says words call TooLong = TakesTooMuch words call
 
--- The count of faults didn't fall. The call ends with this status only where it rose, and always where it is greater than
--- before.
+-- The count of faults didn't fall. The call ends with this status only where it rose, and always where it is greater
+-- than before.
 pub record TellsFault (before now : ℕ) (fault result : Status) : Type 0 where
   pub later : before ≤ now
   pub only : result ≡ fault → Rose before now

@@ -5,15 +5,16 @@ use Rattle.rcv_session.specs.Session.{SessionView, rules_of}
 use Rattle.rcv_input.specs.Input.{IsTaken}
 use Rattle.rcv_top.specs.declared.status.Status.{Status}
 use Rattle.rcv_top.specs.declared.status.Status.TheVariants.{Completed}
+use Rattle.rcv_top.specs.Commands.{AskForSeveral}
 use Rattle.rcv_top.specs.Running.{IsJournalOf, IsOneThreadRun}
 use Rattle.rcv_top.specs.Outcome.{most_bytes, IsOutcome}
 use Rattle.rcv_top.specs.Headline.{IsHeadline}
 
--- Status and bytes are a function of the words and the input.
+-- Status and bytes are a function of the words and the input, where the words don't ask for several workers.
 abbrev pub OneOutcome : Type 0
 OneOutcome =
     (words : List (List ℕ)) (input : List ℕ) (s t : Status) (b c : List ℕ)
-    → IsOutcome words input s b → IsOutcome words input t c → (s ≡ t) × (b ≡ c)
+    → (AskForSeveral words → ⊥) → IsOutcome words input s b → IsOutcome words input t c → (s ≡ t) × (b ≡ c)
 
 -- These words and this input have an outcome.
 abbrev pub HasOutcome : List (List ℕ) → List ℕ → Type 0

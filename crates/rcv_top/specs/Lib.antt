@@ -1,5 +1,7 @@
+pub mod Workers
 pub mod Commands
 pub mod Running
+pub mod Finishing
 pub mod Projection
 pub mod Recovering
 pub mod Outcome

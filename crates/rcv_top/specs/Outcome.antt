@@ -11,7 +11,7 @@ use Rattle.rcv_top.specs.declared.status.Status.TheVariants.{Completed, Usage, R
 use Rattle.rcv_top.specs.Commands.{CommandView, Run, Check, Table, Project, IsCommand, IsSomeCommand, IsNoCommand}
 use Rattle.rcv_top.specs.Projection.{IsProjection}
 use Rattle.rcv_top.specs.Recovering.{IsTableText}
-use Rattle.rcv_top.specs.Running.{IsOneThreadRun}
+use Rattle.rcv_top.specs.Running.{IsRunOf}
 
 -- The number of a status, with which the process ends.
 abbrev pub number_of : Status → ℕ
@@ -37,10 +37,10 @@ pub record IsAsked (words : List (List ℕ)) (command : CommandView) (input : Li
   pub words_are : IsCommand words command
   pub short : length input ≤ most_bytes
 
--- What a command makes of a session: its one-thread journal with how that ends, the canonical text of its protocol,
--- the recovery table of that, or what the role of a name does.
+-- What a command makes of a session: the journal that so many workers make with how that ends, the canonical text of
+-- its protocol, the recovery table of that, or what the role of a name does.
 abbrev pub Makes : SessionView → CommandView → Status → List ℕ → Type 0
-Makes session Run status bytes = IsOneThreadRun session status bytes
+Makes session (Run workers) status bytes = IsRunOf workers session status bytes
 Makes session Check status bytes = (status ≡ Completed) × (bytes ≡ canonical session.protocol)
 Makes session Table status bytes = (status ≡ Completed) × IsTableText session.protocol bytes
 Makes session (Project name) status bytes = IsProjection session.protocol name status bytes

@@ -1,5 +1,5 @@
 -- What `run` makes of a session.
-use Rattle.std.specs.Prelude.{ℕ, List}
+use Rattle.std.specs.Prelude.{◌≡◌, ℕ, List}
 use Rattle.rcv_tree.specs.declared.entry.Entry.{Entry}
 use Rattle.rcv_session.specs.Session.{SessionView, rules_of}
 use Rattle.rcv_model.specs.Journal.{Rules, State, reading, IsLegal}
@@ -25,3 +25,13 @@ pub record IsOneThreadRun (session : SessionView) (status : Status) (bytes : Lis
   pub journal : List Entry
   pub is_journal : IsJournalOf session journal status bytes
   pub alone : IsOneThread (rules_of session) journal
+
+-- The journal is some journal of the session.
+pub record IsSomeRun (session : SessionView) (status : Status) (bytes : List ℕ) : Type 0 where
+  pub journal : List Entry
+  pub is_journal : IsJournalOf session journal status bytes
+
+-- What so many workers make of a session: a journal of it, and with one worker the journal of one thread.
+pub record IsRunOf (workers : ℕ) (session : SessionView) (status : Status) (bytes : List ℕ) : Type 0 where
+  pub some : IsSomeRun session status bytes
+  pub alone : workers ≡ 1 → IsOneThreadRun session status bytes

@@ -1,81 +1,57 @@
 // What the commands answer, from the bytes of an input to those of an output.
 
-ghost use Rattle.std.specs.Prelude.{◌≡◌, ◌≤◌, length, IfOk};
+ghost use Rattle.std.specs.Prelude.{◌≡◌, ℕ, ◌≤◌, List, length, IfOk};
 ghost use Rattle.rcv_input.specs.declared.refused.Refused as refusals;
 ghost use Rattle.rcv_input.specs.Line.{refusal_line};
-ghost use Rattle.rcv_session.specs.Session.{SessionView};
 ghost use Rattle.rcv_printer.specs.CanonicalText.{canonical};
-ghost use Rattle.rcv_script.specs.Scripts.{AreScriptsFor};
-ghost use Rattle.rcv_plan.specs.Lines.{IsPlanned};
 ghost use Rattle.rcv_accept.specs.Accepted.{IsAcceptedProtocol};
-ghost use Rattle.rcv_top.specs.Commands.{view_of, words_of};
+ghost use Rattle.rcv_top.specs.Commands.{view_of, IsCommand};
 ghost use Rattle.rcv_top.specs.Outcome.{IsOutcome};
 ghost use Rattle.rcv_top.specs.Projection.{IsProjection};
 ghost use Rattle.rcv_top.specs.Recovering.{IsTableText};
-ghost use Rattle.rcv_top.specs.Running.{IsOneThreadRun};
 
 use crate::command::Command;
+use crate::output::Output;
 use crate::role::place_of;
+use crate::run::run;
 use crate::status::Status;
 use rcv_accept::accepted::Accepted;
-use rcv_core::book::Book;
-use rcv_core::outcome::Outcome;
-use rcv_core::setup::Setup;
-use rcv_input::{Input, InputError, Refused, read_input, refusal_line};
-use rcv_journal::text::text_of;
+use rcv_input::{InputError, Refused, read_input, refusal_line};
 use rcv_printer::print_protocol;
 use rcv_project::project;
 use rcv_project::text::print_local;
+use rcv_role::gate::Gate;
 use rcv_tables::making::table;
 use rcv_tables::text::print_table;
 use rcv_tree::protocol::Protocol;
 use rcv_tree::role::RoleId;
 use std::alloc::{AllocError, Global};
-
-/// A status, and the bytes that are written with it.
-#[derive(Drop)]
-pub struct Output {
-    pub status: Status,
-    pub bytes: Vec<u8>,
-}
+use std::thread::Threads;
 
 /// What is written for an input of at most 1,048,576 bytes, and with which status: the first refusal of the input, or
 /// what the command makes of its protocol, its scripts and its plan.
 ///
 /// The error comes where no memory was left.
-pub fn answer(alloc: Global, command: Command<'_>, input: &[u8]) -> Result<Output, AllocError>
+pub fn answer<R: Threads + Sync, G: Gate>(
+    rt: &R,
+    alloc: Global,
+    command: Command<'_>,
+    input: &[u8],
+    gate: &G,
+) -> Result<Output, AllocError>
     requires { length input.now ≤ 1048576 }
-    ensures { IfOk result (λ output. IsOutcome (words_of (view_of command.entry)) input.now output.status output.bytes.items) }
+    ensures { IfOk result (λ output. (words : List (List ℕ)) → IsCommand words (view_of command.entry)
+        → IsOutcome words input.now output.status output.bytes.items) }
 {
     match read_input(alloc, input) {
         Ok(taken) => match command {
-            Command::Run => run(alloc, taken),
+            Command::Run { workers } => run(rt, alloc, taken, workers, gate),
             Command::Check => check(alloc, taken.accepted.protocol()),
             Command::Table => write_tables(alloc, &taken.accepted),
             Command::Project { role } => project_role(alloc, &taken.accepted, role),
         },
         Err(error) => refuse(alloc, error),
     }
-}
-
-// Runs a session to its end, and writes its journal.
-fn run(alloc: Global, taken: Input) -> Result<Output, AllocError>
-    requires belong { AreScriptsFor taken.accepted.protocol taken.scripts }
-    requires planned { IsPlanned (length taken.accepted.protocol.roles) taken.plan }
-    ensures { IfOk result (λ output. IsOneThreadRun
-        (record { protocol = taken.accepted.protocol; scripts = taken.scripts.lines; plan = taken.plan })
-        output.status output.bytes.items) }
-{
-    let setup = Setup::new(alloc, taken.accepted, taken.scripts, taken.plan)?;
-    let mut book = Book::new(alloc, &setup)?;
-    book.run_alone();
-    let bytes = text_of(alloc, &book)?;
-    let status = match book.final_state() {
-        Outcome::Completed => Status::Completed,
-        Outcome::Limited => Status::Limited,
-        Outcome::More => unreachable!(),
-    };
-    Ok(Output { status, bytes })
 }
 
 // Writes the canonical text of a protocol.

@@ -1,10 +1,12 @@
 // What the program may be asked to do with an input.
 
+use crate::workers::Workers;
+
 /// A command.
 #[derive(Clone, Copy, Debug, PartialEq, Eq)]
 pub enum Command<'a> {
-    /// Runs the session of the input, and writes its journal.
-    Run,
+    /// Runs the session of the input with so many workers, and writes its journal.
+    Run { workers: Workers },
     /// Writes the canonical text of the input's protocol.
     Check,
     /// Writes the recovery table of the input's protocol.

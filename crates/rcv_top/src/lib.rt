@@ -6,16 +6,18 @@ ghost use Rattle.rcv_top.specs.Laws.{ChecksStay, OneOutcome, OutcomesExist, Sess
 mod answer;
 mod call;
 mod command;
-mod gate;
+mod output;
 mod role;
+mod run;
 mod status;
 mod words;
+mod workers;
 
 pub use call::recover;
-pub use gate::{Gate, NoGate};
+pub use rcv_role::gate::{Gate, NoGate};
 pub use status::Status;
 
-/// Status and bytes are a function of the words and the input.
+/// Status and bytes are a function of the words and the input, where the words don't ask for several workers.
 pub fn one_outcome()
     ensures { OneOutcome }
 {}

@@ -6,13 +6,15 @@ ghost use Rattle.rcv_top.specs.Outcome.{number_of};
 /// How a call ended.
 #[derive(Clone, Copy, Debug, PartialEq, Eq)]
 pub enum Status {
-    /// The session ran until all roles were done, and its journal was written; or the text of another command was written.
+    /// The session ran until all roles were done, and its journal was written; or the text of another command was
+    /// written.
     Completed,
     /// The words are no command, and the usage line was written.
     Usage,
     /// The input is refused, and the refusal was written.
     Refused,
-    /// The session ran until no role could go on, some role that isn't done is at the limit, and the journal was written.
+    /// The session ran until no role could go on, some role that isn't done is at the limit, and the journal was
+    /// written.
     Limited,
     /// The source failed, and nothing was written.
     ReadFault,

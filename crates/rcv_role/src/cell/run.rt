@@ -1,6 +1,6 @@
 // A run of a cell: poll after poll, under a watch and a gate.
 
-ghost use Rattle.std.specs.Prelude.{◌≡◌, ◌+◌, ◌≤◌, ◌++◌, ◌↔◌, false, length, IsTrue};
+ghost use Rattle.std.specs.Prelude.{◌≡◌, ◌+◌, ◌≤◌, [], ◌∷◌, ◌++◌, ◌↔◌, false, length, IsTrue};
 ghost use Rattle.rcv_role.specs.Cell.{IsSettled, Goes};
 ghost use Rattle.rcv_role.specs.Run.{IsFencedBy, Ran, signal_of};
 
@@ -47,6 +47,7 @@ impl<'a> Cell<'a> {
     fn is_fenced(&self, watch: &mut Watch) -> bool
         ensures looks { watch.new.looks ≡ watch.old.looks + 1 }
         ensures raised { watch.new.raised ≡ watch.old.raised }
+        ensures seen { watch.new.seen ≡ watch.old.seen ++ watch.new.last ∷ [] }
         ensures fenced { IsTrue result ↔ IsFencedBy self.now.part watch.new.last }
     {
         match watch.look() {
@@ -59,6 +60,7 @@ impl<'a> Cell<'a> {
     fn raise(&self, watch: &mut Watch)
         ensures looks { watch.new.looks ≡ watch.old.looks }
         ensures last { watch.new.last ≡ watch.old.last }
+        ensures seen { watch.new.seen ≡ watch.old.seen }
         ensures raised { watch.new.raised ≡ watch.old.raised ++ signal_of self.now.part }
     {
         if let Some(point) = self.part.first_lost() {

@@ -1,9 +1,9 @@
--- The role's attempt is the state's.
+-- Nothing, or the choice by the role's attempt, which is the state's.
 use Rattle.std.proofs.Common.{get_or, ap, subst, ◌∙◌}
 use Rattle.std.specs.Prelude.{slice_index}
 use Rattle.rcv_tree.specs.declared.event.Event.{Event}
 use Rattle.rcv_core.specs.declared.standing.Standing.{Standing}
-use Rattle.rcv_core.specs.Choices.{IsChoice}
+use Rattle.rcv_core.specs.Choices.{IsRemembered}
 use Rattle.rcv_core.specs.Book.{BookView, state_of}
 use Rattle.rcv_core.proofs.Books.{declared_in, standing_told}
 use Rattle.rcv_core.proofs.book.Book.choice_behind.Goals as goal
@@ -14,5 +14,5 @@ returns c =
     let at = c.index.ensures ∙ ap (λ (e : Event). get_or c.self.inside.standings.items e.role c.index.result.now) c.event.view_is in
     let lt = declared_in c.args.self.now setup c.self.inside.entries.items c.args.event.now.role c.self.view_is c.requires.declared in
     let own = standing_told setup c.self.inside.entries.items c.self.inside.standings.items c.self.inside.ledger c.self.invariant.book c.args.event.now.role c.index.result.now lt at in
-    subst (λ (b : BookView). IsChoice b.setup c.args.event.now.role c.args.state.now (slice_index (state_of b).attempts c.args.event.now.role) c.choice.result) c.self.view_is
-    (subst (λ n. IsChoice setup c.args.event.now.role c.args.state.now n c.choice.result) (ap (λ (x : Standing). x.attempt) own) c.choice.ensures)
+    subst (λ (b : BookView). IsRemembered b.setup c.args.event.now.role c.args.state.now (slice_index (state_of b).attempts c.args.event.now.role) c.choice.result) c.self.view_is
+    (subst (λ n. IsRemembered setup c.args.event.now.role c.args.state.now n c.choice.result) (ap (λ (x : Standing). x.attempt) own) (λ some. c.choice.ensures))

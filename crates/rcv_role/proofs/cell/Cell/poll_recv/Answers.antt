@@ -32,7 +32,7 @@ pub invariant_of-self-2 : goal.invariant_of-self-2
 invariant_of-self-2 c = received_ends_more c.self.inside.part c.self.inside.posts.items c.self.inside.inboxes.items c.args.self.now c.args.from c.role.result c.slot-at.result c.args.offered.now c.self.view_is c.self.invariant c.requires.settled c.requires.receives c.role.ensures c.slot-at.ensures c.receive_from.new.inboxes.items c.receive_from.result c.receive_from.ensures.others c.receive_from.ensures.received c.add.new.self c.got-event.result c.add.ensures
 
 pub returns-clause-polled : goal.returns-clause-polled
-returns-clause-polled c = received_moved c.self.inside.part c.self.inside.posts.items c.self.inside.inboxes.items c.args.self.now c.args.from c.role.result c.slot-at.result c.args.offered.now c.self.view_is c.self.invariant c.requires.settled c.requires.receives c.role.ensures c.slot-at.ensures c.receive_from.new.inboxes.items c.receive_from.result c.receive_from.ensures.others c.receive_from.ensures.received c.requires.calm c.requires.offers c.requires.some c.requires.below c.add.new.self c.got-event.result c.add.ensures
+returns-clause-polled c = received_moved c.self.inside.part c.self.inside.posts.items c.self.inside.inboxes.items c.args.self.now c.args.from c.role.result c.slot-at.result c.args.offered.now c.self.view_is c.self.invariant c.requires.settled c.requires.receives c.role.ensures c.slot-at.ensures c.receive_from.new.inboxes.items c.receive_from.result c.receive_from.ensures.others c.receive_from.ensures.received c.in-Some.message c.in-Some.is (some_end c.self.inside.part c.self.inside.posts.items c.self.inside.inboxes.items c.args.self.now c.args.from c.role.result c.slot-at.result c.args.offered.now c.self.view_is c.self.invariant c.requires.settled c.requires.receives c.role.ensures c.slot-at.ensures) c.requires.calm c.requires.offers c.requires.some c.requires.below c.add.new.self c.got-event.result c.add.ensures c.got-event.ensures.of
 
 pub returns-clause-goes : goal.returns-clause-goes
 returns-clause-goes c = received_moves c.self.inside.part c.self.inside.posts.items c.self.inside.inboxes.items c.args.self.now c.args.from c.role.result c.slot-at.result c.args.offered.now c.self.view_is c.self.invariant c.requires.settled c.requires.receives c.role.ensures c.slot-at.ensures c.receive_from.new.inboxes.items c.receive_from.result c.receive_from.ensures.others c.receive_from.ensures.received c.in-Some.message c.in-Some.is (some_end c.self.inside.part c.self.inside.posts.items c.self.inside.inboxes.items c.args.self.now c.args.from c.role.result c.slot-at.result c.args.offered.now c.self.view_is c.self.invariant c.requires.settled c.requires.receives c.role.ensures c.slot-at.ensures) c.add.new.self c.got-event.result c.add.ensures c.known.ensures.strangers c.got-event.ensures.of c.got-event.ensures.may

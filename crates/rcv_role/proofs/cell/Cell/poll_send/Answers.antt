@@ -26,7 +26,9 @@ pub invariant_of-self-2 : goal.invariant_of-self-2
 invariant_of-self-2 c = sent_ends_more c.self.inside.part c.self.inside.posts.items c.self.inside.inboxes.items c.args.self.now c.sent-event.result c.receiver-to.result c.role.result c.slot-at.result c.self.view_is c.self.invariant c.requires.settled c.sent-event.ensures.own c.receiver-to.ensures c.role.ensures c.slot-at.ensures c.send_to.new.posts.items c.send_to.result c.send_to.ensures.others c.send_to.ensures.sent c.add.new.self c.add.ensures
 
 pub returns-clause-polled : goal.returns-clause-polled
-returns-clause-polled c = sent_moved c.self.inside.part c.self.inside.posts.items c.self.inside.inboxes.items c.args.self.now c.sent-event.result c.receiver-to.result c.role.result c.slot-at.result c.self.view_is c.self.invariant c.requires.settled c.sent-event.ensures.own c.receiver-to.ensures c.role.ensures c.slot-at.ensures c.send_to.new.posts.items c.send_to.result c.send_to.ensures.others c.send_to.ensures.sent c.args.offered.now c.requires.calm c.requires.offers c.requires.some c.requires.below c.sent-event.ensures.may c.add.new.self c.add.ensures
+returns-clause-polled c =
+    let sent : c.send_to.result ≡ true = search rules in
+    sent_moved c.self.inside.part c.self.inside.posts.items c.self.inside.inboxes.items c.args.self.now c.sent-event.result c.receiver-to.result c.role.result c.slot-at.result c.self.view_is c.self.invariant c.requires.settled c.sent-event.ensures.own c.receiver-to.ensures c.role.ensures c.slot-at.ensures c.send_to.new.posts.items c.send_to.result c.send_to.ensures.others c.send_to.ensures.sent c.args.offered.now c.requires.calm c.requires.offers c.requires.some c.requires.below c.sent-event.ensures.may sent c.add.new.self c.add.ensures
 
 pub returns-clause-goes : goal.returns-clause-goes
 returns-clause-goes c =

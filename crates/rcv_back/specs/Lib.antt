@@ -1,0 +1,4 @@
+pub mod Halves
+pub mod Back
+pub mod Going
+pub mod Parting

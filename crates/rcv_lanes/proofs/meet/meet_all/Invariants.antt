@@ -1,0 +1,7 @@
+use Rattle.std.proofs.Common.{◌≡◌, ◌<◌, ℕ, length}
+use Rattle.rcv_role.specs.Cell.{CellView}
+use Rattle.rcv_lanes.specs.Home.{cell_at, AllMet, HasBegun}
+use Rattle.rcv_lanes.proofs.meet.meet_all.Given as goal
+
+abbrev pub invariant-loop-from : goal.invariant-loop-from
+invariant-loop-from l = AllMet l.initial.lanes.items l.lanes.items × ((s r : ℕ) (d : CellView) → s < l.from → r < length l.initial.lanes.items → (s ≡ r → ⊥) → HasBegun (cell_at l.initial.lanes.items r d) (cell_at l.initial.lanes.items s d))

@@ -1,0 +1,131 @@
+// A recovery beside which the roles that it doesn't concern make steps.
+
+use crate::flag::Flag;
+use rcv_core::book::Book;
+use rcv_core::outcome::Outcome;
+use rcv_core::setup::Setup;
+use rcv_input::read_input;
+use rcv_journal::text::text_of;
+use rcv_super::session::{Session, Turn};
+use rcv_top::Gate;
+use rcv_tree::entry::Entry;
+use rcv_tree::role::RoleId;
+use std::alloc::{AllocError, Global};
+use std::test::Fail;
+use std::thread::Threads;
+
+// How many turns the session may take.
+const TURNS: u32 = 10_000;
+
+const BESIDE: &[u8] = b"module beside;
+global protocol Beside(role A, role B, role C, role D) {
+  a() from A to B;
+  rec X { c() from C to D; continue X; }
+}
+%% plan
+every B 100 crash B 1 limit 1000
+";
+
+// Its one recovery, and its last lines.
+const RECOVERY: &str = "\nrecover B undone 1: B 0\n";
+
+const END: &str = "role A kept 1 raw 1 done
+role B kept 1 raw 2 done
+role C kept 1000 raw 1000 limit
+role D kept 1000 raw 1000 limit
+limited C D
+";
+
+const B: RoleId = RoleId(1);
+
+const C: RoleId = RoleId(2);
+
+// Behind the crash, holds C at its next step until the recovery of B has begun, and the recovery until C has come to
+// another one.
+#[derive(Drop)]
+struct Both {
+    crashed: Flag,
+    begun: Flag,
+    entered: Flag,
+    missed: Flag,
+}
+
+impl Gate for Both {
+    fn enter(&self, role: RoleId, _count: u32) {
+        if role != C || !self.crashed.is_set() {
+            return;
+        }
+        if self.begun.is_set() {
+            self.entered.set();
+        } else {
+            self.begun.wait(&self.missed);
+        }
+    }
+
+    fn recovering(&self, role: RoleId) {
+        if role == B {
+            self.begun.set();
+            self.entered.wait(&self.missed);
+        }
+    }
+}
+
+// The text of the journal of a session that is limited, and none of another one.
+fn limited_text(alloc: Global, book: &Book<'_>) -> Result<Option<String>, AllocError> {
+    match book.final_state() {
+        Outcome::Limited => {
+            let bytes = text_of(alloc, book)?;
+            Ok(Some(String::from_utf8_lossy(alloc, bytes.as_slice())?))
+        }
+        _ => Ok(None),
+    }
+}
+
+// Turns the session with two workers to its end, and gives its journal. The gate is told of the crash behind its turn.
+fn journal<R: AllocGlobal + Threads + Sync>(
+    rt: &R,
+    gate: &Both,
+) -> Result<Option<String>, AllocError> {
+    let alloc = rt.alloc();
+    let Ok(input) = read_input(alloc, BESIDE) else {
+        return Ok(None);
+    };
+    let setup = Setup::new(alloc, input.accepted, input.scripts, input.plan)?;
+    let mut session = Session::new(alloc, &setup)?;
+    for _ in 0..TURNS {
+        let turn = session.turn(rt, alloc, 2, gate);
+        if turn != Ok(Turn::More) {
+            break;
+        }
+        if has_crash(session.book()) {
+            gate.crashed.set();
+        }
+    }
+    limited_text(alloc, session.book())
+}
+
+// Whether a book has a crash.
+fn has_crash(book: &Book<'_>) -> bool {
+    for entry in book.entries() {
+        if let Entry::Crash(_) = entry {
+            return true;
+        }
+    }
+    false
+}
+
+#[test]
+fn roles_go_on_beside_a_recovery_of_others(rt: HostRuntime) -> Result<(), Fail> {
+    let gate = Both {
+        crashed: Flag::new(),
+        begun: Flag::new(),
+        entered: Flag::new(),
+        missed: Flag::new(),
+    };
+    let text = journal(&rt, &gate)?.unwrap_or(String::new(rt.alloc()));
+    assert!(rt; gate.entered.is_set() && !gate.missed.is_set());
+    assert!(rt; text.as_str().contains(RECOVERY));
+    assert_eq!(rt; text.as_str().split("recover ").count(), 2);
+    assert!(rt; text.as_str().ends_with(END));
+    Ok(())
+}

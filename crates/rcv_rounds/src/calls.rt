@@ -1,0 +1,24 @@
+// A call of `run` with several workers over memory.
+
+use rcv_io::{MemSink, MemSource};
+use rcv_top::{Gate, recover};
+use std::alloc::AllocError;
+use std::thread::Threads;
+
+/// The number of the status with which so many workers end the session of an input, and what is written.
+pub fn run<R: AllocGlobal + Threads + Sync, G: Gate>(
+    rt: &R,
+    workers: &str,
+    input: &[u8],
+    gate: &G,
+) -> Result<(u8, Vec<u8>), AllocError> {
+    let alloc = rt.alloc();
+    let mut words = Vec::new(alloc);
+    for word in ["run", "--workers", workers] {
+        words.push(String::from_str(alloc, word)?)?;
+    }
+    let mut source = MemSource::new(Vec::from_slice(alloc, input)?, 4096, Vec::new(alloc));
+    let mut sink = MemSink::new(alloc, 4096, Vec::new(alloc), 65_536)?;
+    let status = recover(rt, alloc, words.as_slice(), &mut source, &mut sink, gate);
+    Ok((status.number(), Vec::from_slice(alloc, sink.written())?))
+}

@@ -1,0 +1,110 @@
+-- How a book goes on, and where a session is at its end.
+use Rattle.std.proofs.Common.{◌≡◌, Bool, true, false, ℕ, ◌+◌, ◌<◌, ◌≤◌, List, [], ◌∷◌, ◌++◌, length, length-append, append-nil, refl, sym, ◌∙◌, ap, subst, ◌⊎◌, ⊎_elim, inl, inr, arith}
+use Rattle.rcv_tree.specs.declared.entry.Entry.{Entry}
+use Rattle.std.specs.Prelude.{Ok, Err}
+use Rattle.rcv_model.specs.Final.{IsFinal, IsCompleted, IsLimited, IsStep}
+use Rattle.rcv_model.specs.Journal.{IsLegal}
+use Rattle.rcv_session.specs.Session.{rules_of}
+use Rattle.rcv_core.specs.Book.{BookView, state_of, with_more, HasMore}
+use Rattle.rcv_lanes.specs.Home.{HasGrown, AreHome}
+use Rattle.std.specs.Prelude.{MatchOption, Option, Some}
+use Rattle.rcv_core.specs.declared.skip.Skip.{Skip}
+use Rattle.rcv_core.specs.Book.{IsAtEnd}
+use Rattle.rcv_core.specs.Skips.{IsSkip}
+use Rattle.rcv_role.specs.Cell.{CellView}
+use Rattle.rcv_super.specs.Super.{SuperView, IsAlone, Stands}
+use Rattle.rcv_super.proofs.OneByOne.{stepped_on, same_setup}
+use Rattle.rcv_super.specs.declared.session.Turn.{Turn}
+use Rattle.rcv_super.specs.declared.session.Turn.TheVariants.{More, Completed, Limited}
+use Rattle.rcv_super.specs.declared.session.SessionError.TheVariants.{Closed, Memory}
+use Rattle.rcv_super.specs.Turn.{IsAtCompletion, IsAtLimit, GoesOn, IsEndOf, Turned, Recovered}
+use Rattle.rcv_super.specs.Steps.{HasStepped, HasGoneOn, HasRecovered, HasRecoveredBeside}
+
+-- where something is left to do, a session isn't at its end
+pub not_final : (book : BookView) → HasMore book → IsFinal (rules_of book.setup) (state_of book) → ⊥
+not_final book more final = ⊎_elim
+    (λ c. final.none_crashed c.0 c.2)
+    (λ o. ⊎_elim (λ d. final.none_due d.0 d.1 d.2) (λ a. final.none_acts a.0 a.1 a.2) o)
+    more
+
+-- a book without more entries is what it was
+none_more : (old : BookView) (more : List Entry) → length (with_more old more).entries ≤ length old.entries → with_more old more ≡ old
+none_more old [] le = ap (λ (l : List Entry). record { setup = old.setup; entries = l }) (append-nil old.entries)
+none_more old (e ∷ more) le = let n = length-append old.entries (e ∷ more) in absurd (omega (arith, n, le))
+
+some_more : (old : BookView) (more : List Entry) → length old.entries < length (with_more old more).entries → HasGoneOn old (with_more old more)
+some_more old [] lt = let n = length-append old.entries [] in absurd (omega (arith, n, lt))
+some_more old (e ∷ more) lt = record { first = e; more = more; added = refl }
+
+pub stayed : (old new : BookView) → HasGrown old new → length new.entries ≤ length old.entries → new ≡ old
+stayed old new grown le = grown.added ∙ none_more old grown.more (subst (λ (b : BookView). length b.entries ≤ length old.entries) grown.added le)
+
+pub went_on : (old new : BookView) → HasGrown old new → length old.entries < length new.entries → HasGoneOn old new
+went_on old new grown lt = subst (HasGoneOn old) (sym grown.added) (some_more old grown.more (subst (λ (b : BookView). length old.entries < length b.entries) grown.added lt))
+
+-- a step and a recovery add an entry at least
+pub step_on : (old new : BookView) → HasStepped old new → HasGoneOn old new
+step_on old new stepped = record { first = stepped.entry; more = []; added = stepped.added }
+
+pub recovery_on : (old new : BookView) (role : ℕ) → HasRecoveredBeside old new role → HasGoneOn old new
+recovery_on old new role recovered = record { first = recovered.entry; more = recovered.more; added = recovered.added }
+
+-- a book that stayed, or has a step more, has grown
+pub grown_same : (old new : BookView) → new ≡ old → HasGrown old new
+grown_same old new same = record { more = []; added = same ∙ sym (ap (λ (l : List Entry). record { setup = old.setup; entries = l }) (append-nil old.entries)) }
+
+pub grown_step : (old new : BookView) → (new ≡ old) ⊎ HasStepped old new → HasGrown old new
+grown_step old new some = ⊎_elim (grown_same old new) (λ s. record { more = s.entry ∷ []; added = s.added }) some
+
+-- what a turn answers, of a session with this book
+abbrev session_of : BookView → Bool → SuperView
+session_of book closed = record { book = book; closed = closed }
+
+module _ (workers : ℕ) (old : SuperView) (book : BookView) (closed : Bool) (is : session_of book closed ≡ old) (not_closed : closed ≡ false) where
+  pub ends : (turn : Turn) → IsEndOf book turn → (new : SuperView) → new ≡ old → Turned workers old new (Ok turn)
+  ends Completed end new same = (subst (λ (s : SuperView). IsAtCompletion s) is (record { not_closed = not_closed; end = end }), same)
+  ends Limited end new same = (subst (λ (s : SuperView). IsAtLimit s) is (record { not_closed = not_closed; end = end }), same)
+  ends More end new same = absurd end
+
+  goes : HasMore book → GoesOn old
+  goes more = subst (λ (s : SuperView). GoesOn s) is (record { not_closed = not_closed; more = more })
+
+  pub more_made : HasMore book → (new : BookView) → HasGoneOn book new → (workers ≡ 1 → HasStepped book new) → Turned workers old (session_of new false) (Ok More)
+  more_made more new gone stepped = (
+    goes more,
+    refl,
+    subst (λ (s : SuperView). HasGoneOn s.book new) is gone,
+    λ one. subst (λ (s : SuperView). HasStepped s.book new) is (stepped one),
+  )
+
+  pub memory_wanted : HasMore book → (new : BookView) → HasGrown book new → (workers ≡ 1 → (new ≡ book) ⊎ HasStepped book new) → Turned workers old (session_of new true) (Err Memory)
+  memory_wanted more new grown some = (
+    goes more,
+    refl,
+    subst (λ (s : SuperView). HasGrown s.book new) is grown,
+    λ one. subst (λ (s : SuperView). (new ≡ s.book) ⊎ HasStepped s.book new) is (some one),
+  )
+
+module _ (role : ℕ) (old : SuperView) (book : BookView) (closed : Bool) (is : session_of book closed ≡ old) (not_closed : closed ≡ false) where
+  pub recovered_made : (new : BookView) → HasRecovered book new role → Recovered role old (session_of new false) (Ok tt)
+  recovered_made new recovered = subst (λ (s : SuperView). (s.closed ≡ false) × (false ≡ false) × HasRecovered s.book new role) is (not_closed, refl, recovered)
+
+  pub recovery_wanted : (new : BookView) → (new ≡ book) ⊎ HasRecovered book new role → Recovered role old (session_of new true) (Err Memory)
+  recovery_wanted new some = subst (λ (s : SuperView). (s.closed ≡ false) × (true ≡ true) × ((new ≡ s.book) ⊎ HasRecovered s.book new role)) is (not_closed, refl, some)
+
+-- what a step of the book alone came to
+abbrev pub Came : BookView → BookView → Option Skip → Type 0
+Came old new result = MatchOption result ((new ≡ old) × IsAtEnd old) (λ behind. HasMore old × HasStepped old new × IsSkip new behind)
+
+pub came_some : (old new : BookView) (result : Option Skip) (skip : Skip) → result ≡ Some skip → Came old new result → HasMore old × HasStepped old new × IsSkip new skip
+came_some old new result skip is came = subst (Came old new) is came
+
+-- and a book that goes on alone does so still
+pub alone_on : (alone : Bool) (old new : BookView) (skip skip' : Skip) (cells : List CellView) → alone ≡ true → Stands alone old skip cells → HasMore old × HasStepped old new × IsSkip new skip' → Stands alone new skip' cells
+alone_on alone old new skip skip' cells is stands came =
+    let was : IsAlone old skip cells = subst (λ b. Stands b old skip cells) is stands in
+    subst (λ b. Stands b new skip' cells) (sym is) (record {
+      steps = stepped_on old new was.steps came.1;
+      skip_is = came.2;
+      cells_are = subst (λ s. AreHome (record { setup = s; entries = [] }) cells) (sym (same_setup old new came.1)) was.cells_are;
+    })

@@ -1,0 +1,13 @@
+pub mod OneByOne
+pub mod Apart
+pub mod Leaving
+pub mod Returning
+pub mod Uniting
+pub mod Mixed
+pub mod Parted
+pub mod Behind
+mod Crossing
+mod Ending
+mod OneEntry
+mod Polling
+mod Stepping

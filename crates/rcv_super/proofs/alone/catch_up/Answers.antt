@@ -1,0 +1,29 @@
+-- The copy has one more of the book's entries, and the cells are at home with it.
+use Rattle.std.proofs.Common.{rules, ◌≡◌, ◌<◌, length, subst, sym, ◌∙◌, ap}
+use Rattle.std.specs.Prelude.{Ok}
+use Rattle.rcv_model.proofs.Forms.{proper}
+use Rattle.rcv_model.specs.Net.{HasTwoEnds}
+use Rattle.rcv_accept.specs.Accepted.{IsAcceptedProtocol}
+use Rattle.rcv_session.specs.Session.{SessionView, text_of, roles_of, rules_of}
+use Rattle.rcv_lanes.specs.Home.{AreHome}
+use Rattle.rcv_core.specs.Book.{BookView}
+use Rattle.rcv_super.proofs.OneByOne.{first_of, left_at, next_copy, copied}
+use Rattle.rcv_super.proofs.alone.catch_up.Goals as goal
+
+pub make_step-requires-clause-more : goal.make_step-requires-clause-more
+make_step-requires-clause-more c κs =
+    let lt : c.loop.counter < length c.args.book.now.entries = search rules in
+    left_at c.args.book.now c.loop.counter lt c.requires.steps c.loop.copy c.loop.invariant.0 c.entries-entries.ensures.legal
+
+pub loop-preserved : goal.loop-preserved
+loop-preserved c =
+    let lt : c.loop.counter < length c.args.book.now.entries = search rules in
+    let accepted : IsAcceptedProtocol c.args.book.now.setup.protocol = subst (λ (s : SessionView). IsAcceptedProtocol s.protocol) c.setup.ensures c.protocol-protocol.ensures.accepted in (
+      next_copy c.args.book.now c.loop.counter lt c.requires.steps c.loop.copy c.make_step.new.book c.loop.invariant.0 (proper (text_of c.args.book.now.setup) (roles_of c.args.book.now.setup) accepted.form).two_ends c.in_ok-make_step.ensures.stepped,
+      c.in_ok-make_step.ensures.home,
+    )
+
+pub returns-clause-home : goal.returns-clause-home
+returns-clause-home c =
+    let all : c.loop.counter ≡ length c.args.book.now.entries = search rules in
+    subst (λ (b : BookView). AreHome b c.loop.lanes.items) (c.loop.invariant.0 ∙ copied c.args.book.now c.loop.counter all) c.loop.invariant.1

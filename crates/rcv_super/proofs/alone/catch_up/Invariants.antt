@@ -1,0 +1,7 @@
+use Rattle.std.proofs.Common.{◌≡◌}
+use Rattle.rcv_lanes.specs.Home.{AreHome}
+use Rattle.rcv_super.proofs.OneByOne.{first_of}
+use Rattle.rcv_super.proofs.alone.catch_up.Given as goal
+
+abbrev pub invariant-loop : goal.invariant-loop
+invariant-loop l = (l.copy ≡ first_of l.fn.book l.counter) × AreHome l.copy l.lanes.items

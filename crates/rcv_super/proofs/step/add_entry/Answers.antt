@@ -1,0 +1,9 @@
+-- The cells come home with the entry.
+use Rattle.std.proofs.Common.{subst}
+use Rattle.rcv_accept.specs.Accepted.{IsAcceptedProtocol}
+use Rattle.rcv_session.specs.Session.{SessionView}
+use Rattle.rcv_super.proofs.OneEntry.{come_home_with}
+use Rattle.rcv_super.proofs.step.add_entry.Goals as goal
+
+pub returns-clause-home : goal.returns-clause-home
+returns-clause-home c = come_home_with c.args.book.now c.args.lanes.now.items c.args.entry c.requires (subst (λ (s : SessionView). IsAcceptedProtocol s.protocol) c.setup.ensures c.protocol-protocol.ensures.accepted) c.entries-entries.ensures.legal c.push.new.self c.clear_logs.new.lanes.items c.in_ok-push.ensures.ok c.clear_logs.ensures.count c.clear_logs.ensures.cleared

@@ -1,0 +1,5 @@
+pub mod Super
+pub mod Steps
+pub mod Turn
+pub mod OneStep
+pub mod Beside

@@ -1,0 +1,51 @@
+-- What a turn of a session and a recovery do, by what they answer.
+use Rattle.std.specs.Prelude.{◌≡◌, ◌⊎◌, ℕ, true, false, Result, Ok, Err}
+use Rattle.rcv_model.specs.Final.{IsCompleted, IsLimited}
+use Rattle.rcv_session.specs.Session.{rules_of}
+use Rattle.rcv_core.specs.Book.{BookView, state_of, HasMore}
+use Rattle.rcv_lanes.specs.Home.{HasGrown}
+use Rattle.rcv_super.specs.Super.{SuperView}
+use Rattle.rcv_super.specs.Steps.{HasStepped, HasGoneOn, HasRecovered}
+use Rattle.rcv_super.specs.declared.session.Turn.{Turn}
+use Rattle.rcv_super.specs.declared.session.Turn.TheVariants.{More, Completed, Limited}
+use Rattle.rcv_super.specs.declared.session.SessionError.{SessionError}
+use Rattle.rcv_super.specs.declared.session.SessionError.TheVariants.{Closed, Memory}
+
+-- An open session at its end, where all roles are done, or some role has come to the limit; and one with something left
+-- to do.
+pub record IsAtCompletion (session : SuperView) : Type 0 where
+  pub not_closed : session.closed ≡ false
+  pub end : IsCompleted (rules_of session.book.setup) (state_of session.book)
+
+pub record IsAtLimit (session : SuperView) : Type 0 where
+  pub not_closed : session.closed ≡ false
+  pub end : IsLimited (rules_of session.book.setup) (state_of session.book)
+
+pub record GoesOn (session : SuperView) : Type 0 where
+  pub not_closed : session.closed ≡ false
+  pub more : HasMore session.book
+
+-- A book at its end, by what a turn answers there.
+abbrev pub IsEndOf : BookView → Turn → Type 0
+IsEndOf book Completed = IsCompleted (rules_of book.setup) (state_of book)
+IsEndOf book Limited = IsLimited (rules_of book.setup) (state_of book)
+IsEndOf book More = ⊥
+
+-- What a turn of so many workers did. An open session with something left to do goes on by at least one entry, or wants
+-- memory and is closed from then on; with one worker it goes on by the entry that one thread makes.
+abbrev pub Turned : ℕ → SuperView → SuperView → Result Turn SessionError → Type 0
+Turned workers old new (Ok Completed) = IsAtCompletion old × (new ≡ old)
+Turned workers old new (Ok Limited) = IsAtLimit old × (new ≡ old)
+Turned workers old new (Ok More) =
+    GoesOn old × (new.closed ≡ false) × HasGoneOn old.book new.book × (workers ≡ 1 → HasStepped old.book new.book)
+Turned workers old new (Err Closed) = (old.closed ≡ true) × (new ≡ old)
+Turned workers old new (Err Memory) =
+    GoesOn old × (new.closed ≡ true) × HasGrown old.book new.book
+    × (workers ≡ 1 → (new.book ≡ old.book) ⊎ HasStepped old.book new.book)
+
+-- What a recovery of a crashed role did.
+abbrev pub Recovered : ℕ → SuperView → SuperView → Result (Unit {0}) SessionError → Type 0
+Recovered role old new (Ok done) = (old.closed ≡ false) × (new.closed ≡ false) × HasRecovered old.book new.book role
+Recovered role old new (Err Closed) = (old.closed ≡ true) × (new ≡ old)
+Recovered role old new (Err Memory) =
+    (old.closed ≡ false) × (new.closed ≡ true) × ((new.book ≡ old.book) ⊎ HasRecovered old.book new.book role)

@@ -1,0 +1,106 @@
+// One worker on its own: the book makes the entries. The cells follow where several workers are asked for.
+
+ghost use Rattle.std.specs.Prelude.{◌≡◌, true, false, [], IfOk, MatchOption, OnOk};
+ghost use Rattle.rcv_model.specs.Journal.{start};
+ghost use Rattle.rcv_model.specs.Final.{IsStep};
+ghost use Rattle.rcv_session.specs.Session.{roles_of, rules_of};
+ghost use Rattle.rcv_core.specs.Book.{state_of, HasMore, IsAtEnd};
+ghost use Rattle.rcv_core.specs.Skips.{IsSkip};
+ghost use Rattle.rcv_lanes.specs.Home.{AreHome};
+ghost use Rattle.rcv_super.specs.Steps.{HasStepped, AreSteps};
+ghost use Rattle.rcv_super.specs.Turn.{IsEndOf};
+
+use crate::session::Turn;
+use crate::step::make_step;
+use rcv_core::book::Book;
+use rcv_core::skip::Skip;
+use rcv_lanes::lanes::Lane;
+use rcv_role::gate::{Gate, NoGate};
+use rcv_tree::entry::Entry;
+use std::alloc::{AllocError, Global};
+
+/// Adds the entry that one thread makes next, and says what is known behind it; None at the end of the session. It
+/// takes no memory.
+pub fn step_alone<G: Gate>(book: &mut Book, skip: Skip, gate: &G) -> Option<Skip>
+    requires { IsSkip book.old skip }
+    ensures { MatchOption result ((book.new ≡ book.old) × IsAtEnd book.old)
+        (λ behind. HasMore book.old × HasStepped book.old book.new × IsSkip book.new behind) }
+{
+    // Tells the proof that the journal is legal.
+    let _entries = book.entries();
+    let Some(entry) = book.next_entry(skip) else {
+        return None;
+    };
+    announce(book, &entry, gate);
+    // The room is there, so it succeeds.
+    let _added = book.push(entry);
+    Some(book.skip_behind(&entry))
+}
+
+/// How a session ends in which nothing is left to do.
+pub fn end_of(book: &Book) -> Turn
+    requires { IsAtEnd book.now }
+    ensures { IsEndOf book.now result }
+{
+    if book.all_done() {
+        Turn::Completed
+    } else {
+        Turn::Limited
+    }
+}
+
+// Tells the gate of a step before it is made.
+fn announce<G: Gate>(book: &Book, entry: &Entry, gate: &G)
+    requires { IsStep (rules_of book.now.setup) (state_of book.now) entry.now }
+{
+    match entry {
+        Entry::Send(event) => gate.enter(event.role, book.raw(event.role)),
+        Entry::Recv(event) => gate.enter(event.role, book.raw(event.role)),
+        Entry::Crash(role) => gate.enter(*role, book.raw(*role)),
+        Entry::Recover { role, .. } => gate.recovering(*role),
+    }
+}
+
+/// Brings the cells to where the book stands, where it has gone on alone. Fails where memory runs out; then the cells
+/// are at home nowhere.
+pub fn come_home<'a>(
+    alloc: Global,
+    book: &mut Book<'a>,
+    lanes: &mut Vec<Lane<'a>>,
+    alone: bool,
+) -> Result<(), AllocError>
+    requires ahead { alone ≡ true → AreSteps (rules_of book.old.setup) (start (roles_of book.old.setup)) book.old.entries
+        × AreHome (record { setup = book.old.setup; entries = [] }) lanes.old.items }
+    requires home { alone ≡ false → AreHome book.old lanes.old.items }
+    ensures same { book.new ≡ book.old }
+    ensures home { OnOk result (AreHome book.new lanes.new.items) }
+{
+    if alone {
+        *book = catch_up(alloc, book, lanes)?;
+    }
+    Ok(())
+}
+
+// Makes the steps of a book, which one thread made, once more, by the cells that stand before the first of them.
+fn catch_up<'a>(
+    alloc: Global,
+    book: &Book<'a>,
+    lanes: &mut Vec<Lane<'a>>,
+) -> Result<Book<'a>, AllocError>
+    requires steps { AreSteps (rules_of book.now.setup) (start (roles_of book.now.setup)) book.now.entries }
+    requires home { AreHome (record { setup = book.now.setup; entries = [] }) lanes.old.items }
+    ensures same { IfOk result (λ copy. copy ≡ book.now) }
+    ensures home { OnOk result (AreHome book.now lanes.new.items) }
+{
+    // Tells the proof that the protocol is accepted.
+    let _protocol = book.setup().protocol();
+    let mut copy = Book::new(alloc, book.setup())?;
+    // From here on the cells choose.
+    copy.stop_choosing();
+    for _ in 0..book.len() {
+        // Tells the proof that the copy's journal is legal.
+        let _entries = copy.entries();
+        make_step(alloc, &mut copy, lanes, &NoGate)?;
+    }
+    Ok(copy)
+}

@@ -1,0 +1,13 @@
+// Sessions of several workers: a book, and a cell for each role.
+#![tactic(auto)]
+
+mod alone;
+mod beside;
+mod known;
+mod recovery;
+mod rounds;
+pub mod session;
+mod step;
+
+/// Want of memory.
+pub use std::alloc::AllocError as Memory;

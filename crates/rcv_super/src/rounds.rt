@@ -1,0 +1,121 @@
+// A turn of several workers: a round, or a recovery with what runs beside it.
+
+ghost use Rattle.std.specs.Prelude.{◌≡◌, ◌⊎◌, ◌≤◌, true, false, [], OnOk};
+ghost use Rattle.rcv_model.specs.Journal.{start};
+ghost use Rattle.rcv_model.specs.Final.{IsCrashed};
+ghost use Rattle.rcv_session.specs.Session.{roles_of, rules_of};
+ghost use Rattle.rcv_core.specs.Book.{state_of, HasMore};
+ghost use Rattle.rcv_lanes.specs.Home.{AreHome, HasGrown};
+ghost use Rattle.rcv_super.specs.Steps.{AreSteps, HasStepped, HasGoneOn, HasRecovered};
+
+use crate::alone::come_home;
+use crate::beside::recover_beside;
+use crate::recovery::recover_alone;
+use crate::step::make_step;
+use rcv_core::book::Book;
+use rcv_fence::Watch;
+use rcv_lanes::lanes::Lane;
+use rcv_lanes::round::make_round;
+use rcv_role::gate::Gate;
+use rcv_tree::role::RoleId;
+use std::alloc::{AllocError, Global};
+use std::thread::Threads;
+
+/// A turn of so many workers, behind which the cells are at home, where they were or where the book had gone on alone.
+/// Fails where memory runs out; then the cells aren't at home.
+pub fn go<'a, G: Gate, R: Threads + Sync>(
+    rt: &R,
+    alloc: Global,
+    book: &mut Book<'a>,
+    lanes: &mut Vec<Lane<'a>>,
+    watch: &mut Watch,
+    alone: bool,
+    workers: u32,
+    gate: &G,
+) -> Result<(), AllocError>
+    requires workers { 1 ≤ workers }
+    requires ahead { alone ≡ true → AreSteps (rules_of book.old.setup) (start (roles_of book.old.setup)) book.old.entries
+        × AreHome (record { setup = book.old.setup; entries = [] }) lanes.old.items }
+    requires home { alone ≡ false → AreHome book.old lanes.old.items }
+    requires more { HasMore book.old }
+    ensures home { OnOk result (AreHome book.new lanes.new.items) }
+    ensures gone_on { OnOk result (HasGoneOn book.old book.new) }
+    ensures stepped { OnOk result (workers ≡ 1 → HasStepped book.old book.new) }
+    ensures grown { HasGrown book.old book.new }
+    ensures some { workers ≡ 1 → (book.new ≡ book.old) ⊎ HasStepped book.old book.new }
+{
+    come_home(alloc, book, lanes, alone)?;
+    if workers == 1 {
+        return make_step(alloc, book, lanes, gate);
+    }
+    go_on(rt, alloc, book, lanes, watch, workers as usize, gate)
+}
+
+/// The recovery of a crashed role, with nobody running beside it, behind which the cells are at home. Fails where
+/// memory runs out; then the cells aren't at home.
+pub fn recover_home<'a>(
+    alloc: Global,
+    book: &mut Book<'a>,
+    lanes: &mut Vec<Lane<'a>>,
+    alone: bool,
+    role: RoleId,
+) -> Result<(), AllocError>
+    requires ahead { alone ≡ true → AreSteps (rules_of book.old.setup) (start (roles_of book.old.setup)) book.old.entries
+        × AreHome (record { setup = book.old.setup; entries = [] }) lanes.old.items }
+    requires home { alone ≡ false → AreHome book.old lanes.old.items }
+    requires crashed { IsCrashed (state_of book.old) role }
+    ensures home { OnOk result (AreHome book.new lanes.new.items) }
+    ensures recovered { OnOk result (HasRecovered book.old book.new role) }
+    ensures some { (book.new ≡ book.old) ⊎ HasRecovered book.old book.new role }
+{
+    come_home(alloc, book, lanes, alone)?;
+    recover_alone(alloc, book, lanes, role)
+}
+
+// Where a role is crashed, the least such one recovers, and the cells that aren't concerned run beside it. Where none
+// is, all cells run; and where that added nothing, the next step of the one-thread order is made.
+fn go_on<'a, G: Gate, R: Threads + Sync>(
+    rt: &R,
+    alloc: Global,
+    book: &mut Book<'a>,
+    lanes: &mut Vec<Lane<'a>>,
+    watch: &mut Watch,
+    workers: usize,
+    gate: &G,
+) -> Result<(), AllocError>
+    requires workers { 2 ≤ workers }
+    requires home { AreHome book.old lanes.old.items }
+    requires more { HasMore book.old }
+    ensures home { OnOk result (AreHome book.new lanes.new.items) }
+    ensures gone_on { OnOk result (HasGoneOn book.old book.new) }
+    ensures grown { HasGrown book.old book.new }
+{
+    match book.first_crashed() {
+        Some(role) => recover_beside(rt, alloc, book, lanes, watch, workers, gate, role),
+        None => round_or_step(rt, alloc, book, lanes, watch, workers, gate),
+    }
+}
+
+fn round_or_step<'a, G: Gate, R: Threads + Sync>(
+    rt: &R,
+    alloc: Global,
+    book: &mut Book<'a>,
+    lanes: &mut Vec<Lane<'a>>,
+    watch: &mut Watch,
+    workers: usize,
+    gate: &G,
+) -> Result<(), AllocError>
+    requires workers { 2 ≤ workers }
+    requires home { AreHome book.old lanes.old.items }
+    requires more { HasMore book.old }
+    ensures home { OnOk result (AreHome book.new lanes.new.items) }
+    ensures gone_on { OnOk result (HasGoneOn book.old book.new) }
+    ensures grown { HasGrown book.old book.new }
+{
+    let before = book.len();
+    make_round(rt, alloc, book, lanes, watch, workers, gate)?;
+    if book.len() > before {
+        return Ok(());
+    }
+    make_step(alloc, book, lanes, gate)
+}

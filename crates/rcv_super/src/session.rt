@@ -1,0 +1,176 @@
+// A session: its book tells what the cells hold, whenever all of them are at home.
+
+ghost use Rattle.std.specs.Prelude.{◌≡◌, ◌≤◌, IfOk};
+ghost use Rattle.rcv_model.specs.Final.{IsCrashed};
+ghost use Rattle.rcv_core.specs.Book.{state_of};
+ghost use Rattle.rcv_super.specs.Super.{new_session};
+ghost use Rattle.rcv_super.specs.Turn.{Turned, Recovered};
+
+use crate::alone::{end_of, step_alone};
+use crate::rounds::{go, recover_home};
+use rcv_core::book::Book;
+use rcv_core::outcome::Outcome;
+use rcv_core::setup::Setup;
+use rcv_core::skip::Skip;
+use rcv_fence::{Watch, fence};
+use rcv_lanes::lanes::Lane;
+use rcv_lanes::opening::lanes;
+use rcv_role::gate::Gate;
+use rcv_tree::role::RoleId;
+use std::alloc::{AllocError, Global};
+use std::marker::Model;
+use std::thread::Threads;
+
+/// A book, and the cells of its roles. Contracts see the book, and whether want of memory closed the session.
+#[derive(Drop)]
+pub struct Session<'a> {
+    book: Book<'a>,
+    lanes: Vec<Lane<'a>>,
+    watch: Watch,
+    closed: bool,
+    // Whether one worker has made all entries so far, by the book alone, so that the cells stand before the first.
+    alone: bool,
+    // What is known then of the next one.
+    skip: Skip,
+}
+
+impl<'a> Model for Session<'a> {
+    ghost use Rattle.rcv_super.specs.Super.{SuperView, IsSuper};
+    ghost use Rattle.rcv_tree.specs.contracts.statement.Stmt as e;
+    ghost use Rattle.rcv_script.specs.Codes.{expr_code};
+    ghost use Rattle.std.specs.Coded.{codes};
+
+    ghost Value = { SuperView };
+
+    ghost coded = { Prim.hlevel (codes, e.the_row.coded, expr_code) };
+
+    ghost view = { λ s. record { book = s.book; closed = s.closed } };
+
+    ghost invariant = { λ s. IsSuper s.book s.closed s.alone s.skip s.lanes.items };
+}
+
+/// What a turn came to.
+#[derive(Clone, Copy, Debug, PartialEq, Eq)]
+pub enum Turn {
+    /// At least one entry was added.
+    More,
+    /// The session is at its end, and all roles are done.
+    Completed,
+    /// The session is at its end, and some role that isn't done has come to the limit.
+    Limited,
+}
+
+/// Why a turn or a recovery failed.
+#[derive(Clone, Copy, Debug, PartialEq, Eq)]
+pub enum SessionError {
+    /// An earlier call found no memory.
+    Closed,
+    /// There is no memory.
+    Memory,
+}
+
+impl<'a> Session<'a> {
+    /// A session before its first entry: its channels, its cells and its fence are made, and all room that its entries
+    /// may need is reserved. Fails where memory runs out.
+    pub fn new(alloc: Global, setup: &'a Setup) -> Result<Session<'a>, AllocError>
+        ensures { IfOk result (λ session. session ≡ new_session setup.now) }
+    {
+        // Tells the proof that there are at most eight roles.
+        let _protocol = setup.protocol();
+        let book = Book::new(alloc, setup)?;
+        let mut watches = fence(alloc, u32::from(setup.roles()) + 1)?;
+        let lanes = lanes(alloc, setup, &mut watches)?;
+        let watch = watches.remove(0);
+        Ok(Session {
+            book,
+            lanes,
+            watch,
+            closed: false,
+            alone: true,
+            skip: Skip::nothing(),
+        })
+    }
+
+    /// One turn with so many workers, from 1 to 8.
+    ///
+    /// With one worker it adds the entry that the one-thread order names. As long as there were no others the book
+    /// makes it alone; the first turn of several brings the cells to where the book stands, and from then on each entry
+    /// is made by the cell of its role.
+    ///
+    /// With several, where no role is crashed, each cell runs for up to 64 steps on one of as many threads, and the
+    /// merged entries are added; where they made none, the next one of the one-thread order is. Where a role is
+    /// crashed, the least such one recovers on one of the threads, while the cells that aren't concerned run on the
+    /// others, and its Recover is added before what they did.
+    ///
+    /// A session at its end stays as it is, and the answer says at which. `Closed` comes exactly where an earlier call
+    /// on this session answered `Memory`, and changes nothing.
+    pub fn turn<G: Gate, R: Threads + Sync>(
+        &mut self,
+        rt: &R,
+        alloc: Global,
+        workers: u32,
+        gate: &G,
+    ) -> Result<Turn, SessionError>
+        requires least { 1 ≤ workers }
+        requires most { workers ≤ 8 }
+        ensures { Turned workers self.old self.new result }
+    {
+        if self.closed {
+            return Err(SessionError::Closed);
+        }
+        if workers == 1 && self.alone {
+            let Some(skip) = step_alone(&mut self.book, self.skip, gate) else {
+                return Ok(end_of(&self.book));
+            };
+            self.skip = skip;
+            return Ok(Turn::More);
+        }
+        match self.book.final_state() {
+            Outcome::Completed => return Ok(Turn::Completed),
+            Outcome::Limited => return Ok(Turn::Limited),
+            Outcome::More => {}
+        }
+        self.closed = true;
+        let made = go(
+            rt,
+            alloc,
+            &mut self.book,
+            &mut self.lanes,
+            &mut self.watch,
+            self.alone,
+            workers,
+            gate,
+        );
+        if made.is_err() {
+            return Err(SessionError::Memory);
+        }
+        self.alone = false;
+        self.closed = false;
+        Ok(Turn::More)
+    }
+
+    /// Recovers a crashed role, with nobody running beside it. `Closed` comes exactly where an earlier call on this
+    /// session answered `Memory`, and changes nothing.
+    pub fn recover(&mut self, alloc: Global, role: RoleId) -> Result<(), SessionError>
+        requires { IsCrashed (state_of self.old.book) role }
+        ensures { Recovered role self.old self.new result }
+    {
+        if self.closed {
+            return Err(SessionError::Closed);
+        }
+        self.closed = true;
+        if recover_home(alloc, &mut self.book, &mut self.lanes, self.alone, role).is_err() {
+            return Err(SessionError::Memory);
+        }
+        self.alone = false;
+        self.closed = false;
+        Ok(())
+    }
+
+    /// The book.
+    pub fn book(&self) -> &Book<'a>
+        ensures { result.now ≡ self.now.book }
+    {
+        &self.book
+    }
+}
