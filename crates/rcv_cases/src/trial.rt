@@ -20,7 +20,7 @@ struct Answer {
 }
 
 /// Prints what differs between the answer to a case and the wanted one, nothing where they are the same. A session is
-/// run with two and with four workers, too.
+/// run with two and with four workers, too, and its answers have to fit the case.
 pub fn try_case<R: AllocGlobal + Files + Print + Threads + Sync>(
     rt: &R,
     name: &str,
@@ -72,40 +72,61 @@ fn try_workers<R: AllocGlobal + Files + Print + Threads + Sync>(
         words.push(String::from_str(alloc, word)?)?;
     }
     let answer = call(rt, words.as_slice(), case.input.as_slice())?;
-    if answer.status != case.status {
-        println!(rt;
-            "{name} with {workers} workers ends with {} in place of {}",
-            answer.status.as_str(),
-            case.status.as_str()
-        )?;
-    }
-    if !says_the_same(alloc, case, answer.bytes.as_slice())? {
+    if !fits(alloc, case, &answer)? {
         let written = String::from_utf8_lossy(alloc, answer.bytes.as_slice())?;
         println!(rt;
-            "{name} with {workers} workers writes\n{}",
+            "{name} with {workers} workers ends with {} and writes\n{}",
+            answer.status.as_str(),
             written.as_str()
         )?;
     }
     Ok(())
 }
 
-// Whether these bytes, which several workers wrote, say what the case wants. A refusal is the same line, and a session
-// that completes keeps the same events of each role. Which ones it keeps where some role comes to the limit, or where a
-// script reads how often its role was rolled back, may depend on the order of the roles' steps.
-fn says_the_same(alloc: Global, case: &Case, bytes: &[u8]) -> Result<bool, AllocError> {
-    match case.status.as_str() {
-        "0" => Ok(
-            reads_attempt(alloc, case)? || keep_the_same(alloc, case.output.as_slice(), bytes)?,
-        ),
-        "3" => Ok(true),
-        _ => Ok(bytes == case.output.as_slice()),
+// Whether an answer of several workers fits the case. A refusal is the same one. The last line of a journal says its
+// status; that is the wanted one where the word `crash` doesn't stand in the input: where it does, the order of the
+// roles' steps may say who comes to the limit. Where both complete, each role keeps the same events, unless the word
+// `attempt` stands in the input: how often a role is rolled back may depend on that order, too.
+fn fits(alloc: Global, case: &Case, answer: &Answer) -> Result<bool, AllocError> {
+    let same = answer.status == case.status;
+    if !is_of_session(case.status.as_str()) {
+        return Ok(same && answer.bytes.as_slice() == case.output.as_slice());
     }
+    if !says_its_status(alloc, answer)? {
+        return Ok(false);
+    }
+    if !same {
+        return has_word(alloc, case, "crash");
+    }
+    if case.status.as_str() == "3" || has_word(alloc, case, "attempt")? {
+        return Ok(true);
+    }
+    keep_the_same(alloc, case.output.as_slice(), answer.bytes.as_slice())
 }
 
-// Whether the word `attempt` stands in the input.
-fn reads_attempt(alloc: Global, case: &Case) -> Result<bool, AllocError> {
+// Whether a session that was run ends with this status.
+fn is_of_session(status: &str) -> bool {
+    status == "0" || status == "3"
+}
+
+// Whether the last line of a journal fits the status that it came with.
+fn says_its_status(alloc: Global, answer: &Answer) -> Result<bool, AllocError> {
+    let journal = String::from_utf8_lossy(alloc, answer.bytes.as_slice())?;
+    let mut last = "";
+    for line in journal.as_str().lines() {
+        last = line;
+    }
+    Ok(match answer.status.as_str() {
+        "0" => last == "completed",
+        "3" => last.starts_with("limited"),
+        _ => false,
+    })
+}
+
+// Whether this word stands in the input.
+fn has_word(alloc: Global, case: &Case, word: &str) -> Result<bool, AllocError> {
     let input = String::from_utf8_lossy(alloc, case.input.as_slice())?;
-    Ok(input.as_str().contains("attempt"))
+    Ok(input.as_str().contains(word))
 }
 
 // What the top call answers to these words and this input.

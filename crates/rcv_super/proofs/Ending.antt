@@ -1,9 +1,10 @@
 -- How a book goes on, and where a session is at its end.
-use Rattle.std.proofs.Common.{◌≡◌, Bool, true, false, ℕ, ◌+◌, ◌<◌, ◌≤◌, List, [], ◌∷◌, ◌++◌, length, length-append, append-nil, refl, sym, ◌∙◌, ap, subst, ◌⊎◌, ⊎_elim, inl, inr, arith}
+use Rattle.std.proofs.Common.{◌≡◌, Bool, true, false, ℕ, ◌<◌, ◌≤◌, List, [], ◌∷◌, length, length-append, append-nil, refl, sym, ◌∙◌, ap, subst, ◌⊎◌, ⊎_elim, arith}
 use Rattle.rcv_tree.specs.declared.entry.Entry.{Entry}
-use Rattle.std.specs.Prelude.{Ok, Err}
-use Rattle.rcv_model.specs.Final.{IsFinal, IsCompleted, IsLimited, IsStep}
-use Rattle.rcv_model.specs.Journal.{IsLegal}
+use Rattle.std.specs.Prelude.{Result, Ok, Err, OnOk}
+use Rattle.std.proofs.lemmas.Bool.{cases_lt}
+use Rattle.rcv_model.specs.Final.{IsCrashed, IsFinal, IsLeastOf}
+use Rattle.rcv_model.specs.Journal.{State}
 use Rattle.rcv_session.specs.Session.{rules_of}
 use Rattle.rcv_core.specs.Book.{BookView, state_of, with_more, HasMore}
 use Rattle.rcv_lanes.specs.Home.{HasGrown, AreHome}
@@ -16,9 +17,9 @@ use Rattle.rcv_super.specs.Super.{SuperView, IsAlone, Stands}
 use Rattle.rcv_super.proofs.OneByOne.{stepped_on, same_setup}
 use Rattle.rcv_super.specs.declared.session.Turn.{Turn}
 use Rattle.rcv_super.specs.declared.session.Turn.TheVariants.{More, Completed, Limited}
-use Rattle.rcv_super.specs.declared.session.SessionError.TheVariants.{Closed, Memory}
+use Rattle.rcv_super.specs.declared.session.SessionError.TheVariants.{Memory}
 use Rattle.rcv_super.specs.Turn.{IsAtCompletion, IsAtLimit, GoesOn, IsEndOf, Turned, Recovered}
-use Rattle.rcv_super.specs.Steps.{HasStepped, HasGoneOn, HasRecovered, HasRecoveredBeside}
+use Rattle.rcv_super.specs.Steps.{HasStepped, HasGoneOn, HasRecovered, HasRecoveredBeside, HasRecoveredLeast}
 
 -- where something is left to do, a session isn't at its end
 pub not_final : (book : BookView) → HasMore book → IsFinal (rules_of book.setup) (state_of book) → ⊥
@@ -49,6 +50,28 @@ step_on old new stepped = record { first = stepped.entry; more = []; added = ste
 pub recovery_on : (old new : BookView) (role : ℕ) → HasRecoveredBeside old new role → HasGoneOn old new
 recovery_on old new role recovered = record { first = recovered.entry; more = recovered.more; added = recovered.added }
 
+-- there is one least crashed role at most
+least_same : (s : State) (p q : ℕ) → IsLeastOf (IsCrashed s) p → IsLeastOf (IsCrashed s) q → p ≡ q
+least_same s p q x y = ⊎_elim
+    (λ lt. absurd (y.1 p lt x.0))
+    (λ le. ⊎_elim (λ lt. absurd (x.1 q lt y.0)) (λ ge. omega (arith, le, ge)) (cases_lt q p))
+    (cases_lt p q)
+
+-- the least crashed role recovered; or none was crashed
+pub recovered_least : (old new : BookView) (role : ℕ) → IsLeastOf (IsCrashed (state_of old)) role → HasRecoveredBeside old new role → HasRecoveredLeast old new
+recovered_least old new role least recovered p mine = subst (HasRecoveredBeside old new) (least_same (state_of old) role p least mine) recovered
+
+pub none_least : (old new : BookView) → ((r : ℕ) → IsCrashed (state_of old) r → ⊥) → HasRecoveredLeast old new
+none_least old new none p mine = absurd (none p mine.0)
+
+pub not_several : (workers : ℕ) (old new : BookView) → workers ≡ 1 → 2 ≤ workers → HasRecoveredLeast old new
+not_several workers old new one several = absurd (omega (arith, one, several))
+
+-- what holds anyhow holds where a call succeeded
+pub on_ok : {T E : Type 0} (result : Result T E) (A : Type 0) → A → OnOk result A
+on_ok (Ok x) A here = here
+on_ok (Err e) A here = tt
+
 -- a book that stayed, or has a step more, has grown
 pub grown_same : (old new : BookView) → new ≡ old → HasGrown old new
 grown_same old new same = record { more = []; added = same ∙ sym (ap (λ (l : List Entry). record { setup = old.setup; entries = l }) (append-nil old.entries)) }
@@ -69,12 +92,13 @@ module _ (workers : ℕ) (old : SuperView) (book : BookView) (closed : Bool) (is
   goes : HasMore book → GoesOn old
   goes more = subst (λ (s : SuperView). GoesOn s) is (record { not_closed = not_closed; more = more })
 
-  pub more_made : HasMore book → (new : BookView) → HasGoneOn book new → (workers ≡ 1 → HasStepped book new) → Turned workers old (session_of new false) (Ok More)
-  more_made more new gone stepped = (
+  pub more_made : HasMore book → (new : BookView) → HasGoneOn book new → (workers ≡ 1 → HasStepped book new) → (2 ≤ workers → HasRecoveredLeast book new) → Turned workers old (session_of new false) (Ok More)
+  more_made more new gone stepped recovered = (
     goes more,
     refl,
     subst (λ (s : SuperView). HasGoneOn s.book new) is gone,
     λ one. subst (λ (s : SuperView). HasStepped s.book new) is (stepped one),
+    λ several. subst (λ (s : SuperView). HasRecoveredLeast s.book new) is (recovered several),
   )
 
   pub memory_wanted : HasMore book → (new : BookView) → HasGrown book new → (workers ≡ 1 → (new ≡ book) ⊎ HasStepped book new) → Turned workers old (session_of new true) (Err Memory)

@@ -4,7 +4,7 @@ use Rattle.rcv_tree.specs.declared.entry.Entry.{Entry}
 use Rattle.rcv_tree.specs.declared.entry.Entry.TheVariants.{Send, Recv, Crash, Recover}
 use Rattle.rcv_tree.specs.declared.role.RoleSet.{RoleSet}
 use Rattle.rcv_model.specs.Journal.{Rules, State, after}
-use Rattle.rcv_model.specs.Final.{IsStep}
+use Rattle.rcv_model.specs.Final.{IsCrashed, IsLeastOf, IsStep}
 use Rattle.rcv_session.specs.Session.{rules_of}
 use Rattle.rcv_core.specs.Book.{BookView, state_of, with_entry, with_more, IsRecoveryOf}
 
@@ -32,6 +32,10 @@ pub record HasRecoveredBeside (old new : BookView) (role : ℕ) : Type 0 where
   pub more : List Entry
   pub recovers : IsRecoveryOf old role entry
   pub added : new ≡ with_more old (entry ∷ more)
+
+-- Where a role was crashed, the least such one recovered, and what else was added stands behind its Recover.
+abbrev pub HasRecoveredLeast : BookView → BookView → Type 0
+HasRecoveredLeast old new = (p : ℕ) → IsLeastOf (IsCrashed (state_of old)) p → HasRecoveredBeside old new p
 
 -- Each of these entries is the one that one thread makes next.
 abbrev pub AreSteps : Rules → State → List Entry → Type 0

@@ -1,11 +1,11 @@
 -- What a turn of a session and a recovery do, by what they answer.
-use Rattle.std.specs.Prelude.{◌≡◌, ◌⊎◌, ℕ, true, false, Result, Ok, Err}
+use Rattle.std.specs.Prelude.{◌≡◌, ◌⊎◌, ◌≤◌, ℕ, true, false, Result, Ok, Err}
 use Rattle.rcv_model.specs.Final.{IsCompleted, IsLimited}
 use Rattle.rcv_session.specs.Session.{rules_of}
 use Rattle.rcv_core.specs.Book.{BookView, state_of, HasMore}
 use Rattle.rcv_lanes.specs.Home.{HasGrown}
 use Rattle.rcv_super.specs.Super.{SuperView}
-use Rattle.rcv_super.specs.Steps.{HasStepped, HasGoneOn, HasRecovered}
+use Rattle.rcv_super.specs.Steps.{HasStepped, HasGoneOn, HasRecovered, HasRecoveredLeast}
 use Rattle.rcv_super.specs.declared.session.Turn.{Turn}
 use Rattle.rcv_super.specs.declared.session.Turn.TheVariants.{More, Completed, Limited}
 use Rattle.rcv_super.specs.declared.session.SessionError.{SessionError}
@@ -32,12 +32,14 @@ IsEndOf book Limited = IsLimited (rules_of book.setup) (state_of book)
 IsEndOf book More = ⊥
 
 -- What a turn of so many workers did. An open session with something left to do goes on by at least one entry, or wants
--- memory and is closed from then on; with one worker it goes on by the entry that one thread makes.
+-- memory and is closed from then on; with one worker it goes on by the entry that one thread makes. With several, where a
+-- role is crashed, the least such one recovers, and what else is added stands behind its Recover.
 abbrev pub Turned : ℕ → SuperView → SuperView → Result Turn SessionError → Type 0
 Turned workers old new (Ok Completed) = IsAtCompletion old × (new ≡ old)
 Turned workers old new (Ok Limited) = IsAtLimit old × (new ≡ old)
 Turned workers old new (Ok More) =
     GoesOn old × (new.closed ≡ false) × HasGoneOn old.book new.book × (workers ≡ 1 → HasStepped old.book new.book)
+    × (2 ≤ workers → HasRecoveredLeast old.book new.book)
 Turned workers old new (Err Closed) = (old.closed ≡ true) × (new ≡ old)
 Turned workers old new (Err Memory) =
     GoesOn old × (new.closed ≡ true) × HasGrown old.book new.book

@@ -61,9 +61,9 @@ fn announce<G: Gate>(book: &Book, entry: &Entry, gate: &G)
     }
 }
 
-/// Brings the cells to where the book stands, where it has gone on alone. Fails where memory runs out; then the cells
-/// are at home nowhere.
-pub fn come_home<'a>(
+/// Brings the cells to where the book stands, where it has gone on alone; from then on they choose. Fails where memory
+/// runs out; then the cells are at home nowhere.
+pub fn bring_home<'a>(
     alloc: Global,
     book: &mut Book<'a>,
     lanes: &mut Vec<Lane<'a>>,
@@ -75,9 +75,15 @@ pub fn come_home<'a>(
     ensures same { book.new ≡ book.old }
     ensures home { OnOk result (AreHome book.new lanes.new.items) }
 {
-    if alone {
-        *book = catch_up(alloc, book, lanes)?;
+    if !alone {
+        return Ok(());
     }
+    if book.len() == 0 {
+        // The cells stand there already: they need no second book.
+        book.stop_choosing();
+        return Ok(());
+    }
+    *book = catch_up(alloc, book, lanes)?;
     Ok(())
 }
 

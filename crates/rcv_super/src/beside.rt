@@ -91,7 +91,7 @@ fn go_back_beside<'a, G: Gate, R: Threads + Sync>(
 
 // Behind a recovery the cells meet, and come home with the merged entries of those that ran in the book. Fails where
 // memory runs out; then some of the first of these entries may stand in the book.
-fn come_home<'a>(
+fn hand_in<'a>(
     alloc: Global,
     book: &mut Book<'a>,
     lanes: &mut Vec<Lane<'a>>,
@@ -144,5 +144,5 @@ pub fn recover_beside<'a, G: Gate, R: Threads + Sync>(
     book.push(entry)?;
     go_back_beside(rt, book, &mut back, &mut beside, workers, gate, role);
     unite(lanes, &mut back, &mut beside, concerned)?;
-    come_home(alloc, book, lanes)
+    hand_in(alloc, book, lanes)
 }

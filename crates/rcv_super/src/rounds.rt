@@ -1,14 +1,14 @@
 // A turn of several workers: a round, or a recovery with what runs beside it.
 
-ghost use Rattle.std.specs.Prelude.{◌≡◌, ◌⊎◌, ◌≤◌, true, false, [], OnOk};
+ghost use Rattle.std.specs.Prelude.{◌≡◌, ◌⊎◌, ◌≤◌, ◌<◌, true, false, [], OnOk};
 ghost use Rattle.rcv_model.specs.Journal.{start};
 ghost use Rattle.rcv_model.specs.Final.{IsCrashed};
 ghost use Rattle.rcv_session.specs.Session.{roles_of, rules_of};
 ghost use Rattle.rcv_core.specs.Book.{state_of, HasMore};
 ghost use Rattle.rcv_lanes.specs.Home.{AreHome, HasGrown};
-ghost use Rattle.rcv_super.specs.Steps.{AreSteps, HasStepped, HasGoneOn, HasRecovered};
+ghost use Rattle.rcv_super.specs.Steps.{AreSteps, HasStepped, HasGoneOn, HasRecovered, HasRecoveredLeast};
 
-use crate::alone::come_home;
+use crate::alone::bring_home;
 use crate::beside::recover_beside;
 use crate::recovery::recover_alone;
 use crate::step::make_step;
@@ -21,14 +21,23 @@ use rcv_tree::role::RoleId;
 use std::alloc::{AllocError, Global};
 use std::thread::Threads;
 
+// To start threads costs some ten microseconds. Where one role at a time has something to do, each round would pay that
+// for a few entries. So behind a round on threads that added fewer than FEW entries, REST rounds are made on this thread
+// alone before threads are started again.
+const FEW: usize = 8;
+
+const REST: u32 = 16;
+
 /// A turn of so many workers, behind which the cells are at home, where they were or where the book had gone on alone.
-/// Fails where memory runs out; then the cells aren't at home.
+/// `resting` is how many rounds are still to be made on this thread alone. Fails where memory runs out; then the cells
+/// aren't at home.
 pub fn go<'a, G: Gate, R: Threads + Sync>(
     rt: &R,
     alloc: Global,
     book: &mut Book<'a>,
     lanes: &mut Vec<Lane<'a>>,
     watch: &mut Watch,
+    resting: &mut u32,
     alone: bool,
     workers: u32,
     gate: &G,
@@ -41,14 +50,24 @@ pub fn go<'a, G: Gate, R: Threads + Sync>(
     ensures home { OnOk result (AreHome book.new lanes.new.items) }
     ensures gone_on { OnOk result (HasGoneOn book.old book.new) }
     ensures stepped { OnOk result (workers ≡ 1 → HasStepped book.old book.new) }
+    ensures recovered { OnOk result (2 ≤ workers → HasRecoveredLeast book.old book.new) }
     ensures grown { HasGrown book.old book.new }
     ensures some { workers ≡ 1 → (book.new ≡ book.old) ⊎ HasStepped book.old book.new }
 {
-    come_home(alloc, book, lanes, alone)?;
+    bring_home(alloc, book, lanes, alone)?;
     if workers == 1 {
         return make_step(alloc, book, lanes, gate);
     }
-    go_on(rt, alloc, book, lanes, watch, workers as usize, gate)
+    go_on(
+        rt,
+        alloc,
+        book,
+        lanes,
+        watch,
+        resting,
+        workers as usize,
+        gate,
+    )
 }
 
 /// The recovery of a crashed role, with nobody running beside it, behind which the cells are at home. Fails where
@@ -68,7 +87,7 @@ pub fn recover_home<'a>(
     ensures recovered { OnOk result (HasRecovered book.old book.new role) }
     ensures some { (book.new ≡ book.old) ⊎ HasRecovered book.old book.new role }
 {
-    come_home(alloc, book, lanes, alone)?;
+    bring_home(alloc, book, lanes, alone)?;
     recover_alone(alloc, book, lanes, role)
 }
 
@@ -80,6 +99,7 @@ fn go_on<'a, G: Gate, R: Threads + Sync>(
     book: &mut Book<'a>,
     lanes: &mut Vec<Lane<'a>>,
     watch: &mut Watch,
+    resting: &mut u32,
     workers: usize,
     gate: &G,
 ) -> Result<(), AllocError>
@@ -88,11 +108,12 @@ fn go_on<'a, G: Gate, R: Threads + Sync>(
     requires more { HasMore book.old }
     ensures home { OnOk result (AreHome book.new lanes.new.items) }
     ensures gone_on { OnOk result (HasGoneOn book.old book.new) }
+    ensures recovered { OnOk result (HasRecoveredLeast book.old book.new) }
     ensures grown { HasGrown book.old book.new }
 {
     match book.first_crashed() {
         Some(role) => recover_beside(rt, alloc, book, lanes, watch, workers, gate, role),
-        None => round_or_step(rt, alloc, book, lanes, watch, workers, gate),
+        None => round_or_step(rt, alloc, book, lanes, watch, resting, workers, gate),
     }
 }
 
@@ -102,6 +123,7 @@ fn round_or_step<'a, G: Gate, R: Threads + Sync>(
     book: &mut Book<'a>,
     lanes: &mut Vec<Lane<'a>>,
     watch: &mut Watch,
+    resting: &mut u32,
     workers: usize,
     gate: &G,
 ) -> Result<(), AllocError>
@@ -113,9 +135,30 @@ fn round_or_step<'a, G: Gate, R: Threads + Sync>(
     ensures grown { HasGrown book.old book.new }
 {
     let before = book.len();
-    make_round(rt, alloc, book, lanes, watch, workers, gate)?;
+    let threads = threads_for(workers, *resting);
+    make_round(rt, alloc, book, lanes, watch, threads, gate)?;
+    *resting = rest_behind(*resting, book.len().saturating_sub(before));
     if book.len() > before {
         return Ok(());
     }
     make_step(alloc, book, lanes, gate)
+}
+
+// On how many threads the cells run in the next round.
+fn threads_for(workers: usize, resting: u32) -> usize
+    requires { 2 ≤ workers }
+    ensures { 0 < result }
+{
+    if resting > 0 { 1 } else { workers }
+}
+
+// How many rounds are to be made on this thread alone, behind a round that added so many entries.
+fn rest_behind(resting: u32, added: usize) -> u32 {
+    if resting > 0 {
+        resting - 1
+    } else if added < FEW {
+        REST
+    } else {
+        0
+    }
 }

@@ -27,6 +27,8 @@ pub struct Session<'a> {
     book: Book<'a>,
     lanes: Vec<Lane<'a>>,
     watch: Watch,
+    // How many rounds are still to be made on the caller's thread alone.
+    resting: u32,
     closed: bool,
     // Whether one worker has made all entries so far, by the book alone, so that the cells stand before the first.
     alone: bool,
@@ -65,7 +67,7 @@ pub enum Turn {
 pub enum SessionError {
     /// An earlier call found no memory.
     Closed,
-    /// There is no memory.
+    /// There is no memory. The session is closed from then on.
     Memory,
 }
 
@@ -85,6 +87,7 @@ impl<'a> Session<'a> {
             book,
             lanes,
             watch,
+            resting: 0,
             closed: false,
             alone: true,
             skip: Skip::nothing(),
@@ -97,13 +100,19 @@ impl<'a> Session<'a> {
     /// makes it alone; the first turn of several brings the cells to where the book stands, and from then on each entry
     /// is made by the cell of its role.
     ///
-    /// With several, where no role is crashed, each cell runs for up to 64 steps on one of as many threads, and the
-    /// merged entries are added; where they made none, the next one of the one-thread order is. Where a role is
-    /// crashed, the least such one recovers on one of the threads, while the cells that aren't concerned run on the
-    /// others, and its Recover is added before what they did.
+    /// With several, where no role is crashed, each cell runs for up to 64 steps on one of at most as many threads, and
+    /// the merged entries are added; where they made none, the next one of the one-thread order is. Threads are started
+    /// where there is work for them: behind a turn on threads that added fewer than 8 entries, the cells run on the
+    /// caller's thread alone for the next 16 such turns. Where a role is crashed, the least such one recovers on one of
+    /// the threads, while the cells that aren't concerned run on the others, and its Recover is added before what they
+    /// did.
     ///
-    /// A session at its end stays as it is, and the answer says at which. `Closed` comes exactly where an earlier call
-    /// on this session answered `Memory`, and changes nothing.
+    /// The gate is called before each step that a role attempts and before a recovery moves anything, on the thread that
+    /// does it.
+    ///
+    /// A session at its end stays as it is, and the answer says at which. Behind `Memory` the session is closed: its
+    /// book has, with several workers, some of the first of the turn's entries, and with one worker its entry or none.
+    /// `Closed` comes exactly where an earlier call on this session answered `Memory`, and changes nothing.
     pub fn turn<G: Gate, R: Threads + Sync>(
         &mut self,
         rt: &R,
@@ -137,6 +146,7 @@ impl<'a> Session<'a> {
             &mut self.book,
             &mut self.lanes,
             &mut self.watch,
+            &mut self.resting,
             self.alone,
             workers,
             gate,

@@ -1,13 +1,11 @@
 -- The copy has one more of the book's entries, and the cells are at home with it.
-use Rattle.std.proofs.Common.{rules, ◌≡◌, ◌<◌, length, subst, sym, ◌∙◌, ap}
-use Rattle.std.specs.Prelude.{Ok}
+use Rattle.std.proofs.Common.{rules, ◌≡◌, ◌<◌, length, subst, ◌∙◌}
 use Rattle.rcv_model.proofs.Forms.{proper}
-use Rattle.rcv_model.specs.Net.{HasTwoEnds}
 use Rattle.rcv_accept.specs.Accepted.{IsAcceptedProtocol}
-use Rattle.rcv_session.specs.Session.{SessionView, text_of, roles_of, rules_of}
+use Rattle.rcv_session.specs.Session.{SessionView, text_of, roles_of}
 use Rattle.rcv_lanes.specs.Home.{AreHome}
 use Rattle.rcv_core.specs.Book.{BookView}
-use Rattle.rcv_super.proofs.OneByOne.{first_of, left_at, next_copy, copied}
+use Rattle.rcv_super.proofs.OneByOne.{left_at, next_copy, copied}
 use Rattle.rcv_super.proofs.alone.catch_up.Goals as goal
 
 pub make_step-requires-clause-more : goal.make_step-requires-clause-more

@@ -29,8 +29,8 @@ go_back_beside-requires-clause-ready g c κs within = ready_beside c.args.book.n
 pub unite-requires-clause-halves : goal.unite-requires-clause-halves
 unite-requires-clause-halves g c = halves c.push.new.self c.concerned_by-concerned.result c.args.lanes.now.items c.in_ok-back.back.items c.in_ok-back.beside.items c.go_back_beside.new.back.items c.go_back_beside.new.beside.items c.in_ok-back.ensures.split c.go_back_beside.ensures.back c.go_back_beside.ensures.beside
 
-pub come_home-requires : goal.come_home-requires
-come_home-requires g c = parted_behind c.args.book.now c.push.new.self c.args.role c.in_ok-entry.entry c.concerned_by-concerned.result c.args.lanes.now.items c.unite.new.lanes.items c.in_ok-back.back.items c.in_ok-back.beside.items c.go_back_beside.new.back.items c.go_back_beside.new.beside.items
+pub hand_in-requires : goal.hand_in-requires
+hand_in-requires g c = parted_behind c.args.book.now c.push.new.self c.args.role c.in_ok-entry.entry c.concerned_by-concerned.result c.args.lanes.now.items c.unite.new.lanes.items c.in_ok-back.back.items c.in_ok-back.beside.items c.go_back_beside.new.back.items c.go_back_beside.new.beside.items
     c.in_ok-entry.ensures.recovers
     c.in_ok-push.ensures.ok
     c.concerned_by-concerned.ensures

@@ -1,5 +1,5 @@
 -- A round that added something has gone on; behind one that added nothing something is left to do still.
-use Rattle.std.proofs.Common.{rules, ◌≡◌, ◌<◌, ◌≤◌, length, subst, sym}
+use Rattle.std.proofs.Common.{rules, ◌<◌, ◌≤◌, length, subst, sym}
 use Rattle.rcv_core.specs.Book.{HasMore}
 use Rattle.rcv_super.proofs.Ending.{stayed, went_on}
 use Rattle.rcv_super.proofs.rounds.round_or_step.Goals as goal

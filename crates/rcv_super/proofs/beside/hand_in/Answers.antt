@@ -10,7 +10,7 @@ use Rattle.rcv_theory.specs.Round.{NeverFalls}
 use Rattle.rcv_merge.specs.Merge.{IsMergeOf}
 use Rattle.rcv_lanes.specs.Home.{logs_in}
 use Rattle.rcv_super.proofs.Behind.{meet_behind, rise_behind, follow_behind, home_behind}
-use Rattle.rcv_super.proofs.beside.come_home.Goals as goal
+use Rattle.rcv_super.proofs.beside.hand_in.Goals as goal
 
 pub meet_all-requires : goal.meet_all-requires
 meet_all-requires c = meet_behind c.args.book.now c.args.lanes.now.items c.requires
