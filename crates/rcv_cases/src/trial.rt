@@ -112,15 +112,20 @@ fn is_of_session(status: &str) -> bool {
 // Whether the last line of a journal fits the status that it came with.
 fn says_its_status(alloc: Global, answer: &Answer) -> Result<bool, AllocError> {
     let journal = String::from_utf8_lossy(alloc, answer.bytes.as_slice())?;
-    let mut last = "";
+    let mut says = false;
     for line in journal.as_str().lines() {
-        last = line;
+        says = is_last_of(line, answer.status.as_str());
     }
-    Ok(match answer.status.as_str() {
-        "0" => last == "completed",
-        "3" => last.starts_with("limited"),
+    Ok(says)
+}
+
+// Whether a journal with this last line comes with this status.
+fn is_last_of(line: &str, status: &str) -> bool {
+    match status {
+        "0" => line == "completed",
+        "3" => line.starts_with("limited"),
         _ => false,
-    })
+    }
 }
 
 // Whether this word stands in the input.
