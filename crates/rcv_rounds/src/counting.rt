@@ -49,7 +49,7 @@ fn counts(book: &Book<'_>, before: usize) -> (usize, usize) {
         .filter(|entry| matches!(entry, Entry::Recover { .. }))
         .count();
     let all = book.entries().iter().skip(before).count();
-    (recoveries, all - recoveries)
+    (recoveries, all.saturating_sub(recoveries))
 }
 
 // Turns a session of Ping to its end with one worker, behind a first turn of several or of none, and says whether it
