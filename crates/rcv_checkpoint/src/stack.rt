@@ -81,6 +81,13 @@ impl Stack {
         &self.last
     }
 
+    /// How many events are held, which is one fewer than there are states. It takes no memory.
+    pub fn count(&self) -> u32
+        ensures { result + 1 ≡ length self.now.states }
+    {
+        self.rows.points.len() as u32
+    }
+
     /// Goes back to so many of the events that are held, at most all. It takes no memory.
     pub fn rewind(&mut self, count: u32)
         requires { count ≤ held self.old }

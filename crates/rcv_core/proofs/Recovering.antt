@@ -16,7 +16,8 @@ use Rattle.rcv_model.proofs.Recovering.{listed}
 use Rattle.rcv_checkpoint.specs.Stack.{StackView}
 use Rattle.rcv_session.specs.Session.{SessionView, roles_of, net_for, rules_of}
 use Rattle.rcv_plan.specs.Plans.{IsGroup}
-use Rattle.rcv_ledger.specs.Ledger.{LedgerView, log_at, MayCut, IsCutTo, Holds}
+use Rattle.rcv_ledger.specs.Logs.{log_at}
+use Rattle.rcv_ledger.specs.Ledger.{LedgerView, MayCut, IsCutTo, Holds}
 use Rattle.rcv_ledger.proofs.Holding.{kept_may_be_cut_to, cuts_hold_what_is_kept}
 use Rattle.rcv_core.specs.declared.standing.Standing.{Standing}
 use Rattle.rcv_core.specs.Setup.{vars_by}

@@ -3,7 +3,8 @@
 ghost use Rattle.std.specs.Prelude.{◌≡◌, ◌+◌, ◌<◌, ◌^◌, length, slice_get, slice_index, true, if◌then◌else◌};
 ghost use Rattle.rcv_tree.specs.Bits.{has_bit};
 ghost use Rattle.rcv_checkpoint.specs.Stack.{IsDurable};
-ghost use Rattle.rcv_ledger.specs.Ledger.{log_at, stack_at};
+ghost use Rattle.rcv_ledger.specs.Logs.{log_at};
+ghost use Rattle.rcv_ledger.specs.Ledger.{stack_at};
 ghost use Rattle.rcv_core.specs.Failing.{HaveLogs, AreSaved, first_lost, AreStartsOf, AreListed, AreUnlisted, AreCountsOf, AreFewIn, all_events, within_counts, point_or_none};
 
 use rcv_depend::keeps::Keeps;
@@ -70,10 +71,11 @@ fn start(ledger: &Ledger, role: RoleId, count: u32) -> u16
     requires { role < length ledger.now.logs }
     ensures { result ≡ point_or_none (slice_get (log_at ledger.now.logs role) count) }
 {
-    match ledger.log(role).get(count as usize) {
-        Some(event) => event.point.0,
-        None => 0,
+    let number = count as usize;
+    if number >= ledger.made(role) {
+        return 0;
     }
+    ledger.event(role, number).point.0
 }
 
 /// The counts as a Recover lists them: 0 for a role that isn't concerned. It takes no memory.
@@ -104,7 +106,7 @@ pub fn unlisted(ledger: &Ledger, concerned: RoleSet, kept: &[u32; 8]) -> [u32; 8
     ensures { AreUnlisted ledger.now.logs concerned.0 kept.now result }
 {
     let mut counts = [0; 8];
-    for role in 0..ledger.logs().len() {
+    for role in 0..ledger.roles() {
         counts[role] = unlisted_by(ledger, concerned, kept, RoleId(role as u8));
     }
     counts
@@ -119,7 +121,7 @@ fn unlisted_by(ledger: &Ledger, concerned: RoleSet, kept: &[u32; 8], role: RoleI
     if concerned.has(role) {
         return kept[role.0 as usize];
     }
-    ledger.log(role).len() as u32
+    ledger.made(role) as u32
 }
 
 /// How many events are undone where so many of each role are kept: all that are logged, less those. It takes no memory.
@@ -130,8 +132,8 @@ pub fn undone(ledger: &Ledger, counts: &[u32; 8]) -> u32
     ensures { result + within_counts ledger.now.logs counts.now ≡ all_events ledger.now.logs }
 {
     let mut undone = 0;
-    for role in 0..ledger.logs().len() {
-        undone += ledger.log(RoleId(role as u8)).len() as u32 - counts[role];
+    for role in 0..ledger.roles() {
+        undone += ledger.made(RoleId(role as u8)) as u32 - counts[role];
     }
     undone
 }

@@ -1,5 +1,6 @@
 -- The definitions, computed at small examples.
-use Rattle.std.proofs.Common.{◌≡◌, ℕ, List, [], ◌∷◌, refl, codes}
+use Rattle.std.proofs.Common.{◌≡◌, ◌≤◌, ℕ, List, [], ◌∷◌, ◌++◌, Option, Some, refl, sym, ◌∙◌, ap, arith, codes}
+use Rattle.std.specs.Io.KnownBytes.{append_known}
 use Rattle.std.specs.Prelude.{ℤ, pos, negsuc, replicate}
 use Rattle.std.specs.Fmt.{digits}
 use Rattle.rcv_tree.specs.declared.event.Dir.TheVariants.{Sent, Got}
@@ -9,6 +10,9 @@ use Rattle.rcv_session.specs.Session.{SessionView, net_for}
 use Rattle.rcv_journal.specs.declared.line.RoleLine.{RoleLine}
 use Rattle.rcv_journal.specs.declared.line.RoleWord.{RoleWord}
 use Rattle.rcv_journal.specs.declared.line.RoleWord.TheVariants.{Done, Limit, Waits}
+use Rattle.rcv_journal.specs.Lines.{IsTextOf}
+use Rattle.rcv_journal.specs.Writing.{WroteText, BrokeText}
+use Rattle.rcv_journal.proofs.OneText.{one_text}
 use Rattle.rcv_journal.specs.JournalText.{entry_line, role_line, last_line, journal_text}
 
 -- ping from A to B, pong from B to A
@@ -70,3 +74,26 @@ limit_line setup is = rw is.roles refl
 waits_line : (setup : SessionView) → IsPing setup → role_line setup (line 0 0 3 Waits) ≡ codes "role A kept 0 raw 3 waits\n"
 unfolding line digits
 waits_line setup is = rw is.roles refl
+
+-- what is told of a sink to which a whole text was written
+wrote_all : (setup : SessionView) (journal : List Entry) (bytes : List ℕ) → IsTextOf setup journal bytes → WroteText setup journal (Some (codes "x")) (Some (codes "x" ++ bytes)) 3 3
+wrote_all setup journal bytes text = record { bytes = bytes; is_text = text; written = refl; fine = refl }
+
+-- which is one thing
+wrote_one_text : (setup : SessionView) (journal : List Entry) (start a b : Option (List ℕ)) → WroteText setup journal start a 3 3 → WroteText setup journal start b 3 3 → a ≡ b
+wrote_one_text setup journal start a b x y = x.written ∙ ap (append_known start) (one_text setup journal x.bytes y.bytes x.is_text y.is_text) ∙ sym y.written
+
+-- and of one whose second call failed
+broke_off : (setup : SessionView) (journal : List Entry) → IsTextOf setup journal (codes "ab") → BrokeText setup journal (Some []) (Some (codes "a")) 3 4
+broke_off setup journal text =
+    record {
+      bytes = codes "ab";
+      is_text = text;
+      beginning = record { front = codes "a"; back = codes "b"; whole = refl; missing = omega arith; written = refl };
+      later = omega arith;
+      rose = omega arith;
+    }
+
+-- but not where no fault was counted
+not_without_a_fault : (setup : SessionView) (journal : List Entry) (start now : Option (List ℕ)) → BrokeText setup journal start now 3 3 → ⊥
+not_without_a_fault setup journal start now broke = let rose : 4 ≤ 3 = broke.rose in absurd (omega (arith, rose))

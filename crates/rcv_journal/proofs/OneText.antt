@@ -56,9 +56,13 @@ same_from rules s r (x ∷ xs) (y ∷ ys) size a b =
 from_start : (rules : Rules) (s : State) (lines : List RoleLine) → AreLinesOf rules s lines → EachFrom rules s 0 lines
 from_start rules s lines are i x at = subst (λ n. IsLineOf rules s n x) (omega arith) (are.each i x at)
 
+-- a journal has one list of role lines
+pub same_lines : (rules : Rules) (s : State) (xs ys : List RoleLine) → AreLinesOf rules s xs → AreLinesOf rules s ys → xs ≡ ys
+same_lines rules s xs ys a b = same_from rules s 0 xs ys (a.all ∙ sym b.all) (from_start rules s xs a) (from_start rules s ys b)
+
 pub one_text : (setup : SessionView) (entries : List Entry) (a b : List ℕ) → IsTextOf setup entries a → IsTextOf setup entries b → a ≡ b
 one_text setup entries a b i j =
-    let same : i.lines ≡ j.lines = same_from (rules_of setup) (reading (rules_of setup) entries) 0 i.lines j.lines (i.are_lines.all ∙ sym j.are_lines.all) (from_start (rules_of setup) (reading (rules_of setup) entries) i.lines i.are_lines) (from_start (rules_of setup) (reading (rules_of setup) entries) j.lines j.are_lines) in
+    let same : i.lines ≡ j.lines = same_lines (rules_of setup) (reading (rules_of setup) entries) i.lines j.lines i.are_lines j.are_lines in
     i.is_text ∙ ap (journal_text setup entries) same ∙ sym j.is_text
 
 -- all of these roles, from r on, are done

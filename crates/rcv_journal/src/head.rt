@@ -4,7 +4,7 @@ ghost use Rattle.std.specs.Prelude.{◌≡◌, ◌<◌, ◌≤◌, IfOk};
 ghost use Rattle.rcv_session.specs.Session.{roles_of, net_for};
 ghost use Rattle.rcv_journal.specs.Heads.{head_text, head_of, AreHeads};
 
-use crate::name::write_name;
+use crate::name::name_of;
 use rcv_core::setup::Setup;
 use rcv_text::writer::Writer;
 use rcv_tree::point::Point;
@@ -45,7 +45,7 @@ fn beginning(
 {
     let mut text = Writer::with_room(alloc, BEGINNING)?;
     text.word(kind)?;
-    write_name(&mut text, setup, role)?;
+    text.word(name_of(setup, role))?;
     text.byte(b' ')?;
     text.number(point.0)?;
     text.byte(b' ')?;

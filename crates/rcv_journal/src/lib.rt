@@ -4,12 +4,17 @@
 ghost use Rattle.rcv_journal.specs.Laws.{LegalJournalsAreNamed, JournalsHaveOneText, CompletedIsWritten};
 
 mod entries;
+mod fault;
 mod head;
-pub mod journal;
+mod journal;
 pub mod line;
 mod name;
+pub mod role_lines;
 mod roles;
 pub mod text;
+mod vec_sink;
+
+pub use fault::TextError;
 
 /// Want of memory, which is the one error of the calls of this crate.
 pub use std::alloc::AllocError as Memory;

@@ -1,15 +1,16 @@
 // The lines of roles, and the last line.
 
-ghost use Rattle.std.specs.Prelude.{◌≡◌, ◌<◌, ◌++◌, OnOk, flat_map};
+ghost use Rattle.std.specs.Prelude.{◌≡◌, ◌<◌, flat_map};
 ghost use Rattle.std.specs.List.{list_all};
+ghost use Rattle.rcv_page.specs.Page.{Adds, at};
 ghost use Rattle.rcv_session.specs.Session.{roles_of};
 ghost use Rattle.rcv_journal.specs.JournalText.{HaveRoles, is_done, limit_text, word_text, role_line, last_line};
 
 use crate::line::{RoleLine, RoleWord};
-use crate::name::write_name;
+use crate::name::name_of;
 use rcv_core::setup::Setup;
-use rcv_text::writer::Writer;
-use std::alloc::AllocError;
+use rcv_io::Sink;
+use rcv_page::Page;
 
 // The word as it is written.
 fn text_of_word(word: RoleWord) -> &'static [u8]
@@ -23,30 +24,30 @@ fn text_of_word(word: RoleWord) -> &'static [u8]
 }
 
 // The line of a role.
-fn write_role(text: &mut Writer, setup: &Setup, line: &RoleLine) -> Result<(), AllocError>
+fn write_role<K: Sink>(page: &mut Page, sink: &mut K, setup: &Setup, line: &RoleLine)
     requires { line.now.role < roles_of setup.now }
-    ensures { OnOk result (text.new ≡ text.old ++ role_line setup.now line.now) }
+    ensures { Adds (at K.written K.faults sink.old page.old) (at K.written K.faults sink.new page.new) (role_line setup.now line.now) }
 {
-    text.word(b"role ")?;
-    write_name(text, setup, line.role)?;
-    text.word(b" kept ")?;
-    text.large_number(line.kept as u64)?;
-    text.word(b" raw ")?;
-    text.large_number(line.raw as u64)?;
-    text.word(b" ")?;
-    text.word(text_of_word(line.word))?;
-    text.word(b"\n")
+    page.word(sink, b"role ");
+    page.word(sink, name_of(setup, line.role));
+    page.word(sink, b" kept ");
+    page.number(sink, line.kept as u64);
+    page.word(sink, b" raw ");
+    page.number(sink, line.raw as u64);
+    page.byte(sink, b' ');
+    page.word(sink, text_of_word(line.word));
+    page.byte(sink, b'\n');
 }
 
 // The lines of all roles.
-pub fn write_roles(text: &mut Writer, setup: &Setup, lines: &[RoleLine]) -> Result<(), AllocError>
+pub fn write_roles<K: Sink>(page: &mut Page, sink: &mut K, setup: &Setup, lines: &[RoleLine])
     requires { HaveRoles setup.now lines.now }
-    ensures { OnOk result (text.new ≡ text.old ++ flat_map (role_line setup.now) lines.now) }
+    ensures { Adds (at K.written K.faults sink.old page.old) (at K.written K.faults sink.new page.new)
+        (flat_map (role_line setup.now) lines.now) }
 {
     for line in lines {
-        write_role(text, setup, line)?;
+        write_role(page, sink, setup, line);
     }
-    Ok(())
 }
 
 // Whether all roles are done.
@@ -56,29 +57,38 @@ fn are_done(lines: &[RoleLine]) -> bool
     lines.iter().all(|line| line.word == RoleWord::Done)
 }
 
+// The name of the role if it is at the limit.
+fn write_if_limited<K: Sink>(page: &mut Page, sink: &mut K, setup: &Setup, line: &RoleLine)
+    requires { line.now.role < roles_of setup.now }
+    ensures { Adds (at K.written K.faults sink.old page.old) (at K.written K.faults sink.new page.new) (limit_text setup.now line.now) }
+{
+    if line.word != RoleWord::Limit {
+        return;
+    }
+    page.byte(sink, b' ');
+    page.word(sink, name_of(setup, line.role));
+}
+
 // The names of the roles at the limit.
-fn write_limited(text: &mut Writer, setup: &Setup, lines: &[RoleLine]) -> Result<(), AllocError>
+fn write_limited<K: Sink>(page: &mut Page, sink: &mut K, setup: &Setup, lines: &[RoleLine])
     requires { HaveRoles setup.now lines.now }
-    ensures { OnOk result (text.new ≡ text.old ++ flat_map (limit_text setup.now) lines.now) }
+    ensures { Adds (at K.written K.faults sink.old page.old) (at K.written K.faults sink.new page.new)
+        (flat_map (limit_text setup.now) lines.now) }
 {
     for line in lines {
-        if line.word == RoleWord::Limit {
-            text.word(b" ")?;
-            write_name(text, setup, line.role)?;
-        }
+        write_if_limited(page, sink, setup, line);
     }
-    Ok(())
 }
 
 // How the session ended.
-pub fn write_last(text: &mut Writer, setup: &Setup, lines: &[RoleLine]) -> Result<(), AllocError>
+pub fn write_last<K: Sink>(page: &mut Page, sink: &mut K, setup: &Setup, lines: &[RoleLine])
     requires { HaveRoles setup.now lines.now }
-    ensures { OnOk result (text.new ≡ text.old ++ last_line setup.now lines.now) }
+    ensures { Adds (at K.written K.faults sink.old page.old) (at K.written K.faults sink.new page.new) (last_line setup.now lines.now) }
 {
     if are_done(lines) {
-        return text.word(b"completed\n");
+        return page.word(sink, b"completed\n");
     }
-    text.word(b"limited")?;
-    write_limited(text, setup, lines)?;
-    text.word(b"\n")
+    page.word(sink, b"limited");
+    write_limited(page, sink, setup, lines);
+    page.byte(sink, b'\n');
 }

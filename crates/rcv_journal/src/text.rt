@@ -1,56 +1,62 @@
 // The text of a book.
 
-ghost use Rattle.std.specs.Prelude.{◌≡◌, ◌<◌, ◌≤◌, ◌==◌, if◌then◌else◌, IfOk};
+ghost use Rattle.std.specs.Prelude.{◌≡◌, ◌≤◌, IfOk, OnOk, IsErrOf};
 ghost use Rattle.rcv_model.specs.Final.{IsFinal};
-ghost use Rattle.rcv_session.specs.Session.{roles_of, rules_of};
+ghost use Rattle.rcv_session.specs.Session.{rules_of};
 ghost use Rattle.rcv_core.specs.Book.{state_of};
-ghost use Rattle.rcv_journal.specs.declared.line.RoleWord.TheVariants.{Done, Limit, Waits};
-ghost use Rattle.rcv_journal.specs.Lines.{IsLineOf, AreLinesOf, IsTextOf};
+ghost use Rattle.rcv_journal.specs.JournalText.{HaveRoles, last_line};
+ghost use Rattle.rcv_journal.specs.Lines.{IsTextOf};
+ghost use Rattle.rcv_journal.specs.Writing.{WroteText, BrokeText, IsUntouched};
 
+use crate::fault::TextError;
+use crate::head::heads;
 use crate::journal::write_journal;
-use crate::line::{RoleLine, RoleWord};
+use crate::line::RoleLine;
+use crate::role_lines::lines_of;
+use crate::roles::write_last;
+use crate::vec_sink::VecSink;
 use rcv_core::book::Book;
-use rcv_tree::role::RoleId;
+use rcv_core::setup::Setup;
+use rcv_io::Sink;
+use rcv_page::Page;
 use std::alloc::{AllocError, Global};
 
-// How a role ended that is done or not, and made so many events of those that it may make.
-fn word_of(done: bool, raw: u32, limit: u32) -> RoleWord
-    ensures { result ≡ (if done then Done else (if raw == limit then Limit else Waits)) }
-{
-    if done {
-        RoleWord::Done
-    } else if raw == limit {
-        RoleWord::Limit
-    } else {
-        RoleWord::Waits
-    }
-}
+// The line of an entry has about so many bytes at most, where names are short.
+const LINE: usize = 48;
 
-// What is said of a role.
-fn line_of(book: &Book<'_>, role: RoleId) -> RoleLine
-    requires { role < roles_of book.now.setup }
-    ensures { IsLineOf (rules_of book.now.setup) (state_of book.now) role result }
-{
-    let raw = book.raw(role);
-    RoleLine {
-        role,
-        kept: book.kept(role),
-        raw,
-        word: word_of(book.done(role), raw, book.setup().limit()),
-    }
-}
+// The last line has about so many bytes at most, where names are short.
+const LAST: usize = 64;
 
-// What is said of each of so many roles, in order.
-fn lines_of(alloc: Global, book: &Book<'_>, roles: usize) -> Result<Vec<RoleLine>, AllocError>
-    requires all { roles ≡ roles_of book.now.setup }
-    requires few { roles ≤ 8 }
-    ensures { IfOk result (λ lines. AreLinesOf (rules_of book.now.setup) (state_of book.now) lines.items) }
+/// Writes the text of a final journal, page by page: a line for each entry, a line for each role, and a last one that
+/// says whether the session is completed.
+///
+/// `WriteFault` comes exactly where a call of the sink failed: a beginning of the text was written then, and not all of
+/// it. `Memory` comes only before the first call of the sink.
+pub fn write_text<K: Sink>(alloc: Global, book: &Book<'_>, sink: &mut K) -> Result<(), TextError>
+    requires { IsFinal (rules_of book.now.setup) (state_of book.now) }
+    ensures whole { OnOk result (WroteText book.now.setup book.now.entries
+        (K.written sink.old) (K.written sink.new) (K.faults sink.old) (K.faults sink.new)) }
+    ensures fault { IsErrOf result TextError.WriteFault → BrokeText book.now.setup book.now.entries
+        (K.written sink.old) (K.written sink.new) (K.faults sink.old) (K.faults sink.new) }
+    ensures memory { IsErrOf result TextError.Memory
+        → IsUntouched (K.written sink.old) (K.written sink.new) (K.faults sink.old) (K.faults sink.new) }
+    ensures later { K.faults sink.old ≤ K.faults sink.new }
 {
-    let mut lines = Vec::new(alloc);
-    for role in 0..roles {
-        lines.push(line_of(book, RoleId(role as u8)))?;
-    }
-    Ok(lines)
+    let setup = book.setup();
+    // Tells the proof that the protocol is accepted, and so what a legal journal names is declared.
+    let _protocol = setup.protocol();
+    let lines = lines_of(alloc, book)?;
+    let heads = heads(alloc, setup)?;
+    let page = Page::new(alloc)?;
+    write_journal(
+        page,
+        sink,
+        setup,
+        heads.as_slice(),
+        book.entries(),
+        lines.as_slice(),
+    )?;
+    Ok(())
 }
 
 /// The text of a final journal: a line for each entry, a line for each role, and a last one that says whether the
@@ -59,7 +65,23 @@ pub fn text_of(alloc: Global, book: &Book<'_>) -> Result<Vec<u8>, AllocError>
     requires { IsFinal (rules_of book.now.setup) (state_of book.now) }
     ensures { IfOk result (λ text. IsTextOf book.now.setup book.now.entries text.items) }
 {
-    let setup = book.setup();
-    let lines = lines_of(alloc, book, setup.protocol().roles.as_slice().len())?;
-    write_journal(alloc, setup, book.entries(), lines.as_slice())
+    let mut sink = VecSink::with_room(alloc, book.entries().len().saturating_mul(LINE))?;
+    match write_text(alloc, book, &mut sink) {
+        Ok(()) => Ok(sink.into_bytes()),
+        Err(_) => Err(AllocError),
+    }
+}
+
+/// The last line of a journal's text alone, from what is said of the roles. It fails where memory runs out.
+pub fn last_line_of(alloc: Global, setup: &Setup, lines: &[RoleLine]) -> Result<Vec<u8>, AllocError>
+    requires { HaveRoles setup.now lines.now }
+    ensures { IfOk result (λ line. line.items ≡ last_line setup.now lines.now) }
+{
+    let mut sink = VecSink::with_room(alloc, LAST)?;
+    let mut page = Page::new(alloc)?;
+    write_last(&mut page, &mut sink, setup, lines);
+    match page.finish(&mut sink) {
+        Ok(()) => Ok(sink.into_bytes()),
+        Err(_) => Err(AllocError),
+    }
 }

@@ -11,9 +11,10 @@ use Rattle.rcv_model.specs.Net.{Net}
 use Rattle.rcv_model.specs.Run.{puts_on, takes_on, put_by, taken_by, put, taken}
 use Rattle.rcv_model.proofs.Keeping.{put_none, taken_none}
 use Rattle.rcv_model.proofs.Steps.{not_taken}
-use Rattle.rcv_ledger.specs.Channels.{ChannelView, empty, between, channel_at, put_less, take_less, without_put, without_taken}
+use Rattle.rcv_ledger.specs.Channels.{ChannelView, ChannelsView, empty, between, channel_at, put_less, take_less, without_put, without_taken}
 use Rattle.rcv_checkpoint.specs.Stack.{StackView}
-use Rattle.rcv_ledger.specs.Ledger.{LedgerView, log_at, log_to, IsSound, AreSound, AreCarried}
+use Rattle.rcv_ledger.specs.Logs.{LogsView, log_at, log_to}
+use Rattle.rcv_ledger.specs.Ledger.{LedgerView, ledger_of, IsSound, AreSound, AreCarried}
 use Rattle.rcv_ledger.proofs.Lists.{front_of, last_split, front_is, get_taken}
 use Rattle.rcv_ledger.proofs.Following.{message_of, answer_of, mapped, sent_here, sent_else, got_here, got_else, no_put, apart}
 
@@ -182,10 +183,10 @@ drops net logs channels r e carried lt some at = subst (λ q. q < length logs �
     }
 
 -- The same where the ledger's view is what contracts see.
-pub drops_in : (net : Net) (logs : List (List Event)) (channels : List ChannelView) (stacks : List StackView) (room : ℕ) (seen : LedgerView) (r : ℕ) (e : Event) → record { logs = logs; channels = channels; stacks = stacks; room = room } ≡ seen → AreCarried net seen.logs seen.channels → r < length seen.logs → 0 < length (log_at seen.logs r) → slice_get (log_at logs r) (length (log_at logs r) - 1) ≡ Some e → Drops net logs channels r e
-drops_in net logs channels stacks room seen r e view carried lt some at =
-    drops net logs channels r e
+pub drops_in : (net : Net) (logs : LogsView) (channels : ChannelsView) (stacks : List StackView) (seen : LedgerView) (r : ℕ) (e : Event) → ledger_of logs channels stacks ≡ seen → AreCarried net seen.logs seen.channels → r < length seen.logs → 0 < length (log_at seen.logs r) → (n : ℕ) → n ≡ length (log_at logs.lists r) → slice_get (log_at logs.lists r) (n - 1) ≡ Some e → Drops net logs.lists channels.list r e
+drops_in net logs channels stacks seen r e view carried lt some n size at =
+    drops net logs.lists channels.list r e
     (subst (λ (l : LedgerView). AreCarried net l.logs l.channels) (sym view) carried)
     (subst (λ (l : LedgerView). r < length l.logs) (sym view) lt)
     (subst (λ (l : LedgerView). 0 < length (log_at l.logs r)) (sym view) some)
-    at
+    (ap (λ k. slice_get (log_at logs.lists r) (k - 1)) (sym size) ∙ at)

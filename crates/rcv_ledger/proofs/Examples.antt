@@ -1,15 +1,19 @@
 -- A ledger of two roles: at its start, behind a Send, and cut back; and one that doesn't hold what it should.
 use Prim.Native.Nat.{zero, suc}
-use Rattle.std.proofs.Common.{◌≡◌, ℕ, ℤ, pos, ◌<◌, List, [], ◌∷◌, length, replicate, refl, ap, arith}
-use Rattle.std.specs.Prelude.{◌==◌, if◌then◌else◌, slice_index, slice_index_or}
+use Rattle.std.proofs.Common.{◌≡◌, ℕ, ℤ, pos, ◌<◌, List, [], ◌∷◌, length, replicate, Some, refl, ap, subst, arith}
+use Rattle.std.specs.Prelude.{◌==◌, if◌then◌else◌, slice_get, slice_index, slice_index_or}
+use Rattle.rcv_tree.specs.declared.entry.Entry.{Entry}
+use Rattle.rcv_tree.specs.declared.entry.Entry.TheVariants.{Send, Crash}
 use Rattle.rcv_tree.specs.declared.event.Event.{Event}
 use Rattle.rcv_tree.specs.declared.event.Dir.TheVariants.{Sent}
 use Rattle.rcv_model.specs.Net.{Net}
 use Rattle.rcv_model.specs.Run.{IsQueued}
+use Rattle.rcv_model.proofs.Lists.{some_same}
 use Rattle.rcv_model.proofs.Keeping.{queued_nil, queued_more, fits_else}
 use Rattle.rcv_theory.specs.Counts.{kept_counts}
 use Rattle.rcv_checkpoint.specs.declared.state.State.{State}
 use Rattle.rcv_ledger.specs.Channels.{ChannelView, empty}
+use Rattle.rcv_ledger.specs.Logs.{AreStanding, HasEvent, entry_at, lists_in}
 use Rattle.rcv_ledger.specs.Ledger.{LedgerView, stack_at, first_stack, with_send, with_event, IsStart, HasRoomToSend, MayCut, Holds}
 use Rattle.rcv_ledger.specs.Laws.{IsMore}
 use Rattle.rcv_ledger.proofs.Holding.{starts_hold_nothing, sends_hold, kept_may_be_cut_to}
@@ -31,10 +35,12 @@ vars r events = []
 abbrev at_start : LedgerView
 at_start =
     record {
+      entries = [];
       logs = [] ∷ [] ∷ [];
       channels = replicate 64 empty;
       stacks = first_stack firsts everys 4 0 ∷ first_stack firsts everys 4 1 ∷ [];
       room = 4;
+      most = 8;
     }
 
 abbrev send : Event
@@ -43,8 +49,8 @@ send = record { role = 0; dir = Sent; point = 1; value = pos 7; stamp = 1; sent 
 abbrev behind : State
 behind = record { k = 1; vars = [] }
 
-starts : IsStart firsts everys 4 at_start
-starts = record { logs = refl; channels = refl; all = refl; stacks = stacks; room = refl }
+starts : IsStart firsts everys 4 8 at_start
+starts = record { logs = refl; channels = refl; all = refl; stacks = stacks; room = refl; entries = refl; room_in_all = refl }
   where
     stacks : (r : ℕ) → r < 2 → stack_at at_start.stacks r ≡ first_stack firsts everys 4 r
     stacks zero lt = refl
@@ -52,7 +58,7 @@ starts = record { logs = refl; channels = refl; all = refl; stacks = stacks; roo
     stacks (suc (suc r)) lt = absurd (omega (arith, lt))
 
 pub held_at_start : Holds there_and_back 2 vars [] at_start
-held_at_start = starts_hold_nothing there_and_back vars firsts everys 4 at_start (omega arith) (λ r lt. first r) starts
+held_at_start = starts_hold_nothing there_and_back vars firsts everys 4 8 at_start (omega arith) (λ r lt. first r) starts
   where
     first : (r : ℕ) → [] ≡ slice_index_or firsts r []
     first zero = refl
@@ -69,7 +75,7 @@ may_send = record {
 -- At the start there is room for a Send to the other role, and none is promised for one to the role itself.
 pub room_to_send : HasRoomToSend at_start 0 1
 room_to_send = record {
-  event = record { log = omega arith; stack = omega arith };
+  event = record { entry = omega arith; log = omega arith; stack = omega arith };
   reserved = record { sender = omega arith; receiver = omega arith; apart = λ same. absurd (omega (arith, same)) };
   message = omega arith;
 }
@@ -94,5 +100,31 @@ cut_to_nothing = kept_may_be_cut_to there_and_back 2 vars (send ∷ []) (λ r. 0
     counts (suc (suc r)) lt = absurd (omega (arith, lt))
 
 -- A ledger whose channel lacks the message of its log doesn't hold the Send.
-pub lost_message : Holds there_and_back 2 vars (send ∷ []) (record { logs = with_event at_start.logs send; channels = at_start.channels; stacks = (with_send at_start send 1 behind).stacks; room = 4 }) → ⊥
+pub lost_message : Holds there_and_back 2 vars (send ∷ []) (record { entries = Send send ∷ []; logs = with_event at_start.logs send; channels = at_start.channels; stacks = (with_send at_start send 1 behind).stacks; room = 4; most = 8 }) → ⊥
 lost_message holds = let e = ap (λ (c : ChannelView). length c.put) (holds.carry.each 0 1 (omega arith) (omega arith)) in absurd (omega (arith, e))
+
+-- Behind a Send and a Crash the log of role 0 has the place of the Send.
+abbrev two_entries : List Entry
+two_entries = Send send ∷ Crash 0 ∷ []
+
+pub send_is_logged : lists_in two_entries ((0 ∷ []) ∷ [] ∷ []) ≡ (send ∷ []) ∷ [] ∷ []
+send_is_logged = refl
+
+pub send_stands : AreStanding two_entries ((0 ∷ []) ∷ [] ∷ [])
+send_stands zero zero p at = subst (λ q. HasEvent (entry_at two_entries q)) (some_same at) tt
+send_stands zero (suc n) p at = absurd (cc)
+send_stands (suc zero) n p at = absurd (none_in n p at)
+  where
+    none_in : (n p : ℕ) → slice_get [] n ≡ Some p → ⊥
+    none_in n p at = absurd (cc)
+send_stands (suc (suc r)) n p at = absurd (none_in r n p at)
+  where
+    none_in : (r n p : ℕ) → slice_get (slice_index_or [] r []) n ≡ Some p → ⊥
+    none_in r n p at = absurd (cc)
+
+-- The place of a Crash can't be logged, nor one behind the last entry.
+pub crash_is_not_logged : AreStanding two_entries ((1 ∷ []) ∷ [] ∷ []) → ⊥
+crash_is_not_logged stand = stand 0 0 1 refl
+
+pub nothing_behind_the_last : AreStanding two_entries ((2 ∷ []) ∷ [] ∷ []) → ⊥
+nothing_behind_the_last stand = stand 0 0 2 refl

@@ -21,8 +21,9 @@ use Rattle.rcv_theory.proofs.Counting.{begins}
 use Rattle.rcv_checkpoint.specs.declared.state.State.{State}
 use Rattle.rcv_checkpoint.specs.Stack.{StackView, with_states}
 use Rattle.rcv_ledger.specs.Channels.{ChannelView, empty, channel_at, Carry}
-use Rattle.rcv_ledger.specs.Ledger.{LedgerView, log_at, stack_at, with_event, with_state, with_send, with_recv, IsSound, AreSound, AreCarried, MayCut, IsCutTo, state_behind, AreStates, Holds}
-use Rattle.rcv_ledger.specs.Laws.{IsMore, StartsHoldNothing, SendsHold, RecvsHold, KeptMayBeCutTo, CutsHoldWhatIsKept}
+use Rattle.rcv_ledger.specs.Logs.{log_at}
+use Rattle.rcv_ledger.specs.Ledger.{LedgerView, stack_at, with_event, with_state, with_send, with_recv, IsSound, AreSound, AreCarried, MayCut, IsCutTo, state_behind, AreStates, Holds}
+use Rattle.rcv_ledger.specs.Laws.{IsMore, StartsHoldNothing, SendsHold, RecvsHold, NotesHold, KeptMayBeCutTo, CutsHoldWhatIsKept}
 use Rattle.rcv_ledger.proofs.Lists.{get_left, get_end, get_within, get_more, take_left, take_whole, take_prefix, none_there}
 use Rattle.rcv_ledger.proofs.Following.{carried_by, carry_put, carry_take}
 use Rattle.rcv_ledger.proofs.Dropping.{of_logs}
@@ -205,6 +206,17 @@ sends_hold net roles vars h e state ledger holds sent more = send_holds net role
 pub recvs_hold : RecvsHold
 recvs_hold net roles vars h e state ledger holds received more = recv_holds net roles vars h e state ledger holds more received
 
+pub notes_hold : NotesHold
+notes_hold net roles vars h entry ledger holds = record {
+  few = holds.few;
+  logs = holds.logs;
+  stacks = holds.stacks;
+  log = holds.log;
+  sound = holds.sound;
+  carry = holds.carry;
+  states = holds.states;
+}
+
 pub kept_may_be_cut_to : KeptMayBeCutTo
 kept_may_be_cut_to net roles vars h bound counts ledger holds queued are = may_cut net roles vars h bound counts ledger holds queued are
 
@@ -227,7 +239,7 @@ length_same zero x = refl
 length_same (suc n) x = ap suc (length_same n x)
 
 pub starts_hold_nothing : StartsHoldNothing
-starts_hold_nothing net vars firsts everys room ledger few first start = record {
+starts_hold_nothing net vars firsts everys room most ledger few first start = record {
   few = omega (arith, few);
   logs = ap length start.logs ∙ length_same (length firsts) [];
   stacks = start.all;

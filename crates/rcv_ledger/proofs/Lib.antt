@@ -1,6 +1,7 @@
 pub mod Lists
 pub mod RoleLogs
 pub mod Rooms
+pub mod Places
 pub mod Reserving
 pub mod Following
 pub mod Dropping

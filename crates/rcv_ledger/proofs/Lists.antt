@@ -75,6 +75,10 @@ pub on_err : {T E : Type 0} (P : Type 0) (result : Result T E) → P → OnErr r
 on_err P (Ok x) p = tt
 on_err P (Err x) p = p
 
+pub on_ok : {T E : Type 0} (P : Type 0) (result : Result T E) → P → OnOk result P
+on_ok P (Ok x) p = p
+on_ok P (Err x) p = tt
+
 -- What is so on an error is so where there is one.
 pub of_err : {T E : Type 0} (P : Type 0) (result : Result T E) → OnErr result P → is_err result ≡ true → P
 of_err P (Ok x) p e = absurd (cc)

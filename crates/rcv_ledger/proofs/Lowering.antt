@@ -12,7 +12,8 @@ use Rattle.rcv_model.specs.Run.{puts_on, takes_on, put_by, taken_by, put, taken}
 use Rattle.rcv_model.proofs.Keeping.{put_none, taken_none}
 use Rattle.rcv_model.proofs.Steps.{not_taken}
 use Rattle.rcv_ledger.specs.Channels.{between}
-use Rattle.rcv_ledger.specs.Ledger.{log_at, IsSound, AreSound}
+use Rattle.rcv_ledger.specs.Logs.{log_at}
+use Rattle.rcv_ledger.specs.Ledger.{IsSound, AreSound}
 use Rattle.rcv_ledger.specs.Cut.{put_within, taken_within, AreCounted}
 use Rattle.rcv_ledger.proofs.Following.{message_of, answer_of, mapped, sent_here, sent_else, got_here, got_else, no_put, apart}
 

@@ -1,8 +1,8 @@
 -- What contracts see of a ledger, and when it holds the kept events of a session.
-use Rattle.std.specs.Prelude.{◌≡◌, ℕ, ℤ, ◌+◌, ◌<◌, ◌≤◌, List, [], ◌∷◌, ◌++◌, length, map, take, replicate, Some}
-use Rattle.std.specs.Prelude.{slice_get, slice_index, slice_index_or, slice_set, vec_capacity}
-use Rattle.std.specs.declared.alloc.Global.{Global}
-use Rattle.std.specs.declared.vec.Vec.{Vec}
+use Rattle.std.specs.Prelude.{◌≡◌, ℕ, ℤ, ◌+◌, ◌<◌, ◌≤◌, List, [], ◌∷◌, ◌++◌, length, take, replicate, Some}
+use Rattle.std.specs.Prelude.{slice_get, slice_index, slice_index_or, slice_set}
+use Rattle.rcv_tree.specs.declared.entry.Entry.{Entry}
+use Rattle.rcv_tree.specs.declared.entry.Entry.TheVariants.{Send, Recv}
 use Rattle.rcv_tree.specs.declared.event.Event.{Event}
 use Rattle.rcv_model.specs.Net.{Net}
 use Rattle.rcv_model.specs.Run.{acts, place_of, put, taken}
@@ -10,58 +10,61 @@ use Rattle.rcv_model.specs.Journal.{events_of}
 use Rattle.rcv_checkpoint.specs.declared.state.State.{State}
 use Rattle.rcv_checkpoint.specs.Stack.{StackView, held, with_states}
 use Rattle.rcv_ledger.specs.Channels.{ChannelView, ChannelsView, empty, channel_at, with_put, with_taken, IsReserved, Carry}
+use Rattle.rcv_ledger.specs.Logs.{LogsView, log_at, with_event_of}
 
--- The kept events of each role, in order; the channels among eight roles; the states of each role after 0, 1, 2 and so on of
--- its kept events; and for how many events of each role, and messages from each to each other one, there is room.
+-- The entries of the journal; the kept events of each role, in order; the channels among eight roles; the states of
+-- each role after 0, 1, 2 and so on of its kept events; for how many events of each role, and messages from each to
+-- each other one, there is room; and for how many entries.
 pub record LedgerView : Type 0 where
+  pub entries : List Entry
   pub logs : List (List Event)
   pub channels : List ChannelView
   pub stacks : List StackView
   pub room : ℕ
-
--- The lists that the logs hold.
-abbrev pub lists_in : List (Vec Event Global) → List (List Event)
-lists_in logs = map (λ log. log.items) logs
-
--- For how many events each of them has room.
-abbrev pub log_rooms : List (Vec Event Global) → List ℕ
-log_rooms logs = map vec_capacity logs
+  pub most : ℕ
 
 -- What contracts see of these logs, channels and stacks.
-abbrev pub ledger_of : List (Vec Event Global) → ChannelsView → List StackView → LedgerView
-ledger_of logs channels stacks = record { logs = lists_in logs; channels = channels.list; stacks = stacks; room = channels.room }
-
--- The log of a role; a role without one did nothing.
-abbrev pub log_at : List (List Event) → ℕ → List Event
-log_at logs r = slice_index_or logs r []
+abbrev pub ledger_of : LogsView → ChannelsView → List StackView → LedgerView
+ledger_of logs channels stacks =
+    record {
+      entries = logs.entries;
+      logs = logs.lists;
+      channels = channels.list;
+      stacks = stacks;
+      room = channels.room;
+      most = logs.most;
+    }
 
 -- The states of a role; a role without a log has none.
 abbrev pub stack_at : List StackView → ℕ → StackView
 stack_at stacks r = slice_index_or stacks r (record { states = []; every = 1; room = 0 })
 
 -- There are at most eight roles, and a stack for each; the logs have as much room as the channels among their roles.
-pub record IsLedger (logs : List (Vec Event Global)) (channels : ChannelsView) (stacks : ℕ) : Type 0 where
-  pub few : length logs ≤ 8
-  pub same : stacks ≡ length logs
-  pub joined : channels.roles ≡ length logs
-  pub reserved : (r : ℕ) → r < length logs → channels.room ≤ slice_index (log_rooms logs) r
+pub record IsLedger (logs : LogsView) (channels : ChannelsView) (stacks : ℕ) : Type 0 where
+  pub few : length logs.lists ≤ 8
+  pub same : stacks ≡ length logs.lists
+  pub joined : channels.roles ≡ length logs.lists
+  pub room : channels.room ≡ logs.room
 
 -- The states of a role before its first event.
 abbrev pub first_stack : List (List ℤ) → List ℕ → ℕ → ℕ → StackView
 first_stack firsts everys room r =
     record { states = record { k = 0; vars = slice_index_or firsts r [] } ∷ []; every = slice_index everys r; room = room }
 
--- No event yet: each role with its first variables and its number of events between durable states, and room for so many.
-pub record IsStart (firsts : List (List ℤ)) (everys : List ℕ) (asked : ℕ) (ledger : LedgerView) : Type 0 where
+-- No entry yet: each role with its first variables and its number of events between durable states, and room for so
+-- many events and entries.
+pub record IsStart (firsts : List (List ℤ)) (everys : List ℕ) (asked most : ℕ) (ledger : LedgerView) : Type 0 where
   pub logs : ledger.logs ≡ replicate (length firsts) []
   pub channels : ledger.channels ≡ replicate 64 empty
   pub all : length ledger.stacks ≡ length firsts
   pub stacks : (r : ℕ) → r < length firsts → stack_at ledger.stacks r ≡ first_stack firsts everys asked r
   pub room : ledger.room ≡ asked
+  pub entries : ledger.entries ≡ []
+  pub room_in_all : ledger.most ≡ most
 
 -- A log with one event more, and a stack with one state more.
 abbrev pub with_event : List (List Event) → Event → List (List Event)
-with_event logs e = slice_set logs e.role (log_at logs e.role ++ e ∷ [])
+with_event logs e = with_event_of logs e.role e
 
 abbrev pub with_state : List StackView → ℕ → State → List StackView
 with_state stacks r state = slice_set stacks r (with_states (stack_at stacks r) ((stack_at stacks r).states ++ state ∷ []))
@@ -70,23 +73,40 @@ with_state stacks r state = slice_set stacks r (with_states (stack_at stacks r) 
 abbrev pub with_send : LedgerView → Event → ℕ → State → LedgerView
 with_send ledger e receiver state =
     record {
+      entries = ledger.entries ++ Send e ∷ [];
       logs = with_event ledger.logs e;
       channels = with_put ledger.channels e.role receiver (record { point = e.point; value = e.value; stamp = e.stamp });
       stacks = with_state ledger.stacks e.role state;
       room = ledger.room;
+      most = ledger.most;
     }
 
 abbrev pub with_recv : LedgerView → Event → ℕ → State → LedgerView
 with_recv ledger e sender state =
     record {
+      entries = ledger.entries ++ Recv e ∷ [];
       logs = with_event ledger.logs e;
       channels = with_taken ledger.channels sender e.role;
       stacks = with_state ledger.stacks e.role state;
       room = ledger.room;
+      most = ledger.most;
+    }
+
+-- The ledger with one entry more that it keeps no event of.
+abbrev pub with_noted : LedgerView → Entry → LedgerView
+with_noted ledger entry =
+    record {
+      entries = ledger.entries ++ entry ∷ [];
+      logs = ledger.logs;
+      channels = ledger.channels;
+      stacks = ledger.stacks;
+      room = ledger.room;
+      most = ledger.most;
     }
 
 -- There is room for one event more of role r, and if it is a Send to this receiver, for its message.
 pub record HasRoom (ledger : LedgerView) (r : ℕ) : Type 0 where
+  pub entry : length ledger.entries < ledger.most
   pub log : length (log_at ledger.logs r) < ledger.room
   pub stack : held (stack_at ledger.stacks r) < (stack_at ledger.stacks r).room
 
@@ -114,10 +134,7 @@ pub record AreCarried (net : Net) (logs : List (List Event)) (channels : List Ch
   pub each : (a b : ℕ) → a < 8 → b < 8
       → channel_at channels a b ≡ record { put = put net a b (log_at logs a); taken = length (taken net a b (log_at logs b)) }
 
--- Role r with so many of its first events, and the states up to there.
-abbrev pub log_to : List (List Event) → ℕ → ℕ → List (List Event)
-log_to logs r count = slice_set logs r (take count (log_at logs r))
-
+-- Role r with so many of its first states.
 abbrev pub stack_to : List StackView → ℕ → ℕ → List StackView
 stack_to stacks r count = slice_set stacks r (with_states (stack_at stacks r) (take (count + 1) (stack_at stacks r).states))
 
@@ -136,6 +153,8 @@ pub record IsCutTo (net : Net) (old new : LedgerView) (counts : List ℕ) : Type
   pub stack : (r : ℕ) → r < length old.logs
       → stack_at new.stacks r ≡ with_states (stack_at old.stacks r) (take (slice_index counts r + 1) (stack_at old.stacks r).states)
   pub room : new.room ≡ old.room
+  pub entries : new.entries ≡ old.entries
+  pub room_in_all : new.most ≡ old.most
 
 -- The state of role r behind these events of it, where its script's variables are these.
 abbrev pub state_behind : (ℕ → List Event → List ℤ) → ℕ → List Event → State

@@ -5,7 +5,8 @@ ghost use Rattle.std.specs.List.{sum};
 ghost use Rattle.rcv_points.specs.Follow.{net_in};
 ghost use Rattle.rcv_depend.specs.Keeps.{bound_of};
 ghost use Rattle.rcv_ledger.specs.Channels.{between};
-ghost use Rattle.rcv_ledger.specs.Ledger.{log_at, AreSound, AreCarried};
+ghost use Rattle.rcv_ledger.specs.Logs.{log_at};
+ghost use Rattle.rcv_ledger.specs.Ledger.{AreSound, AreCarried};
 ghost use Rattle.rcv_ledger.specs.Cut.{AreFew, AllCounted, AllEven, IsCounted, IsKeptOf, StaysAbove, Owes};
 
 use crate::channel::{CHANNELS, ROLES, place_of};
@@ -28,7 +29,7 @@ pub fn cut(ledger: &Ledger, points: &Points, keeps: &Keeps) -> [u32; 8]
     ensures { IsKeptOf (net_in points.now) ledger.now.logs (bound_of keeps.now) result }
 {
     let mut counted = Counted::all(ledger);
-    for role in 0..ledger.logs().len() {
+    for role in 0..ledger.roles() {
         if let Some(keep) = keeps.of(RoleId(role as u8)) {
             while counted.counts[role] > keep {
                 counted.lower(ledger, points, role);
@@ -61,7 +62,7 @@ impl Counted {
         };
         let roles = declared(ledger);
         for role in 0..roles {
-            counted.counts[role] = ledger.log(RoleId(role as u8)).len() as u32;
+            counted.counts[role] = ledger.made(RoleId(role as u8)) as u32;
         }
         for from in 0..roles {
             for to in 0..roles {
@@ -153,7 +154,7 @@ fn declared(ledger: &Ledger) -> usize
     requires { length ledger.now.logs ≤ 8 }
     ensures { result ≡ length ledger.now.logs }
 {
-    ledger.logs().len().min(ROLES)
+    ledger.roles().min(ROLES)
 }
 
 // One fewer on a channel. Between two roles with logs there is one; what is told of the others isn't looked at.
@@ -165,12 +166,13 @@ fn take_one(counts: &mut [usize; CHANNELS], from: RoleId, to: RoleId)
     counts[place] = counts[place].saturating_sub(1);
 }
 
-// The event of a role at a place of its log.
-fn event_at(ledger: &Ledger, role: usize, number: u32) -> Event
+// The event of a role with this number.
+#[inline(always)]
+fn event_at(ledger: &Ledger, role: usize, number: u32) -> &Event
     requires few { length ledger.now.logs ≤ 8 }
     requires role { role < length ledger.now.logs }
     requires number { number < length (log_at ledger.now.logs role) }
-    ensures { slice_get (log_at ledger.now.logs role) number ≡ Some result }
+    ensures { slice_get (log_at ledger.now.logs role) number ≡ Some result.now }
 {
-    ledger.log(RoleId(role as u8))[number as usize]
+    ledger.event(RoleId(role as u8), number as usize)
 }

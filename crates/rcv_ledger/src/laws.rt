@@ -1,6 +1,6 @@
 // What a ledger holds, from its start on.
 
-ghost use Rattle.rcv_ledger.specs.Laws.{StartsHoldNothing, SendsHold, RecvsHold, KeptMayBeCutTo, CutsHoldWhatIsKept};
+ghost use Rattle.rcv_ledger.specs.Laws.{StartsHoldNothing, SendsHold, RecvsHold, NotesHold, KeptMayBeCutTo, CutsHoldWhatIsKept};
 
 /// A new ledger holds no events.
 pub fn starts_hold_nothing()
@@ -15,6 +15,11 @@ pub fn sends_hold()
 /// With a Recv more it holds one event more.
 pub fn recvs_hold()
     ensures { RecvsHold }
+{}
+
+/// An entry without a kept event leaves what it holds.
+pub fn notes_hold()
+    ensures { NotesHold }
 {}
 
 /// It can be cut to what is kept of each role.

@@ -32,6 +32,7 @@ pub fn ring(alloc: Global, room: u32, points: PointSet) -> Result<(Pusher, Pulle
         got: 0,
         seen: 0,
         room,
+        in_vain: false,
     };
     Ok((pusher, puller))
 }

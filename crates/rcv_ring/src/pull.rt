@@ -12,6 +12,17 @@ use rcv_tree::event::Message;
 use rcv_tree::point::Point;
 use std::marker::Model;
 
+// How often an end spins that looked in vain twice, which takes two or three microseconds.
+const SPINS: u32 = 64;
+
+// Rests for a moment, whatever the other end does. A look takes the count's cache line from the end that sends, which
+// has to fetch it back for its next message: looks without a rest hold it up, and find one message at a time.
+fn rest() {
+    for _ in 0..SPINS {
+        std::hint::spin_loop();
+    }
+}
+
 /// The end that pulls, which lies on any thread. Contracts see what it took, all of it, and what it was told of what
 /// the other end sent; see `Shown` for the rest.
 #[derive(Drop)]
@@ -21,6 +32,8 @@ pub struct Puller {
     pub(crate) got: u64,
     pub(crate) seen: u64,
     pub(crate) room: u64,
+    // Whether its last look was in vain, so that it rests behind a further one.
+    pub(crate) in_vain: bool,
 }
 
 impl Model for Puller {
@@ -37,8 +50,9 @@ impl Model for Puller {
 }
 
 impl Puller {
-    /// Takes the front message. Where a look of this call found the ring empty it is None, and nothing is taken. It
-    /// never waits, and takes no memory.
+    /// Takes the front message. Where a look of this call found the ring empty it is None, and nothing is taken; where the
+    /// call before it was in vain, too, it lasts some microseconds longer. It never waits for the other end, and takes no
+    /// memory.
     pub fn pull(&mut self) -> Option<Message>
         ensures some { IfSome result (λ m. self.new.taken ≡ self.old.taken ++ m ∷ []) }
         ensures passes { IfSome result (λ m. CanPass self.old.points m) }
@@ -53,8 +67,10 @@ impl Puller {
         }
         self.look();
         if self.has_more() {
+            self.in_vain = false;
             return Some(self.take());
         }
+        self.give_up();
         None
     }
 
@@ -71,6 +87,7 @@ impl Puller {
         ensures looks { (self.new.looks ≡ self.old.looks + 1) × (beside.new.looks ≡ beside.old.looks + 1) }
         ensures same { IsSameEnd self.old self.new × IsSameEnd beside.old beside.new }
     {
+        self.in_vain = false;
         // An end learns what it heard by its next look, and then hears once more, so that it knows just that.
         self.end.hear_sent(&mut beside.end);
         beside.end.hear_taken(&mut self.end);
@@ -115,6 +132,16 @@ impl Puller {
         ensures few { self.new.seen ≤ length self.new.taken + self.new.room }
     {
         self.seen = self.end.see_put();
+    }
+
+    // Rests where it was in vain before.
+    fn give_up(&mut self)
+        ensures { self.new ≡ self.old }
+    {
+        if self.in_vain {
+            rest();
+        }
+        self.in_vain = true;
     }
 
     // Reads the front message from its cell, gives the cell free, and counts the message.

@@ -1,10 +1,9 @@
 // A recovery beside which the roles that it doesn't concern make steps.
 
 use crate::flag::Flag;
+use crate::inputs::setup_of;
 use rcv_core::book::Book;
 use rcv_core::outcome::Outcome;
-use rcv_core::setup::Setup;
-use rcv_input::read_input;
 use rcv_journal::text::text_of;
 use rcv_super::session::{Session, Turn};
 use rcv_top::Gate;
@@ -87,10 +86,9 @@ fn journal<R: AllocGlobal + Threads + Sync>(
     gate: &Both,
 ) -> Result<Option<String>, AllocError> {
     let alloc = rt.alloc();
-    let Ok(input) = read_input(alloc, BESIDE) else {
+    let Some(setup) = setup_of(alloc, BESIDE)? else {
         return Ok(None);
     };
-    let setup = Setup::new(alloc, input.accepted, input.scripts, input.plan)?;
     let mut session = Session::new(alloc, &setup)?;
     for _ in 0..TURNS {
         let turn = session.turn(rt, alloc, 2, gate);

@@ -1,5 +1,5 @@
-// Tests of sessions of several workers, through the top call and turn by turn. Gates hold roles up until others have
-// come so far, so that each test ends in one way.
+// Tests of sessions of several workers, through the top call and turn by turn. Where a test tells by the order of the
+// roles' steps, gates hold roles up until others have come so far, so that it ends in one way.
 #![tactic(auto)]
 
 #[cfg(test)]
@@ -7,8 +7,14 @@ mod beside;
 #[cfg(test)]
 mod calls;
 #[cfg(test)]
+mod counting;
+#[cfg(test)]
 mod flag;
+#[cfg(test)]
+mod inputs;
 #[cfg(test)]
 mod meeting;
 #[cfg(test)]
 mod replay;
+#[cfg(test)]
+mod turns;

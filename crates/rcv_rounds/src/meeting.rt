@@ -2,31 +2,10 @@
 
 use crate::calls::run;
 use crate::flag::Flag;
+use crate::inputs::TWO_BUYER;
 use rcv_top::Gate;
 use rcv_tree::role::RoleId;
 use std::test::Fail;
-
-// The roles A, B and S, as in examples/two_buyer.rcv.
-const TWO_BUYER: &[u8] = b"module shop;
-type <java> \"java.lang.String\" from \"rt.jar\" as String;
-type <java> \"java.lang.Integer\" from \"rt.jar\" as Int;
-global protocol TwoBuyer(role A, role B, role S) {
-  title(String) from A to S;
-  quote(Int) from S to A, B;
-  share(Int) from A to B;
-  choice at B {
-    ok() from B to A, S;
-    address(String) from B to S;
-    date(String) from S to B;
-  } or {
-    quit() from B to A, S;
-  }
-}
-%% scripts
-role A { var q = 0; send title = 7; on quote set q = value; send share = q - 30; }
-role B { var s = 0; on share set s = value; pick ok when s <= 60; pick quit; send address = 12; }
-role S { send quote = 80; send date = 25; }
-";
 
 // Holds A at its first step until S comes to its own, and S until A does.
 #[derive(Drop)]

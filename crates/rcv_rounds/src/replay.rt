@@ -2,20 +2,12 @@
 
 use crate::calls::run;
 use crate::flag::Flag;
+use crate::inputs::PING;
 use rcv_top::Gate;
 use rcv_tree::role::RoleId;
 use std::test::Fail;
 
-const PING: &[u8] = b"module ping;
-global protocol Ping(role A, role B) {
-  ping() from A to B;
-  pong() from B to A;
-}
-%% plan
-every A 100 every B 2 crash A 2 crash B 2
-";
-
-// What is written of it where A waits with its second step until B has made both of its own.
+// What is written of Ping where A waits with its second step until B has made both of its own.
 const JOURNAL: &[u8] = b"send A 1 ping 0 @1
 recv B 1 ping 0 @2 <1
 send B 2 pong 0 @3

@@ -11,3 +11,4 @@ mod Ending
 mod OneEntry
 mod Polling
 mod Stepping
+mod Turning

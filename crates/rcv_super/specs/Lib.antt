@@ -1,5 +1,6 @@
 pub mod Super
 pub mod Steps
 pub mod Turn
+pub mod Finish
 pub mod OneStep
 pub mod Beside

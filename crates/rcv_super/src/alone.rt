@@ -1,13 +1,16 @@
 // One worker on its own: the book makes the entries. The cells follow where several workers are asked for.
 
-ghost use Rattle.std.specs.Prelude.{◌≡◌, true, false, [], IfOk, MatchOption, OnOk};
+ghost use Rattle.std.specs.Prelude.{◌≡◌, true, false, [], IfOk, MatchOption, OnOk, List};
 ghost use Rattle.rcv_model.specs.Journal.{start};
 ghost use Rattle.rcv_model.specs.Final.{IsStep};
 ghost use Rattle.rcv_session.specs.Session.{roles_of, rules_of};
 ghost use Rattle.rcv_core.specs.Book.{state_of, HasMore, IsAtEnd};
 ghost use Rattle.rcv_core.specs.Skips.{IsSkip};
 ghost use Rattle.rcv_lanes.specs.Home.{AreHome};
+ghost use Rattle.rcv_role.specs.Cell.{CellView};
 ghost use Rattle.rcv_super.specs.Steps.{HasStepped, AreSteps};
+ghost use Rattle.rcv_super.specs.Super.{IsAlone};
+ghost use Rattle.rcv_super.specs.Finish.{HasFinished};
 ghost use Rattle.rcv_super.specs.Turn.{IsEndOf};
 
 use crate::session::Turn;
@@ -21,6 +24,7 @@ use std::alloc::{AllocError, Global};
 
 /// Adds the entry that one thread makes next, and says what is known behind it; None at the end of the session. It
 /// takes no memory.
+#[inline(always)]
 pub fn step_alone<G: Gate>(book: &mut Book, skip: Skip, gate: &G) -> Option<Skip>
     requires { IsSkip book.old skip }
     ensures { MatchOption result ((book.new ≡ book.old) × IsAtEnd book.old)
@@ -35,6 +39,23 @@ pub fn step_alone<G: Gate>(book: &mut Book, skip: Skip, gate: &G) -> Option<Skip
     // The room is there, so it succeeds.
     let _added = book.push(entry);
     Some(book.skip_behind(&entry))
+}
+
+/// Adds the entries that one thread makes, to the end of the session, and says what is known there. It takes no memory.
+pub fn finish_alone<G: Gate>(book: &mut Book, skip: Skip, gate: &G) -> Skip
+    requires { IsSkip book.old skip }
+    ensures finished { HasFinished 1 book.old book.new }
+    ensures alone { (cells : List CellView) → IsAlone book.old skip cells → IsAlone book.new result cells }
+{
+    let mut skip = skip;
+    loop {
+        // Tells the proof that there are few entries.
+        let _few = book.len();
+        let Some(behind) = step_alone(book, skip, gate) else {
+            return skip;
+        };
+        skip = behind;
+    }
 }
 
 /// How a session ends in which nothing is left to do.

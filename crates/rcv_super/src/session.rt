@@ -1,12 +1,13 @@
 // A session: its book tells what the cells hold, whenever all of them are at home.
 
-ghost use Rattle.std.specs.Prelude.{◌≡◌, ◌≤◌, IfOk};
+ghost use Rattle.std.specs.Prelude.{◌≡◌, ◌≤◌, true, false, IfOk};
 ghost use Rattle.rcv_model.specs.Final.{IsCrashed};
 ghost use Rattle.rcv_core.specs.Book.{state_of};
 ghost use Rattle.rcv_super.specs.Super.{new_session};
+ghost use Rattle.rcv_super.specs.Finish.{Finished, HasFinishedAlone};
 ghost use Rattle.rcv_super.specs.Turn.{Turned, Recovered};
 
-use crate::alone::{end_of, step_alone};
+use crate::alone::{end_of, finish_alone, step_alone};
 use crate::rounds::{go, recover_home};
 use rcv_core::book::Book;
 use rcv_core::outcome::Outcome;
@@ -157,6 +158,49 @@ impl<'a> Session<'a> {
         self.alone = false;
         self.closed = false;
         Ok(Turn::More)
+    }
+
+    /// Turns with so many workers, from 1 to 8, until the session is at its end. One worker that has made all entries so
+    /// far makes the others in one go.
+    ///
+    /// Behind `Memory` the session is closed, and its book has some of the entries. `Closed` comes exactly where an
+    /// earlier call on this session answered `Memory`, and changes nothing.
+    pub fn finish<G: Gate, R: Threads + Sync>(
+        &mut self,
+        rt: &R,
+        alloc: Global,
+        workers: u32,
+        gate: &G,
+    ) -> Result<(), SessionError>
+        requires least { 1 ≤ workers }
+        requires most { workers ≤ 8 }
+        ensures { Finished workers self.old self.new result }
+    {
+        if workers == 1 && self.finishes_alone(gate) {
+            return Ok(());
+        }
+        loop {
+            // Tells the proof that there are few entries.
+            let _few = self.book().len();
+            match self.turn(rt, alloc, workers, gate) {
+                Ok(Turn::More) => {}
+                Ok(Turn::Completed) => return Ok(()),
+                Ok(Turn::Limited) => return Ok(()),
+                Err(error) => return Err(error),
+            }
+        }
+    }
+
+    // Makes all entries that are left where one worker made those so far; else it does nothing. Says which.
+    fn finishes_alone<G: Gate>(&mut self, gate: &G) -> bool
+        ensures yes { result ≡ true → HasFinishedAlone self.old self.new }
+        ensures no { result ≡ false → self.new ≡ self.old }
+    {
+        if self.closed || !self.alone {
+            return false;
+        }
+        self.skip = finish_alone(&mut self.book, self.skip, gate);
+        true
     }
 
     /// Recovers a crashed role, with nobody running beside it. `Closed` comes exactly where an earlier call on this

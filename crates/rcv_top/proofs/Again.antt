@@ -15,10 +15,11 @@ use Rattle.rcv_plan.proofs.Answered.{none_read}
 use Rattle.rcv_input.specs.Input.{IsTaken}
 use Rattle.rcv_top.specs.declared.status.Status.{Status}
 use Rattle.rcv_top.specs.declared.status.Status.TheVariants as statuses
-use Rattle.rcv_top.specs.Commands.{CommandView, Check}
-use Rattle.rcv_top.specs.Outcome.{most_bytes, Makes, IsOutcome, usage, too_long, refused, made}
+use Rattle.rcv_words.specs.Commands.{CommandView, Check}
+use Rattle.rcv_top.specs.Commands.{text_for}
+use Rattle.rcv_top.specs.Outcome.{most_bytes, IsAnswer, IsOutcome, usage, too_long, answered, refused, made}
 use Rattle.rcv_top.specs.Laws.{ChecksStay}
-use Rattle.rcv_top.proofs.Asking.{one_command}
+use Rattle.rcv_top.proofs.Asking.{one_command, check_command}
 
 -- an empty part is blank
 nothing_there : (text : List ℕ) (n : ℕ) → slice_range text n n ≡ []
@@ -44,11 +45,14 @@ again input session taken =
 pub checks_stay : ChecksStay
 checks_stay input bytes outcome short = go statuses.Completed bytes refl outcome short
   where
+    once_more : (s : Status) (b : List ℕ) → s ≡ statuses.Completed → IsAnswer Check input s b → length b ≤ most_bytes → IsOutcome (codes "check" ∷ []) b statuses.Completed b
+    once_more s b is (refused refusal first) few = absurd cc
+    once_more s b is (made session taken makes) few =
+        let text = again input session taken in
+        answered Check (record { words_are = check_command; short = few }) (made (bare session.protocol) (subst (λ (t : List ℕ). IsTaken t (bare session.protocol)) (sym makes.1) text) (refl, makes.1))
+
     go : (s : Status) (b : List ℕ) → s ≡ statuses.Completed → IsOutcome (codes "check" ∷ []) input s b → length b ≤ most_bytes → IsOutcome (codes "check" ∷ []) b statuses.Completed b
     go s b is (usage none) few = absurd cc
     go s b is (too_long command many) few = absurd cc
-    go s b is (refused command refusal asked first) few = absurd cc
-    go s b is (made command session asked taken makes) few =
-        let checks = subst (λ (c : CommandView). Makes session c s b) (one_command (codes "check" ∷ []) command Check asked.words_are refl) makes in
-        let text = again input session taken in
-        made Check (bare session.protocol) (record { words_are = refl; short = few }) (subst (λ (t : List ℕ). IsTaken t (bare session.protocol)) (sym checks.1) text) (refl, checks.1)
+    go s b is (answered command asked answer) few =
+        once_more s b is (subst (λ (c : CommandView). IsAnswer c (text_for c input) s b) (one_command (codes "check" ∷ []) command Check asked.words_are check_command) answer) few

@@ -1,9 +1,9 @@
 -- What the top call says, from what it read and wrote.
-use Rattle.std.proofs.Common.{◌≡◌, ℕ, Some, None, Option, List, [], ◌∷◌, ◌++◌, length, refl, sym, ◌∙◌, ap, subst, ◌⊎◌, inl, inr, ⊎_elim, append-nil, arith}
+use Rattle.std.proofs.Common.{◌≡◌, ℕ, Bool, Some, None, Option, List, [], ◌∷◌, ◌++◌, length, refl, sym, ◌∙◌, ap, subst, ◌⊎◌, inl, inr, ⊎_elim, append-nil, arith}
 use Rattle.std.specs.Prelude.{◌<◌, ◌≤◌, Result, Ok, Err, Vec}
 use Rattle.std.proofs.lemmas.Bool.{cases_lt}
 use Rattle.std.specs.declared.alloc.Global.{Global}
-use Rattle.std.specs.Io.KnownBytes.{append_known, IsAtEnd}
+use Rattle.std.specs.Io.KnownBytes.{append_known}
 use Rattle.rcv_io.specs.declared.fault.ReadError.{ReadError}
 use Rattle.rcv_io.specs.declared.fault.ReadError.TheVariants as errors
 use Rattle.rcv_io.specs.Causes.{Rose}
@@ -25,14 +25,16 @@ use Rattle.rcv_accept.specs.Accepted.{IsAcceptedProtocol}
 use Rattle.rcv_session.specs.Session.{SessionView, rules_of}
 use Rattle.rcv_top.specs.declared.status.Status.{Status}
 use Rattle.rcv_top.specs.declared.status.Status.TheVariants as statuses
-use Rattle.rcv_top.specs.Commands.{CommandView, Run, Check, Table, Project, IsCommand, IsSomeCommand, IsNoCommand}
-use Rattle.rcv_input.specs.Input.{IsTaken}
+use Rattle.rcv_words.specs.Commands.{CommandView, Run, Check, Project, Table, Gen, IsCommand, IsNoCommand}
+use Rattle.rcv_top.specs.Commands.{AskForSource, text_for}
+use Rattle.rcv_top.specs.Inputs.{ReadNothing, HasGot}
 use Rattle.rcv_top.specs.Running.{EndsAs, all_done, at_limit, IsSomeRun}
-use Rattle.rcv_top.specs.Outcome.{usage_line, most_bytes, Makes, IsOutcome, usage, too_long, refused, made}
+use Rattle.rcv_top.specs.Outcome.{usage_line, most_bytes, Makes, IsAnswer, IsOutcome, usage, too_long, answered as answered_so, refused, made}
 use Rattle.rcv_top.specs.Laws.{SessionsAreLegal}
 use Rattle.rcv_top.specs.Headline.{IsExactRecovery, IsHeadline}
-use Rattle.rcv_top.proofs.Asking.{one_command}
-use Rattle.rcv_top.specs.Calls.{Around, Answers, TellsFault, ReadNothing, WroteNothing, IsInput, TakesTooMuch, WantsMemory, FailsToRead, Says, Wrote, WritesLegalJournal}
+use Rattle.rcv_top.proofs.Asking.{one_command, text_given, gen_asks, none_asks}
+use Rattle.rcv_top.specs.Calls.{Around, Answers, TellsFault, WroteNothing, source_of, HasTaken, IsInput, TakesTooMuch, WantsMemory, FailsToRead, Says, WritesLegalJournal}
+use Rattle.rcv_top.specs.Writing.{Wrote}
 
 nothing_more : (o : Option (List ℕ)) → append_known o [] ≡ o
 nothing_more None = refl
@@ -41,34 +43,38 @@ nothing_more (Some xs) = ap (λ l. Some l) (append-nil xs)
 -- ---- an outcome that was written
 
 -- the statuses of answers that were written whole
-abbrev IsAnswer : Status → Type 0
-IsAnswer statuses.Completed = Unit {0}
-IsAnswer statuses.Usage = Unit {0}
-IsAnswer statuses.Refused = Unit {0}
-IsAnswer statuses.Limited = Unit {0}
-IsAnswer statuses.ReadFault = ⊥
-IsAnswer statuses.WriteFault = ⊥
-IsAnswer statuses.Memory = ⊥
-IsAnswer statuses.TooLong = ⊥
+abbrev IsAnswerStatus : Status → Type 0
+IsAnswerStatus statuses.Completed = Unit {0}
+IsAnswerStatus statuses.Usage = Unit {0}
+IsAnswerStatus statuses.Refused = Unit {0}
+IsAnswerStatus statuses.Limited = Unit {0}
+IsAnswerStatus statuses.ReadFault = ⊥
+IsAnswerStatus statuses.WriteFault = ⊥
+IsAnswerStatus statuses.Memory = ⊥
+IsAnswerStatus statuses.TooLong = ⊥
 
-run_answers : (rules : Rules) (s : State) (status : Status) → EndsAs rules s status → IsAnswer status
+run_answers : (rules : Rules) (s : State) (status : Status) → EndsAs rules s status → IsAnswerStatus status
 run_answers rules s status (all_done done) = tt
 run_answers rules s status (at_limit at) = tt
 
-command_answers : (session : SessionView) (command : CommandView) (status : Status) (bytes : List ℕ) → Makes session command status bytes → IsAnswer status
-command_answers session (Run workers) status bytes makes = run_answers (rules_of session) (reading (rules_of session) makes.some.journal) status makes.some.is_journal.ends
-command_answers session Check status bytes makes = subst IsAnswer (sym makes.0) tt
-command_answers session Table status bytes makes = subst IsAnswer (sym makes.0) tt
-command_answers session (Project name) status bytes (inl makes) = subst IsAnswer (sym makes.2) tt
-command_answers session (Project name) status bytes (inr makes) = subst IsAnswer (sym makes.1) tt
+command_answers : (session : SessionView) (command : CommandView) (status : Status) (bytes : List ℕ) → Makes session command status bytes → IsAnswerStatus status
+command_answers session (Run workers json) status bytes makes = run_answers (rules_of session) (reading (rules_of session) makes.some.journal) status makes.some.is_journal.ends
+command_answers session Check status bytes makes = subst IsAnswerStatus (sym makes.0) tt
+command_answers session Table status bytes makes = subst IsAnswerStatus (sym makes.0) tt
+command_answers session (Project name) status bytes (inl makes) = subst IsAnswerStatus (sym makes.2) tt
+command_answers session (Project name) status bytes (inr makes) = subst IsAnswerStatus (sym makes.1) tt
+command_answers session (Gen number) status bytes makes = subst IsAnswerStatus (sym makes.completed) tt
 
-answers : (words : List (List ℕ)) (input : List ℕ) (status : Status) (bytes : List ℕ) → length input ≤ most_bytes → IsOutcome words input status bytes → IsAnswer status
+answer_answers : (command : CommandView) (text : List ℕ) (status : Status) (bytes : List ℕ) → IsAnswer command text status bytes → IsAnswerStatus status
+answer_answers command text status bytes (refused refusal first) = tt
+answer_answers command text status bytes (made session taken makes) = command_answers session command status bytes makes
+
+answers : (words : List (List ℕ)) (input : List ℕ) (status : Status) (bytes : List ℕ) → (status ≡ statuses.TooLong → ⊥) → IsOutcome words input status bytes → IsAnswerStatus status
 answers words input status bytes short (usage none) = tt
-answers words input status bytes short (too_long command many) = absurd (omega (arith, short, many))
-answers words input status bytes short (refused command refusal asked first) = tt
-answers words input status bytes short (made command session asked taken makes) = command_answers session command status bytes makes
+answers words input status bytes short (too_long command many) = absurd (short refl)
+answers words input status bytes short (answered_so command asked answer) = answer_answers command (text_for command input) status bytes answer
 
-says : (words : List (List ℕ)) (call : Around) (status : Status) → IsAnswer status → Answers words call status → Says words call status
+says : (words : List (List ℕ)) (call : Around) (status : Status) → IsAnswerStatus status → Answers words call status → Says words call status
 says words call statuses.Completed is said = said
 says words call statuses.Usage is said = said
 says words call statuses.Refused is said = said
@@ -78,15 +84,16 @@ says words call statuses.WriteFault is said = absurd is
 says words call statuses.Memory is said = absurd is
 says words call statuses.TooLong is said = absurd is
 
-pub answered : (words : List (List ℕ)) (call : Around) (input bytes : List ℕ) (status result : Status) → IsInput words call input → length input ≤ most_bytes → IsOutcome words input status bytes → Wrote call.written_before call.written_after call.write_faults_before call.write_faults_after bytes status result → Says words call result
+-- what was written whole, or in part
+pub answered : (words : List (List ℕ)) (call : Around) (input bytes : List ℕ) (status result : Status) → IsInput words call input → (status ≡ statuses.TooLong → ⊥) → IsOutcome words input status bytes → Wrote call.written_before call.written_after call.write_faults_before call.write_faults_after bytes status result → Says words call result
 answered words call input bytes status result is short outcome (inl w) =
     subst (Says words call) (sym w.0) (says words call status (answers words input status bytes short outcome) (record { input = input; bytes = bytes; is_input = is; outcome = outcome; writes = w.1 }))
 answered words call input bytes status result is short outcome (inr w) = subst (Says words call) (sym w.0) (record { rose = w.1; input = input; status = status; bytes = bytes; is_input = is; outcome = outcome; writes = w.2 })
 
 -- ---- counts of faults
 
-no_fault : (fault status : Status) → IsAnswer status → (fault ≡ statuses.ReadFault) ⊎ (fault ≡ statuses.WriteFault) → status ≡ fault → ⊥
-no_fault fault status is which same = ⊎_elim (λ e. subst IsAnswer (same ∙ e) is) (λ e. subst IsAnswer (same ∙ e) is) which
+no_fault : (fault status : Status) → IsAnswerStatus status → (fault ≡ statuses.ReadFault) ⊎ (fault ≡ statuses.WriteFault) → status ≡ fault → ⊥
+no_fault fault status is which same = ⊎_elim (λ e. subst IsAnswerStatus (same ∙ e) is) (λ e. subst IsAnswerStatus (same ∙ e) is) which
 
 -- another status, and the count stays
 pub stays : (before now : ℕ) (fault result : Status) → now ≡ before → (result ≡ fault → ⊥) → TellsFault before now fault result
@@ -103,12 +110,15 @@ pub source_tells : (before after : Option (List ℕ)) (f g before_count now_coun
 source_tells before after f g m n bytes status result other same (inl w) = stays m n statuses.ReadFault result same (λ e. other (sym w.0 ∙ e))
 source_tells before after f g m n bytes status result other same (inr w) = stays m n statuses.ReadFault result same (λ e. let f = w.0 in cc)
 
--- the status of an outcome is none of a fault
-pub not_read_fault : (words : List (List ℕ)) (input : List ℕ) (status : Status) (bytes : List ℕ) → length input ≤ most_bytes → IsOutcome words input status bytes → status ≡ statuses.ReadFault → ⊥
-not_read_fault words input status bytes short outcome = no_fault statuses.ReadFault status (answers words input status bytes short outcome) (inl refl)
+-- the status of an answer is none of a fault, and doesn't say that the input is too long
+pub not_read_fault : (command : CommandView) (text : List ℕ) (status : Status) (bytes : List ℕ) → IsAnswer command text status bytes → status ≡ statuses.ReadFault → ⊥
+not_read_fault command text status bytes answer = no_fault statuses.ReadFault status (answer_answers command text status bytes answer) (inl refl)
 
-pub not_write_fault : (words : List (List ℕ)) (input : List ℕ) (status : Status) (bytes : List ℕ) → length input ≤ most_bytes → IsOutcome words input status bytes → status ≡ statuses.WriteFault → ⊥
-not_write_fault words input status bytes short outcome = no_fault statuses.WriteFault status (answers words input status bytes short outcome) (inr refl)
+pub not_write_fault : (command : CommandView) (text : List ℕ) (status : Status) (bytes : List ℕ) → IsAnswer command text status bytes → status ≡ statuses.WriteFault → ⊥
+not_write_fault command text status bytes answer = no_fault statuses.WriteFault status (answer_answers command text status bytes answer) (inr refl)
+
+not_too_long : (command : CommandView) (text : List ℕ) (status : Status) (bytes : List ℕ) → IsAnswer command text status bytes → status ≡ statuses.TooLong → ⊥
+not_too_long command text status bytes answer same = subst IsAnswerStatus same (answer_answers command text status bytes answer)
 
 -- reading ended without a fault, and the count stays
 pub no_read_fault : (m n : ℕ) → m ≤ n → (m < n → ⊥) → n ≡ m
@@ -136,70 +146,141 @@ headline_of session journal lawful legal final = record {
         record { has = sets.0; exact = sets.1; left = ap (λ s. s.kept) (reading_join (rules_of session) (start (length session.protocol.roles)) front (Recover p concerned kept undone ∷ [])) }
 
 pub session_headline : SessionsAreLegal
-session_headline input session journal status bytes taken held = headline_of session journal taken.protocol.accepted held.legal held.final
+session_headline json input session journal status bytes taken held = headline_of session journal taken.protocol.accepted held.legal held.final
 
--- the headline of what the call wrote
-pub wrote_headline : (words : List (List ℕ)) (call : Around) (input bytes : List ℕ) (status result : Status) (workers : ℕ) → IsInput words call input → IsCommand words (Run workers) → IsOutcome words input status bytes → Wrote call.written_before call.written_after call.write_faults_before call.write_faults_after bytes status result → (result ≡ statuses.Completed) ⊎ (result ≡ statuses.Limited) → WritesLegalJournal call result
-wrote_headline words call input bytes status result workers is command outcome (inr w) ended = absurd (⊎_elim (λ e. let f = w.0 in cc) (λ e. let f = w.0 in cc) ended)
-wrote_headline words call input bytes status result workers is command outcome (inl w) ended = subst (WritesLegalJournal call) (sym w.0) (go status bytes refl outcome (⊎_elim (λ e. inl (sym w.0 ∙ e)) (λ e. inr (sym w.0 ∙ e)) ended))
-  where
-    run_of : (s : Status) (session : SessionView) → IsTaken input session → IsSomeRun session s bytes → WritesLegalJournal call s
-    run_of s session taken held = record {
-      input = input;
-      takes = is.takes;
-      whole = is.whole (Run workers, command);
-      session = session;
-      taken = taken;
-      journal = held.journal;
-      bytes = bytes;
-      is_journal = held.is_journal;
-      writes = w.1;
-      headline = session_headline input session held.journal s bytes taken held.is_journal;
-    }
-
-    go : (s : Status) (b : List ℕ) → b ≡ bytes → IsOutcome words input s b → (s ≡ statuses.Completed) ⊎ (s ≡ statuses.Limited) → WritesLegalJournal call s
-    go s b same (usage none) e = absurd (⊎_elim (λ f. cc) (λ f. cc) e)
-    go s b same (too_long c many) e = absurd (⊎_elim (λ f. cc) (λ f. cc) e)
-    go s b same (refused other refusal asked first) e = absurd (⊎_elim (λ f. cc) (λ f. cc) e)
-    go s b same (made other session asked taken makes) e =
-        let runs = subst (λ (c : CommandView). Makes session c s b) (one_command words other (Run workers) asked.words_are command) makes in
-        run_of s session taken (subst (λ (l : List ℕ). IsSomeRun session s l) same runs.some)
+-- ---- what was taken
 
 -- nothing was taken
 nothing_taken : (o : Option (List ℕ)) (given : ℕ) → Took o o given given []
 nothing_taken None given = record { front = refl; each_counted = omega arith; no_other = omega arith }
 nothing_taken (Some xs) given = record { front = refl; each_counted = omega arith; no_other = omega arith }
 
--- no command: nothing is read
-pub usage_said : (words : List (List ℕ)) (call : Around) (result : Status) → IsNoCommand words → ReadNothing call → Wrote call.written_before call.written_after call.write_faults_before call.write_faults_after usage_line statuses.Usage result → Says words call result
-usage_said words call result none unread wrote = answered words call [] usage_line statuses.Usage result
-    (record {
-      takes = subst (λ r. Took call.rest_before r call.given_before call.given_after []) (sym unread.rest) (subst (λ n. Took call.rest_before call.rest_before call.given_before n []) (sym unread.given) (nothing_taken call.rest_before call.given_before));
-      whole = λ command. absurd (none command.0 command.1);
-      unread = λ no_command. unread;
-    })
-    (omega arith) (usage none) wrote
+took_nothing : (call : Around) → ReadNothing (source_of call) → Took call.rest_before call.rest_after call.given_before call.given_after []
+took_nothing call unread = subst (λ r. Took call.rest_before r call.given_before call.given_after []) (sym unread.rest) (subst (λ n. Took call.rest_before call.rest_before call.given_before n []) (sym unread.given) (nothing_taken call.rest_before call.given_before))
 
--- a command: all was read
-pub input_of : (words : List (List ℕ)) (call : Around) (input : List ℕ) (most : ℕ) (v : Vec ℕ Global) → IsSomeCommand words → ReadsWhole call.rest_before call.rest_after call.given_before call.given_after most (Ok v) → IsAtEnd call.rest_after → input ≡ v.items → IsInput words call input
-input_of words call input most v command reads end same = record {
-  takes = subst (λ l. Took call.rest_before call.rest_after call.given_before call.given_after l) (sym (same ∙ reads.bytes)) reads.took;
-  whole = λ c. end;
-  unread = λ no_command. absurd (no_command command.0 command.1);
+unread_input : (words : List (List ℕ)) (call : Around) → ReadNothing (source_of call) → HasTaken words call []
+unread_input words call unread = record { takes = took_nothing call unread; unread = λ none. unread }
+
+-- the text that the command works on, with what was taken
+pub record Got (words : List (List ℕ)) (call : Around) (command : CommandView) (text : List ℕ) : Type 0 where
+  pub input : List ℕ
+  pub is_input : IsInput words call input
+  pub is_text : text_for command input ≡ text
+
+abbrev TextResult : Type 0
+TextResult = Result (Vec ℕ Global) ReadError
+
+got_text : (words : List (List ℕ)) (call : Around) (command : CommandView) (v : Vec ℕ Global) → IsCommand words command → HasGot command (source_of call) (Ok v) → Got words call command v.items
+got_text words call command v is (inl (works, read)) = record {
+  input = read.whole.taken;
+  is_input = record {
+    taken = record { takes = read.whole.took; unread = λ none. absurd (none (command, works, is)) };
+    whole = λ asks. read.end;
+  };
+  is_text = text_given command read.whole.taken works ∙ sym read.whole.bytes;
+}
+got_text words call command v is (inr (number, gen, done)) = record {
+  input = [];
+  is_input = record {
+    taken = unread_input words call done.unread;
+    whole = λ asks. absurd (gen_asks words command number is gen asks);
+  };
+  is_text = ap (λ (c : CommandView). text_for c []) gen ∙ sym done.text;
 }
 
--- too much was taken
-pub too_much : (words : List (List ℕ)) (call : Around) (e : ReadError) → IsSomeCommand words → ReadsWhole call.rest_before call.rest_after call.given_before call.given_after most_bytes (Err e) → e ≡ errors.TooLong → WroteNothing call → TakesTooMuch words call
-too_much words call e command reads why nothing = record { input = reads.taken; takes = reads.took; outcome = too_long command (reads.too_long.0 (ap (λ (x : ReadError). Err x) why)); writes = nothing }
-
 -- another answer than that too much was taken: it wasn't
-within : (call : Around) (r : Result (Vec ℕ Global) ReadError) (reads : ReadsWhole call.rest_before call.rest_after call.given_before call.given_after most_bytes r) → (r ≡ Err errors.TooLong → ⊥) → length reads.taken ≤ most_bytes
+within : (call : Around) (r : TextResult) (reads : ReadsWhole call.rest_before call.rest_after call.given_before call.given_after most_bytes r) → (r ≡ Err errors.TooLong → ⊥) → length reads.taken ≤ most_bytes
 within call r reads other = ⊎_elim (λ many. absurd (other (reads.too_long.1 many))) (λ few. few) (cases_lt most_bytes (length reads.taken))
 
--- memory was wanted, while the input was read or behind it
-pub wants_memory : (words : List (List ℕ)) (call : Around) (r : Result (Vec ℕ Global) ReadError) → IsSomeCommand words → ReadsWhole call.rest_before call.rest_after call.given_before call.given_after most_bytes r → (r ≡ Err errors.TooLong → ⊥) → WroteNothing call → WantsMemory words call
-wants_memory words call r command reads other nothing = record { command = command; input = reads.taken; takes = reads.took; short = within call r reads other; writes = nothing }
+-- ---- what each status says
+
+-- no command: nothing is read
+pub usage_said : (words : List (List ℕ)) (call : Around) (result : Status) → IsNoCommand words → ReadNothing (source_of call) → Wrote call.written_before call.written_after call.write_faults_before call.write_faults_after usage_line statuses.Usage result → Says words call result
+usage_said words call result none unread wrote = answered words call [] usage_line statuses.Usage result
+    (record { taken = unread_input words call unread; whole = λ asks. absurd (none_asks words none asks) })
+    (λ same. cc) (usage none) wrote
+
+-- an answer
+outcome_of : (words : List (List ℕ)) (call : Around) (command : CommandView) (text bytes : List ℕ) (status : Status) → IsCommand words command → (got : Got words call command text) → length text ≤ most_bytes → IsAnswer command text status bytes → IsOutcome words got.input status bytes
+outcome_of words call command text bytes status is got short answer = answered_so command
+    (record { words_are = is; short = subst (λ (t : List ℕ). length t ≤ most_bytes) (sym got.is_text) short })
+    (subst (λ (t : List ℕ). IsAnswer command t status bytes) (sym got.is_text) answer)
+
+pub answer_said : (words : List (List ℕ)) (call : Around) (command : CommandView) (v : Vec ℕ Global) (bytes : List ℕ) (status result : Status) → IsCommand words command → HasGot command (source_of call) (Ok v) → length v.items ≤ most_bytes
+    → IsAnswer command v.items status bytes → Wrote call.written_before call.written_after call.write_faults_before call.write_faults_after bytes status result → Says words call result
+answer_said words call command v bytes status result is got short answer wrote =
+    let text = got_text words call command v is got in
+    answered words call text.input bytes status result text.is_input (not_too_long command v.items status bytes answer) (outcome_of words call command v.items bytes status is text short answer) wrote
+
+-- too much was taken
+pub too_much : (words : List (List ℕ)) (call : Around) (command : CommandView) (e : ReadError) → IsCommand words command → HasGot command (source_of call) (Err e) → e ≡ errors.TooLong → WroteNothing call → TakesTooMuch words call
+too_much words call command e is (inl (works, read)) why nothing =
+    let many = read.whole.too_long.0 (ap (λ (x : ReadError). Err x) why) in
+    record { command = (command, works, is); input = read.whole.taken; takes = read.whole.took; outcome = too_long (command, works, is) many; writes = nothing }
+too_much words call command e is (inr (number, gen, done)) why nothing = absurd (let memory = done.error in cc)
+
+-- memory was wanted, while the words or the input were read or behind it
+pub wants_at_once : (words : List (List ℕ)) (call : Around) → ReadNothing (source_of call) → WroteNothing call → WantsMemory words call
+wants_at_once words call unread nothing = record { input = []; taken = unread_input words call unread; short = omega arith; writes = nothing }
+
+pub wants_memory : (words : List (List ℕ)) (call : Around) (command : CommandView) (r : TextResult) → IsCommand words command → HasGot command (source_of call) r → (r ≡ Err errors.TooLong → ⊥) → WroteNothing call → WantsMemory words call
+wants_memory words call command r is (inl (works, read)) other nothing = record {
+  input = read.whole.taken;
+  taken = record { takes = read.whole.took; unread = λ none. absurd (none (command, works, is)) };
+  short = within call r read.whole other;
+  writes = nothing;
+}
+wants_memory words call command r is (inr (number, gen, done)) other nothing = wants_at_once words call done.unread nothing
 
 -- the source failed
-pub fails_to_read : (words : List (List ℕ)) (call : Around) (r : Result (Vec ℕ Global) ReadError) → IsSomeCommand words → Rose call.read_faults_before call.read_faults_after → ReadsWhole call.rest_before call.rest_after call.given_before call.given_after most_bytes r → (r ≡ Err errors.TooLong → ⊥) → WroteNothing call → FailsToRead words call
-fails_to_read words call r command rose reads other nothing = record { rose = rose; command = command; input = reads.taken; takes = reads.took; short = within call r reads other; writes = nothing }
+pub fails_to_read : (words : List (List ℕ)) (call : Around) (command : CommandView) (e : ReadError) → IsCommand words command → HasGot command (source_of call) (Err e) → e ≡ errors.ReadFault → Rose call.read_faults_before call.read_faults_after → WroteNothing call → FailsToRead words call
+fails_to_read words call command e is (inl (works, read)) why rose nothing = record {
+  rose = rose;
+  command = (command, works, is);
+  input = read.whole.taken;
+  takes = read.whole.took;
+  short = within call (Err e) read.whole (λ same. absurd (cc));
+  writes = nothing;
+}
+fails_to_read words call command e is (inr (number, gen, done)) why rose nothing = absurd (let memory = done.error in cc)
+
+-- ---- the headline of what the call wrote
+
+-- `run` works on the source
+run_works : (words : List (List ℕ)) (workers : ℕ) (json : Bool) → IsCommand words (Run workers json) → AskForSource words
+run_works words workers json is = (Run workers json, tt, is)
+
+pub wrote_headline : (words : List (List ℕ)) (call : Around) (command : CommandView) (v : Vec ℕ Global) (bytes : List ℕ) (status result : Status) (workers : ℕ) (json : Bool) → IsCommand words command → IsCommand words (Run workers json) → HasGot command (source_of call) (Ok v)
+    → IsAnswer command v.items status bytes → Wrote call.written_before call.written_after call.write_faults_before call.write_faults_after bytes status result → (result ≡ statuses.Completed) ⊎ (result ≡ statuses.Limited) → WritesLegalJournal json call result
+wrote_headline words call command v bytes status result workers json is run got answer (inr w) ended = absurd (⊎_elim (λ e. let f = w.0 in cc) (λ e. let f = w.0 in cc) ended)
+wrote_headline words call command v bytes status result workers json is run got answer (inl w) ended =
+    subst (WritesLegalJournal json call) (sym w.0) (go status bytes refl runs (⊎_elim (λ e. inl (sym w.0 ∙ e)) (λ e. inr (sym w.0 ∙ e)) ended))
+  where
+    same : command ≡ Run workers json
+    same = one_command words command (Run workers json) is run
+
+    text : Got words call command v.items
+    text = got_text words call command v is got
+
+    given : text.input ≡ v.items
+    given = sym (text_given (Run workers json) text.input tt) ∙ ap (λ (c : CommandView). text_for c text.input) (sym same) ∙ text.is_text
+
+    runs : IsAnswer (Run workers json) text.input status bytes
+    runs = subst (λ (t : List ℕ). IsAnswer (Run workers json) t status bytes) (sym given) (subst (λ (c : CommandView). IsAnswer c v.items status bytes) same answer)
+
+    go : (s : Status) (b : List ℕ) → b ≡ bytes → IsAnswer (Run workers json) text.input s b → (s ≡ statuses.Completed) ⊎ (s ≡ statuses.Limited) → WritesLegalJournal json call s
+    go s b is_bytes (refused refusal first) e = absurd (⊎_elim (λ f. cc) (λ f. cc) e)
+    go s b is_bytes (made session taken makes) e =
+        let held : IsSomeRun json session s bytes = subst (λ (l : List ℕ). IsSomeRun json session s l) is_bytes makes.some in
+        record {
+          input = text.input;
+          takes = text.is_input.taken.takes;
+          whole = text.is_input.whole (run_works words workers json run);
+          session = session;
+          taken = taken;
+          journal = held.journal;
+          bytes = bytes;
+          is_journal = held.is_journal;
+          writes = w.1;
+          headline = session_headline json text.input session held.journal s bytes taken held.is_journal;
+        }

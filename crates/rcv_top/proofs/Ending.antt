@@ -1,5 +1,5 @@
 -- The session of what is taken comes to its end, and each role's line is known there.
-use Rattle.std.proofs.Common.{◌≡◌, ℕ, ◌≤◌, zero, suc, ◌+◌, Some, List, [], ◌∷◌, length, refl, ◌∙◌, ap, subst, inl, inr, ⊎_elim, ◌⊎◌, arith}
+use Rattle.std.proofs.Common.{◌≡◌, ℕ, ◌≤◌, Bool, true, false, zero, suc, ◌+◌, Some, List, [], ◌∷◌, length, refl, ◌∙◌, ap, subst, inl, inr, ⊎_elim, ◌⊎◌, arith}
 use Rattle.std.specs.Prelude.{slice_get, slice_index}
 use Rattle.std.proofs.lemmas.Bool.{cases_eq}
 use Rattle.rcv_tree.specs.declared.entry.Entry.{Entry}
@@ -7,7 +7,7 @@ use Rattle.rcv_model.specs.Text.{body_of}
 use Rattle.rcv_model.specs.Next.{IsProper, AreNext}
 use Rattle.rcv_model.specs.Run.{acts, place_of}
 use Rattle.rcv_model.specs.Act.{IsDone}
-use Rattle.rcv_model.specs.Journal.{Rules, State, reading}
+use Rattle.rcv_model.specs.Journal.{Rules, State, reading, IsLegal}
 use Rattle.rcv_model.specs.Final.{IsFinal, IsOneThread, ChoosesOffered}
 use Rattle.rcv_model.specs.ThreadLaws.{OneJournal}
 use Rattle.rcv_model.proofs.Forms.{proper}
@@ -16,18 +16,22 @@ use Rattle.rcv_model.proofs.Choosing.{chosen_in}
 use Rattle.rcv_model.proofs.OneThread.{one_journal}
 use Rattle.rcv_model.proofs.Threads.{one_thread}
 use Rattle.rcv_model.proofs.Finals.{done_or_limited}
+use Rattle.rcv_input.specs.Input.{IsTaken}
 use Rattle.rcv_plan.specs.Symbols.{symbols_of}
 use Rattle.rcv_plan.proofs.Fitting.{read_is_planned}
 use Rattle.rcv_core.proofs.Ranges.{ranges}
-use Rattle.rcv_session.specs.Session.{net_for, lines_of, rules_of}
+use Rattle.rcv_session.specs.Session.{SessionView, net_for, lines_of, roles_of, rules_of}
 use Rattle.rcv_journal.specs.declared.line.RoleLine.{RoleLine}
 use Rattle.rcv_journal.specs.declared.line.RoleWord.{RoleWord}
 use Rattle.rcv_journal.specs.declared.line.RoleWord.TheVariants.{Done, Limit, Waits}
-use Rattle.rcv_journal.specs.JournalText.{journal_text}
+use Rattle.rcv_journal.specs.JournalText.{journal_text, last_line}
 use Rattle.rcv_journal.specs.Lines.{IsWordOf, IsLineOf, AreLinesOf}
 use Rattle.rcv_top.specs.declared.status.Status.TheVariants.{Completed, Limited}
 use Rattle.rcv_top.specs.declared.status.Status.{Status}
-use Rattle.rcv_top.specs.Running.{EndsAs, all_done, at_limit, IsOneThreadRun}
+use Rattle.rcv_form.specs.Json.{json_text}
+use Rattle.rcv_top.specs.Running.{EndsAs, all_done, at_limit, IsWritten}
+use Rattle.rcv_top.specs.Generating.{kept_in, IsSummaryRun}
+use Rattle.rcv_gen.specs.Summary.{summary_text}
 use Rattle.rcv_top.specs.Laws.{SessionsEnd}
 
 -- ---- the word of a role
@@ -73,11 +77,35 @@ are_lines rules s lawful = record {
       subst (IsLineOf rules s r) (ap (line_at rules s lawful) (omega arith) ∙ is) (record { role = refl; kept = refl; raw = refl; word = (role_word rules s r lawful).1 });
 }
 
--- ---- the law
+-- ---- what is written
 
-pub sessions_end : SessionsEnd
-sessions_end input session taken = ⊎_elim (λ done. (Completed, text, run Completed (all_done done))) (λ at. (Limited, text, run Limited (at_limit at)))
-    (done_or_limited rules one.0 lawful taken.protocol.accepted.accepted chooses room (law.legal one.1) final)
+-- a journal has its JSON and its text
+written : (json : Bool) (session : SessionView) (journal : List Entry) (lines : List RoleLine) → AreLinesOf (rules_of session) (reading (rules_of session) journal) lines → (bytes : List ℕ) × IsWritten json session journal bytes
+written true session journal lines are = (json_text session journal lines, record { lines = lines; are_lines = are; is_json = refl })
+written false session journal lines are = (journal_text session journal lines, record { lines = lines; are_lines = are; is_text = refl })
+
+-- ---- the session of a text
+
+-- the journal of one thread, which is legal and final, with the lines of the roles
+record IsEnd (session : SessionView) : Type 0 where
+  pub journal : List Entry
+  pub alone : IsOneThread (rules_of session) journal
+  pub legal : IsLegal (rules_of session) journal
+  pub final : IsFinal (rules_of session) (reading (rules_of session) journal)
+  pub lines : List RoleLine
+  pub are_lines : AreLinesOf (rules_of session) (reading (rules_of session) journal) lines
+  pub ends : (status : Status) × EndsAs (rules_of session) (reading (rules_of session) journal) status
+
+end_of : (input : List ℕ) (session : SessionView) → IsTaken input session → IsEnd session
+end_of input session taken = record {
+  journal = one.0;
+  alone = one.1;
+  legal = law.legal one.1;
+  final = final;
+  lines = lines_from rules (reading rules one.0) lawful 0 rules.roles;
+  are_lines = are_lines rules (reading rules one.0) lawful;
+  ends = ⊎_elim (λ done. (Completed, all_done done)) (λ at. (Limited, at_limit at)) (done_or_limited rules one.0 lawful taken.protocol.accepted.accepted chooses room (law.legal one.1) final);
+}
   where
     rules : Rules
     rules = rules_of session
@@ -94,21 +122,36 @@ sessions_end input session taken = ⊎_elim (λ done. (Completed, text, run Comp
     final : IsFinal rules (reading rules one.0)
     final = law.final one.1
 
-    lines : List RoleLine
-    lines = lines_from rules (reading rules one.0) lawful 0 rules.roles
-
-    text : List ℕ
-    text = journal_text session one.0 lines
-
-    run : (status : Status) → EndsAs rules (reading rules one.0) status → IsOneThreadRun session status text
-    run status ends = record {
-      journal = one.0;
-      is_journal = record { legal = law.legal one.1; final = final; ends = ends; text = record { lines = lines; are_lines = are_lines rules (reading rules one.0) lawful; is_text = refl } };
-      alone = one.1;
-    }
-
     room : 1 ≤ rules.room
     room = (ranges session (read_is_planned session.protocol.roles (symbols_of input taken.plan.tokens) session.plan taken.plan.read)).room_first
 
     chooses : ChoosesOffered rules
     chooses r events attempt zs some = chosen_in (net_for session) (lines_of session) r events attempt zs some
+
+pub sessions_end : SessionsEnd
+sessions_end json input session taken =
+    let end = end_of input session taken in
+    let bytes = written json session end.journal end.lines end.are_lines in (
+      end.ends.0,
+      bytes.0,
+      record {
+        journal = end.journal;
+        is_journal = record { legal = end.legal; final = end.final; ends = end.ends.1; written = bytes.1 };
+        alone = end.alone;
+      },
+    )
+
+-- its summary under a number
+pub summary_exists : (number : ℕ) (input : List ℕ) (session : SessionView) → IsTaken input session → (bytes : List ℕ) × IsSummaryRun number session Completed bytes
+summary_exists number input session taken =
+    let end = end_of input session taken in (
+      summary_text number (roles_of session) (net_for session).count end.journal (kept_in end.lines) (last_line session end.lines),
+      record {
+        journal = end.journal;
+        legal = end.legal;
+        final = end.final;
+        alone = end.alone;
+        summary = record { lines = end.lines; are_lines = end.are_lines; is_summary = refl };
+        completed = refl;
+      },
+    )

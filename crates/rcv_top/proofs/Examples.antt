@@ -1,5 +1,5 @@
 -- Words that are commands. And each law has something to speak of: applied to the input that rcv_input's worked case takes.
-use Rattle.std.proofs.Common.{◌≡◌, ℕ, codes, ◌<◌, ◌≤◌, List, [], ◌∷◌, length, refl, ap, arith}
+use Rattle.std.proofs.Common.{◌≡◌, ℕ, true, false, codes, ◌<◌, ◌≤◌, List, [], ◌∷◌, length, refl, ap, arith}
 use Rattle.std.specs.Prelude.{◌↔◌}
 use Rattle.rcv_session.specs.Session.{rules_of}
 use Rattle.rcv_accept.specs.Accepted.{IsAcceptedProtocol, net_for}
@@ -28,16 +28,25 @@ use Rattle.rcv_input.proofs.Planned as planned
 use Rattle.rcv_input.proofs.Worked.{input, symbols, tokens, cut, protocol, its_body, is_read, session, taken}
 use Rattle.rcv_top.specs.declared.status.Status.{Status}
 use Rattle.rcv_top.specs.declared.status.Status.TheVariants.{Completed}
-use Rattle.rcv_top.specs.Workers.{IsCount}
-use Rattle.rcv_top.specs.Commands.{Check, Run, IsCommand, IsNoCommand, AskForSeveral}
+use Rattle.clap.specs.Words.{fault_of}
+use Rattle.clap.specs.declared.error.kind.ErrorKind.TheVariants as kind
+use Rattle.clap.proofs.OnLiterals.{clap_on_literals}
+use Rattle.rcv_words.specs.Program.{rcv}
+use Rattle.rcv_words.specs.Commands.{Run, Check, Project, Gen, IsCommand, IsNoCommand, line_of}
+use Rattle.rcv_top.specs.Commands.{AskForSeveral, AskForSource}
+use Rattle.rcv_top.specs.Generating.{IsSummaryRun}
+use Rattle.rcv_top.specs.Laws.{HasOutcome}
 use Rattle.rcv_top.specs.Running.{IsOneThreadRun}
 use Rattle.rcv_top.specs.Recovering.{IsTableText, accepted_as}
 use Rattle.rcv_top.specs.Headline.{IsHeadline}
-use Rattle.rcv_top.specs.Outcome.{most_bytes, IsOutcome, made}
-use Rattle.rcv_top.proofs.Asking.{one_command, digit_counts, no_digit, is_run, is_counted, no_three, run_is_not_project}
+use Rattle.rcv_top.specs.Outcome.{most_bytes, IsOutcome, answered, made}
+use Rattle.rcv_top.proofs.Asking.{one_command, check_command, gen_asks}
 use Rattle.rcv_top.proofs.Again.{checks_stay}
 use Rattle.rcv_top.proofs.Answering.{session_headline}
-use Rattle.rcv_top.proofs.Ending.{sessions_end}
+use Rattle.rcv_top.proofs.Ending.{sessions_end, summary_exists}
+use Rattle.rcv_top.proofs.Existing.{outcomes_exist}
+use Rattle.rcv_json.proofs.OneJson.{one_json}
+use Rattle.rcv_top.proofs.OneSummary.{one_summary}
 use Rattle.rcv_top.proofs.Outcomes.{one_outcome}
 use Rattle.rcv_top.proofs.RoleTexts.{text_exists}
 use Rattle.rcv_top.proofs.TableTexts.{table_exists}
@@ -45,24 +54,61 @@ use Rattle.rcv_top.proofs.TableTexts.{table_exists}
 -- ---- words
 
 -- `run` alone asks for one worker, and so does `--workers 1`; `--workers 2` for two
-alone : IsCommand (codes "run" ∷ []) (Run 1)
-alone = is_run (codes "run") refl
+alone : IsCommand (codes "run" ∷ []) (Run 1 false)
+unfolding clap_on_literals
+alone = (refl, (refl, refl, refl, refl, refl), (omega arith, omega arith))
 
 abbrev with_workers : List ℕ → List (List ℕ)
 with_workers word = codes "run" ∷ codes "--workers" ∷ word ∷ []
 
-counted : (word : List ℕ) (n : ℕ) → IsCount word n → IsCommand (with_workers word) (Run n)
-counted word n count = is_counted (codes "run") (codes "--workers") word n refl refl count
+said : IsCommand (with_workers (codes "1")) (Run 1 false)
+unfolding clap_on_literals
+said = (refl, (refl, refl, refl, refl, refl), (omega arith, omega arith))
 
-said : IsCommand (with_workers (codes "1")) (Run 1)
-said = counted (codes "1") 1 (digit_counts 49 (omega arith) (omega arith))
+two : IsCommand (with_workers (codes "2")) (Run 2 false)
+unfolding clap_on_literals
+two = (refl, (refl, refl, refl, refl, refl), (omega arith, omega arith))
 
 several : AskForSeveral (with_workers (codes "2"))
-several = (2, omega arith, counted (codes "2") 2 (digit_counts 50 (omega arith) (omega arith)))
+several = (2, false, omega arith, two)
+
+-- an option may stand in front of the word
+as_json : IsCommand (codes "--json" ∷ codes "run" ∷ []) (Run 1 true)
+unfolding clap_on_literals
+as_json = (refl, (refl, refl, refl, refl, refl), (omega arith, omega arith))
+
+of_role : IsCommand (codes "project" ∷ codes "--role=B" ∷ []) (Project (codes "B"))
+unfolding clap_on_literals
+of_role = (refl, (refl, record { workers = refl; json = refl; role = refl; number = refl }), tt)
 
 -- `--workers 9` is no command
+nine_fails : fault_of rcv (line_of (with_workers (codes "9"))) ≡ kind.ValueValidation ∷ []
+unfolding clap_on_literals
+nine_fails = refl
+
 no_nine : IsNoCommand (with_workers (codes "9"))
-no_nine = no_three (codes "run") (codes "--workers") (codes "9") (λ e f n. no_digit 57 n (λ least most. omega (arith, most))) (λ e f. run_is_not_project e)
+no_nine c is = let taken = is.0 in let fails = nine_fails in cc
+
+-- `gen` is one, which doesn't ask for the source; `check` does
+abbrev gen_12 : List (List ℕ)
+gen_12 = codes "gen" ∷ codes "--number" ∷ codes "12" ∷ []
+
+generates : IsCommand gen_12 (Gen 12)
+unfolding clap_on_literals
+generates = (refl, (refl, record { workers = refl; json = refl; role = refl; number = refl }), omega arith)
+
+reads_nothing : AskForSource gen_12 → ⊥
+reads_nothing = gen_asks gen_12 (Gen 12) 12 generates refl
+
+reads : AskForSource (codes "check" ∷ [])
+reads = (Check, tt, check_command)
+
+-- ---- whatever the source gave, `gen` answers the same
+abbrev anything : List ℕ
+anything = codes "anything"
+
+answer_of_gen : HasOutcome gen_12 anything
+answer_of_gen = outcomes_exist gen_12 anything
 
 -- ---- a session
 
@@ -80,29 +126,43 @@ printable : IsPrintable protocol
 printable = read_is_printable input (parts_of input).protocol tokens protocol cut is_read
 
 -- its session comes to an end, and its journal is what the headline says
-ended : (status : Status) × (bytes : List ℕ) × IsOneThreadRun session status bytes
-ended = sessions_end input session taken
+ended : (status : Status) × (bytes : List ℕ) × IsOneThreadRun false session status bytes
+ended = sessions_end false input session taken
 
 headline : IsHeadline (rules_of session) ended.2.journal
-headline = session_headline input session ended.2.journal ended.0 ended.1 taken ended.2.is_journal
+headline = session_headline false input session ended.2.journal ended.0 ended.1 taken ended.2.is_journal
 
 -- so it is where the first role crashes, and both fail
-crashed : (status : Status) × (bytes : List ℕ) × IsOneThreadRun planned.session status bytes
-crashed = sessions_end planned.input planned.session planned.is_taken
+crashed : (status : Status) × (bytes : List ℕ) × IsOneThreadRun false planned.session status bytes
+crashed = sessions_end false planned.input planned.session planned.is_taken
 
 headline_of_crashes : IsHeadline (rules_of planned.session) crashed.2.journal
-headline_of_crashes = session_headline planned.input planned.session crashed.2.journal crashed.0 crashed.1 planned.is_taken crashed.2.is_journal
+headline_of_crashes = session_headline false planned.input planned.session crashed.2.journal crashed.0 crashed.1 planned.is_taken crashed.2.is_journal
+
+-- it may be written as JSON, in one way
+in_json : (status : Status) × (bytes : List ℕ) × IsOneThreadRun true session status bytes
+in_json = sessions_end true input session taken
+
+same_json : in_json.1 ≡ in_json.1
+same_json = one_json session in_json.2.journal in_json.1 in_json.1 in_json.2.is_journal.written in_json.2.is_journal.written
+
+-- it has a summary, and one alone
+summed : (bytes : List ℕ) × IsSummaryRun 12 session Completed bytes
+summed = summary_exists 12 input session taken
+
+same_summary : summed.0 ≡ summed.0
+same_summary = one_summary session summed.1.journal 12 summed.0 summed.0 summed.1.summary summed.1.summary
 
 -- each role and point of the journal has a name, and its last line tells whether all roles are done
 named : AreNamed session ended.2.journal
 named = legal_is_named session ended.2.journal lawful ended.2.is_journal.legal
 
-last : (last_line session ended.2.is_journal.text.lines ≡ codes "completed\n") ↔ AreDone (rules_of session) (reading (rules_of session) ended.2.journal)
-last = completed_is_written session (reading (rules_of session) ended.2.journal) ended.2.is_journal.text.lines ended.2.is_journal.text.are_lines
+last : (last_line session ended.2.is_journal.written.lines ≡ codes "completed\n") ↔ AreDone (rules_of session) (reading (rules_of session) ended.2.journal)
+last = completed_is_written session (reading (rules_of session) ended.2.journal) ended.2.is_journal.written.lines ended.2.is_journal.written.are_lines
 
 -- `check` writes its canonical text, and nothing else; that is read as the same protocol
 checked : IsOutcome (codes "check" ∷ []) input Completed (canonical protocol)
-checked = made Check session (record { words_are = refl; short = omega arith }) taken (refl, refl)
+checked = answered Check (record { words_are = check_command; short = omega arith }) (made session taken (refl, refl))
 
 -- and written again, it stays as it is
 short_again : length (canonical protocol) ≤ most_bytes
@@ -112,7 +172,7 @@ checked_again : IsOutcome (codes "check" ∷ []) (canonical protocol) Completed 
 checked_again = checks_stay input (canonical protocol) checked short_again
 
 no_workers : AskForSeveral (codes "check" ∷ []) → ⊥
-no_workers several = let e = one_command (codes "check" ∷ []) Check (Run several.0) refl several.2 in cc
+no_workers several = let e = one_command (codes "check" ∷ []) Check (Run several.0 several.1) check_command several.3 in cc
 
 no_other : (s : Status) (b : List ℕ) → IsOutcome (codes "check" ∷ []) input s b → (Completed ≡ s) × (canonical protocol ≡ b)
 no_other s b outcome = one_outcome (codes "check" ∷ []) input Completed s (canonical protocol) b no_workers checked outcome
@@ -141,4 +201,4 @@ same_acts : acts.0 ≡ acts.0
 same_acts = roles_have_one_text (accepted_as protocol) 0 acts.0 acts.0 lawful acts.1 acts.1
 
 same_journal : ended.1 ≡ ended.1
-same_journal = one_text session ended.2.journal ended.1 ended.1 ended.2.is_journal.text ended.2.is_journal.text
+same_journal = one_text session ended.2.journal ended.1 ended.1 ended.2.is_journal.written ended.2.is_journal.written

@@ -1,5 +1,5 @@
 -- All words and inputs have an outcome.
-use Rattle.std.proofs.Common.{◌≡◌, ℕ, Option, Some, None, List, [], length, refl, inl, inr, ⊎_elim, arith}
+use Rattle.std.proofs.Common.{◌≡◌, ℕ, ◌≤◌, Bool, Option, Some, None, List, [], length, refl, sym, subst, inl, inr, ⊎_elim, arith}
 use Rattle.std.specs.Str.{bytes_eq}
 use Rattle.std.proofs.lemmas.Bool.{cases_lt}
 use Rattle.std.proofs.lemmas.List.Quantifiers.{position-Some}
@@ -11,24 +11,28 @@ use Rattle.rcv_input.proofs.Once.{one_answer}
 use Rattle.rcv_printer.specs.CanonicalText.{canonical}
 use Rattle.rcv_top.specs.declared.status.Status.{Status}
 use Rattle.rcv_top.specs.declared.status.Status.TheVariants.{Completed, Usage, Refused, TooLong}
-use Rattle.rcv_top.specs.Commands.{CommandView, Run, Check, Table, Project}
+use Rattle.rcv_words.specs.Commands.{CommandView, Run, Check, Project, Table, Gen, IsCommand, IsWithin}
+use Rattle.rcv_words.proofs.Deciding.{command_or_none}
+use Rattle.rcv_top.specs.Commands.{WorksOnSource, text_for}
+use Rattle.rcv_gen.proofs.Lengths.{generated_fits}
 use Rattle.rcv_top.specs.Projection.{place_of}
 use Rattle.rcv_top.specs.Running.{IsOneThreadRun, IsRunOf}
-use Rattle.rcv_top.specs.Outcome.{most_bytes, usage_line, IsAsked, Makes, usage, too_long, refused, made}
+use Rattle.rcv_top.specs.Outcome.{most_bytes, usage_line, IsAnswer, Makes, usage, too_long, answered, refused, made}
 use Rattle.rcv_top.specs.Laws.{HasOutcome, OutcomesExist}
-use Rattle.rcv_top.proofs.Asking.{command_or_none}
-use Rattle.rcv_top.proofs.Ending.{sessions_end}
+use Rattle.rcv_top.proofs.Asking.{source_or_gen, text_given}
+use Rattle.rcv_top.proofs.Ending.{sessions_end, summary_exists}
 use Rattle.rcv_top.proofs.RoleTexts.{text_exists}
 use Rattle.rcv_top.proofs.TableTexts.{table_exists}
 
 -- ---- what a command makes
 
 -- the journal of one thread is one that any number of workers may make
-run_some : (workers : ℕ) (session : SessionView) → (status : Status) × (bytes : List ℕ) × IsOneThreadRun session status bytes → (status : Status) × (bytes : List ℕ) × IsRunOf workers session status bytes
-run_some workers session run = (run.0, run.1, record { some = record { journal = run.2.journal; is_journal = run.2.is_journal }; alone = λ one. run.2 })
+run_some : (workers : ℕ) (json : Bool) (session : SessionView) → (status : Status) × (bytes : List ℕ) × IsOneThreadRun json session status bytes → (status : Status) × (bytes : List ℕ) × IsRunOf workers json session status bytes
+run_some workers json session run = (run.0, run.1, record { some = record { journal = run.2.journal; is_journal = run.2.is_journal }; alone = λ one. run.2 })
 
 makes_some : (input : List ℕ) (session : SessionView) (command : CommandView) → IsTaken input session → (status : Status) × (bytes : List ℕ) × Makes session command status bytes
-makes_some input session (Run workers) taken = run_some workers session (sessions_end input session taken)
+makes_some input session (Run workers json) taken = run_some workers json session (sessions_end json input session taken)
+makes_some input session (Gen number) taken = let text = summary_exists number input session taken in (Completed, text.0, text.1)
 makes_some input session Check taken = (Completed, canonical session.protocol, (refl, refl))
 makes_some input session Table taken = let text = table_exists session.protocol taken.protocol.accepted in (Completed, text.0, (refl, text.1))
 makes_some input session (Project name) taken = go (place_of session.protocol.roles name) refl
@@ -39,14 +43,33 @@ makes_some input session (Project name) taken = go (place_of session.protocol.ro
         let text = text_exists session.protocol role taken.protocol.accepted (position-Some (λ other. bytes_eq other name) session.protocol.roles role [] at).0 in
         (Completed, text.0, inl (role, at, refl, text.1))
 
-asked_some : (words : List (List ℕ)) (input : List ℕ) (command : CommandView) → IsAsked words command input → HasOutcome words input
-asked_some words input command asked = let short = asked.short in ⊎_elim
-    (λ t. let m = makes_some input t.0 command t.1 in (m.0, m.1, made command t.0 asked t.1 m.2))
-    (λ r. (Refused, refusal_line r.0, refused command r.0 asked r.1))
-    (one_answer.answered input (omega (arith, short)))
+answer_some : (command : CommandView) (text : List ℕ) → length text ≤ most_bytes → (status : Status) × (bytes : List ℕ) × IsAnswer command text status bytes
+answer_some command text short = ⊎_elim
+    (λ t. let m = makes_some text t.0 command t.1 in (m.0, m.1, made t.0 t.1 m.2))
+    (λ r. (Refused, refusal_line r.0, refused r.0 r.1))
+    (one_answer.answered text (omega (arith, short)))
+
+asked_some : (words : List (List ℕ)) (input : List ℕ) (command : CommandView) → IsCommand words command → length (text_for command input) ≤ most_bytes → HasOutcome words input
+asked_some words input command is short =
+    let answer = answer_some command (text_for command input) short in
+    (answer.0, answer.1, answered command (record { words_are = is; short = short }) answer.2)
+
+command_some : (words : List (List ℕ)) (input : List ℕ) (command : CommandView) → IsCommand words command → HasOutcome words input
+command_some words input command is = ⊎_elim from_source generates (source_or_gen command)
+  where
+    from_source : WorksOnSource command → HasOutcome words input
+    from_source works = ⊎_elim
+        (λ many. (TooLong, [], too_long (command, works, is) many))
+        (λ few. asked_some words input command is (subst (λ (t : List ℕ). length t ≤ most_bytes) (sym (text_given command input works)) few))
+        (cases_lt most_bytes (length input))
+
+    generates : (number : ℕ) × (command ≡ Gen number) → HasOutcome words input
+    generates (number, gen) =
+        let within : number ≤ 4000 = subst IsWithin gen is.2 in
+        asked_some words input command is (subst (λ (c : CommandView). length (text_for c input) ≤ most_bytes) (sym gen) (generated_fits number within))
 
 pub outcomes_exist : OutcomesExist
 outcomes_exist words input = ⊎_elim
-    (λ command. ⊎_elim (λ many. (TooLong, [], too_long command many)) (λ few. asked_some words input command.0 (record { words_are = command.1; short = few })) (cases_lt most_bytes (length input)))
+    (λ command. command_some words input command.0 command.1)
     (λ none. (Usage, usage_line, usage none))
     (command_or_none words)

@@ -1,7 +1,10 @@
+pub mod Writing
 pub mod Asking
-pub mod Turning
 pub mod Sessions
+pub mod Summing
 pub mod Answering
+pub mod SameJson
+pub mod OneSummary
 pub mod Outcomes
 pub mod Ending
 pub mod RoleTexts

@@ -1,8 +1,9 @@
 -- What a command makes of a session is the answer to its input.
-use Rattle.std.proofs.Common.{◌≡◌, ℕ, ◌≤◌, false, List, [], length, sym, ◌∙◌, ap, subst}
+use Rattle.std.proofs.Common.{◌≡◌, ℕ, Bool, false, List, [], refl, sym, ◌∙◌, ap, subst}
 use Rattle.std.specs.Prelude.{Result, Ok, Err, IfOk}
 use Rattle.rcv_tree.specs.declared.entry.Entry.{Entry}
 use Rattle.rcv_model.specs.Final.{IsOneThread}
+use Rattle.rcv_model.proofs.OneThread.{one_journal}
 use Rattle.rcv_session.specs.Session.{SessionView, rules_of}
 use Rattle.rcv_input.specs.declared.refused.Refused as refusals
 use Rattle.rcv_input.specs.Input.{IsTaken}
@@ -12,13 +13,14 @@ use Rattle.rcv_input.specs.Refusals.{IsRefused}
 use Rattle.rcv_input.specs.Line.{refusal_line}
 use Rattle.rcv_core.specs.Book.{BookView, EndsAlone}
 use Rattle.rcv_super.specs.Super.{SuperView}
-use Rattle.rcv_top.specs.Commands.{CommandView, IsCommand}
-use Rattle.rcv_top.specs.Finishing.{HasFinished}
+use Rattle.rcv_words.specs.Commands.{CommandView}
+use Rattle.rcv_super.specs.Finish.{HasFinished}
 use Rattle.rcv_top.specs.declared.status.Status.TheVariants as statuses
 use Rattle.rcv_top.specs.declared.status.Status.{Status}
 use Rattle.rcv_top.specs.declared.output.Output.{Output}
 use Rattle.rcv_top.specs.Running.{IsJournalOf, IsOneThreadRun, IsRunOf}
-use Rattle.rcv_top.specs.Outcome.{IsOutcome, Makes, refused, made}
+use Rattle.rcv_top.specs.Generating.{IsSummaryOf, IsSummaryRun}
+use Rattle.rcv_top.specs.Outcome.{IsAnswer, Makes, refused, made}
 
 -- ---- a book that one thread ran to its end
 
@@ -37,42 +39,56 @@ ended session setup first last which empty ends = record { journal = here.more; 
     here = subst (λ (b : BookView). EndsAlone b last) begin ends
 
 -- its journal is the one of one thread
-one_run : (session : SessionView) (book : BookView) (status : Status) (bytes : List ℕ) → Ended session book → IsJournalOf book.setup book.entries status bytes → IsOneThreadRun session status bytes
-one_run session book status bytes e held = record { journal = e.journal; is_journal = subst (λ (b : BookView). IsJournalOf b.setup b.entries status bytes) e.is held; alone = e.alone }
+one_run : (json : Bool) (session : SessionView) (book : BookView) (status : Status) (bytes : List ℕ) → Ended session book → IsJournalOf json book.setup book.entries status bytes → IsOneThreadRun json session status bytes
+one_run json session book status bytes e held = record { journal = e.journal; is_journal = subst (λ (b : BookView). IsJournalOf json b.setup b.entries status bytes) e.is held; alone = e.alone }
 
 -- what workers brought to its end
-pub run_of : (workers : ℕ) (session setup : SessionView) (first last : BookView) (status : Status) (bytes : List ℕ) → setup ≡ session → first ≡ record { setup = setup; entries = [] } → HasFinished workers first last → IsJournalOf last.setup last.entries status bytes → IsRunOf workers session status bytes
-run_of workers session setup first last status bytes which empty finished held = record {
-  some = record { journal = last.entries; is_journal = subst (λ (s : SessionView). IsJournalOf s last.entries status bytes) same held };
-  alone = λ one. one_run session last status bytes (ended session setup first last which empty (finished.alone one)) held;
+pub run_of : (workers : ℕ) (json : Bool) (session setup : SessionView) (first last : BookView) (status : Status) (bytes : List ℕ) → setup ≡ session → first ≡ record { setup = setup; entries = [] } → HasFinished workers first last → IsJournalOf json last.setup last.entries status bytes → IsRunOf workers json session status bytes
+run_of workers json session setup first last status bytes which empty finished held = record {
+  some = record { journal = last.entries; is_journal = subst (λ (s : SessionView). IsJournalOf json s last.entries status bytes) same held };
+  alone = λ one. one_run json session last status bytes (ended session setup first last which empty (finished.alone one)) held;
 }
   where
     same : last.setup ≡ session
     same = ap (λ (b : BookView). b.setup) finished.added ∙ ap (λ (b : BookView). b.setup) empty ∙ which
 
--- the same of what came of writing its journal
-pub ran : {E : Type 0} (workers : ℕ) (session setup : SessionView) (first : SuperView) (last book : BookView) (result : Result Output E) → setup ≡ session
+-- the same of a session's book
+pub ran : (workers : ℕ) (json : Bool) (session setup : SessionView) (first : SuperView) (last book : BookView) → setup ≡ session
     → first ≡ record { book = record { setup = setup; entries = [] }; closed = false } → HasFinished workers first.book last → book ≡ last
-    → IfOk result (λ output. IsJournalOf book.setup book.entries output.status output.bytes.items)
-    → IfOk result (λ output. IsRunOf workers session output.status output.bytes.items)
-ran workers session setup first last book (Err e) which empty finished same held = tt
-ran workers session setup first last book (Ok output) which empty finished same held =
-    run_of workers session setup first.book last output.status output.bytes.items which (ap (λ (v : SuperView). v.book) empty) finished
-    (subst (λ (b : BookView). IsJournalOf b.setup b.entries output.status output.bytes.items) same held)
+    → (status : Status) (bytes : List ℕ) → IsJournalOf json book.setup book.entries status bytes → IsRunOf workers json session status bytes
+ran workers json session setup first last book which empty finished same status bytes held =
+    run_of workers json session setup first.book last status bytes which (ap (λ (v : SuperView). v.book) empty) finished
+    (subst (λ (b : BookView). IsJournalOf json b.setup b.entries status bytes) same held)
+
+-- the summary of what one worker brought to its end
+pub summed : (number : ℕ) (session setup : SessionView) (first : SuperView) (last book : BookView) (status : Status) (bytes : List ℕ) → setup ≡ session
+    → first ≡ record { book = record { setup = setup; entries = [] }; closed = false } → HasFinished 1 first.book last → book ≡ last
+    → IsSummaryOf book.setup book.entries number bytes → status ≡ statuses.Completed → IsSummaryRun number session status bytes
+summed number session setup first last book status bytes which empty finished same summary completed =
+    let e = ended session setup first.book last which (ap (λ (v : SuperView). v.book) empty) (finished.alone refl) in
+    let law = one_journal (rules_of session) e.journal e.journal in
+    record {
+      journal = e.journal;
+      legal = law.legal e.alone;
+      final = law.final e.alone;
+      alone = e.alone;
+      summary = subst (λ (b : BookView). IsSummaryOf b.setup b.entries number bytes) (same ∙ e.is) summary;
+      completed = completed;
+    }
 
 -- ---- the answers
 
-pub made_of : {E : Type 0} (input : List ℕ) (command : CommandView) (session : SessionView) (result : Result Output E) → length input ≤ 1048576 → IsTaken input session
+pub made_of : {E : Type 0} (text : List ℕ) (command : CommandView) (session : SessionView) (result : Result Output E) → IsTaken text session
     → IfOk result (λ output. Makes session command output.status output.bytes.items)
-    → IfOk result (λ output. (words : List (List ℕ)) → IsCommand words command → IsOutcome words input output.status output.bytes.items)
-made_of input command session (Err e) short taken makes = tt
-made_of input command session (Ok output) short taken makes = λ words are. made command session (record { words_are = are; short = short }) taken makes
+    → IfOk result (λ output. IsAnswer command text output.status output.bytes.items)
+made_of text command session (Err e) taken makes = tt
+made_of text command session (Ok output) taken makes = made session taken makes
 
-pub refused_of : {E : Type 0} (input : List ℕ) (command : CommandView) (error : InputError) (result : Result Output E) → length input ≤ 1048576 → IsRefused input error
+pub refused_of : {E : Type 0} (text : List ℕ) (command : CommandView) (error : InputError) (result : Result Output E) → IsRefused text error
     → IfOk result (λ output. (refusal : refusals.Refused) × (error ≡ causes.Refused refusal) × (output.status ≡ statuses.Refused) × (output.bytes.items ≡ refusal_line refusal))
-    → IfOk result (λ output. (words : List (List ℕ)) → IsCommand words command → IsOutcome words input output.status output.bytes.items)
-refused_of input command error (Err e) short is said = tt
-refused_of input command error (Ok output) short is said = λ words are.
-    subst (λ (s : Status). IsOutcome words input s output.bytes.items) (sym said.2)
-    (subst (λ (b : List ℕ). IsOutcome words input statuses.Refused b) (sym said.3)
-    (refused command said.0 (record { words_are = are; short = short }) (subst (IsRefused input) said.1 is)))
+    → IfOk result (λ output. IsAnswer command text output.status output.bytes.items)
+refused_of text command error (Err e) is said = tt
+refused_of text command error (Ok output) is said =
+    subst (λ (s : Status). IsAnswer command text s output.bytes.items) (sym said.2)
+    (subst (λ (b : List ℕ). IsAnswer command text statuses.Refused b) (sym said.3)
+    (refused said.0 (subst (IsRefused text) said.1 is)))

@@ -1,9 +1,6 @@
 -- What a call of the program took from its source and wrote to its sink, for each status.
-use Rattle.std.specs.Prelude.{◌≡◌, ℕ, ◌<◌, ◌≤◌, ◌⊎◌, List, [], length, map}
-use Rattle.std.specs.String.{string_bytes}
+use Rattle.std.specs.Prelude.{◌≡◌, ℕ, ◌<◌, ◌≤◌, Bool, List, [], length}
 use Rattle.std.specs.declared.option.Option.{Option}
-use Rattle.std.specs.declared.string.String.{String}
-use Rattle.std.specs.declared.alloc.Global.{Global}
 use Rattle.std.specs.Io.KnownBytes.{append_known, IsAtEnd}
 use Rattle.rcv_tree.specs.declared.entry.Entry.{Entry}
 use Rattle.rcv_io.specs.Causes.{Rose}
@@ -12,15 +9,12 @@ use Rattle.rcv_io.specs.Sink.{WroteBeginning}
 use Rattle.rcv_session.specs.Session.{SessionView, rules_of}
 use Rattle.rcv_top.specs.declared.status.Status.{Status}
 use Rattle.rcv_top.specs.declared.status.Status.TheVariants.{Completed, Usage, Refused, Limited, ReadFault, WriteFault, Memory, TooLong}
-use Rattle.rcv_top.specs.Commands.{IsSomeCommand, IsNoCommand}
+use Rattle.rcv_top.specs.Commands.{AskForSource}
+use Rattle.rcv_top.specs.Inputs.{Reading, ReadNothing}
 use Rattle.rcv_input.specs.Input.{IsTaken}
 use Rattle.rcv_top.specs.Running.{IsJournalOf}
 use Rattle.rcv_top.specs.Outcome.{most_bytes, IsOutcome}
 use Rattle.rcv_top.specs.Headline.{IsHeadline}
-
--- Words as their bytes.
-abbrev pub bytes_of : List (String Global) → List (List ℕ)
-bytes_of words = map string_bytes words
 
 -- What is told of a source and a sink before and after a call.
 pub record Around : Type 0 where
@@ -51,11 +45,17 @@ around rest given read_faults source source_after written write_faults sink sink
       write_faults_after = write_faults sink_after;
     }
 
--- Nothing was read: what is told of the source is as before.
-pub record ReadNothing (call : Around) : Type 0 where
-  pub rest : call.rest_after ≡ call.rest_before
-  pub given : call.given_after ≡ call.given_before
-  pub faults : call.read_faults_after ≡ call.read_faults_before
+-- What of that is told of the source.
+abbrev pub source_of : Around → Reading
+source_of call =
+    record {
+      rest_before = call.rest_before;
+      rest_after = call.rest_after;
+      given_before = call.given_before;
+      given_after = call.given_after;
+      faults_before = call.read_faults_before;
+      faults_after = call.read_faults_after;
+    }
 
 -- Nothing was written: what is told of the sink is as before.
 pub record WroteNothing (call : Around) : Type 0 where
@@ -66,11 +66,16 @@ pub record WroteNothing (call : Around) : Type 0 where
 abbrev pub Takes : Around → List ℕ → Type 0
 Takes call input = Took call.rest_before call.rest_after call.given_before call.given_after input
 
--- The input is what the source gave: all that it had where the words are a command, else nothing.
-pub record IsInput (words : List (List ℕ)) (call : Around) (input : List ℕ) : Type 0 where
+-- The input is what the source gave. Nothing was read where the words aren't a command that works on that: where they are
+-- no command, and where they are `gen`.
+pub record HasTaken (words : List (List ℕ)) (call : Around) (input : List ℕ) : Type 0 where
   pub takes : Takes call input
-  pub whole : IsSomeCommand words → IsAtEnd call.rest_after
-  pub unread : IsNoCommand words → ReadNothing call
+  pub unread : (AskForSource words → ⊥) → ReadNothing (source_of call)
+
+-- The input is what the source gave: all that it had where the words are a command that works on that, else nothing.
+pub record IsInput (words : List (List ℕ)) (call : Around) (input : List ℕ) : Type 0 where
+  pub taken : HasTaken words call input
+  pub whole : AskForSource words → IsAtEnd call.rest_after
 
 -- The call wrote the bytes of this status, which the words and the input have.
 pub record Answers (words : List (List ℕ)) (call : Around) (status : Status) : Type 0 where
@@ -80,8 +85,9 @@ pub record Answers (words : List (List ℕ)) (call : Around) (status : Status) :
   pub outcome : IsOutcome words input status bytes
   pub writes : call.written_after ≡ append_known call.written_before bytes
 
--- More was taken than an input may have, and nothing was written.
+-- The words are a command that works on the source, more was taken than an input may have, and nothing was written.
 pub record TakesTooMuch (words : List (List ℕ)) (call : Around) : Type 0 where
+  pub command : AskForSource words
   pub input : List ℕ
   pub takes : Takes call input
   pub outcome : IsOutcome words input TooLong []
@@ -97,18 +103,19 @@ pub record FailsToWrite (words : List (List ℕ)) (call : Around) : Type 0 where
   pub outcome : IsOutcome words input status bytes
   pub writes : WroteBeginning call.written_before call.written_after bytes
 
--- Memory was wanted: the words are a command, no more was taken than an input may have, and nothing was written.
+-- Memory was wanted: no more was taken than an input may have, and nothing was written. It may be wanted by words that
+-- are no command, since words take memory to be read.
 pub record WantsMemory (words : List (List ℕ)) (call : Around) : Type 0 where
-  pub command : IsSomeCommand words
   pub input : List ℕ
-  pub takes : Takes call input
+  pub taken : HasTaken words call input
   pub short : length input ≤ most_bytes
   pub writes : WroteNothing call
 
--- The source failed: its count of faults rose. Else it is as where memory was wanted.
+-- The source failed: its count of faults rose. The words are a command that works on it, no more was taken than an input
+-- may have, and nothing was written.
 pub record FailsToRead (words : List (List ℕ)) (call : Around) : Type 0 where
   pub rose : Rose call.read_faults_before call.read_faults_after
-  pub command : IsSomeCommand words
+  pub command : AskForSource words
   pub input : List ℕ
   pub takes : Takes call input
   pub short : length input ≤ most_bytes
@@ -132,8 +139,9 @@ pub record TellsFault (before now : ℕ) (fault result : Status) : Type 0 where
   pub only : result ≡ fault → Rose before now
   pub always : before < now → result ≡ fault
 
--- The whole input is taken as a session, and what was written is the text of a journal of it as the headline says.
-pub record WritesLegalJournal (call : Around) (status : Status) : Type 0 where
+-- The whole input is taken as a session, and what was written is the JSON or the text of a journal of it that is as the
+-- headline says.
+pub record WritesLegalJournal (json : Bool) (call : Around) (status : Status) : Type 0 where
   pub input : List ℕ
   pub takes : Takes call input
   pub whole : IsAtEnd call.rest_after
@@ -141,12 +149,6 @@ pub record WritesLegalJournal (call : Around) (status : Status) : Type 0 where
   pub taken : IsTaken input session
   pub journal : List Entry
   pub bytes : List ℕ
-  pub is_journal : IsJournalOf session journal status bytes
+  pub is_journal : IsJournalOf json session journal status bytes
   pub writes : call.written_after ≡ append_known call.written_before bytes
   pub headline : IsHeadline (rules_of session) journal
-
--- These bytes were written with this status, and no call of the sink failed; or the sink failed.
-abbrev pub Wrote : Option (List ℕ) → Option (List ℕ) → ℕ → ℕ → List ℕ → Status → Status → Type 0
-Wrote before after faults_before faults_after bytes status result =
-    ((result ≡ status) × (after ≡ append_known before bytes) × (faults_after ≡ faults_before))
-    ⊎ ((result ≡ WriteFault) × Rose faults_before faults_after × WroteBeginning before after bytes)

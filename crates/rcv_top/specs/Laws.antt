@@ -1,5 +1,5 @@
 -- What holds of the definitions.
-use Rattle.std.specs.Prelude.{◌≡◌, ℕ, ◌≤◌, codes, List, [], ◌∷◌, length}
+use Rattle.std.specs.Prelude.{◌≡◌, ℕ, ◌≤◌, Bool, codes, List, [], ◌∷◌, length}
 use Rattle.rcv_tree.specs.declared.entry.Entry.{Entry}
 use Rattle.rcv_session.specs.Session.{SessionView, rules_of}
 use Rattle.rcv_input.specs.Input.{IsTaken}
@@ -25,17 +25,17 @@ abbrev pub OutcomesExist : Type 0
 OutcomesExist = (words : List (List ℕ)) (input : List ℕ) → HasOutcome words input
 
 -- A journal of a session that an input is taken as is what the headline says, also where the sink took only a beginning
--- of its text.
+-- of its bytes.
 abbrev pub SessionsAreLegal : Type 0
 SessionsAreLegal =
-    (input : List ℕ) (session : SessionView) (journal : List Entry) (status : Status) (bytes : List ℕ)
-    → IsTaken input session → IsJournalOf session journal status bytes → IsHeadline (rules_of session) journal
+    (json : Bool) (input : List ℕ) (session : SessionView) (journal : List Entry) (status : Status) (bytes : List ℕ)
+    → IsTaken input session → IsJournalOf json session journal status bytes → IsHeadline (rules_of session) journal
 
 -- The session of each input that is taken comes to its end: all roles are done, or some role is at the limit.
 abbrev pub SessionsEnd : Type 0
 SessionsEnd =
-    (input : List ℕ) (session : SessionView) → IsTaken input session
-    → (status : Status) × (bytes : List ℕ) × IsOneThreadRun session status bytes
+    (json : Bool) (input : List ℕ) (session : SessionView) → IsTaken input session
+    → (status : Status) × (bytes : List ℕ) × IsOneThreadRun json session status bytes
 
 -- What `check` wrote, where it has at most as many bytes as an input may have, is written as it is, where `check` reads
 -- it again.

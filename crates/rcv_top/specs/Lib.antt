@@ -1,10 +1,11 @@
-pub mod Workers
 pub mod Commands
+pub mod Writing
 pub mod Running
-pub mod Finishing
+pub mod Generating
 pub mod Projection
 pub mod Recovering
 pub mod Outcome
 pub mod Headline
+pub mod Inputs
 pub mod Calls
 pub mod Laws

@@ -8,7 +8,9 @@ use Rattle.rcv_printer.specs.CanonicalText.{canonical}
 use Rattle.rcv_session.specs.Session.{SessionView}
 use Rattle.rcv_top.specs.declared.status.Status.{Status}
 use Rattle.rcv_top.specs.declared.status.Status.TheVariants.{Completed, Usage, Refused, Limited, ReadFault, WriteFault, Memory, TooLong}
-use Rattle.rcv_top.specs.Commands.{CommandView, Run, Check, Table, Project, IsCommand, IsSomeCommand, IsNoCommand}
+use Rattle.rcv_words.specs.Commands.{CommandView, Run, Check, Project, Table, Gen, IsCommand, IsNoCommand}
+use Rattle.rcv_top.specs.Commands.{AskForSource, text_for}
+use Rattle.rcv_top.specs.Generating.{IsSummaryRun}
 use Rattle.rcv_top.specs.Projection.{IsProjection}
 use Rattle.rcv_top.specs.Recovering.{IsTableText}
 use Rattle.rcv_top.specs.Running.{IsRunOf}
@@ -32,26 +34,32 @@ most_bytes = 1048576
 abbrev pub usage_line : List ℕ
 usage_line = codes "usage: rcv run|check|project|table|gen [--workers N] [--json] [--role R] [--number N]\n"
 
--- The words are this command and the input isn't too long.
+-- The words are this command, and the text that it works on isn't too long.
 pub record IsAsked (words : List (List ℕ)) (command : CommandView) (input : List ℕ) : Type 0 where
   pub words_are : IsCommand words command
-  pub short : length input ≤ most_bytes
+  pub short : length (text_for command input) ≤ most_bytes
 
 -- What a command makes of a session: the journal that so many workers make with how that ends, the canonical text of
--- its protocol, the recovery table of that, or what the role of a name does.
+-- its protocol, what the role of a name does, the recovery table, or the summary of a generated session.
 abbrev pub Makes : SessionView → CommandView → Status → List ℕ → Type 0
-Makes session (Run workers) status bytes = IsRunOf workers session status bytes
+Makes session (Run workers json) status bytes = IsRunOf workers json session status bytes
 Makes session Check status bytes = (status ≡ Completed) × (bytes ≡ canonical session.protocol)
-Makes session Table status bytes = (status ≡ Completed) × IsTableText session.protocol bytes
 Makes session (Project name) status bytes = IsProjection session.protocol name status bytes
+Makes session Table status bytes = (status ≡ Completed) × IsTableText session.protocol bytes
+Makes session (Gen number) status bytes = IsSummaryRun number session status bytes
 
--- The answer to these words and this input: no command; too long; the first refusal; or what the command makes.
+-- What a command answers to the text that it works on: the line of the first refusal, or what it makes of the session.
+pub data IsAnswer (command : CommandView) (text : List ℕ) : Status → List ℕ → Type 0 where
+  refused :
+      (refusal : refusals.Refused) → IsFirstRefusal text refusal → IsAnswer command text Refused (refusal_line refusal)
+  made :
+      {status : Status} {bytes : List ℕ} (session : SessionView) → IsTaken text session
+      → Makes session command status bytes → IsAnswer command text status bytes
+
+-- The answer to these words and to this input, which the source gave: no command; too long; or what the command answers.
 pub data IsOutcome (words : List (List ℕ)) (input : List ℕ) : Status → List ℕ → Type 0 where
   usage : IsNoCommand words → IsOutcome words input Usage usage_line
-  too_long : IsSomeCommand words → most_bytes < length input → IsOutcome words input TooLong []
-  refused :
-      (command : CommandView) (refusal : refusals.Refused) → IsAsked words command input → IsFirstRefusal input refusal
-      → IsOutcome words input Refused (refusal_line refusal)
-  made :
-      {status : Status} {bytes : List ℕ} (command : CommandView) (session : SessionView) → IsAsked words command input
-      → IsTaken input session → Makes session command status bytes → IsOutcome words input status bytes
+  too_long : AskForSource words → most_bytes < length input → IsOutcome words input TooLong []
+  answered :
+      {status : Status} {bytes : List ℕ} (command : CommandView) → IsAsked words command input
+      → IsAnswer command (text_for command input) status bytes → IsOutcome words input status bytes

@@ -1,22 +1,24 @@
 // What the commands answer, from the bytes of an input to those of an output.
 
-ghost use Rattle.std.specs.Prelude.{◌≡◌, ℕ, ◌≤◌, List, length, IfOk};
+ghost use Rattle.std.specs.Prelude.{◌≡◌, ◌≤◌, length, IfOk};
 ghost use Rattle.rcv_input.specs.declared.refused.Refused as refusals;
 ghost use Rattle.rcv_input.specs.Line.{refusal_line};
 ghost use Rattle.rcv_printer.specs.CanonicalText.{canonical};
 ghost use Rattle.rcv_accept.specs.Accepted.{IsAcceptedProtocol};
-ghost use Rattle.rcv_top.specs.Commands.{view_of, IsCommand};
-ghost use Rattle.rcv_top.specs.Outcome.{IsOutcome};
+ghost use Rattle.rcv_words.specs.Commands.{view_of, IsWithin};
+ghost use Rattle.rcv_top.specs.Outcome.{IsAnswer};
 ghost use Rattle.rcv_top.specs.Projection.{IsProjection};
 ghost use Rattle.rcv_top.specs.Recovering.{IsTableText};
+ghost use Rattle.rcv_top.specs.Writing.{Writes};
 
-use crate::command::Command;
-use crate::output::Output;
+use crate::generated::run_generated;
+use crate::output::{Output, put};
 use crate::role::place_of;
 use crate::run::run;
 use crate::status::Status;
 use rcv_accept::accepted::Accepted;
 use rcv_input::{InputError, Refused, read_input, refusal_line};
+use rcv_io::Sink;
 use rcv_printer::print_protocol;
 use rcv_project::project;
 use rcv_project::text::print_local;
@@ -25,32 +27,40 @@ use rcv_tables::making::table;
 use rcv_tables::text::print_table;
 use rcv_tree::protocol::Protocol;
 use rcv_tree::role::RoleId;
+use rcv_words::command::Command;
 use std::alloc::{AllocError, Global};
 use std::thread::Threads;
 
-/// What is written for an input of at most 1,048,576 bytes, and with which status: the first refusal of the input, or
-/// what the command makes of its protocol, its scripts and its plan.
+/// Writes what a command answers to the text of at most 1,048,576 bytes that it works on, and says how that ended: the first
+/// refusal of the text, or what the command makes of its protocol, its scripts and its plan.
 ///
-/// The error comes where no memory was left.
-pub fn answer<R: Threads + Sync, G: Gate>(
+/// The error comes where no memory was left; then nothing was written.
+pub fn answer<R: Threads + Sync, K: Sink, G: Gate>(
     rt: &R,
     alloc: Global,
-    command: Command<'_>,
+    command: &Command,
     input: &[u8],
+    sink: &mut K,
     gate: &G,
-) -> Result<Output, AllocError>
-    requires { length input.now ≤ 1048576 }
-    ensures { IfOk result (λ output. (words : List (List ℕ)) → IsCommand words (view_of command.entry)
-        → IsOutcome words input.now output.status output.bytes.items) }
+) -> Result<Status, AllocError>
+    requires within { IsWithin (view_of command.now) }
+    requires short { length input.now ≤ 1048576 }
+    ensures later { K.faults sink.old ≤ K.faults sink.new }
+    ensures answers { Writes (IsAnswer (view_of command.now) input.now)
+        (K.written sink.old) (K.written sink.new) (K.faults sink.old) (K.faults sink.new) result }
 {
     match read_input(alloc, input) {
         Ok(taken) => match command {
-            Command::Run { workers } => run(rt, alloc, taken, workers, gate),
-            Command::Check => check(alloc, taken.accepted.protocol()),
-            Command::Table => write_tables(alloc, &taken.accepted),
-            Command::Project { role } => project_role(alloc, &taken.accepted, role),
+            Command::Run { workers, json } => { run(rt, alloc, taken, *workers, *json, sink, gate) }
+            Command::Check => put(sink, check(alloc, taken.accepted.protocol())),
+            Command::Project { role } => put(
+                sink,
+                project_role(alloc, &taken.accepted, role.as_slice()),
+            ),
+            Command::Table => put(sink, write_tables(alloc, &taken.accepted)),
+            Command::Gen { number } => put(sink, run_generated(rt, alloc, taken, *number, gate)),
         },
-        Err(error) => refuse(alloc, error),
+        Err(error) => put(sink, refuse(alloc, error)),
     }
 }
 

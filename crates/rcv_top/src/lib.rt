@@ -5,13 +5,12 @@ ghost use Rattle.rcv_top.specs.Laws.{ChecksStay, OneOutcome, OutcomesExist, Sess
 
 mod answer;
 mod call;
-mod command;
+mod generated;
+mod input;
 mod output;
 mod role;
 mod run;
 mod status;
-mod words;
-mod workers;
 
 pub use call::recover;
 pub use rcv_role::gate::{Gate, NoGate};

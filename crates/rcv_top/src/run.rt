@@ -1,79 +1,129 @@
 // What `run` answers: the journal of the session that workers ran to its end.
 
-ghost use Rattle.std.specs.Prelude.{◌≡◌, length, IfOk, OnOk};
-ghost use Rattle.rcv_session.specs.Session.{SessionView};
+ghost use Rattle.std.specs.Prelude.{◌≤◌, true, false, length, OnOk};
+ghost use Rattle.rcv_session.specs.Session.{rules_of};
 ghost use Rattle.rcv_script.specs.Scripts.{AreScriptsFor};
 ghost use Rattle.rcv_plan.specs.Lines.{IsPlanned};
-ghost use Rattle.rcv_core.specs.Book.{IsAtEnd};
-ghost use Rattle.rcv_top.specs.Finishing.{HasFinished};
-ghost use Rattle.rcv_top.specs.Running.{IsJournalOf, IsRunOf};
+ghost use Rattle.rcv_core.specs.Book.{state_of, IsAtEnd};
+ghost use Rattle.rcv_super.specs.Finish.{HasFinished};
+ghost use Rattle.rcv_top.specs.Running.{EndsAs, EndsSo, IsJournalOf, IsRunOf};
+ghost use Rattle.rcv_top.specs.Writing.{Writes};
 
-use crate::output::Output;
+use crate::output::write;
 use crate::status::Status;
-use crate::workers::Workers;
 use rcv_core::book::Book;
 use rcv_core::setup::Setup;
 use rcv_input::Input;
-use rcv_journal::text::text_of;
+use rcv_io::Sink;
+use rcv_journal::TextError;
+use rcv_journal::text::write_text;
+use rcv_json::json_of;
 use rcv_role::gate::Gate;
-use rcv_super::session::{Session, Turn};
+use rcv_super::session::Session;
 use std::alloc::{AllocError, Global};
 use std::thread::Threads;
 
-/// Runs a session to its end with so many workers, and writes its journal.
-pub fn run<R: Threads + Sync, G: Gate>(
+/// Runs a session to its end with so many workers, from 1 to 8, and writes its journal, as JSON or as lines. Says how the
+/// session ended, or that the sink failed.
+///
+/// The error comes where no memory was left; then nothing was written.
+pub fn run<R: Threads + Sync, K: Sink, G: Gate>(
     rt: &R,
     alloc: Global,
     taken: Input,
-    workers: Workers,
+    workers: u32,
+    json: bool,
+    sink: &mut K,
     gate: &G,
-) -> Result<Output, AllocError>
+) -> Result<Status, AllocError>
+    requires least { 1 ≤ workers }
+    requires most { workers ≤ 8 }
     requires belong { AreScriptsFor taken.accepted.protocol taken.scripts }
     requires planned { IsPlanned (length taken.accepted.protocol.roles) taken.plan }
-    ensures { IfOk result (λ output. IsRunOf workers
-        (record { protocol = taken.accepted.protocol; scripts = taken.scripts.lines; plan = taken.plan })
-        output.status output.bytes.items) }
+    ensures later { K.faults sink.old ≤ K.faults sink.new }
+    ensures runs { Writes (IsRunOf workers json
+        (record { protocol = taken.accepted.protocol; scripts = taken.scripts.lines; plan = taken.plan }))
+        (K.written sink.old) (K.written sink.new) (K.faults sink.old) (K.faults sink.new) result }
 {
     let setup = Setup::new(alloc, taken.accepted, taken.scripts, taken.plan)?;
     let mut session = Session::new(alloc, &setup)?;
     finish(rt, alloc, &mut session, workers, gate)?;
-    journal_of(alloc, session.book())
+    write_journal(alloc, session.book(), json, sink)
 }
 
-// Turns a session until it is at its end. Each turn adds an entry, and a journal has room for so many.
-fn finish<R: Threads + Sync, G: Gate>(
+/// Brings a session to its end with so many workers, from 1 to 8. It fails where memory runs out.
+pub fn finish<R: Threads + Sync, G: Gate>(
     rt: &R,
     alloc: Global,
     session: &mut Session<'_>,
-    workers: Workers,
+    workers: u32,
     gate: &G,
 ) -> Result<(), AllocError>
+    requires least { 1 ≤ workers }
+    requires most { workers ≤ 8 }
     ensures { OnOk result (HasFinished workers session.old.book session.new.book) }
 {
-    loop {
-        // Tells the proof that there are few entries.
-        let _few = session.book().len();
-        match session.turn(rt, alloc, workers.count(), gate) {
-            Ok(Turn::More) => {}
-            Ok(Turn::Completed) => return Ok(()),
-            Ok(Turn::Limited) => return Ok(()),
-            Err(_) => return Err(AllocError),
-        }
+    match session.finish(rt, alloc, workers, gate) {
+        Ok(()) => Ok(()),
+        Err(_) => Err(AllocError),
     }
 }
 
-// The journal of a book at its end, with how it ended.
-fn journal_of(alloc: Global, book: &Book<'_>) -> Result<Output, AllocError>
+// How a book at its end ended.
+fn status_of(book: &Book<'_>) -> Status
     requires { IsAtEnd book.now }
-    ensures { IfOk result (λ output. IsJournalOf book.now.setup book.now.entries output.status output.bytes.items) }
+    ensures { EndsAs (rules_of book.now.setup) (state_of book.now) result }
 {
-    // Tells the proof that the journal is legal.
-    let _entries = book.entries();
-    let status = if book.all_done() {
+    if book.all_done() {
         Status::Completed
     } else {
         Status::Limited
-    };
-    let bytes = text_of(alloc, book)?;
-    Ok(Output { status, bytes })
+    }
+}
+
+// Writes the journal of a book at its end, as JSON or as lines.
+fn write_journal<K: Sink>(
+    alloc: Global,
+    book: &Book<'_>,
+    json: bool,
+    sink: &mut K,
+) -> Result<Status, AllocError>
+    requires { IsAtEnd book.now }
+    ensures later { K.faults sink.old ≤ K.faults sink.new }
+    ensures writes { Writes (IsJournalOf json book.now.setup book.now.entries)
+        (K.written sink.old) (K.written sink.new) (K.faults sink.old) (K.faults sink.new) result }
+{
+    // Tells the proof that the journal is legal.
+    let _entries = book.entries();
+    if json {
+        write_json(alloc, book, sink)
+    } else {
+        write_lines(alloc, book, sink)
+    }
+}
+
+// Writes it as JSON.
+fn write_json<K: Sink>(alloc: Global, book: &Book<'_>, sink: &mut K) -> Result<Status, AllocError>
+    requires { IsAtEnd book.now }
+    ensures later { K.faults sink.old ≤ K.faults sink.new }
+    ensures writes { Writes (EndsSo true book.now.setup book.now.entries)
+        (K.written sink.old) (K.written sink.new) (K.faults sink.old) (K.faults sink.new) result }
+{
+    let bytes = json_of(alloc, book)?;
+    Ok(write(sink, bytes.as_slice(), status_of(book)))
+}
+
+// Writes it as lines, page by page.
+fn write_lines<K: Sink>(alloc: Global, book: &Book<'_>, sink: &mut K) -> Result<Status, AllocError>
+    requires { IsAtEnd book.now }
+    ensures later { K.faults sink.old ≤ K.faults sink.new }
+    ensures writes { Writes (EndsSo false book.now.setup book.now.entries)
+        (K.written sink.old) (K.written sink.new) (K.faults sink.old) (K.faults sink.new) result }
+{
+    let status = status_of(book);
+    match write_text(alloc, book, sink) {
+        Ok(()) => Ok(status),
+        Err(TextError::WriteFault) => Ok(Status::WriteFault),
+        Err(TextError::Memory) => Err(AllocError),
+    }
 }

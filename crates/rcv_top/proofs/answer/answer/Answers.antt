@@ -1,39 +1,72 @@
--- What the command makes of the session that is taken, or the line of the first refusal.
-use Rattle.std.proofs.Common.{◌≡◌, ℕ, List, IfOk, sym, subst}
+-- What the command makes of the session that is taken is written, or the line of the first refusal.
+use Rattle.std.proofs.Common.{◌≡◌, ℕ, List, Option, IfOk, sym, subst}
+use Rattle.std.specs.Prelude.{Result}
+use Rattle.std.specs.declared.alloc.AllocError.{AllocError}
 use Rattle.rcv_tree.specs.declared.protocol.Protocol.{Protocol}
 use Rattle.rcv_session.specs.Session.{SessionView}
 use Rattle.rcv_printer.specs.CanonicalText.{canonical}
-use Rattle.rcv_top.specs.declared.command.Command.{Command}
-use Rattle.rcv_top.specs.Commands.{Run, Check, Table, Project, view_of, IsCommand}
+use Rattle.rcv_words.specs.declared.command.Command.{Command}
+use Rattle.rcv_words.specs.Commands.{Run, Check, Project, Table, Gen, view_of, IsWithin}
+use Rattle.rcv_top.specs.declared.status.Status.{Status}
 use Rattle.rcv_top.specs.declared.status.Status.TheVariants as statuses
-use Rattle.rcv_top.specs.Outcome.{IsOutcome}
+use Rattle.rcv_top.specs.Running.{IsRunOf}
+use Rattle.rcv_top.specs.Outcome.{IsAnswer, made}
+use Rattle.rcv_top.specs.Projection.{IsProjection}
+use Rattle.rcv_top.specs.Writing.{Writes}
 use Rattle.rcv_top.proofs.Sessions.{made_of, refused_of}
+use Rattle.rcv_top.proofs.Writing.{widen, put_writes}
 use Rattle.rcv_top.proofs.answer.answer.Goals as goal
 
-pub returns-in-Run : goal.returns-in-Run
-returns-in-Run g c =
-    let session : SessionView = record { protocol = c.in-Ok.taken.accepted.protocol; scripts = c.in-Ok.taken.scripts.lines; plan = c.in-Ok.taken.plan } in
-    subst (λ (d : Command). IfOk c.run.result (λ output. (words : List (List ℕ)) → IsCommand words (view_of d) → IsOutcome words c.args.input.now output.status output.bytes.items)) (sym c.in-Run.is)
-    (made_of c.args.input.now (Run c.in-Run.workers) session c.run.result c.requires c.in-Ok.ensures.taken c.run.ensures)
+-- an answer to a command that is this one
+as_asked : (d e : Command) (text : List ℕ) (before after : Option (List ℕ)) (fb fa : ℕ) (result : Result Status AllocError) → d ≡ e
+    → Writes (IsAnswer (view_of e) text) before after fb fa result → Writes (IsAnswer (view_of d) text) before after fb fa result
+as_asked d e text before after fb fa result same = subst (λ (x : Command). Writes (IsAnswer (view_of x) text) before after fb fa result) (sym same)
 
-pub returns-in-Check : goal.returns-in-Check
-returns-in-Check g c =
+pub run-requires-clause-least : goal.run-requires-clause-least
+run-requires-clause-least g c coded lives = (subst (λ (d : Command). IsWithin (view_of d)) c.in-Run.is c.requires.within).0
+
+pub run-requires-clause-most : goal.run-requires-clause-most
+run-requires-clause-most g c coded lives = (subst (λ (d : Command). IsWithin (view_of d)) c.in-Run.is c.requires.within).1
+
+pub returns-in-Run-clause-answers : goal.returns-in-Run-clause-answers
+returns-in-Run-clause-answers g c =
+    let session : SessionView = record { protocol = c.in-Ok.taken.accepted.protocol; scripts = c.in-Ok.taken.scripts.lines; plan = c.in-Ok.taken.plan } in
+    as_asked c.args.command.now _ c.args.input.now (g.K.Sink.written c.args.sink.now) (g.K.Sink.written c.run.new.sink) (g.K.Sink.faults c.args.sink.now) (g.K.Sink.faults c.run.new.sink) c.run.result c.in-Run.is
+    (widen (g.K.Sink.written c.args.sink.now) (g.K.Sink.written c.run.new.sink) (g.K.Sink.faults c.args.sink.now) (g.K.Sink.faults c.run.new.sink)
+    (IsRunOf c.in-Run.workers c.in-Run.json session) (IsAnswer (Run c.in-Run.workers c.in-Run.json) c.args.input.now) c.run.result
+    (λ status bytes ran. made session c.in-Ok.ensures.taken ran) c.run.ensures.runs)
+
+pub returns-in-Check-clause-answers : goal.returns-in-Check-clause-answers
+returns-in-Check-clause-answers g c =
     let session : SessionView = record { protocol = c.in-Ok.taken.accepted.protocol; scripts = c.in-Ok.taken.scripts.lines; plan = c.in-Ok.taken.plan } in
     let written = subst (λ (p : Protocol). IfOk c.check.result (λ output. (output.status ≡ statuses.Completed) × (output.bytes.items ≡ canonical p))) c.protocol.ensures.value c.check.ensures in
-    subst (λ (d : Command). IfOk c.check.result (λ output. (words : List (List ℕ)) → IsCommand words (view_of d) → IsOutcome words c.args.input.now output.status output.bytes.items)) (sym c.in-Check.is)
-    (made_of c.args.input.now Check session c.check.result c.requires c.in-Ok.ensures.taken written)
+    as_asked c.args.command.now _ c.args.input.now (g.K.Sink.written c.args.sink.now) (g.K.Sink.written c.put.new.sink) (g.K.Sink.faults c.args.sink.now) (g.K.Sink.faults c.put.new.sink) c.put.result c.in-Check.is
+    (put_writes (g.K.Sink.written c.args.sink.now) (g.K.Sink.written c.put.new.sink) (g.K.Sink.faults c.args.sink.now) (g.K.Sink.faults c.put.new.sink)
+    (IsAnswer Check c.args.input.now) c.check.result c.put.result (made_of c.args.input.now Check session c.check.result c.in-Ok.ensures.taken written) c.put.ensures.put)
 
-pub returns-in-Table : goal.returns-in-Table
-returns-in-Table g c =
+pub returns-in-Project-clause-answers : goal.returns-in-Project-clause-answers
+returns-in-Project-clause-answers g c =
     let session : SessionView = record { protocol = c.in-Ok.taken.accepted.protocol; scripts = c.in-Ok.taken.scripts.lines; plan = c.in-Ok.taken.plan } in
-    subst (λ (d : Command). IfOk c.write_tables.result (λ output. (words : List (List ℕ)) → IsCommand words (view_of d) → IsOutcome words c.args.input.now output.status output.bytes.items)) (sym c.in-Table.is)
-    (made_of c.args.input.now Table session c.write_tables.result c.requires c.in-Ok.ensures.taken c.write_tables.ensures)
+    let projected = subst (λ (name : List ℕ). IfOk c.project_role.result (λ output. IsProjection c.in-Ok.taken.accepted.protocol name output.status output.bytes.items)) c.as_slice.ensures c.project_role.ensures in
+    as_asked c.args.command.now _ c.args.input.now (g.K.Sink.written c.args.sink.now) (g.K.Sink.written c.put-in-Project.new.sink) (g.K.Sink.faults c.args.sink.now) (g.K.Sink.faults c.put-in-Project.new.sink) c.put-in-Project.result c.in-Project.is
+    (put_writes (g.K.Sink.written c.args.sink.now) (g.K.Sink.written c.put-in-Project.new.sink) (g.K.Sink.faults c.args.sink.now) (g.K.Sink.faults c.put-in-Project.new.sink)
+    (IsAnswer (Project c.in-Project.role) c.args.input.now) c.project_role.result c.put-in-Project.result (made_of c.args.input.now (Project c.in-Project.role) session c.project_role.result c.in-Ok.ensures.taken projected) c.put-in-Project.ensures.put)
 
-pub returns-in-Project : goal.returns-in-Project
-returns-in-Project g c =
+pub returns-in-Table-clause-answers : goal.returns-in-Table-clause-answers
+returns-in-Table-clause-answers g c =
     let session : SessionView = record { protocol = c.in-Ok.taken.accepted.protocol; scripts = c.in-Ok.taken.scripts.lines; plan = c.in-Ok.taken.plan } in
-    subst (λ (d : Command). IfOk c.project_role.result (λ output. (words : List (List ℕ)) → IsCommand words (view_of d) → IsOutcome words c.args.input.now output.status output.bytes.items)) (sym c.in-Project.is)
-    (made_of c.args.input.now (Project c.in-Project.role.now) session c.project_role.result c.requires c.in-Ok.ensures.taken c.project_role.ensures)
+    as_asked c.args.command.now _ c.args.input.now (g.K.Sink.written c.args.sink.now) (g.K.Sink.written c.put-in-Table.new.sink) (g.K.Sink.faults c.args.sink.now) (g.K.Sink.faults c.put-in-Table.new.sink) c.put-in-Table.result c.in-Table.is
+    (put_writes (g.K.Sink.written c.args.sink.now) (g.K.Sink.written c.put-in-Table.new.sink) (g.K.Sink.faults c.args.sink.now) (g.K.Sink.faults c.put-in-Table.new.sink)
+    (IsAnswer Table c.args.input.now) c.write_tables.result c.put-in-Table.result (made_of c.args.input.now Table session c.write_tables.result c.in-Ok.ensures.taken c.write_tables.ensures) c.put-in-Table.ensures.put)
 
-pub returns-in-Err : goal.returns-in-Err
-returns-in-Err g c = refused_of c.args.input.now (view_of c.args.command) c.in-Err.error c.refuse.result c.requires c.in-Err.ensures.taken c.refuse.ensures
+pub returns-in-Gen-clause-answers : goal.returns-in-Gen-clause-answers
+returns-in-Gen-clause-answers g c =
+    let session : SessionView = record { protocol = c.in-Ok.taken.accepted.protocol; scripts = c.in-Ok.taken.scripts.lines; plan = c.in-Ok.taken.plan } in
+    as_asked c.args.command.now _ c.args.input.now (g.K.Sink.written c.args.sink.now) (g.K.Sink.written c.put-in-Gen.new.sink) (g.K.Sink.faults c.args.sink.now) (g.K.Sink.faults c.put-in-Gen.new.sink) c.put-in-Gen.result c.in-Gen.is
+    (put_writes (g.K.Sink.written c.args.sink.now) (g.K.Sink.written c.put-in-Gen.new.sink) (g.K.Sink.faults c.args.sink.now) (g.K.Sink.faults c.put-in-Gen.new.sink)
+    (IsAnswer (Gen c.in-Gen.number) c.args.input.now) c.run_generated.result c.put-in-Gen.result (made_of c.args.input.now (Gen c.in-Gen.number) session c.run_generated.result c.in-Ok.ensures.taken c.run_generated.ensures) c.put-in-Gen.ensures.put)
+
+pub returns-in-Err-clause-answers : goal.returns-in-Err-clause-answers
+returns-in-Err-clause-answers g c =
+    put_writes (g.K.Sink.written c.args.sink.now) (g.K.Sink.written c.put-in-Err.new.sink) (g.K.Sink.faults c.args.sink.now) (g.K.Sink.faults c.put-in-Err.new.sink)
+    (IsAnswer (view_of c.args.command.now) c.args.input.now) c.refuse.result c.put-in-Err.result (refused_of c.args.input.now (view_of c.args.command.now) c.in-Err.error c.refuse.result c.in-Err.ensures.taken c.refuse.ensures) c.put-in-Err.ensures.put

@@ -1,57 +1,65 @@
 -- The words decide what is read, what is read decides what is written.
-use Rattle.std.proofs.Common.{◌≤◌, refl, sym, subst, List, ℕ, length}
-use Rattle.rcv_top.specs.Commands.{view_of, IsSomeCommand, IsNoCommand}
-use Rattle.rcv_top.specs.Outcome.{most_bytes, usage_line}
-use Rattle.rcv_top.specs.declared.status.Status.TheVariants.{Usage}
-use Rattle.rcv_top.specs.Calls.{bytes_of, around, Wrote}
-use Rattle.rcv_top.proofs.Answering.{answered, wrote_headline, usage_said, input_of, too_much, sink_tells, source_tells, not_read_fault, not_write_fault, no_read_fault}
+use Rattle.std.proofs.Common.{refl, subst, List, ℕ}
+use Rattle.std.specs.Prelude.{Ok, Err}
+use Rattle.rcv_words.specs.Commands.{texts_of, view_of}
+use Rattle.rcv_top.specs.Outcome.{IsAnswer}
+use Rattle.rcv_top.specs.Calls.{around}
+use Rattle.rcv_top.proofs.Answering.{answer_said, wrote_headline, usage_said, too_much, wants_at_once, wants_memory, sink_tells, source_tells, not_read_fault, not_write_fault, no_read_fault}
 use Rattle.rcv_top.proofs.call.recover.Goals as goal
 
-pub returns-in_default-clause-says : goal.returns-in_default-clause-says
-returns-in_default-clause-says g c =
-    let none : IsNoCommand (bytes_of c.args.words.now) = c.in_default.ensures.none in
-    usage_said (bytes_of c.args.words.now) (around g.S.Source.rest g.S.Source.given g.S.Source.faults c.args.source.now c.args.source.now g.K.Sink.written g.K.Sink.faults c.args.sink.now c.write.new.sink) c.write.result none (record { rest = refl; given = refl; faults = refl }) c.write.ensures.wrote
+pub returns-in-Err-Usage-clause-says : goal.returns-in-Err-Usage-clause-says
+returns-in-Err-Usage-clause-says g c =
+    usage_said (texts_of c.args.words.now) (around g.S.Source.rest g.S.Source.given g.S.Source.faults c.args.source.now c.args.source.now g.K.Sink.written g.K.Sink.faults c.args.sink.now c.write.new.sink) c.write.result
+    (c.in-Err-Usage.ensures.usage c.in-Err-Usage.field-0-is) (record { rest = refl; given = refl; faults = refl }) c.write.ensures.wrote
+
+pub returns-in-Err-Memory-clause-says : goal.returns-in-Err-Memory-clause-says
+returns-in-Err-Memory-clause-says g c =
+    wants_at_once (texts_of c.args.words.now) (around g.S.Source.rest g.S.Source.given g.S.Source.faults c.args.source.now c.args.source.now g.K.Sink.written g.K.Sink.faults c.args.sink.now c.args.sink.now)
+    (record { rest = refl; given = refl; faults = refl }) (record { written = refl; faults = refl })
 
 pub returns-in-Err-TooLong-clause-says : goal.returns-in-Err-TooLong-clause-says
 returns-in-Err-TooLong-clause-says g c =
-    let command : IsSomeCommand (bytes_of c.args.words.now) = (view_of c.in-Some.command, c.in-Some.ensures.some) in
-    too_much (bytes_of c.args.words.now) (around g.S.Source.rest g.S.Source.given g.S.Source.faults c.args.source.now c.read_all.new.source g.K.Sink.written g.K.Sink.faults c.args.sink.now c.args.sink.now) c.in-Err-TooLong.field-0 command c.in-Err-TooLong.ensures.taken c.in-Err-TooLong.field-0-is (record { written = refl; faults = refl })
+    too_much (texts_of c.args.words.now) (around g.S.Source.rest g.S.Source.given g.S.Source.faults c.args.source.now c.input_of.new.source g.K.Sink.written g.K.Sink.faults c.args.sink.now c.args.sink.now)
+    (view_of c.in-Ok.command) c.in-Err-TooLong.field-0 c.in-Ok.ensures.command c.in-Err-TooLong.ensures.got c.in-Err-TooLong.field-0-is (record { written = refl; faults = refl })
+
+pub returns-in-Err-Memory-input_of-clause-says : goal.returns-in-Err-Memory-input_of-clause-says
+returns-in-Err-Memory-input_of-clause-says g c =
+    wants_memory (texts_of c.args.words.now) (around g.S.Source.rest g.S.Source.given g.S.Source.faults c.args.source.now c.input_of.new.source g.K.Sink.written g.K.Sink.faults c.args.sink.now c.args.sink.now)
+    (view_of c.in-Ok.command) (Err c.in-Err-Memory-input_of.field-0) c.in-Ok.ensures.command c.in-Err-Memory-input_of.ensures.got (λ same. let memory = c.in-Err-Memory-input_of.field-0-is in cc) (record { written = refl; faults = refl })
 
 pub returns-in-Ok-answer-clause-says : goal.returns-in-Ok-answer-clause-says
 returns-in-Ok-answer-clause-says g c =
-    let command : IsSomeCommand (bytes_of c.args.words.now) = (view_of c.in-Some.command, c.in-Some.ensures.some) in
-    answered (bytes_of c.args.words.now) (around g.S.Source.rest g.S.Source.given g.S.Source.faults c.args.source.now c.read_all.new.source g.K.Sink.written g.K.Sink.faults c.args.sink.now c.write-in-Ok-answer.new.sink) c.as_slice.result.now c.in-Ok-answer.output.bytes.items c.in-Ok-answer.output.status c.write-in-Ok-answer.result
-    (input_of (bytes_of c.args.words.now) (around g.S.Source.rest g.S.Source.given g.S.Source.faults c.args.source.now c.read_all.new.source g.K.Sink.written g.K.Sink.faults c.args.sink.now c.write-in-Ok-answer.new.sink) c.as_slice.result.now 1048576 c.in-Ok.input command c.in-Ok.ensures.taken c.in-Ok.ensures.end c.as_slice.ensures.value)
-    (subst (λ (l : List ℕ). length l ≤ most_bytes) (sym c.as_slice.ensures.value) c.in-Ok.ensures.short)
-    (c.in-Ok-answer.ensures (bytes_of c.args.words.now) command.1)
-    (subst (λ (b : List ℕ). Wrote (g.K.Sink.written c.args.sink.now) (g.K.Sink.written c.write-in-Ok-answer.new.sink) (g.K.Sink.faults c.args.sink.now) (g.K.Sink.faults c.write-in-Ok-answer.new.sink) b c.in-Ok-answer.output.status c.write-in-Ok-answer.result) c.as_slice-in-Ok-answer.ensures.value c.write-in-Ok-answer.ensures.wrote)
+    let w = c.in-Ok-answer.ensures.answers in
+    answer_said (texts_of c.args.words.now) (around g.S.Source.rest g.S.Source.given g.S.Source.faults c.args.source.now c.input_of.new.source g.K.Sink.written g.K.Sink.faults c.args.sink.now c.answer.new.sink)
+    (view_of c.in-Ok.command) c.in-Ok-input_of.input w.bytes w.status c.in-Ok-answer.status c.in-Ok.ensures.command c.in-Ok-input_of.ensures.got c.in-Ok-input_of.ensures.short
+    (subst (λ (t : List ℕ). IsAnswer (view_of c.in-Ok.command) t w.status w.bytes) c.as_slice.ensures.value w.is_kind) w.wrote
 
 pub returns-in-Ok-answer-clause-headline : goal.returns-in-Ok-answer-clause-headline
-returns-in-Ok-answer-clause-headline g c workers is_run ended =
-    let command : IsSomeCommand (bytes_of c.args.words.now) = (view_of c.in-Some.command, c.in-Some.ensures.some) in
-    wrote_headline (bytes_of c.args.words.now) (around g.S.Source.rest g.S.Source.given g.S.Source.faults c.args.source.now c.read_all.new.source g.K.Sink.written g.K.Sink.faults c.args.sink.now c.write-in-Ok-answer.new.sink) c.as_slice.result.now c.in-Ok-answer.output.bytes.items c.in-Ok-answer.output.status c.write-in-Ok-answer.result workers
-    (input_of (bytes_of c.args.words.now) (around g.S.Source.rest g.S.Source.given g.S.Source.faults c.args.source.now c.read_all.new.source g.K.Sink.written g.K.Sink.faults c.args.sink.now c.write-in-Ok-answer.new.sink) c.as_slice.result.now 1048576 c.in-Ok.input command c.in-Ok.ensures.taken c.in-Ok.ensures.end c.as_slice.ensures.value)
-    is_run
-    (c.in-Ok-answer.ensures (bytes_of c.args.words.now) command.1)
-    (subst (λ (b : List ℕ). Wrote (g.K.Sink.written c.args.sink.now) (g.K.Sink.written c.write-in-Ok-answer.new.sink) (g.K.Sink.faults c.args.sink.now) (g.K.Sink.faults c.write-in-Ok-answer.new.sink) b c.in-Ok-answer.output.status c.write-in-Ok-answer.result) c.as_slice-in-Ok-answer.ensures.value c.write-in-Ok-answer.ensures.wrote)
-    ended
-
-pub returns-in_default-clause-sink_faults : goal.returns-in_default-clause-sink_faults
-returns-in_default-clause-sink_faults g c =
-    sink_tells (g.K.Sink.written c.args.sink.now) (g.K.Sink.written c.write.new.sink) (g.K.Sink.faults c.args.sink.now) (g.K.Sink.faults c.write.new.sink) usage_line Usage c.write.result
-    (λ e. cc) c.write.ensures.later c.write.ensures.wrote
+returns-in-Ok-answer-clause-headline g c workers json is_run ended =
+    let w = c.in-Ok-answer.ensures.answers in
+    wrote_headline (texts_of c.args.words.now) (around g.S.Source.rest g.S.Source.given g.S.Source.faults c.args.source.now c.input_of.new.source g.K.Sink.written g.K.Sink.faults c.args.sink.now c.answer.new.sink)
+    (view_of c.in-Ok.command) c.in-Ok-input_of.input w.bytes w.status c.in-Ok-answer.status workers json c.in-Ok.ensures.command is_run c.in-Ok-input_of.ensures.got
+    (subst (λ (t : List ℕ). IsAnswer (view_of c.in-Ok.command) t w.status w.bytes) c.as_slice.ensures.value w.is_kind) w.wrote ended
 
 pub returns-in-Ok-answer-clause-source_faults : goal.returns-in-Ok-answer-clause-source_faults
 returns-in-Ok-answer-clause-source_faults g c =
-    let read = c.in-Ok.ensures in
-    source_tells (g.K.Sink.written c.args.sink.now) (g.K.Sink.written c.write-in-Ok-answer.new.sink) (g.K.Sink.faults c.args.sink.now) (g.K.Sink.faults c.write-in-Ok-answer.new.sink)
-    (g.S.Source.faults c.args.source.now) (g.S.Source.faults c.read_all.new.source) c.as_slice-in-Ok-answer.result.now c.in-Ok-answer.output.status c.write-in-Ok-answer.result
-    (not_read_fault (bytes_of c.args.words.now) c.as_slice.result.now c.in-Ok-answer.output.status c.in-Ok-answer.output.bytes.items (subst (λ (l : List ℕ). length l ≤ most_bytes) (sym c.as_slice.ensures.value) read.short) (c.in-Ok-answer.ensures (bytes_of c.args.words.now) c.in-Some.ensures.some))
-    (no_read_fault (g.S.Source.faults c.args.source.now) (g.S.Source.faults c.read_all.new.source) read.later (λ more. let fault = read.fault_always more in cc))
-    c.write-in-Ok-answer.ensures.wrote
+    let w = c.in-Ok-answer.ensures.answers in
+    let read = c.in-Ok-input_of.ensures in
+    source_tells (g.K.Sink.written c.args.sink.now) (g.K.Sink.written c.answer.new.sink) (g.K.Sink.faults c.args.sink.now) (g.K.Sink.faults c.answer.new.sink)
+    (g.S.Source.faults c.args.source.now) (g.S.Source.faults c.input_of.new.source) w.bytes w.status c.in-Ok-answer.status
+    (not_read_fault (view_of c.in-Ok.command) c.as_slice.result.now w.status w.bytes w.is_kind)
+    (no_read_fault (g.S.Source.faults c.args.source.now) (g.S.Source.faults c.input_of.new.source) read.later (λ more. let fault = read.fault_always more in cc))
+    w.wrote
 
 pub returns-in-Ok-answer-clause-sink_faults : goal.returns-in-Ok-answer-clause-sink_faults
 returns-in-Ok-answer-clause-sink_faults g c =
-    sink_tells (g.K.Sink.written c.args.sink.now) (g.K.Sink.written c.write-in-Ok-answer.new.sink) (g.K.Sink.faults c.args.sink.now) (g.K.Sink.faults c.write-in-Ok-answer.new.sink) c.as_slice-in-Ok-answer.result.now c.in-Ok-answer.output.status c.write-in-Ok-answer.result
-    (not_write_fault (bytes_of c.args.words.now) c.as_slice.result.now c.in-Ok-answer.output.status c.in-Ok-answer.output.bytes.items (subst (λ (l : List ℕ). length l ≤ most_bytes) (sym c.as_slice.ensures.value) c.in-Ok.ensures.short) (c.in-Ok-answer.ensures (bytes_of c.args.words.now) c.in-Some.ensures.some))
-    c.write-in-Ok-answer.ensures.later c.write-in-Ok-answer.ensures.wrote
+    let w = c.in-Ok-answer.ensures.answers in
+    sink_tells (g.K.Sink.written c.args.sink.now) (g.K.Sink.written c.answer.new.sink) (g.K.Sink.faults c.args.sink.now) (g.K.Sink.faults c.answer.new.sink) w.bytes w.status c.in-Ok-answer.status
+    (not_write_fault (view_of c.in-Ok.command) c.as_slice.result.now w.status w.bytes w.is_kind)
+    c.answer.ensures.later w.wrote
+
+pub returns-clause-says : goal.returns-clause-says
+returns-clause-says g c =
+    let nothing = c.in-Err.ensures.answers in
+    wants_memory (texts_of c.args.words.now) (around g.S.Source.rest g.S.Source.given g.S.Source.faults c.args.source.now c.input_of.new.source g.K.Sink.written g.K.Sink.faults c.args.sink.now c.answer.new.sink)
+    (view_of c.in-Ok.command) (Ok c.in-Ok-input_of.input) c.in-Ok.ensures.command c.in-Ok-input_of.ensures.got (λ same. cc) (record { written = nothing.0; faults = nothing.1 })

@@ -1,9 +1,9 @@
 -- The role's last events are taken away one by one, and then its states.
 use Rattle.std.proofs.Common.{length, sym, ◌∙◌, ap, subst, arith}
-use Rattle.std.proofs.lemmas.List.{length-map}
 use Rattle.rcv_points.specs.Follow.{net_in}
 use Rattle.rcv_checkpoint.specs.Stack.{held}
-use Rattle.rcv_ledger.specs.Ledger.{LedgerView, log_at, AreCarried}
+use Rattle.rcv_ledger.specs.Logs.{log_at}
+use Rattle.rcv_ledger.specs.Ledger.{LedgerView, AreCarried}
 use Rattle.rcv_ledger.proofs.Shortening.{start, in_logs, fewer, less, at_end, stack_is, stack_rewound}
 use Rattle.rcv_ledger.proofs.ledger.Ledger.cut_role.Goals as goal
 
@@ -14,8 +14,7 @@ pub made-requires : goal.made-requires
 made-requires c =
     let lt = in_logs (net_in c.args.points.now) c.args.self.now c.loop-self.self c.args.role c.args.count c.loop-self.invariant c.requires.role in
     let n = ap (λ (l : LedgerView). length l.logs) c.self.view_is in
-    let m = length-map c.self.inside.logs.items (λ log. log.items) in
-    omega (arith, lt, n, m)
+    omega (arith, lt, n)
 
 pub drop_last-requires-clause-carried : goal.drop_last-requires-clause-carried
 drop_last-requires-clause-carried c = c.loop-self.invariant.carried
@@ -40,24 +39,22 @@ pub loop-self-preserved : goal.loop-self-preserved
 loop-self-preserved c =
     let size = c.made.ensures ∙ ap (λ (l : LedgerView). length (log_at l.logs c.args.role)) c.self.view_is in
     let more = c.loop-self-test.true in
-    less (net_in c.args.points.now) c.args.self.now c.loop-self.self c.drop_last.new.self c.args.role c.args.count c.loop-self.invariant c.requires.role (omega (arith, size, more)) c.drop_last.ensures.carried c.drop_last.ensures.logs c.drop_last.ensures.stacks c.drop_last.ensures.room
+    less (net_in c.args.points.now) c.args.self.now c.loop-self.self c.drop_last.new.self c.args.role c.args.count c.loop-self.invariant c.requires.role (omega (arith, size, more)) c.drop_last.ensures.carried c.drop_last.ensures.logs c.drop_last.ensures.stacks c.drop_last.ensures.room c.drop_last.ensures.entries c.drop_last.ensures.most
 
 pub index_mut-requires : goal.index_mut-requires
 index_mut-requires c =
     let lt = in_logs (net_in c.args.points.now) c.args.self.now c.loop-self.self c.args.role c.args.count c.loop-self.invariant c.requires.role in
     let n = ap (λ (l : LedgerView). length l.logs) c.self-2.view_is in
-    let m = length-map c.self-2.inside.logs.items (λ log. log.items) in
     let same = c.self-2.invariant.same in
     let ok = c.self-2.inside.stacks.ok.0 in
-    omega (arith, lt, n, m, same, ok)
+    omega (arith, lt, n, same, ok)
 
 pub rewind-requires : goal.rewind-requires
 rewind-requires c =
     let lt = in_logs (net_in c.args.points.now) c.args.self.now c.loop-self.self c.args.role c.args.count c.loop-self.invariant c.requires.role in
     let n = ap (λ (l : LedgerView). length l.logs) c.self-2.view_is in
-    let m = length-map c.self-2.inside.logs.items (λ log. log.items) in
     let same = c.self-2.invariant.same in
-    let is = stack_is c.self-2.inside.stacks.items c.args.self.now.stacks c.args.role c.index_mut.result.now (omega (arith, lt, n, m, same)) (ap (λ (l : LedgerView). l.stacks) c.self-2.view_is ∙ c.loop-self.invariant.stacks) c.index_mut.ensures.value in
+    let is = stack_is c.self-2.inside.stacks.items c.args.self.now.stacks c.args.role c.index_mut.result.now (omega (arith, lt, n, same)) (ap (λ (l : LedgerView). l.stacks) c.self-2.view_is ∙ c.loop-self.invariant.stacks) c.index_mut.ensures.value in
     let saved = c.requires.saved in
     omega (arith, ap held is, saved)
 
@@ -75,6 +72,11 @@ pub returns-clause-stacks : goal.returns-clause-stacks
 returns-clause-stacks c =
     let lt = in_logs (net_in c.args.points.now) c.args.self.now c.loop-self.self c.args.role c.args.count c.loop-self.invariant c.requires.role in
     let n = ap (λ (l : LedgerView). length l.logs) c.self-2.view_is in
-    let m = length-map c.self-2.inside.logs.items (λ log. log.items) in
     let same = c.self-2.invariant.same in
-    stack_rewound c.self-2.inside.stacks.items c.args.self.now.stacks c.args.role c.args.count c.index_mut.result.now c.rewind.new.self (omega (arith, lt, n, m, same)) (ap (λ (l : LedgerView). l.stacks) c.self-2.view_is ∙ c.loop-self.invariant.stacks) c.index_mut.ensures.value c.rewind.ensures
+    stack_rewound c.self-2.inside.stacks.items c.args.self.now.stacks c.args.role c.args.count c.index_mut.result.now c.rewind.new.self (omega (arith, lt, n, same)) (ap (λ (l : LedgerView). l.stacks) c.self-2.view_is ∙ c.loop-self.invariant.stacks) c.index_mut.ensures.value c.rewind.ensures
+
+pub returns-clause-entries : goal.returns-clause-entries
+returns-clause-entries c = ap (λ (l : LedgerView). l.entries) c.self-2.view_is ∙ c.loop-self.invariant.entries
+
+pub returns-clause-most : goal.returns-clause-most
+returns-clause-most c = ap (λ (l : LedgerView). l.most) c.self-2.view_is ∙ c.loop-self.invariant.room_in_all

@@ -1,6 +1,6 @@
 use Rattle.std.proofs.Common.{length}
 use Rattle.rcv_points.specs.Follow.{net_in}
-use Rattle.rcv_ledger.specs.Ledger.{log_at}
+use Rattle.rcv_ledger.specs.Logs.{log_at}
 use Rattle.rcv_ledger.proofs.Shortening.{IsBetween}
 use Rattle.rcv_ledger.proofs.ledger.Ledger.cut_role.Given as goal
 

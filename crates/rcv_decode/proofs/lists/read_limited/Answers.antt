@@ -1,0 +1,41 @@
+-- Each value names a role above those before, or the list is none of a journal's.
+use Rattle.std.proofs.Common.{◌+◌, ◌<◌, ◌≤◌, map, sym, subst, arith}
+use Rattle.std.proofs.lemmas.List.{length-map}
+use Rattle.serde_json.specs.View.{view}
+use Rattle.rcv_form.specs.Journal.{bare}
+use Rattle.rcv_decode.specs.Parts.{AreFirstLimited, SaysLimited}
+use Rattle.rcv_decode.proofs.Firsts.{all_limited, falls, more_limited, no_role}
+use Rattle.rcv_decode.proofs.Items.{viewed_at}
+use Rattle.rcv_decode.proofs.lists.read_limited.Goals as goal
+
+pub returns-in_default-role-clause-shape : goal.returns-in_default-role-clause-shape
+returns-in_default-role-clause-shape c = λ shape limited says.
+    let setup = bare c.args.protocol.now in
+    let here = viewed_at c.in-Some.parts.now c.loop-part.part-index c.part-item.result (omega (arith, c.loop-part-test.true)) c.part-item.is in
+    no_role setup (map view c.in-Some.parts.now) c.loop-part.part-index c.loop-part.least c.loop-part.found.items (view c.part-item.result) here c.loop-part.invariant
+    c.in_default-role.ensures.none limited (subst (λ d. SaysLimited setup d limited) c.in-Some.ensures.some says)
+
+pub returns-then-role-least-clause-shape : goal.returns-then-role-least-clause-shape
+returns-then-role-least-clause-shape c = λ shape limited says.
+    let setup = bare c.args.protocol.now in
+    let here = viewed_at c.in-Some.parts.now c.loop-part.part-index c.part-item.result (omega (arith, c.loop-part-test.true)) c.part-item.is in
+    falls setup (map view c.in-Some.parts.now) c.loop-part.part-index c.loop-part.least c.loop-part.found.items (view c.part-item.result) c.in-Some-role.role c.requires.differ here
+    (subst (λ r. r < c.loop-part.least) c.role-in-loop-part.view_is c.if-role-least.true) c.in-Some-role.ensures.declared c.in-Some-role.ensures.some c.loop-part.invariant
+    limited (subst (λ d. SaysLimited setup d limited) c.in-Some.ensures.some says)
+
+pub loop-part-preserved : goal.loop-part-preserved
+loop-part-preserved c =
+    let setup = bare c.args.protocol.now in
+    let parts = map view c.in-Some.parts.now in
+    let here = viewed_at c.in-Some.parts.now c.loop-part.part-index c.part-item.result (omega (arith, c.loop-part-test.true)) c.part-item.is in
+    subst (λ r. AreFirstLimited setup parts (c.loop-part.part-index + 1) (r + 1) c.push.new.self.items) (sym c.role-in-loop-part-2.view_is)
+    (subst (λ items. AreFirstLimited setup parts (c.loop-part.part-index + 1) (c.in-Some-role.role + 1) items) (sym c.in_ok-push.ensures.items)
+    (more_limited setup parts c.loop-part.part-index c.loop-part.least c.loop-part.found.items (view c.part-item.result) c.in-Some-role.role c.requires.differ here
+    (subst (λ r. c.loop-part.least ≤ r) c.role-in-loop-part.view_is c.if-role-least.false) c.in-Some-role.ensures.declared c.in-Some-role.ensures.some c.loop-part.invariant))
+
+pub returns-clause-ok : goal.returns-clause-ok
+returns-clause-ok c =
+    let setup = bare c.args.protocol.now in
+    let parts = map view c.in-Some.parts.now in
+    subst (λ d. SaysLimited setup d c.loop-part.found.items) (sym c.in-Some.ensures.some)
+    (all_limited setup parts c.loop-part.part-index c.loop-part.least c.loop-part.found.items (omega (arith, c.loop-part-test.false, length-map c.in-Some.parts.now view)) c.loop-part.invariant)

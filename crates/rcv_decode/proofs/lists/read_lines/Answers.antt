@@ -1,0 +1,31 @@
+-- Each value says the line of its role, or the list is none of a journal's.
+use Rattle.std.proofs.Common.{◌+◌, ◌∙◌, map, length, ap, sym, subst, arith}
+use Rattle.serde_json.specs.View.{view}
+use Rattle.rcv_form.specs.Journal.{bare}
+use Rattle.rcv_form.specs.Json.{line_data}
+use Rattle.rcv_decode.specs.Parts.{AreFirstLines, SaysLines}
+use Rattle.rcv_decode.proofs.Firsts.{each_is_line, more_lines}
+use Rattle.rcv_decode.proofs.Items.{same_length, viewed_at}
+use Rattle.std.proofs.lemmas.List.{length-map}
+use Rattle.rcv_decode.proofs.lists.read_lines.Goals as goal
+
+pub returns-then-parts-as_slice-clause-shape : goal.returns-then-parts-as_slice-clause-shape
+returns-then-parts-as_slice-clause-shape c = λ shape lines says.
+    let setup = bare c.args.protocol.now in
+    c.if-parts-as_slice.true
+    (same_length c.in-Some.parts.now (map (line_data setup) lines) (sym c.in-Some.ensures.some ∙ says.is) ∙ length-map lines (line_data setup) ∙ says.all ∙ ap length (sym c.as_slice.ensures))
+
+pub returns-in_default-read_line-clause-shape : goal.returns-in_default-read_line-clause-shape
+returns-in_default-read_line-clause-shape c = λ shape lines says.
+    let setup = bare c.args.protocol.now in
+    let here = viewed_at c.in-Some.parts.now c.loop-place.place c.index-parts-place.result (omega (arith, c.loop-place-test.true)) c.index-parts-place.is in
+    each_is_line setup (map view c.in-Some.parts.now) c.loop-place.place (view c.index-parts-place.result) here c.in_default-read_line.ensures.none lines
+    (subst (λ d. SaysLines setup d lines) c.in-Some.ensures.some says)
+
+pub loop-place-preserved : goal.loop-place-preserved
+loop-place-preserved c =
+    let setup = bare c.args.protocol.now in
+    let parts = map view c.in-Some.parts.now in
+    let here = viewed_at c.in-Some.parts.now c.loop-place.place c.index-parts-place.result (omega (arith, c.loop-place-test.true)) c.index-parts-place.is in
+    subst (λ items. AreFirstLines setup parts (c.loop-place.place + 1) items) (sym c.in_ok-push.ensures.items)
+    (more_lines setup parts c.loop-place.place c.loop-place.found.items (view c.index-parts-place.result) c.in-Some-read_line.line here c.in-Some-read_line.ensures.some c.loop-place.invariant)

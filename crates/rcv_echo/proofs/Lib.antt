@@ -1,0 +1,3 @@
+mod Examples
+pub mod ReadBack
+pub mod SmallNumbers

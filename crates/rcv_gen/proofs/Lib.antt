@@ -1,0 +1,3 @@
+mod Examples
+pub mod Lengths
+pub mod Lists

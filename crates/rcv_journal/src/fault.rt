@@ -1,0 +1,32 @@
+// Why a journal's text wasn't written.
+
+ghost use Rattle.std.specs.Prelude.{◌≡◌};
+ghost use Rattle.rcv_journal.specs.declared.fault.TextError.TheVariants as errors;
+
+use rcv_io::WriteFault;
+use std::alloc::AllocError;
+
+/// Why the text of a journal wasn't written whole.
+#[derive(Clone, Copy, Debug, PartialEq, Eq)]
+pub enum TextError {
+    /// A call of the sink failed, and its count of faults rose.
+    WriteFault,
+    /// No memory was left, and nothing was written.
+    Memory,
+}
+
+impl From<WriteFault> for TextError {
+    ghost from_gives = { λ _ e. e ≡ errors.WriteFault };
+
+    fn from(_: WriteFault) -> TextError {
+        TextError::WriteFault
+    }
+}
+
+impl From<AllocError> for TextError {
+    ghost from_gives = { λ _ e. e ≡ errors.Memory };
+
+    fn from(_: AllocError) -> TextError {
+        TextError::Memory
+    }
+}

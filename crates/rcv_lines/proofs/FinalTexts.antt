@@ -1,0 +1,193 @@
+-- The text of a session that came to its end is read as its entries, its lines of roles and those at the limit.
+use Rattle.std.proofs.Common.{◌≡◌, ◌∙◌, ◌<◌, ◌≤◌, ◌^◌, ℕ, zero, suc, Bool, true, false, cond, List, [], ◌∷◌, ◌++◌, All, Some, map, flat_map, slice_get, slice_index, get_or, refl, sym, ap, ap₂, subst, ⊎_elim, arith, append-nil, codes}
+use Rattle.std.specs.List.{list_all}
+use Rattle.std.proofs.lemmas.Option.{none-some, same_Some, slice_get-get_or, slice_get_within}
+use Rattle.std.proofs.lemmas.Grind.{flat_map-append}
+use Rattle.std.proofs.lemmas.List.Elements.{All-cons, All-head, All-tail}
+use Rattle.rcv_model.proofs.Located.{item}
+use Rattle.rcv_model.specs.Act.{IsDone}
+use Rattle.rcv_model.specs.Journal.{Rules, State, reading}
+use Rattle.rcv_model.specs.Final.{AreDone, HasOneAtLimit}
+use Rattle.rcv_model.specs.Numbers.{IsBounded}
+use Rattle.rcv_model.proofs.Choosing.{chosen_in}
+use Rattle.rcv_model.proofs.Finals.{done_or_limited}
+use Rattle.rcv_model.proofs.Forms.{proper}
+use Rattle.rcv_model.proofs.Numbers.{bounded}
+use Rattle.rcv_session.specs.Session.{SessionView, text_of, roles_of, net_for, lines_of, rules_of}
+use Rattle.rcv_core.proofs.Ranges.{ranges}
+use Rattle.rcv_journal.specs.declared.line.RoleLine.{RoleLine}
+use Rattle.rcv_journal.specs.declared.line.RoleWord.{RoleWord}
+use Rattle.rcv_journal.specs.declared.line.RoleWord.TheVariants.{Done, Limit, Waits}
+use Rattle.rcv_journal.specs.JournalText.{entry_line, role_line, is_done, is_limit, limit_text, last_line, name_of}
+use Rattle.rcv_journal.specs.Lines.{IsWordOf, AreLinesOf}
+use Rattle.rcv_journal.proofs.OneText.{completed_is_written}
+use Rattle.rcv_form.specs.Journal.{JournalView, bare}
+use Rattle.rcv_form.specs.Form.{IsFormed, Spells, end_line, journal_lines}
+use Rattle.rcv_lines.specs.FinalTexts.{limited_in, FinalTextsAreReadBack}
+use Rattle.rcv_lines.proofs.FinalEntries.{formed}
+use Rattle.rcv_lines.proofs.OneJournal.{lines_spell}
+use Rattle.rcv_lines.proofs.Order.{Ordered, ordered}
+use Rattle.rcv_lines.proofs.Accepting.{all_end}
+
+-- ---- the roles at the limit, in order
+
+-- each is at least this, and they ascend
+abbrev Ascend : ℕ → List ℕ → Type 0
+Ascend n [] = Unit {0}
+Ascend n (q ∷ qs) = (n ≤ q) × Ascend (suc q) qs
+
+ascend_weaker : (m n : ℕ) (qs : List ℕ) → m ≤ n → Ascend n qs → Ascend m qs
+ascend_weaker m n [] le are = tt
+ascend_weaker m n (q ∷ qs) le are = let here = are.0 in (omega (arith, le, here), are.1)
+
+limited_ascend : (n : ℕ) (lines : List RoleLine) → Ordered n lines → Ascend n (limited_in lines)
+limited_ascend n [] are = tt
+limited_ascend n (line ∷ lines) are = go (is_limit line.word) (limited_ascend (suc n) lines are.1)
+  where
+    go : (b : Bool) → Ascend (suc n) (limited_in lines) → Ascend n (cond b (line.role ∷ limited_in lines) (limited_in lines))
+    go true behind = let same = are.0 in (omega (arith, same), ascend_weaker (suc line.role) (suc n) (limited_in lines) (omega (arith, same)) behind)
+    go false behind = ascend_weaker n (suc n) (limited_in lines) (omega arith) behind
+
+steps_up : (n : ℕ) (qs : List ℕ) → Ascend n qs → (k a b : ℕ) → slice_get qs k ≡ Some a → slice_get qs (suc k) ≡ Some b → a < b
+steps_up n [] are k a b at next = absurd (none-some a at)
+steps_up n (q ∷ []) are zero a b at next = absurd (none-some b next)
+steps_up n (q ∷ p ∷ qs) are zero a b at next =
+    let first : q ≡ a = same_Some q a at in
+    let second : p ≡ b = same_Some p b next in
+    let less = are.1.0 in
+    omega (arith, first, second, less)
+steps_up n (q ∷ qs) are (suc k) a b at next = steps_up (suc q) qs are.1 k a b at next
+
+limited_declared : (m : ℕ) (lines : List RoleLine) → All (λ line. line.role < m) lines → All (λ q. q < m) (limited_in lines)
+limited_declared m [] all = λ k d lt. absurd (omega (arith, lt))
+limited_declared m (line ∷ lines) all =
+    go (is_limit line.word) (limited_declared m lines (All-tail (λ (x : RoleLine). x.role < m) line lines all))
+  where
+    go : (b : Bool) → All (λ q. q < m) (limited_in lines) → All (λ q. q < m) (cond b (line.role ∷ limited_in lines) (limited_in lines))
+    go true behind = All-cons (λ q. q < m) line.role (limited_in lines) (All-head (λ (x : RoleLine). x.role < m) line lines all) behind
+    go false behind = behind
+
+-- ---- the last line
+
+none_limited : (lines : List RoleLine) → ((q : ℕ) (line : RoleLine) → slice_get lines q ≡ Some line → is_limit line.word ≡ false) → limited_in lines ≡ []
+none_limited [] none = refl
+none_limited (line ∷ lines) none =
+    ap (λ b. cond b (line.role ∷ limited_in lines) (limited_in lines)) (none 0 line refl) ∙ none_limited lines (λ q x at. none (suc q) x at)
+
+some_limited : (lines : List RoleLine) (q : ℕ) (line : RoleLine) → slice_get lines q ≡ Some line → is_limit line.word ≡ true → limited_in lines ≡ [] → ⊥
+some_limited [] q line at limit empty = absurd (none-some line at)
+some_limited (x ∷ lines) zero line at limit empty =
+    let here : is_limit x.word ≡ true = ap (λ (y : RoleLine). is_limit y.word) (same_Some x line at) ∙ limit in
+    let some : x.role ∷ limited_in lines ≡ [] = sym (ap (λ b. cond b (x.role ∷ limited_in lines) (limited_in lines)) here) ∙ empty in
+    cc
+some_limited (x ∷ lines) (suc q) line at limit empty =
+    go (is_limit x.word) (λ none. some_limited lines q line at limit none) empty
+  where
+    go : (b : Bool) → (limited_in lines ≡ [] → ⊥) → cond b (x.role ∷ limited_in lines) (limited_in lines) ≡ [] → ⊥
+    go true some none = cc
+    go false some none = some none
+
+limit_texts : (setup : SessionView) (lines : List RoleLine) → flat_map (limit_text setup) lines ≡ flat_map (λ q. codes " " ++ name_of setup q) (limited_in lines)
+limit_texts setup [] = refl
+limit_texts setup (line ∷ lines) = go (is_limit line.word) (limit_texts setup lines)
+  where
+    go : (b : Bool) → flat_map (limit_text setup) lines ≡ flat_map (λ q. codes " " ++ name_of setup q) (limited_in lines) → cond b (codes " " ++ name_of setup line.role) [] ++ flat_map (limit_text setup) lines ≡ flat_map (λ q. codes " " ++ name_of setup q) (cond b (line.role ∷ limited_in lines) (limited_in lines))
+    go true rest = ap (λ xs. codes " " ++ name_of setup line.role ++ xs) rest
+    go false rest = rest
+
+limited_end : (setup : SessionView) (qs : List ℕ) → (qs ≡ [] → ⊥) → end_line setup qs ≡ codes "limited" ++ flat_map (λ q. codes " " ++ name_of setup q) qs ++ codes "\n"
+limited_end setup [] some = absurd (some refl)
+limited_end setup (q ∷ qs) some = refl
+
+done_word : (rules : Rules) (s : State) (r : ℕ) (word : RoleWord) → IsDone rules.net r s.kept → IsWordOf rules s r word → is_limit word ≡ false
+done_word rules s r Done done is = refl
+done_word rules s r Limit done is = absurd (is.0 done)
+done_word rules s r Waits done is = absurd (is.0 done)
+
+limit_word : (rules : Rules) (s : State) (r : ℕ) (word : RoleWord) → (IsDone rules.net r s.kept → ⊥) → slice_index s.raw r ≡ rules.limit → IsWordOf rules s r word → is_limit word ≡ true
+limit_word rules s r Done not_done at is = absurd (not_done is)
+limit_word rules s r Limit not_done at is = refl
+limit_word rules s r Waits not_done at is = absurd (is.1 at)
+
+module _ (session : SessionView) (s : State) (lines : List RoleLine) (are : AreLinesOf (rules_of session) s lines) where
+  done_end : AreDone (rules_of session) s → end_line (bare session.protocol) (limited_in lines) ≡ last_line session lines
+  done_end done =
+      ap (end_line (bare session.protocol)) (none_limited lines (λ q line at. done_word (rules_of session) s q line.word (done q (subst (λ n. q < n) are.all (slice_get_within lines q line at))) (are.each q line at).word)) ∙ sym ((completed_is_written session s lines are).1 done)
+
+  limit_end : HasOneAtLimit (rules_of session) s → end_line (bare session.protocol) (limited_in lines) ≡ last_line session lines
+  limit_end one = go (list_all (λ line. is_done line.word) lines) refl
+    where
+      some : limited_in lines ≡ [] → ⊥
+      some empty =
+          let found = item lines one.0 (subst (λ n. one.0 < n) (sym are.all) one.1) in
+          some_limited lines one.0 found.0 found.1 (limit_word (rules_of session) s one.0 found.0.word one.2 one.3 (are.each one.0 found.0 found.1).word) empty
+
+      go : (b : Bool) → list_all (λ (line : RoleLine). is_done line.word) lines ≡ b → end_line (bare session.protocol) (limited_in lines) ≡ last_line session lines
+      go true all = absurd (one.2 ((completed_is_written session s lines are).0 (ap (λ b. cond b (codes "completed\n") (codes "limited" ++ flat_map (limit_text session) lines ++ codes "\n")) all) one.0 one.1))
+      go false all =
+          limited_end (bare session.protocol) (limited_in lines) some
+          ∙ ap (λ xs. codes "limited" ++ xs ++ codes "\n") (sym (limit_texts session lines))
+          ∙ sym (ap (λ b. cond b (codes "completed\n") (codes "limited" ++ flat_map (limit_text session) lines ++ codes "\n")) all)
+
+-- ---- the law
+
+joined : {A : Type 0} (f : A → List ℕ) (xs : List A) → flat_map (λ (line : List ℕ). line) (map f xs) ≡ flat_map f xs
+joined f [] = refl
+joined f (x ∷ xs) = ap (λ ys. f x ++ ys) (joined f xs)
+
+pub final_texts : FinalTextsAreReadBack
+final_texts session entries bytes ended text =
+    record { lines = lines; are_lines = text.are_lines; spells = subst (λ xs. Spells plain_session xs journal) (sym same) (lines_spell plain_session journal (all_end session.protocol ended.protocol) is_formed) }
+  where
+    plain_session : SessionView
+    plain_session = bare session.protocol
+
+    lines : List RoleLine
+    lines = text.lines
+
+    s : State
+    s = reading (rules_of session) entries
+
+    journal : JournalView
+    journal = record { entries = entries; roles = lines; limited = limited_in lines }
+
+    order : Ordered 0 lines
+    order = ordered 0 lines (λ q line at. (text.are_lines.each q line at).role ∙ omega arith)
+
+    numbers : IsBounded (rules_of session) entries s
+    numbers = bounded (rules_of session) entries ended.legal
+
+    last : end_line plain_session (limited_in lines) ≡ last_line session lines
+    last = ⊎_elim (λ done. done_end session s lines text.are_lines done) (λ one. limit_end session s lines text.are_lines one)
+        (done_or_limited (rules_of session) entries (proper (text_of session) (roles_of session) ended.protocol.form) ended.protocol.accepted (λ r events attempt zs some. chosen_in (net_for session) (lines_of session) r events attempt zs some) (let room = (ranges session ended.planned).room_first in omega (arith, room)) ended.legal ended.final)
+
+    fit : All (λ (line : RoleLine). (line.kept < 2 ^ 32) × (line.raw < 2 ^ 32)) lines
+    fit k d lt =
+        let line = text.are_lines.each k (get_or lines k d) (slice_get-get_or lines k d lt) in
+        let kept_is = line.kept in
+        let raw_is = line.raw in
+        let kept_few = numbers.kept k in
+        let raw_few = numbers.raw k in
+        let most = (ranges session ended.planned).limit_last in
+        (omega (arith, kept_is, kept_few, raw_few, most), omega (arith, raw_is, raw_few, most))
+
+    declared : All (λ (line : RoleLine). line.role < roles_of session) lines
+    declared k d lt =
+        let line = text.are_lines.each k (get_or lines k d) (slice_get-get_or lines k d lt) in
+        subst (λ r. r < roles_of session) (sym line.role) (subst (λ n. k < n) text.are_lines.all lt)
+
+    is_formed : IsFormed plain_session journal
+    is_formed =
+        record {
+          entries = formed session ended.protocol ended.planned entries ended.legal ended.values;
+          all = text.are_lines.all;
+          in_order = λ q line at. (text.are_lines.each q line at).role;
+          fit = fit;
+          declared = limited_declared (roles_of session) lines declared;
+          ascending = λ k a b at next. steps_up 0 (limited_in lines) (limited_ascend 0 lines order) k a b at (subst (λ n. slice_get (limited_in lines) n ≡ Some b) (omega arith) next);
+        }
+
+    same : bytes ≡ flat_map (λ (line : List ℕ). line) (journal_lines plain_session journal)
+    same = text.is_text ∙ sym (
+        flat_map-append (λ (line : List ℕ). line) (map (entry_line plain_session) entries ++ map (role_line plain_session) lines) (end_line plain_session (limited_in lines) ∷ [])
+        ∙ ap₂ (λ xs ys. xs ++ ys) (flat_map-append (λ (line : List ℕ). line) (map (entry_line plain_session) entries) (map (role_line plain_session) lines) ∙ ap₂ (λ xs ys. xs ++ ys) (joined (entry_line plain_session) entries) (joined (role_line plain_session) lines)) (append-nil (end_line plain_session (limited_in lines)) ∙ last))

@@ -1,0 +1,11 @@
+pub mod Cutting
+pub mod Events
+pub mod Fields
+pub mod FinalTexts
+pub mod Laws
+pub mod Line
+pub mod Named
+pub mod Reading
+pub mod ReadingLaws
+pub mod Said
+pub mod SmallScripts

@@ -1,0 +1,103 @@
+// A gate that counts: with one worker it is passed once for each entry.
+
+use crate::inputs::{PING, setup_of};
+use rcv_core::book::Book;
+use rcv_super::session::{Session, Turn};
+use rcv_top::{Gate, NoGate};
+use rcv_tree::entry::Entry;
+use rcv_tree::role::RoleId;
+use std::alloc::AllocError;
+use std::sync::atomic::{AtomicU64, Ordering};
+use std::test::Fail;
+use std::thread::Threads;
+
+// How many turns a session may take.
+const TURNS: u32 = 1000;
+
+// Counts how often it is passed.
+#[derive(Drop)]
+struct Counter {
+    steps: AtomicU64,
+    recoveries: AtomicU64,
+}
+
+impl Counter {
+    fn new() -> Counter {
+        Counter {
+            steps: AtomicU64::new(0),
+            recoveries: AtomicU64::new(0),
+        }
+    }
+}
+
+impl Gate for Counter {
+    fn enter(&self, _role: RoleId, _count: u32) {
+        self.steps.fetch_add(1, Ordering::SeqCst);
+    }
+
+    fn recovering(&self, _role: RoleId) {
+        self.recoveries.fetch_add(1, Ordering::SeqCst);
+    }
+}
+
+// How many of a book's entries behind the first so many are recoveries, and how many are not.
+fn counts(book: &Book<'_>, before: usize) -> (usize, usize) {
+    let recoveries = book
+        .entries()
+        .iter()
+        .skip(before)
+        .filter(|entry| matches!(entry, Entry::Recover { .. }))
+        .count();
+    let all = book.entries().iter().skip(before).count();
+    (recoveries, all.saturating_sub(recoveries))
+}
+
+// Turns a session of Ping to its end with one worker, behind a first turn of several or of none, and says whether it
+// completes with recoveries and each entry passed the gate once.
+fn passes_once<R: AllocGlobal + Threads + Sync>(rt: &R, several: bool) -> Result<bool, AllocError> {
+    let alloc = rt.alloc();
+    let Some(setup) = setup_of(alloc, PING)? else {
+        return Ok(false);
+    };
+    let mut session = Session::new(alloc, &setup)?;
+    if several && session.turn(rt, alloc, 2, &NoGate) != Ok(Turn::More) {
+        return Ok(false);
+    }
+    let before = session.book().len();
+    let gate = Counter::new();
+    let completed = completes(rt, &mut session, &gate);
+    let (recoveries, steps) = counts(session.book(), before);
+    Ok(
+        completed
+            && recoveries > 0
+            && gate.recoveries.load(Ordering::SeqCst) == recoveries as u64
+            && gate.steps.load(Ordering::SeqCst) == steps as u64,
+    )
+}
+
+// Turns a session to its end with one worker, and says whether it completes.
+fn completes<R: AllocGlobal + Threads + Sync>(
+    rt: &R,
+    session: &mut Session<'_>,
+    gate: &Counter,
+) -> bool {
+    for _ in 0..TURNS {
+        match session.turn(rt, rt.alloc(), 1, gate) {
+            Ok(Turn::More) => {}
+            end => return end == Ok(Turn::Completed),
+        }
+    }
+    false
+}
+
+#[test]
+fn one_worker_passes_the_gate_once_for_each_entry(rt: HostRuntime) -> Result<(), Fail> {
+    assert!(rt; passes_once(&rt, false)?);
+    Ok(())
+}
+
+#[test]
+fn one_worker_does_behind_several(rt: HostRuntime) -> Result<(), Fail> {
+    assert!(rt; passes_once(&rt, true)?);
+    Ok(())
+}

@@ -1,0 +1,28 @@
+-- What the turns of a session come to.
+use Rattle.std.specs.Prelude.{◌≡◌, ℕ, true, false, List, Result, Ok, Err}
+use Rattle.rcv_tree.specs.declared.entry.Entry.{Entry}
+use Rattle.rcv_core.specs.Book.{BookView, with_more, IsAtEnd, EndsAlone}
+use Rattle.rcv_lanes.specs.Home.{HasGrown}
+use Rattle.rcv_super.specs.Super.{SuperView}
+use Rattle.rcv_super.specs.declared.session.SessionError.{SessionError}
+use Rattle.rcv_super.specs.declared.session.SessionError.TheVariants.{Closed, Memory}
+
+-- So many workers brought a session to its end: entries were added to its book, and nothing is left to do. One worker
+-- added those that one thread does.
+pub record HasFinished (workers : ℕ) (old new : BookView) : Type 0 where
+  pub more : List Entry
+  pub added : new ≡ with_more old more
+  pub end : IsAtEnd new
+  pub alone : workers ≡ 1 → EndsAlone old new
+
+-- An open session stays open, and has come to its end as one thread comes there.
+pub record HasFinishedAlone (old new : SuperView) : Type 0 where
+  pub was_open : old.closed ≡ false
+  pub is_open : new.closed ≡ false
+  pub finished : HasFinished 1 old.book new.book
+
+-- What a run to the end did: an open session came to its end and stays open, or wanted memory and is closed from then on.
+abbrev pub Finished : ℕ → SuperView → SuperView → Result (Unit {0}) SessionError → Type 0
+Finished workers old new (Ok done) = (old.closed ≡ false) × (new.closed ≡ false) × HasFinished workers old.book new.book
+Finished workers old new (Err Closed) = (old.closed ≡ true) × (new ≡ old)
+Finished workers old new (Err Memory) = (old.closed ≡ false) × (new.closed ≡ true) × HasGrown old.book new.book
