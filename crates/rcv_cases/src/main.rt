@@ -3,7 +3,6 @@
 
 mod calls;
 mod case;
-mod kept;
 mod piece;
 mod trial;
 

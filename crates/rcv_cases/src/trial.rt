@@ -1,8 +1,8 @@
 // A case put through the top call over memory.
 
 use crate::case::{Case, read_case};
-use crate::kept::keep_the_same;
 use rcv_io::{MemSink, MemSource};
+use rcv_kept::keep_the_same;
 use rcv_top::{NoGate, recover};
 use std::alloc::{AllocError, Global};
 use std::fs::Files;

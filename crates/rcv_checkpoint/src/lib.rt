@@ -1,6 +1,7 @@
 // Stacks of a role's states: the state after each count of its events, for going back.
 #![tactic(auto)]
 
+pub mod changed;
 mod rows;
 pub mod stack;
 pub mod state;

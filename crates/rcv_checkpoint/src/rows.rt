@@ -4,7 +4,9 @@ ghost use Rattle.std.specs.Prelude.{◌≡◌, ◌+◌, ◌*◌, ◌<◌, ◌≤
 ghost use Rattle.std.specs.Prelude.{vec_capacity, IfOk, IsOk, IsTrue, OnOk};
 ghost use Rattle.rcv_checkpoint.specs.Rows.{patched, states_of, state_in, AreRows, HasRoom, HasRoomForOne, KeepsRoom};
 ghost use Rattle.rcv_checkpoint.specs.Rows.{AreSame, IsNoted, changes_before, lists_of};
+ghost use Rattle.rcv_checkpoint.specs.Changed.{IsChange, IsOneChange};
 
+use crate::changed::Changed;
 use crate::state::State;
 use rcv_tree::variables::Vars;
 use std::alloc::{AllocError, Global};
@@ -70,30 +72,33 @@ impl Rows {
         Ok(())
     }
 
-    /// Adds the state after one event more, where `last` is the one before it, and becomes it.
+    /// Adds the state after one event more, at this point and with these variables, where `last` is the one before it,
+    /// and becomes it. `change` says what the event changed of the variables.
     #[inline(always)]
-    pub fn push(&mut self, last: &mut State, state: &State)
+    pub fn push(&mut self, last: &mut State, k: u16, vars: &Vars, change: Changed)
         requires rows { AreRows (lists_of self.old) }
         requires last { last.old ≡ state_in (lists_of self.old) (length self.old.points.items) }
+        requires change { IsChange change last.old.vars vars.now }
         requires room { HasRoomForOne self.old }
         ensures rows { AreRows (lists_of self.new) }
-        ensures states { states_of (lists_of self.new) ≡ states_of (lists_of self.old) ++ state.now ∷ [] }
+        ensures states { states_of (lists_of self.new) ≡ states_of (lists_of self.old) ++ last.new ∷ [] }
         ensures count { length self.new.points.items ≡ length self.old.points.items + 1 }
-        ensures last { state.now ≡ state_in (lists_of self.new) (length self.new.points.items) }
-        ensures becomes { last.new ≡ state.now }
+        ensures last { last.new ≡ state_in (lists_of self.new) (length self.new.points.items) }
+        ensures becomes { last.new ≡ record { k = k; vars = vars.now } }
         ensures room { KeepsRoom self.old self.new }
     {
         let changed = note(
             &mut self.places,
             &mut self.values,
             &mut last.vars,
-            &state.vars,
+            vars,
+            change,
         );
-        last.k = state.k;
-        put(&mut self.points, state.k);
+        last.k = k;
+        put(&mut self.points, k);
         put(&mut self.changed, changed);
         if self.points.len() % BLOCK == 0 {
-            put(&mut self.fulls, *state);
+            put(&mut self.fulls, *last);
             put(&mut self.starts, self.places.len());
         }
     }
@@ -158,10 +163,57 @@ pub struct Found {
     pub changes: usize,
 }
 
-// Notes the variables that differ, answers how many, and makes them the same. Most events change one or none: so it goes
-// over a quarter only where that differs.
+// Notes the variables that an event changed, answers how many, and makes them the same.
 #[inline(always)]
-fn note(places: &mut Vec<u8>, values: &mut Vec<i64>, vars: &mut Vars, to: &Vars) -> u8
+fn note(
+    places: &mut Vec<u8>,
+    values: &mut Vec<i64>,
+    vars: &mut Vars,
+    to: &Vars,
+    change: Changed,
+) -> u8
+    requires change { IsChange change vars.old to.now }
+    requires places { vec_len places.old + 16 ≤ vec_capacity places.old }
+    requires values { vec_len values.old + 16 ≤ vec_capacity values.old }
+    ensures noted { IsNoted places.old.items places.new.items values.old.items values.new.items vars.old to.now result }
+    ensures vars { vars.new ≡ to.now }
+    ensures places { vec_capacity places.old ≤ vec_capacity places.new }
+    ensures values { vec_capacity values.old ≤ vec_capacity values.new }
+{
+    match change {
+        Changed::Nothing => 0,
+        Changed::One(place) => note_one(places, values, vars, to, place),
+        Changed::Any => note_all(places, values, vars, to),
+    }
+}
+
+// Notes the one variable that an event changed, and makes it the same.
+#[inline(always)]
+fn note_one(
+    places: &mut Vec<u8>,
+    values: &mut Vec<i64>,
+    vars: &mut Vars,
+    to: &Vars,
+    place: u8,
+) -> u8
+    requires change { IsOneChange place vars.old to.now }
+    requires places { vec_len places.old + 16 ≤ vec_capacity places.old }
+    requires values { vec_len values.old + 16 ≤ vec_capacity values.old }
+    ensures noted { IsNoted places.old.items places.new.items values.old.items values.new.items vars.old to.now result }
+    ensures vars { vars.new ≡ to.now }
+    ensures places { vec_capacity places.old ≤ vec_capacity places.new }
+    ensures values { vec_capacity values.old ≤ vec_capacity values.new }
+{
+    let value = to.0[place as usize];
+    put(places, place);
+    put(values, value);
+    vars.0[place as usize] = value;
+    1
+}
+
+// Notes the variables that differ, answers how many, and makes them the same. It goes over a quarter only where that
+// differs.
+fn note_all(places: &mut Vec<u8>, values: &mut Vec<i64>, vars: &mut Vars, to: &Vars) -> u8
     requires places { vec_len places.old + 16 ≤ vec_capacity places.old }
     requires values { vec_len values.old + 16 ≤ vec_capacity values.old }
     ensures noted { IsNoted places.old.items places.new.items values.old.items values.new.items vars.old to.now result }

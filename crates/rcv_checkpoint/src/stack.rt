@@ -1,10 +1,13 @@
 // A stack of states: the state of a role after each count of its events.
 
 ghost use Rattle.std.specs.Prelude.{◌≡◌, ◌+◌, ◌*◌, ◌^◌, ◌<◌, ◌≤◌, ℕ, Some, [], ◌∷◌, ◌++◌, length, take, slice_get, IfOk, IsOk, OnOk, OnErr};
-ghost use Rattle.rcv_checkpoint.specs.Stack.{StackView, held, with_states, IsDurable};
+ghost use Rattle.rcv_checkpoint.specs.Stack.{StackView, held, with_states, IsDurable, last_vars};
+ghost use Rattle.rcv_checkpoint.specs.Changed.{IsChange};
 
+use crate::changed::Changed;
 use crate::rows::Rows;
 use crate::state::State;
+use rcv_tree::variables::Vars;
 use std::alloc::{AllocError, Global};
 use std::marker::Model;
 
@@ -45,17 +48,19 @@ impl Stack {
         })
     }
 
-    /// Adds the state after one event more, of at most 2^32 - 1. Within the room of the stack it takes no memory and
-    /// succeeds. Else it fails where memory runs out; then the stack is as before.
+    /// Adds the state after one event more, of at most 2^32 - 1: the event's point, and the variables behind it, which
+    /// differ from those before it as `change` says. Within the room of the stack it takes no memory and succeeds. Else
+    /// it fails where memory runs out; then the stack is as before.
     #[inline(always)]
-    pub fn save(&mut self, state: &State) -> Result<(), AllocError>
-        requires { held self.old + 1 < 2 ^ 32 }
-        ensures ok { OnOk result (self.new ≡ with_states self.old (self.old.states ++ state.now ∷ [])) }
+    pub fn save(&mut self, k: u16, vars: &Vars, change: Changed) -> Result<(), AllocError>
+        requires few { held self.old + 1 < 2 ^ 32 }
+        requires change { IsChange change (last_vars self.old) vars.now }
+        ensures ok { OnOk result (self.new ≡ with_states self.old (self.old.states ++ record { k = k; vars = vars.now } ∷ [])) }
         ensures err { OnErr result (self.new ≡ self.old) }
         ensures room { held self.old < self.old.room → IsOk result }
     {
         self.rows.make_room(self.room)?;
-        self.rows.push(&mut self.last, state);
+        self.rows.push(&mut self.last, k, vars, change);
         Ok(())
     }
 

@@ -3,6 +3,7 @@
 ghost use Rattle.std.specs.Prelude.{◌≡◌, ◌*◌, ◌≤◌, ℕ, length, IfOk};
 ghost use Rattle.rcv_checkpoint.specs.Stack.{held};
 
+use crate::changed::Changed;
 use crate::stack::Stack;
 use crate::state::State;
 use rcv_tree::variables::Vars;
@@ -27,7 +28,7 @@ fn saved(alloc: Global, every: u32, room: u32) -> Result<Stack, AllocError>
 {
     let mut stack = Stack::new(alloc, counted(0), every, room)?;
     for count in 0..room {
-        stack.save(&counted(count + 1))?;
+        stack.save(1, &counted(count + 1).vars, Changed::Any)?;
     }
     Ok(stack)
 }
@@ -35,9 +36,9 @@ fn saved(alloc: Global, every: u32, room: u32) -> Result<Stack, AllocError>
 #[test]
 fn of_three_states_two_are_durable(rt: HostRuntime) -> Result<(), Fail> {
     let mut stack = Stack::new(rt.alloc(), counted(0), 2, 4)?;
-    stack.save(&counted(1))?;
-    stack.save(&counted(2))?;
-    stack.save(&counted(3))?;
+    stack.save(1, &counted(1).vars, Changed::Any)?;
+    stack.save(1, &counted(2).vars, Changed::Any)?;
+    stack.save(1, &counted(3).vars, Changed::Any)?;
     assert_eq!(rt; stack.durable(), 2);
     Ok(())
 }

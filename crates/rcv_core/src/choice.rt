@@ -8,6 +8,7 @@ ghost use Rattle.rcv_core.specs.Choices.{no_choice, HasChosen, HaveChosen, HaveS
 
 use crate::setup::Setup;
 use crate::standing::Standing;
+use rcv_checkpoint::state::State;
 use rcv_ledger::ledger::Ledger;
 use rcv_tree::point::Point;
 use rcv_tree::role::{RoleId, RoleSet};
@@ -73,6 +74,6 @@ fn chosen(
     if !set.has(role) {
         return before;
     }
-    let state = ledger.top(role);
-    setup.choice(role, state, standings[role.0 as usize].attempt)
+    let State { k, vars } = ledger.top(role);
+    setup.choice(role, *k, vars, standings[role.0 as usize].attempt)
 }

@@ -16,7 +16,7 @@ use Rattle.rcv_journal.specs.declared.line.RoleLine.{RoleLine}
 use Rattle.rcv_form.specs.Form.{IsFormedEntry}
 use Rattle.rcv_form.specs.Json.{count, cuts_data, entry_data, event_items, line_data, list_of, role_data}
 use Rattle.rcv_decode.specs.declared.entry.Recovery.{Recovery}
-use Rattle.rcv_decode.specs.Parts.{AreFirstEntries, AreFirstLimited, AreFirstLines, Rise, SaysEntries, SaysEntry, SaysLimited, SaysLine, SaysLines, recovered}
+use Rattle.rcv_decode.specs.Parts.{Rise, SaysEntries, SaysEntry, SaysLimited, SaysLine, SaysLines, recovered}
 use Rattle.rcv_decode.proofs.Items.{same_length, same_list}
 use Rattle.rcv_decode.proofs.Pairs.{same_role, tail_of}
 
@@ -49,6 +49,11 @@ more_said f xs x parts n d here is so_far =
     ∙ ap (λ ds. ds ++ f x ∷ []) so_far ∙ sym (map-append f xs (x ∷ []))
 
 -- ---- entries
+
+-- The first so many values are those of the entries.
+pub record AreFirstEntries (setup : SessionView) (parts : List Data) (n : ℕ) (entries : List Entry) : Type 0 where
+  pub formed : All (IsFormedEntry setup) entries
+  pub is : take n parts ≡ map (entry_data setup) entries
 
 -- How many values an entry has.
 abbrev pub values_of : Entry → ℕ
@@ -124,6 +129,13 @@ each_is_entry setup parts n d here none entries says =
 
 -- ---- lines
 
+-- The first so many values are those of the lines of the first roles.
+pub record AreFirstLines (setup : SessionView) (parts : List Data) (n : ℕ) (lines : List RoleLine) : Type 0 where
+  pub all : length lines ≡ n
+  pub in_order : (r : ℕ) (line : RoleLine) → slice_get lines r ≡ Some line → line.role ≡ r
+  pub fit : All (λ line. (line.kept < 2 ^ 32) × (line.raw < 2 ^ 32)) lines
+  pub is : take n parts ≡ map (line_data setup) lines
+
 pub no_lines : (setup : SessionView) (parts : List Data) → AreFirstLines setup parts 0 []
 no_lines setup parts = record {
   all = refl;
@@ -175,6 +187,15 @@ each_is_line setup parts n d here none lines says =
     })
 
 -- ---- the roles at the limit
+
+-- The first so many values name roles that ascend, below the least that may come next; and whatever roles all values
+-- name, the others name those from this one on.
+pub record AreFirstLimited (setup : SessionView) (parts : List Data) (n least : ℕ) (limited : List ℕ) : Type 0 where
+  pub rise : Rise 0 limited least
+  pub declared : least ≤ roles_of setup
+  pub is : take n parts ≡ map (role_data setup) limited
+  pub rest : (rs : List ℕ) → Rise 0 rs (roles_of setup) → parts ≡ map (role_data setup) rs
+      → (drop n parts ≡ map (role_data setup) (drop n rs)) × Rise least (drop n rs) (roles_of setup)
 
 pub rise_most : (a : ℕ) (rs : List ℕ) (b : ℕ) → Rise a rs b → a ≤ b
 rise_most a [] b rise = rise

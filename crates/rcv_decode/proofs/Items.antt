@@ -1,5 +1,5 @@
 -- Lists of values, item by item.
-use Rattle.std.proofs.Common.{◌≡◌, ◌∙◌, ◌<◌, ℕ, zero, suc, List, [], ◌∷◌, map, length, refl, sym, ap, arith}
+use Rattle.std.proofs.Common.{◌≡◌, ◌∙◌, ◌<◌, ℕ, zero, suc, List, [], ◌∷◌, map, length, refl, sym, ap, subst, arith, Result, Ok, Err, IfErr}
 use Rattle.std.specs.Prelude.{IfNone, IfSome, Option, Some, None, option_and_then, option_map, slice_get, unwrap_or}
 use Rattle.std.specs.List.{slice_index_or}
 use Rattle.std.proofs.lemmas.List.{length-map}
@@ -40,6 +40,18 @@ item_at parts b k v inside is = at parts k inside ∙ ap (λ xs. slice_index_or 
     at [] k inside = absurd (omega arith)
     at (x ∷ xs) zero inside = refl
     at (x ∷ xs) (suc k) inside = at xs k (omega arith)
+
+-- What holds of an answer, where there is this one; and what holds where there is none.
+pub given : {T : Type 0} (P : T → Type 0) (o : Option T) (x : T) → o ≡ Some x → IfSome o P → P x
+given P o x is some = subst (λ a. IfSome a P) is some
+
+pub lacking : {T Q : Type 0} (o : Option T) → o ≡ None → IfNone o Q → Q
+lacking {Q = Q} o is none = subst (λ a. IfNone a Q) is none
+
+-- What holds of every error holds of an error that is handed on.
+pub refused : {T E : Type 0} (r : Result T E) (P : E → Type 0) → ((e : E) → P e) → IfErr r P
+refused (Ok x) P all = tt
+refused (Err e) P all = all e
 
 -- What follows where there is no answer.
 pub none_from : {T P Q : Type 0} (o : Option T) → (P → Q) → IfNone o P → IfNone o Q

@@ -99,24 +99,12 @@ pub record SaysEntries (setup : SessionView) (value : Data) (entries : List Entr
   pub formed : All (IsFormedEntry setup) entries
   pub is : value ≡ list_of (map (entry_data setup) entries)
 
--- The first so many values are those of the entries.
-pub record AreFirstEntries (setup : SessionView) (parts : List Data) (n : ℕ) (entries : List Entry) : Type 0 where
-  pub formed : All (IsFormedEntry setup) entries
-  pub is : take n parts ≡ map (entry_data setup) entries
-
 -- The value is the list of the lines, one for each role, in order.
 pub record SaysLines (setup : SessionView) (value : Data) (lines : List RoleLine) : Type 0 where
   pub all : length lines ≡ roles_of setup
   pub in_order : (r : ℕ) (line : RoleLine) → slice_get lines r ≡ Some line → line.role ≡ r
   pub fit : All (λ line. (line.kept < 2 ^ 32) × (line.raw < 2 ^ 32)) lines
   pub is : value ≡ list_of (map (line_data setup) lines)
-
--- The first so many values are those of the lines of the first roles.
-pub record AreFirstLines (setup : SessionView) (parts : List Data) (n : ℕ) (lines : List RoleLine) : Type 0 where
-  pub all : length lines ≡ n
-  pub in_order : (r : ℕ) (line : RoleLine) → slice_get lines r ≡ Some line → line.role ≡ r
-  pub fit : All (λ line. (line.kept < 2 ^ 32) × (line.raw < 2 ^ 32)) lines
-  pub is : take n parts ≡ map (line_data setup) lines
 
 -- Roles, ascending, from a on and below b.
 abbrev pub Rise : ℕ → List ℕ → ℕ → Type 0
@@ -127,15 +115,6 @@ Rise a (r ∷ rs) b = (a ≤ r) × Rise (r + 1) rs b
 pub record SaysLimited (setup : SessionView) (value : Data) (limited : List ℕ) : Type 0 where
   pub rise : Rise 0 limited (roles_of setup)
   pub is : value ≡ list_of (map (role_data setup) limited)
-
--- The first so many values name roles that ascend, below the least that may come next; and whatever roles all values
--- name, the others name those from this one on.
-pub record AreFirstLimited (setup : SessionView) (parts : List Data) (n least : ℕ) (limited : List ℕ) : Type 0 where
-  pub rise : Rise 0 limited least
-  pub declared : least ≤ roles_of setup
-  pub is : take n parts ≡ map (role_data setup) limited
-  pub rest : (rs : List ℕ) → Rise 0 rs (roles_of setup) → parts ≡ map (role_data setup) rs
-      → (drop n parts ≡ map (role_data setup) (drop n rs)) × Rise least (drop n rs) (roles_of setup)
 
 -- An object of three members.
 abbrev pub three_data : Data → Data → Data → Data

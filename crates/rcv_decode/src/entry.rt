@@ -49,7 +49,8 @@ fn read_recovery(
     requires few { length protocol.now.roles ≤ 8 }
     requires differ { AreDifferent protocol.now.roles }
     ensures some { IfSome result (SaysRecovery (bare protocol.now) (view failed.now) (view number.now) (view pairs.now)) }
-    ensures none { IfNone result ((r : Recovery) → SaysRecovery (bare protocol.now) (view failed.now) (view number.now) (view pairs.now) r → ⊥) }
+    ensures none { IfNone result ((r : Recovery)
+        → SaysRecovery (bare protocol.now) (view failed.now) (view number.now) (view pairs.now) r → ⊥) }
 {
     Some(Recovery {
         role: role(protocol, failed)?,
@@ -62,7 +63,8 @@ fn read_recovery(
 fn recover(accepted: &Accepted, parts: &[Value]) -> Option<Recovery>
     requires { length parts.now ≡ 4 }
     ensures some { IfSome result (λ r. SaysEntry (bare accepted.now.protocol) (list_of (map view parts.now)) (recovered r)) }
-    ensures none { IfNone result ((r : Recovery) → SaysEntry (bare accepted.now.protocol) (list_of (map view parts.now)) (recovered r) → ⊥) }
+    ensures none { IfNone result ((r : Recovery)
+        → SaysEntry (bare accepted.now.protocol) (list_of (map view parts.now)) (recovered r) → ⊥) }
 {
     if !is_text(&parts[0], b"recover") {
         return None;

@@ -62,7 +62,8 @@ pub(crate) fn role(protocol: &Protocol, value: &Value) -> Option<RoleId>
     requires { length protocol.now.roles ≤ 8 }
     ensures declared { IfSome result (λ r. r < length protocol.now.roles) }
     ensures some { IfSome result (λ r. view value.now ≡ string (slice_index_or protocol.now.roles r [])) }
-    ensures none { IfNone result ((r : ℕ) → r < length protocol.now.roles → view value.now ≡ string (slice_index_or protocol.now.roles r []) → ⊥) }
+    ensures none { IfNone result ((r : ℕ) → r < length protocol.now.roles
+        → view value.now ≡ string (slice_index_or protocol.now.roles r []) → ⊥) }
 {
     let names = protocol.roles.as_slice();
     let place = names

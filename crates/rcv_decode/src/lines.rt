@@ -35,7 +35,8 @@ fn word(value: &Value) -> Option<RoleWord>
 fn numbers(role: RoleId, kept: &Value, raw: &Value, ended: &Value) -> Option<RoleLine>
     ensures some { IfSome result (λ line. IsFormedLine role line) }
     ensures says { IfSome result (λ line. SaysNumbers line (view kept.now) (view raw.now) (view ended.now)) }
-    ensures none { IfNone result ((line : RoleLine) → IsFormedLine role line → SaysNumbers line (view kept.now) (view raw.now) (view ended.now) → ⊥) }
+    ensures none { IfNone result ((line : RoleLine) → IsFormedLine role line
+        → SaysNumbers line (view kept.now) (view raw.now) (view ended.now) → ⊥) }
 {
     Some(RoleLine {
         role,

@@ -28,17 +28,13 @@ pub(crate) fn read_entries(
     value: &Value,
 ) -> Result<Vec<Entry>, JsonError>
     ensures ok { IfOk result (λ found. SaysEntries (bare accepted.now.protocol) (view value.now) found.items) }
-    ensures shape { IfErr result (λ e. e ≡ Shape → (entries : List Entry) → SaysEntries (bare accepted.now.protocol) (view value.now) entries → ⊥) }
+    ensures shape { IfErr result (λ e. e ≡ Shape → (entries : List Entry)
+        → SaysEntries (bare accepted.now.protocol) (view value.now) entries → ⊥) }
 {
-    let Some(parts) = items(value) else {
-        return Err(JsonError::Shape);
-    };
+    let parts = items(value).ok_or(JsonError::Shape)?;
     let mut found = Vec::new(alloc);
     for part in parts {
-        let Some(entry) = read_entry(accepted, part) else {
-            return Err(JsonError::Shape);
-        };
-        found.push(entry)?;
+        found.push(read_entry(accepted, part).ok_or(JsonError::Shape)?)?;
     }
     Ok(found)
 }
@@ -53,18 +49,14 @@ pub(crate) fn read_lines(
     ensures ok { IfOk result (λ found. SaysLines (bare protocol.now) (view value.now) found.items) }
     ensures shape { IfErr result (λ e. e ≡ Shape → (lines : List RoleLine) → SaysLines (bare protocol.now) (view value.now) lines → ⊥) }
 {
-    let Some(parts) = items(value) else {
-        return Err(JsonError::Shape);
-    };
+    let parts = items(value).ok_or(JsonError::Shape)?;
     if parts.len() != protocol.roles.as_slice().len() {
         return Err(JsonError::Shape);
     }
     let mut found = Vec::new(alloc);
     for place in 0..parts.len() {
-        let Some(line) = read_line(protocol, RoleId(place as u8), &parts[place]) else {
-            return Err(JsonError::Shape);
-        };
-        found.push(line)?;
+        let line = read_line(protocol, RoleId(place as u8), &parts[place]);
+        found.push(line.ok_or(JsonError::Shape)?)?;
     }
     Ok(found)
 }
@@ -78,18 +70,15 @@ pub(crate) fn read_limited(
     requires few { length protocol.now.roles ≤ 8 }
     requires differ { AreDifferent protocol.now.roles }
     ensures ok { IfOk result (λ found. SaysLimited (bare protocol.now) (view value.now) found.items) }
-    ensures shape { IfErr result (λ e. e ≡ Shape → (limited : List ℕ) → SaysLimited (bare protocol.now) (view value.now) limited → ⊥) }
+    ensures shape { IfErr result (λ e. e ≡ Shape → (limited : List ℕ)
+        → SaysLimited (bare protocol.now) (view value.now) limited → ⊥) }
 {
-    let Some(parts) = items(value) else {
-        return Err(JsonError::Shape);
-    };
+    let parts = items(value).ok_or(JsonError::Shape)?;
     let mut found = Vec::new(alloc);
     // The least role that may come next.
     let mut least = 0;
     for part in parts {
-        let Some(role) = role(protocol, part) else {
-            return Err(JsonError::Shape);
-        };
+        let role = role(protocol, part).ok_or(JsonError::Shape)?;
         if role.0 < least {
             return Err(JsonError::Shape);
         }

@@ -10,7 +10,7 @@ use std::collections::btree_map::Iter;
 
 // The values of the three members.
 #[derive(Drop)]
-pub(crate) struct Journaled<'a> {
+pub(crate) struct JournalMembers<'a> {
     pub(crate) entries: &'a Value,
     pub(crate) limited: &'a Value,
     pub(crate) roles: &'a Value,
@@ -30,7 +30,7 @@ fn next<'a>(members: &mut Iter<'a, String, Value>, key: &[u8]) -> Option<&'a Val
 }
 
 // The values of the members `entries`, `limited` and `roles`, where the value is an object of these alone.
-pub(crate) fn members(value: &Value) -> Option<Journaled<'_>>
+pub(crate) fn members(value: &Value) -> Option<JournalMembers<'_>>
     ensures some { IfSome result (λ m. view value.now ≡ three_data (view m.entries.now) (view m.limited.now) (view m.roles.now)) }
     ensures none { IfNone result ((entries limited roles : Data) → view value.now ≡ three_data entries limited roles → ⊥) }
 {
@@ -42,7 +42,7 @@ pub(crate) fn members(value: &Value) -> Option<Journaled<'_>>
     if all.next().is_some() {
         return None;
     }
-    Some(Journaled {
+    Some(JournalMembers {
         entries,
         limited,
         roles,

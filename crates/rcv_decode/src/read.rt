@@ -18,11 +18,10 @@ use std::alloc::Global;
 // The journal that the value says.
 fn journal(alloc: Global, accepted: &Accepted, value: &Value) -> Result<Journal, JsonError>
     ensures ok { IfOk result (λ j. SaysJournal (bare accepted.now.protocol) (view value.now) j) }
-    ensures shape { IfErr result (λ e. e ≡ Shape → (j : JournalView) → SaysJournal (bare accepted.now.protocol) (view value.now) j → ⊥) }
+    ensures shape { IfErr result (λ e. e ≡ Shape → (j : JournalView)
+        → SaysJournal (bare accepted.now.protocol) (view value.now) j → ⊥) }
 {
-    let Some(members) = members(value) else {
-        return Err(JsonError::Shape);
-    };
+    let members = members(value).ok_or(JsonError::Shape)?;
     let protocol = accepted.protocol();
     Ok(Journal {
         entries: read_entries(alloc, accepted, members.entries)?,

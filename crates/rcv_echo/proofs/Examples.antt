@@ -24,7 +24,7 @@ use Rattle.rcv_journal.specs.Lines.{IsLineOf, AreLinesOf}
 use Rattle.rcv_form.specs.Journal.{bare}
 use Rattle.rcv_form.specs.Json.{formed_data, json_text}
 use Rattle.rcv_input.proofs.Worked.{input, its_body, one, session, taken}
-use Rattle.rcv_lines.specs.FinalTexts.{IsReadAs}
+use Rattle.rcv_lines.specs.FinalTexts.{IsReadAsJournal}
 use Rattle.rcv_echo.specs.Laws.{IsJsonReadAs}
 use Rattle.rcv_echo.proofs.ReadBack.{journal_with, taken_texts, taken_json}
 
@@ -81,7 +81,7 @@ final = subst (λ (b : Body). IsFinal (rules_by b) (reading (rules_by b) entries
 are_lines : AreLinesOf (rules_of session) (reading (rules_of session) entries) lines
 are_lines = subst (λ (b : Body). AreLinesOf (rules_by b) (reading (rules_by b) entries) lines) (sym its_body) one_lines
 
-text_is_read : IsReadAs session entries (journal_text session entries lines)
+text_is_read : IsReadAsJournal session entries (journal_text session entries lines)
 text_is_read = taken_texts input session entries (journal_text session entries lines) taken legal final (record { lines = lines; are_lines = are_lines; is_text = refl })
 
 json_is_read : IsJsonReadAs session entries (json_text session entries lines)

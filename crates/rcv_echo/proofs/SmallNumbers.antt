@@ -1,20 +1,21 @@
 -- Scripts that were read have numbers of 63 bits, and first values of 64 bits with their signs.
 use Rattle.std.proofs.Common.{◌≡◌, ◌<◌, ◌≤◌, ◌^◌, ℕ, zero, suc, Bool, true, false, List, [], ◌∷◌, All, FitsSigned, refl, sym, subst, inl, inr, arith, codes, w64}
-use Rattle.std.specs.Prelude.{nat_le, if◌then◌else◌, slice_range}
+use Rattle.std.specs.Prelude.{nat_le, if◌then◌else◌, slice_range, slice_set}
+use Rattle.std.specs.Str.{bytes_eq}
 use Rattle.std.proofs.lemmas.Bool.Decides.{nat_tests}
 use Rattle.std.proofs.lemmas.List.Elements.{All-nil, All-cons, All-head, All-tail, All-push, All-set}
 use Rattle.rcv_lexer.specs.declared.token.Kind.{Kind}
 use Rattle.rcv_lexer.specs.declared.token.Kind.TheVariants as kinds
 use Rattle.rcv_lexer.specs.declared.token.Token.{Token}
-use Rattle.rcv_model.specs.Script.{Expr, Line}
+use Rattle.rcv_model.specs.Script.{Expr, TheValue, TheAttempt, Variable, Plus, Minus, Times, Line}
 use Rattle.rcv_points.specs.Follow.{PointView}
 use Rattle.rcv_scan.specs.Symbols.{number_of, symbol_of}
 use Rattle.rcv_script.specs.declared.sign.Sign.TheVariants as signs
 use Rattle.rcv_script.specs.Symbols.{Symbol, Is, Word, Number, Text, greatest, number_or_foreign, symbol_by, symbols_of}
-use Rattle.rcv_script.specs.Machine.{Place, Writing, Known, deeper, deciding, remembering, place_in, with_line, begun, with_script, no_lines}
-use Rattle.rcv_script.specs.Grammar.{WrittenAtom, Digits, Named, Signed, Inside, WrittenProduct, OneFactor, Multiplied, WrittenSum, OneTerm, Added, Subtracted, WrittenLine, VarText, SendText, PickText, WhenText, OnText, WrittenScript, atom_text, product_text, sum_text, test_mark, number_text, line_text, lines_text, scripts_text, WordSays, AtomSays, ProductSays, SumSays, signed_number, LineSays, LinesSay, ScriptsSay}
+use Rattle.rcv_script.specs.Labels.{place_in}
+use Rattle.rcv_script.specs.Grammar.{WrittenAtom, Digits, Named, Signed, Inside, MoreAtoms, NoAtom, TimesAtom, MoreProducts, NoProduct, PlusProduct, MinusProduct, WrittenSum, SumOf, WrittenLine, VarText, SendText, PickText, WhenText, OnText, WrittenScript, atom_text, atoms_text, products_text, sum_text, test_mark, number_text, line_text, lines_text, scripts_text}
+use Rattle.rcv_script.specs.Meaning.{word_says, atom_says, product_says, terms_say, sum_says, signed_number, line_says, names_behind, lines_say, scripts_say, no_lines}
 use Rattle.rcv_script.specs.Refusals.{AreRead}
-use Rattle.rcv_script.proofs.Writing.{read_are_written}
 use Rattle.rcv_lines.specs.SmallScripts.{IsSmallExpr, IsSmallLine}
 
 -- ---- symbols of tokens
@@ -46,39 +47,45 @@ symbols_small bundle (t ∷ ts) =
 
 -- ---- expressions
 
-word_small : (p : Place) (w : List ℕ) (e : Expr) → WordSays p w e → IsSmallExpr e
-word_small p w e (inl says) = subst IsSmallExpr (sym says.2) tt
-word_small p w e (inr (inl says)) = subst IsSmallExpr (sym says.2) tt
-word_small p w e (inr (inr says)) = subst IsSmallExpr (sym says.4) tt
+word_small : (names : List (List ℕ)) (w : List ℕ) → IsSmallExpr (word_says names w)
+word_small names w = go (bytes_eq w (codes "value")) (bytes_eq w (codes "attempt"))
+  where
+    go : (v a : Bool) → IsSmallExpr (if v then TheValue else (if a then TheAttempt else Variable (place_in names w)))
+    go true a = tt
+    go false true = tt
+    go false false = tt
 
 mutual
-  atom_small : (p : Place) (a : WrittenAtom) (e : Expr) (next : List Symbol) → All IsSmall (atom_text a next) → AtomSays p a e → IsSmallExpr e × All IsSmall next
-  atom_small p (Digits n) e next all says = (subst IsSmallExpr (sym says) (All-head IsSmall (Number n) next all), All-tail IsSmall (Number n) next all)
-  atom_small p (Named w) e next all says = (word_small p w e says, All-tail IsSmall (Word w) next all)
-  atom_small p (Signed a) e next all says =
-      let r = atom_small (deeper p) a says.1 next (All-tail IsSmall (Is signs.Minus) (atom_text a next) all) says.2 in
-      (subst IsSmallExpr (sym says.3) r.0, r.1)
-  atom_small p (Inside s) e next all says =
-      let r = sum_small (deeper p) s e (Is signs.Right ∷ next) (All-tail IsSmall (Is signs.Left) (sum_text s (Is signs.Right ∷ next)) all) says.1 in
+  atom_small : (names : List (List ℕ)) (a : WrittenAtom) (next : List Symbol) → All IsSmall (atom_text a next) → IsSmallExpr (atom_says names a) × All IsSmall next
+  atom_small names (Digits n) next all = (All-head IsSmall (Number n) next all, All-tail IsSmall (Number n) next all)
+  atom_small names (Named w) next all = (word_small names w, All-tail IsSmall (Word w) next all)
+  atom_small names (Signed a) next all = atom_small names a next (All-tail IsSmall (Is signs.Minus) (atom_text a next) all)
+  atom_small names (Inside s) next all =
+      let r = sum_small names s (Is signs.Right ∷ next) (All-tail IsSmall (Is signs.Left) (sum_text s (Is signs.Right ∷ next)) all) in
       (r.0, All-tail IsSmall (Is signs.Right) next r.1)
 
-  product_small : (p : Place) (x : WrittenProduct) (e : Expr) (next : List Symbol) → All IsSmall (product_text x next) → ProductSays p x e → IsSmallExpr e × All IsSmall next
-  product_small p (OneFactor a) e next all says = atom_small p a e next all says
-  product_small p (Multiplied x a) e next all says =
-      let l = product_small p x says.0 (Is signs.Times ∷ atom_text a next) all says.2 in
-      let r = atom_small p a says.1 next (All-tail IsSmall (Is signs.Times) (atom_text a next) l.1) says.3 in
-      (subst IsSmallExpr (sym says.4) (l.0, r.0), r.1)
+  product_small : (names : List (List ℕ)) (left : Expr) (more : MoreAtoms) (next : List Symbol) → All IsSmall (atoms_text more next) → IsSmallExpr left → IsSmallExpr (product_says names left more) × All IsSmall next
+  product_small names left NoAtom next all small = (small, all)
+  product_small names left (TimesAtom a more) next all small =
+      let r = atom_small names a (atoms_text more next) (All-tail IsSmall (Is signs.Times) (atom_text a (atoms_text more next)) all) in
+      product_small names (Times left (atom_says names a)) more next r.1 (small, r.0)
 
-  sum_small : (p : Place) (s : WrittenSum) (e : Expr) (next : List Symbol) → All IsSmall (sum_text s next) → SumSays p s e → IsSmallExpr e × All IsSmall next
-  sum_small p (OneTerm x) e next all says = product_small p x e next all says
-  sum_small p (Added s x) e next all says =
-      let l = sum_small p s says.0 (Is signs.Plus ∷ product_text x next) all says.2 in
-      let r = product_small p x says.1 next (All-tail IsSmall (Is signs.Plus) (product_text x next) l.1) says.3 in
-      (subst IsSmallExpr (sym says.4) (l.0, r.0), r.1)
-  sum_small p (Subtracted s x) e next all says =
-      let l = sum_small p s says.0 (Is signs.Minus ∷ product_text x next) all says.2 in
-      let r = product_small p x says.1 next (All-tail IsSmall (Is signs.Minus) (product_text x next) l.1) says.3 in
-      (subst IsSmallExpr (sym says.4) (l.0, r.0), r.1)
+  terms_small : (names : List (List ℕ)) (left : Expr) (more : MoreProducts) (next : List Symbol) → All IsSmall (products_text more next) → IsSmallExpr left → IsSmallExpr (terms_say names left more) × All IsSmall next
+  terms_small names left NoProduct next all small = (small, all)
+  terms_small names left (PlusProduct a atoms more) next all small =
+      let first = atom_small names a (atoms_text atoms (products_text more next)) (All-tail IsSmall (Is signs.Plus) (atom_text a (atoms_text atoms (products_text more next))) all) in
+      let r = product_small names (atom_says names a) atoms (products_text more next) first.1 first.0 in
+      terms_small names (Plus left (product_says names (atom_says names a) atoms)) more next r.1 (small, r.0)
+  terms_small names left (MinusProduct a atoms more) next all small =
+      let first = atom_small names a (atoms_text atoms (products_text more next)) (All-tail IsSmall (Is signs.Minus) (atom_text a (atoms_text atoms (products_text more next))) all) in
+      let r = product_small names (atom_says names a) atoms (products_text more next) first.1 first.0 in
+      terms_small names (Minus left (product_says names (atom_says names a) atoms)) more next r.1 (small, r.0)
+
+  sum_small : (names : List (List ℕ)) (s : WrittenSum) (next : List Symbol) → All IsSmall (sum_text s next) → IsSmallExpr (sum_says names s) × All IsSmall next
+  sum_small names (SumOf a atoms more) next all =
+      let first = atom_small names a (atoms_text atoms (products_text more next)) all in
+      let r = product_small names (atom_says names a) atoms (products_text more next) first.1 first.0 in
+      terms_small names (product_says names (atom_says names a) atoms) more next r.1 r.0
 
 -- ---- lines
 
@@ -101,45 +108,39 @@ behind_two a b next all = All-tail IsSmall b next (All-tail IsSmall a (b ∷ nex
 behind_three : (a b c : Symbol) (next : List Symbol) → All IsSmall (a ∷ b ∷ c ∷ next) → All IsSmall next
 behind_three a b c next all = All-tail IsSmall c next (behind_two a b (c ∷ next) all)
 
--- the line, behind the names of variables
-abbrev Row : Type 0
-Row = List (List ℕ) × Line
-
-abbrev IsSmallRow : Row → Type 0
-IsSmallRow x = IsSmallLine x.1
-
-line_small : (s : Writing) (w : WrittenLine) (x : Row) (next : List Symbol) → All IsSmall (line_text w next) → LineSays s w x → IsSmallRow x × All IsSmall next
-line_small s (VarText name below n) x next all says =
+line_small : (names : List (List ℕ)) (w : WrittenLine) (next : List Symbol) → All IsSmall (line_text w next) → IsSmallLine (line_says names w) × All IsSmall next
+line_small names (VarText name below n) next all =
     let r = first_small below n (Is signs.Semicolon ∷ next) (behind_three _ _ _ _ all) in
-    (subst IsSmallRow (sym says.2) r.0, All-tail IsSmall (Is signs.Semicolon) next r.1)
-line_small s (SendText label t) x next all says =
-    let r = sum_small (deciding s.names) t says.2 (Is signs.Semicolon ∷ next) (behind_three _ _ _ _ all) says.3 in
-    (subst IsSmallRow (sym says.4) r.0, All-tail IsSmall (Is signs.Semicolon) next r.1)
-line_small s (PickText label) x next all says = (subst IsSmallRow (sym says.2) tt, behind_three _ _ _ _ all)
-line_small s (WhenText label left test right) x next all says =
-    let l = sum_small (deciding s.names) left says.2 (Is (test_mark test) ∷ sum_text right (Is signs.Semicolon ∷ next)) (behind_three _ _ _ _ all) says.4 in
-    let r = sum_small (deciding s.names) right says.3 (Is signs.Semicolon ∷ next) (All-tail IsSmall (Is (test_mark test)) (sum_text right (Is signs.Semicolon ∷ next)) l.1) says.5 in
-    (subst IsSmallRow (sym says.6) tt, All-tail IsSmall (Is signs.Semicolon) next r.1)
-line_small s (OnText label name t) x next all says =
+    (r.0, All-tail IsSmall (Is signs.Semicolon) next r.1)
+line_small names (SendText label t) next all =
+    let r = sum_small names t (Is signs.Semicolon ∷ next) (behind_three _ _ _ _ all) in
+    (r.0, All-tail IsSmall (Is signs.Semicolon) next r.1)
+line_small names (PickText label) next all = (tt, behind_three _ _ _ _ all)
+line_small names (WhenText label left test right) next all =
+    let l = sum_small names left (Is (test_mark test) ∷ sum_text right (Is signs.Semicolon ∷ next)) (behind_three _ _ _ _ all) in
+    let r = sum_small names right (Is signs.Semicolon ∷ next) (All-tail IsSmall (Is (test_mark test)) (sum_text right (Is signs.Semicolon ∷ next)) l.1) in
+    (tt, All-tail IsSmall (Is signs.Semicolon) next r.1)
+line_small names (OnText label name t) next all =
     let expr = sum_text t (Is signs.Semicolon ∷ next) in
     let set = behind_three (Word (codes "on")) (Word label) (Word (codes "set")) (Word name ∷ Is signs.Equals ∷ expr) all in
-    let r = sum_small (remembering s label) t says.3 (Is signs.Semicolon ∷ next) (behind_two (Word name) (Is signs.Equals) expr set) says.4 in
-    (subst IsSmallRow (sym says.5) r.0, All-tail IsSmall (Is signs.Semicolon) next r.1)
+    let r = sum_small names t (Is signs.Semicolon ∷ next) (behind_two (Word name) (Is signs.Equals) expr set) in
+    (r.0, All-tail IsSmall (Is signs.Semicolon) next r.1)
 
-lines_small : (s : Writing) (ws : List WrittenLine) (ls : List Line) (next : List Symbol) → All IsSmall (lines_text ws next) → LinesSay s ws ls → All IsSmallLine s.lines → All IsSmallLine ls × All IsSmall next
-lines_small s [] ls next all says before = (subst (All IsSmallLine) (sym says) before, All-tail IsSmall (Is signs.Close) next all)
-lines_small s (w ∷ ws) ls next all says before =
-    let r = line_small s w says.0 (lines_text ws next) all says.1 in
-    lines_small (with_line s says.0) ws ls next r.1 says.2 (All-push IsSmallLine s.lines says.0.1 before r.0)
+lines_small : (names : List (List ℕ)) (ws : List WrittenLine) (next : List Symbol) → All IsSmall (lines_text ws next) → All IsSmallLine (lines_say names ws) × All IsSmall next
+lines_small names [] next all = (All-nil IsSmallLine, All-tail IsSmall (Is signs.Close) next all)
+lines_small names (w ∷ ws) next all =
+    let r = line_small names w (lines_text ws next) all in
+    let others = lines_small (names_behind names w) ws next r.1 in
+    (All-cons IsSmallLine (line_says names w) (lines_say (names_behind names w) ws) r.0 others.0, others.1)
 
 -- ---- scripts
 
-scripts_small : (known : Known) (ws : List WrittenScript) (ss : List (List Line)) → All IsSmall (scripts_text ws) → ScriptsSay known ws ss → All (All IsSmallLine) known.scripts → All (All IsSmallLine) ss
-scripts_small known [] ss all says before = subst (All (All IsSmallLine)) (sym says) before
-scripts_small known (w ∷ ws) ss all says before =
-    let role = place_in known.roles w.role in
-    let r = lines_small (begun known.messages role) w.lines says.1 (scripts_text ws) (behind_three _ _ _ _ all) says.2 (All-nil IsSmallLine) in
-    scripts_small (with_script known role says.1) ws ss r.1 says.3 (All-set (All IsSmallLine) known.scripts role says.1 r.0 before)
+scripts_small : (roles : List (List ℕ)) (before : List (List Line)) (ws : List WrittenScript) → All IsSmall (scripts_text ws) → All (All IsSmallLine) before → All (All IsSmallLine) (scripts_say roles before ws)
+scripts_small roles before [] all small = small
+scripts_small roles before (w ∷ ws) all small =
+    let r = lines_small [] w.lines (scripts_text ws) (behind_three _ _ _ _ all) in
+    let role = place_in roles w.role in
+    scripts_small roles (slice_set before role (lines_say [] w.lines)) ws r.1 (All-set (All IsSmallLine) before role (lines_say [] w.lines) r.0 small)
 
 none_small : (roles : List (List ℕ)) → All (All IsSmallLine) (no_lines roles)
 none_small [] = All-nil (All IsSmallLine)
@@ -147,5 +148,5 @@ none_small (name ∷ roles) = All-cons (All IsSmallLine) [] (no_lines roles) (Al
 
 pub scripts_are_small : (roles : List (List ℕ)) (messages : List PointView) (bundle : List ℕ) (tokens : List Token) (ss : List (List Line)) → AreRead roles messages (symbols_of bundle tokens) ss → All (All IsSmallLine) ss
 scripts_are_small roles messages bundle tokens ss read =
-    let written = read_are_written roles messages (symbols_of bundle tokens) ss read in
-    scripts_small (record { roles = roles; messages = messages; scripts = no_lines roles; given = [] }) written.0 ss (subst (All IsSmall) written.1 (symbols_small bundle tokens)) written.2 (none_small roles)
+    let small = subst (All IsSmall) read.derived (symbols_small bundle tokens) in
+    subst (All (All IsSmallLine)) (sym read.said) (scripts_small roles (no_lines roles) read.written small (none_small roles))

@@ -8,7 +8,7 @@ use Rattle.rcv_journal.specs.declared.line.RoleLine.{RoleLine}
 use Rattle.rcv_journal.specs.Lines.{AreLinesOf, IsTextOf}
 use Rattle.rcv_form.specs.Json.{IsJsonOf}
 use Rattle.rcv_input.specs.Input.{IsTaken}
-use Rattle.rcv_lines.specs.FinalTexts.{IsReadAs, limited_in}
+use Rattle.rcv_lines.specs.FinalTexts.{IsReadAsJournal, limited_in}
 use Rattle.rcv_decode.specs.Reading as json
 
 -- The text of each journal of a session that an input is taken as, which is legal and final, is read as its entries,
@@ -18,7 +18,7 @@ TakenTextsAreReadBack =
     (input : List ℕ) (session : SessionView) (entries : List Entry) (bytes : List ℕ)
     → IsTaken input session → IsLegal (rules_of session) entries
     → IsFinal (rules_of session) (reading (rules_of session) entries) → IsTextOf session entries bytes
-    → IsReadAs session entries bytes
+    → IsReadAsJournal session entries bytes
 
 -- The bytes are read, as JSON, as the journal's entries, its lines of roles, and those of them that are at the limit.
 abbrev pub IsJsonReadAs : SessionView → List Entry → List ℕ → Type 0

@@ -20,7 +20,10 @@ scripts roles = flat_map script_line (range_with_len 1 roles)
 
 -- The protocol up to its first message.
 unfoldable pub head : List ℕ
-head = codes "module gen;\nglobal protocol Gen(role R0, role R1, role R2, role R3, role R4, role R5, role R6, role R7) {\nrec L {\nchoice at R0 {\n"
+head =
+    codes "module gen;\nglobal protocol Gen("
+    ++ codes "role R0, role R1, role R2, role R3, role R4, role R5, role R6, role R7"
+    ++ codes ") {\nrec L {\nchoice at R0 {\n"
 
 -- The protocol: the value goes round, or the ring stops.
 unfoldable pub protocol : List ℕ

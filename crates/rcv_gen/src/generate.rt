@@ -1,6 +1,6 @@
 // A ring of eight roles that passes a value round and round, with two crashes.
 
-ghost use Rattle.std.specs.Prelude.{◌≡◌, ◌≤◌, ◌+◌, ◌++◌, codes, decimal, length, string_bytes, IfOk, OnOk};
+ghost use Rattle.std.specs.Prelude.{◌≡◌, ◌≤◌, ◌<◌, ◌+◌, ◌++◌, codes, decimal, length, string_bytes, IfOk, OnOk};
 ghost use Rattle.rcv_gen.specs.Generated.{first_script, generated, head, message_line, messages, plan, protocol, script_line, scripts};
 
 use std::alloc::{AllocError, Global};
@@ -9,7 +9,7 @@ use std::fmt::Write;
 // The message with this label from the role to the next one in the ring.
 #[tactic(auto, unfolding(crate::specs::Generated::message_line))]
 fn push_message(text: &mut String, label: &str, role: u64) -> Result<(), AllocError>
-    requires { role ≤ 8 }
+    requires { role < 8 }
     ensures { OnOk result (string_bytes text.new ≡ string_bytes text.old ++ message_line label.now role) }
 {
     let next = (role + 1) % 8;
@@ -52,13 +52,13 @@ fn push_scripts(text: &mut String, roles: u64) -> Result<(), AllocError>
 }
 
 // The protocol up to its first message.
-#[tactic(auto, unfolding(crate::specs::Generated::head))]
 fn push_head(text: &mut String) -> Result<(), AllocError>
     ensures { OnOk result (string_bytes text.new ≡ string_bytes text.old ++ head) }
 {
-    text.push_str(
-        "module gen;\nglobal protocol Gen(role R0, role R1, role R2, role R3, role R4, role R5, role R6, role R7) {\nrec L {\nchoice at R0 {\n",
-    )
+    text.push_str("module gen;\nglobal protocol Gen(")?;
+    text.push_str("role R0, role R1, role R2, role R3, role R4, role R5, role R6, role R7")?;
+    text.push_str(") {\nrec L {\nchoice at R0 {\n")?;
+    Ok(())
 }
 
 // The protocol: the value goes round, or the ring stops.
@@ -93,7 +93,8 @@ fn push_plan(text: &mut String) -> Result<(), AllocError>
 }
 
 /// The generated input with this number, which is at most 4,000: a value goes `200 + number` times round a ring of eight
-/// roles, of which R3 and R6 crash on the way. An input of this length may be read. It fails where memory runs out.
+/// roles, and its plan has a crash line for R3 and for R6. An input of this length may be read. It fails where memory
+/// runs out.
 #[tactic(auto, using(crate::proofs::Lengths::generated_fits))]
 pub fn generate(alloc: Global, number: u32) -> Result<Vec<u8>, AllocError>
     requires { number ≤ 4000 }

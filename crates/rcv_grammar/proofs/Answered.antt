@@ -11,23 +11,25 @@ use Rattle.rcv_tree.specs.declared.statement.Block.{Block}
 use Rattle.rcv_tree.specs.declared.statement.Blocks.{Blocks}
 use Rattle.rcv_tree.specs.declared.protocol.Decl.{Decl}
 use Rattle.rcv_tree.specs.declared.protocol.Protocol.{Protocol}
+use Rattle.rcv_tree.specs.declared.refusal.Refusal.TheVariants as refusals
 use Rattle.rcv_model.specs.Text.{Body, End, Single, Choose, Loop, Again, Parallel, Call, Bodies, NoMore, Or, stmt_body, body_of, bodies_of, joined, alternatives}
 use Rattle.rcv_model.proofs.Text.{body_of_lem, bodies_of_lem, stmt_body-Message, stmt_body-Choice, stmt_body-Rec, stmt_body-Continue, stmt_body-Par, stmt_body-Do}
 use Rattle.rcv_lexer.specs.declared.token.Span.{Span}
 use Rattle.rcv_lexer.specs.declared.token.Token.{Token}
 use Rattle.rcv_lexer.specs.Tokens.{AreTokens, IsLetter}
 use Rattle.rcv_lexer.proofs.Once.{one_reading, tokens_few}
-use Rattle.rcv_reader.specs.declared.sign.Sign.{Sign}
-use Rattle.rcv_reader.specs.declared.sign.Sign.TheVariants.{Global, Role, From, To, And, Open, Close, Left, Right, Semicolon}
-use Rattle.rcv_reader.specs.declared.sign.Sign.TheVariants as sign
-use Rattle.rcv_reader.specs.declared.fault.Fault.TheVariants.{Token as WrongToken}
-use Rattle.rcv_reader.specs.Symbols.{Symbol, Is, Word, symbols_of}
-use Rattle.rcv_reader.specs.Grammar.{Written, NoStmt, AMessage, AChoice, ARec, AContinue, APar, ADo, Blocks as Blocks', NoBlock, ABlock, Source, Spells, spelling, stmts, blocks_behind, names_behind, sort_list, dotted, decls, roles_behind}
-use Rattle.rcv_reader.specs.Machine.{State, Answer, Taken, Refuses, outermost, reading}
-use Rattle.rcv_reader.specs.Trees.{role_at, roles_at, points, points_of, singles, tree_of, trees_of}
+use Rattle.rcv_syntax.specs.declared.sign.Sign.{Sign}
+use Rattle.rcv_syntax.specs.declared.sign.Sign.TheVariants.{Global, Role, From, To, And, Open, Close, Left, Right, Semicolon}
+use Rattle.rcv_syntax.specs.declared.sign.Sign.TheVariants as sign
+use Rattle.rcv_syntax.specs.Symbols.{Symbol, Is, Word, symbols_of}
+use Rattle.rcv_syntax.specs.Grammar.{Written, NoStmt, AMessage, AChoice, ARec, AContinue, APar, ADo, Blocks as Blocks', NoBlock, ABlock, Source, Spells, spelling, stmts, blocks_behind, names_behind, sort_list, dotted, decls, roles_behind}
+use Rattle.rcv_machine.specs.Machine.{State, Answer, Taken, Refuses, outermost, reading}
+use Rattle.rcv_syntax.specs.Trees.{role_at, roles_at, points, points_of, singles, tree_of, trees_of}
 use Rattle.rcv_reader.specs.Refusals.{IsRead}
-use Rattle.rcv_reader.specs.Laws.{IsFair}
-use Rattle.rcv_reader.proofs.Fair.{codes_are_fair}
+use Rattle.rcv_machine.specs.Laws.{IsFair}
+use Rattle.rcv_machine.proofs.Fair.{codes_are_fair}
+use Rattle.rcv_machine.proofs.Exactly.{refusal_is_first}
+use Rattle.rcv_reader.proofs.Answering.{taken_of, read_of, stopped_of}
 use Rattle.rcv_grammar.specs.Laws.{IsRefusedAs, IsReadPart, IsRefusedPart, HasRefusal, PartsHaveOneAnswer}
 use Rattle.rcv_grammar.proofs.Cutting.{passes_fit}
 use Rattle.rcv_grammar.proofs.Canonizing.{body_passes}
@@ -231,7 +233,7 @@ source_read symbols s state lt spells taken =
         roles = roles_of s;
         body = block_from c.0 short;
       },
-      (
+      read_of symbols _ (
         state,
         taken,
         record {
@@ -250,8 +252,7 @@ source_read symbols s state lt spells taken =
 answered : (symbols : List Symbol) (a : Answer) → length symbols < 2 ^ 63 → reading symbols ≡ a → IsFair symbols a
     → ((p : Protocol) × IsRead symbols p) ⊎ IsRefusedAs symbols
 answered symbols (Taken state) lt e fair = inl (source_read symbols fair.0 state lt fair.1 e)
-answered symbols (Refuses WrongToken left) lt e fair = inr (_, left, e)
-answered symbols (Refuses _ left) lt e fair = inr (_, left, e)
+answered symbols (Refuses fault left) lt e fair = inr (fault, left, refusal_is_first symbols fault left e)
 
 texts_are_answered : (symbols : List Symbol) → length symbols < 2 ^ 63 → ((p : Protocol) × IsRead symbols p) ⊎ IsRefusedAs symbols
 texts_are_answered symbols lt = answered symbols (reading symbols) lt refl (codes_are_fair symbols)
@@ -281,8 +282,10 @@ read_not_refused : (bundle : List ℕ) (part : Span) (last code line : ℕ) → 
 read_not_refused bundle part last code line h (inl k) = one_reading.either bundle part h.0 line h.2 k.1
 read_not_refused bundle part last code line h (inr k) =
     let same : h.0 ≡ k.0 = one_reading.tokens bundle part h.0 k.0 h.2 k.1 in
-    let taken = h.3.1 in
-    let refused = k.2.2 in
+    let t = taken_of (symbols_of bundle h.0) h.1 h.3 in
+    let taken = t.1 in
+    let u = stopped_of bundle k.0 last (refusals.Text code line) k.2 in
+    let refused = u.2 in
     cc
 
 same_refusal : (bundle : List ℕ) (part : Span) (last code line other_code other_line : ℕ) → IsRefusedPart bundle part last code line
@@ -293,10 +296,12 @@ same_refusal bundle part last code line other_code other_line (inl h) (inr k) = 
 same_refusal bundle part last code line other_code other_line (inr h) (inl k) = absurd (one_reading.either bundle part h.0 other_line h.1 k.1)
 same_refusal bundle part last code line other_code other_line (inr h) (inr k) =
     let same : h.0 ≡ k.0 = one_reading.tokens bundle part h.0 k.0 h.1 k.1 in
-    let first = h.2.2 in
-    let second = k.2.2 in
-    let is = h.2.3 in
-    let other = k.2.3 in
+    let a = stopped_of bundle h.0 last (refusals.Text code line) h.2 in
+    let b = stopped_of bundle k.0 last (refusals.Text other_code other_line) k.2 in
+    let first = a.2 in
+    let second = b.2 in
+    let is = a.3 in
+    let other = b.3 in
     (cc, cc)
 
 pub parts_have_one_answer : PartsHaveOneAnswer

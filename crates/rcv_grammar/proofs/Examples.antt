@@ -1,21 +1,22 @@
 -- Worked cases of the machine: what it takes, and where it refuses with which code.
-use Rattle.std.proofs.Common.{◌≡◌, ℕ, zero, suc, true, codes, List, [], ◌∷◌, ◌++◌, Some, None, refl, arith}
+use Rattle.std.proofs.Common.{◌≡◌, ℕ, true, codes, List, [], ◌∷◌, ◌++◌, Some, None, refl, arith}
 use Rattle.std.specs.Prelude.{Option}
 use Rattle.rcv_lexer.specs.Parts.{parts_of}
 use Rattle.rcv_lexer.specs.Tokens.{line_at}
-use Rattle.rcv_reader.specs.declared.sign.Sign.TheVariants.{Module, Global, Protocol, Role, From, To, Choice, At, Rec, Continue, Par, And, Do, Open, Close, Left, Right, Comma, Semicolon, Less, Greater}
-use Rattle.rcv_reader.specs.declared.fault.Fault.TheVariants.{AfterContinue}
-use Rattle.rcv_reader.specs.Symbols.{Symbol, Is, Word, Text, line_before}
+use Rattle.rcv_syntax.specs.declared.sign.Sign.TheVariants.{Module, Global, Choice, At, Rec, Continue, Par, And, Do, Open, Close, Left, Right, Comma, Semicolon}
+use Rattle.rcv_syntax.specs.declared.fault.Fault.TheVariants.{AfterContinue}
+use Rattle.rcv_syntax.specs.Symbols.{Symbol, Is, Word, line_before}
 use Rattle.rcv_model.specs.Text as trees
 use Rattle.rcv_tree.specs.declared.protocol.Decl.{Decl}
 use Rattle.rcv_tree.specs.declared.protocol.Protocol as tree
-use Rattle.rcv_reader.specs.Grammar.{Written, NoStmt, AMessage, AChoice, ARec, AContinue, APar, ADo, NoBlock, ABlock, Source, IsDerived, spelling}
+use Rattle.rcv_syntax.specs.Grammar.{Written, NoStmt, AMessage, AChoice, ARec, AContinue, APar, ADo, NoBlock, ABlock, Source, IsDerived, spelling}
 use Rattle.rcv_reader.specs.Refusals.{IsRead}
 use Rattle.rcv_grammar.proofs.Answered.{source_read}
-use Rattle.rcv_reader.specs.Machine.{Place, RoleName, Receiver, Rest, Wrong, step, Answer, Taken, Refuses, answer, code_of, reading}
-use Rattle.rcv_reader.specs.Descent.{known}
-use Rattle.rcv_reader.specs.Trees.{tree_of}
+use Rattle.rcv_syntax.specs.Codes.{code_of}
+use Rattle.rcv_machine.specs.Machine.{Place, RoleName, Receiver, Rest, Wrong, step, Answer, Taken, Refuses, answer, reading, known}
+use Rattle.rcv_syntax.specs.Trees.{tree_of}
 use Rattle.rcv_grammar.specs.Canonical.{written_of}
+use Rattle.rcv_syntax.proofs.Texts.{a, b, c, x, y, both, text, sends, message, rec_x, again_x, nested, alias_a, more_roles}
 
 -- the code, and what is left from the wrong symbol on
 abbrev shown : Answer → Option (ℕ × List Symbol)
@@ -24,44 +25,6 @@ shown (Refuses fault left) = Some (code_of fault, left)
 
 abbrev refusal : List Symbol → Option (ℕ × List Symbol)
 refusal symbols = shown (reading symbols)
-
--- names
-abbrev a : Symbol
-a = Word (codes "A")
-
-abbrev b : Symbol
-b = Word (codes "B")
-
-abbrev c : Symbol
-c = Word (codes "C")
-
-abbrev x : Symbol
-x = Word (codes "X")
-
-abbrev y : Symbol
-y = Word (codes "Y")
-
-abbrev both : List (List ℕ)
-both = codes "A" ∷ codes "B" ∷ []
-
--- module X; global protocol Y(role A, role B) {
-abbrev text : List Symbol → List Symbol
-text next = Is Module ∷ x ∷ Is Semicolon ∷ Is Global ∷ Is Protocol ∷ y ∷ Is Left ∷ Is Role ∷ a ∷ Is Comma ∷ Is Role ∷ b ∷ Is Right ∷ Is Open ∷ next
-
--- X() from A to
-abbrev sends : List Symbol → List Symbol
-sends next = x ∷ Is Left ∷ Is Right ∷ Is From ∷ a ∷ Is To ∷ next
-
--- X() from A to B;
-abbrev message : List Symbol → List Symbol
-message next = sends (b ∷ Is Semicolon ∷ next)
-
--- rec X { and continue X;
-abbrev rec_x : List Symbol → List Symbol
-rec_x next = Is Rec ∷ x ∷ Is Open ∷ next
-
-abbrev again_x : List Symbol → List Symbol
-again_x next = Is Continue ∷ x ∷ Is Semicolon ∷ next
 
 one_message : reading (text (message (Is Close ∷ []))) ≡ Taken (known both 1)
 one_message = refl
@@ -78,11 +41,6 @@ early_end = refl
 empty_branch : refusal (text (Is Choice ∷ Is At ∷ a ∷ Is Open ∷ Is Close ∷ [])) ≡ Some (11, Is Close ∷ [])
 empty_branch = refl
 
--- n recursions, one in another
-abbrev nested : ℕ → List Symbol → List Symbol
-nested zero next = next
-nested (suc n) next = rec_x (nested n next)
-
 deepest : refusal (text (nested 31 [])) ≡ Some (11, [])
 deepest = refl
 
@@ -97,10 +55,6 @@ no_subject = refl
 
 twice_received : refusal (text (sends (b ∷ Is Comma ∷ b ∷ []))) ≡ Some (14, b ∷ [])
 twice_received = refl
-
--- type <X> "" from "" as A;
-abbrev alias_a : List Symbol → List Symbol
-alias_a next = Word (codes "type") ∷ Is Less ∷ x ∷ Is Greater ∷ Text [] ∷ Is From ∷ Text [] ∷ Word (codes "as") ∷ a ∷ Is Semicolon ∷ next
 
 twice_declared : refusal (Is Module ∷ x ∷ Is Semicolon ∷ alias_a (alias_a [])) ≡ Some (14, a ∷ Is Semicolon ∷ [])
 twice_declared = refl
@@ -117,10 +71,6 @@ unguarded = refl
 -- through a branch, and past a recursion inside
 unguarded_branch : refusal (text (rec_x (Is Choice ∷ Is At ∷ a ∷ Is Open ∷ Is Rec ∷ y ∷ Is Open ∷ again_x []))) ≡ Some (17, again_x [])
 unguarded_branch = refl
-
--- the roles A, B and C to H
-abbrev more_roles : List (List ℕ)
-more_roles = codes "C" ∷ codes "D" ∷ codes "E" ∷ codes "F" ∷ codes "G" ∷ codes "H" ∷ []
 
 ninth_role : shown (answer (known (both ++ more_roles) 0) (RoleName ∷ []) (Word (codes "I") ∷ [])) ≡ Some (18, Word (codes "I") ∷ [])
 ninth_role = refl

@@ -1,83 +1,43 @@
 -- A text that was read has full blocks only.
-use Rattle.std.proofs.Common.{◌≡◌, ℕ, ◌+◌, Bool, true, false, List, [], ◌∷◌, ◌++◌, length, refl, sym, ap, subst, ◌∙◌, arith, length-append, inl, inr}
-use Rattle.std.specs.Prelude.{◌-◌, ◌≤◌, ◌⊎◌, ◌||◌, not, drop, IsTrue}
+use Rattle.std.proofs.Common.{◌≡◌, ℕ, ◌+◌, Bool, true, false, List, [], ◌∷◌, ◌++◌, length, refl, sym, subst, inl, inr}
+use Rattle.std.specs.Prelude.{◌⊎◌, not, IsTrue}
 use Rattle.std.specs.Str.{bytes_eq}
-use Rattle.std.proofs.lemmas.List.{drop-append-le}
-use Rattle.std.proofs.lemmas.List.Folds.{list_any-append}
-use Rattle.std.proofs.lemmas.Slice.Eq.{bytes_eq-Decides}
+use Rattle.rcv_tree.specs.declared.protocol.Protocol.{Protocol}
 use Rattle.rcv_model.specs.Text as trees
 use Rattle.rcv_model.specs.Places.{IsNothing, IsNamed, IsFull, OthersFull}
-use Rattle.rcv_reader.specs.Symbols.{Symbol}
-use Rattle.rcv_reader.specs.Grammar.{Written, NoStmt, AMessage, AChoice, ARec, AContinue, APar, ADo, Blocks, NoBlock, ABlock, IsBegun, IsProper, AreProper, spelling}
-use Rattle.rcv_reader.specs.Machine.{Place, holds, behind, inside, inside_rec, outermost, Taken, reading}
-use Rattle.rcv_reader.specs.Trees.{role_at, roles_at, points, points_of, singles, tree_of, trees_of}
+use Rattle.rcv_syntax.specs.Symbols.{Symbol}
+use Rattle.rcv_syntax.specs.Grammar.{Written, NoStmt, AMessage, AChoice, ARec, AContinue, APar, ADo, Blocks, NoBlock, ABlock, IsBegun, IsProper, AreProper, spelling}
+use Rattle.rcv_syntax.specs.Codes.{is_among}
+use Rattle.rcv_machine.specs.Machine.{Place, behind, inside, inside_rec, outermost, Taken, reading}
+use Rattle.rcv_syntax.specs.Trees.{role_at, roles_at, points, points_of, singles, tree_of, trees_of}
+use Rattle.rcv_machine.proofs.Knowing.{recent}
+use Rattle.rcv_machine.proofs.Among.{bytes_swap, among_either, among_old, among_new, recent_more}
+use Rattle.rcv_reader.proofs.Answering.{IsTakenAs, taken_of}
 use Rattle.rcv_grammar.specs.Laws.{ReadTextsAreFull}
 use Rattle.rcv_grammar.proofs.Passing.{Passes, PassAll}
 use Rattle.rcv_grammar.proofs.Canonizing.{body_passes}
 
--- the names of the innermost recursions to which a walk comes without a message
-abbrev reached : Place → List (List ℕ)
-reached p = drop (length p.recs - p.comes) p.recs
-
 -- These names have the enclosing recursions of the place, and those of them that a walk reaches without a message.
 record Knows (p : Place) (recs bare : List (List ℕ)) : Type 0 where
-  pub all : (name : List ℕ) → holds name p.recs ≡ true → IsNamed name recs
-  pub open_ones : (name : List ℕ) → IsNamed name bare → holds name (reached p) ≡ true
-
-bytes_swap : (a b : List ℕ) → bytes_eq a b ≡ true → bytes_eq b a ≡ true
-bytes_swap a b e = (bytes_eq-Decides b a).1 (sym ((bytes_eq-Decides a b).0 e))
-
-holds_more : (name n : List ℕ) (recs : List (List ℕ)) → holds name (recs ++ n ∷ []) ≡ (holds name recs || holds name (n ∷ []))
-holds_more name n recs = list_any-append (λ (other : List ℕ). bytes_eq name other) recs (n ∷ [])
-
-holds_one : (name n : List ℕ) → holds name (n ∷ []) ≡ true → bytes_eq name n ≡ true
-holds_one name n e = go (bytes_eq name n) refl e
-  where
-    go : (b : Bool) → bytes_eq name n ≡ b → (b || false) ≡ true → bytes_eq name n ≡ true
-    go true is h = is
-    go false is h = absurd cc
-
-holds_either : (name n : List ℕ) (recs : List (List ℕ)) → holds name (recs ++ n ∷ []) ≡ true → (holds name recs ≡ true) ⊎ (bytes_eq name n ≡ true)
-holds_either name n recs e = go (holds name recs) refl (sym (holds_more name n recs) ∙ e)
-  where
-    go : (b : Bool) → holds name recs ≡ b → (b || holds name (n ∷ [])) ≡ true → (holds name recs ≡ true) ⊎ (bytes_eq name n ≡ true)
-    go true is h = inl is
-    go false is h = inr (holds_one name n h)
-
-holds_old : (name n : List ℕ) (recs : List (List ℕ)) → holds name recs ≡ true → holds name (recs ++ n ∷ []) ≡ true
-holds_old name n recs e = holds_more name n recs ∙ ap (λ (b : Bool). b || holds name (n ∷ [])) e
-
-or_true : (b : Bool) → (b || true) ≡ true
-or_true true = refl
-or_true false = refl
-
-holds_new : (name n : List ℕ) (recs : List (List ℕ)) → bytes_eq name n ≡ true → holds name (recs ++ n ∷ []) ≡ true
-holds_new name n recs e = holds_more name n recs ∙ ap (λ (b : Bool). holds name recs || (b || false)) e ∙ or_true (holds name recs)
-
--- inside one recursion more a walk comes to it as well
-reached_more : (p : Place) (n : List ℕ) → reached (inside (inside_rec p n)) ≡ reached p ++ n ∷ []
-reached_more p n =
-    let len = length-append p.recs (n ∷ []) in
-    let same : length (p.recs ++ n ∷ []) - (p.comes + 1) ≡ length p.recs - p.comes = omega (arith, len) in
-    let within : length p.recs - p.comes ≤ length p.recs = omega arith in
-    ap (λ (i : ℕ). drop i (p.recs ++ n ∷ [])) same ∙ drop-append-le (length p.recs - p.comes) p.recs (n ∷ []) within
+  pub all : (name : List ℕ) → is_among name p.recs ≡ true → IsNamed name recs
+  pub open_ones : (name : List ℕ) → IsNamed name bare → is_among name (recent p) ≡ true
 
 knows_rec : (p : Place) (n : List ℕ) (recs bare : List (List ℕ)) → Knows p recs bare → Knows (inside (inside_rec p n)) (n ∷ recs) (n ∷ bare)
 knows_rec p n recs bare h = record { all = more; open_ones = reaches }
   where
-    all_of : (name : List ℕ) → (holds name p.recs ≡ true) ⊎ (bytes_eq name n ≡ true) → IsNamed name (n ∷ recs)
+    all_of : (name : List ℕ) → (is_among name p.recs ≡ true) ⊎ (bytes_eq name n ≡ true) → IsNamed name (n ∷ recs)
     all_of name (inl e) = inr (h.all name e)
     all_of name (inr e) = inl (bytes_swap name n e)
 
-    more : (name : List ℕ) → holds name (p.recs ++ n ∷ []) ≡ true → IsNamed name (n ∷ recs)
-    more name e = all_of name (holds_either name n p.recs e)
+    more : (name : List ℕ) → is_among name (p.recs ++ n ∷ []) ≡ true → IsNamed name (n ∷ recs)
+    more name e = all_of name (among_either name n p.recs e)
 
-    reaches_of : (name : List ℕ) → IsTrue (bytes_eq n name) ⊎ IsNamed name bare → holds name (reached p ++ n ∷ []) ≡ true
-    reaches_of name (inl e) = holds_new name n (reached p) (bytes_swap n name e)
-    reaches_of name (inr e) = holds_old name n (reached p) (h.open_ones name e)
+    reaches_of : (name : List ℕ) → IsTrue (bytes_eq n name) ⊎ IsNamed name bare → is_among name (recent p ++ n ∷ []) ≡ true
+    reaches_of name (inl e) = among_new name n (recent p) (bytes_swap n name e)
+    reaches_of name (inr e) = among_old name n (recent p) (h.open_ones name e)
 
-    reaches : (name : List ℕ) → IsNamed name (n ∷ bare) → holds name (reached (inside (inside_rec p n))) ≡ true
-    reaches name e = subst (λ (x : List (List ℕ)). holds name x ≡ true) (sym (reached_more p n)) (reaches_of name e)
+    reaches : (name : List ℕ) → IsNamed name (n ∷ bare) → is_among name (recent (inside (inside_rec p n))) ≡ true
+    reaches name e = subst (λ (x : List (List ℕ)). is_among name x ≡ true) (sym (recent_more p n)) (reaches_of name e)
 
 -- in a branch, and behind a statement
 knows_branch : (p : Place) (recs bare : List (List ℕ)) → Knows p recs bare → Knows (inside p) recs bare
@@ -134,7 +94,7 @@ mutual
     full roles (n + points body) (m + points body) (behind p false) recs [] rest proper.2 h.3 (knows_behind p false recs bare knows),
   )
   full roles n m p recs bare (AContinue name rest) proper h knows = (
-    knows.all name (not_false (holds name p.recs) h.2),
+    knows.all name (not_false (is_among name p.recs) h.2),
     λ is. let there = knows.open_ones name is in let guarded = h.1 in cc,
     nothing_behind roles n m (behind p true) rest refl h.3,
   )
@@ -152,14 +112,17 @@ mutual
 knows_nothing : Knows outermost [] []
 knows_nothing = record { all = λ name e. absurd (no_name name e); open_ones = λ name e. absurd e }
   where
-    no_name : (name : List ℕ) → holds name [] ≡ true → ⊥
+    no_name : (name : List ℕ) → is_among name [] ≡ true → ⊥
     no_name name e = cc
 
-pub read_texts_are_full : ReadTextsAreFull
-read_texts_are_full symbols p (state, taken, r) =
+full_body : (symbols : List Symbol) (p : Protocol) → IsTakenAs symbols p → IsFull [] [] (trees.body_of p.body)
+full_body symbols p (state, taken, r) =
     let s = r.source in
     let is_taken : reading (spelling s) ≡ Taken state = subst (λ (x : List Symbol). reading x ≡ Taken state) r.spelled.2 taken in
     let passes = body_passes s state r.spelled.1 is_taken in
     let roles = r.role_names in
     let tree = r.tree in
     rw (tree, roles) (full (s.role ∷ s.other_roles) 0 0 outermost [] [] s.body r.spelled.1 passes knows_nothing)
+
+pub read_texts_are_full : ReadTextsAreFull
+read_texts_are_full symbols p read = full_body symbols p (taken_of symbols p read)

@@ -8,8 +8,8 @@ use Rattle.rcv_lexer.specs.declared.token.Span.{Span}
 use Rattle.rcv_lexer.specs.declared.token.Token.{Token}
 use Rattle.rcv_lexer.specs.Tokens.{AreTokens, bytes_of, IsQuotable, IsOfKind}
 use Rattle.rcv_lexer.proofs.TokenBytes.{words_are_words}
-use Rattle.rcv_reader.specs.declared.sign.Sign.{Sign}
-use Rattle.rcv_reader.specs.Symbols.{Symbol, Is, Word, Text, Number, reserved, sign_or, symbol_by, symbols_of}
+use Rattle.rcv_syntax.specs.declared.sign.Sign.{Sign}
+use Rattle.rcv_syntax.specs.Symbols.{Symbol, Is, Word, Text, Number, reserved, sign_or, symbol_by, symbols_of}
 use Rattle.rcv_grammar.specs.Printable.{IsName}
 
 abbrev pub IsFine : Symbol → Type 0

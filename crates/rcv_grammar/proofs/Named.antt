@@ -7,11 +7,11 @@ use Rattle.rcv_tree.specs.declared.protocol.Protocol.{Protocol}
 use Rattle.rcv_model.specs.Text.{Body, End, Single, Choose, Loop, Again, Parallel, Call, Bodies, NoMore, Or, body_of}
 use Rattle.rcv_model.specs.Places.{SingleMessage, singles, singles_of}
 use Rattle.rcv_model.specs.Names.{AreDifferent}
-use Rattle.rcv_reader.specs.declared.sign.Sign.TheVariants.{Close}
-use Rattle.rcv_reader.specs.Symbols.{Symbol, Is, symbols_of}
-use Rattle.rcv_reader.specs.Grammar.{stmts}
-use Rattle.rcv_reader.specs.Machine.{Taken, reading}
-use Rattle.rcv_reader.specs.Refusals.{IsRead}
+use Rattle.rcv_syntax.specs.declared.sign.Sign.TheVariants.{Close}
+use Rattle.rcv_syntax.specs.Symbols.{Symbol, Is, symbols_of}
+use Rattle.rcv_syntax.specs.Grammar.{stmts}
+use Rattle.rcv_machine.specs.Machine.{Taken, reading}
+use Rattle.rcv_reader.proofs.Answering.{IsTakenAs, taken_of}
 use Rattle.rcv_grammar.specs.Printable.{AreNames, IsPrintableBody, ArePrintableBlocks, SomeBlocks, TwoBlocks}
 use Rattle.rcv_grammar.specs.Laws.{ReadTextsHaveNames}
 use Rattle.rcv_grammar.proofs.Headings.{roles_differ}
@@ -56,7 +56,7 @@ mutual
   two_labels roles NoMore h = absurd h
   two_labels roles (Or b bs) h = both_labels (singles b) (singles_of bs) (labels roles b h.0) (some_labels roles bs h.1)
 
-differ : (symbols : List Symbol) (p : Protocol) → IsRead symbols p → AreDifferent p.roles
+differ : (symbols : List Symbol) (p : Protocol) → IsTakenAs symbols p → AreDifferent p.roles
 differ symbols p (state, taken, r) =
     let s = r.source in
     subst AreDifferent (sym r.role_names)
@@ -67,6 +67,6 @@ read_texts_have_names bundle part tokens p are read =
     let printable = read_is_printable bundle part tokens p are read in
     record {
       role_words = names_are_words p.roles (are_names p.roles printable.role_names);
-      differ = differ (symbols_of bundle tokens) p read;
+      differ = differ (symbols_of bundle tokens) p (taken_of (symbols_of bundle tokens) p read);
       label_words = labels p.roles (body_of p.body) printable.body;
     }

@@ -10,11 +10,11 @@ use Rattle.rcv_model.specs.Text as trees
 use Rattle.rcv_lexer.specs.declared.token.Span.{Span}
 use Rattle.rcv_lexer.specs.declared.token.Token.{Token}
 use Rattle.rcv_lexer.specs.Tokens.{AreTokens}
-use Rattle.rcv_reader.specs.declared.sign.Sign.{Sign}
-use Rattle.rcv_reader.specs.declared.sign.Sign.TheVariants as sign
-use Rattle.rcv_reader.specs.Symbols.{Symbol, symbols_of}
-use Rattle.rcv_reader.specs.Grammar.{Written, NoStmt, AMessage, AChoice, ARec, AContinue, APar, ADo, Blocks, NoBlock, ABlock, dotted, names_behind, sort_list, roles_behind, decls, stmts, blocks_behind, AreDecls, spelling}
-use Rattle.rcv_reader.specs.Trees.{or_first, role_at, roles_at, points, points_of, singles, tree_of, trees_of, Reads}
+use Rattle.rcv_syntax.specs.declared.sign.Sign.{Sign}
+use Rattle.rcv_syntax.specs.declared.sign.Sign.TheVariants as sign
+use Rattle.rcv_syntax.specs.Symbols.{Symbol, symbols_of}
+use Rattle.rcv_syntax.specs.Grammar.{Written, NoStmt, AMessage, AChoice, ARec, AContinue, APar, ADo, Blocks, NoBlock, ABlock, dotted, names_behind, sort_list, roles_behind, decls, stmts, blocks_behind, AreDecls, spelling}
+use Rattle.rcv_syntax.specs.Trees.{or_first, role_at, roles_at, points, points_of, singles, tree_of, trees_of, Reads}
 use Rattle.rcv_reader.specs.Refusals.{IsRead}
 use Rattle.rcv_grammar.specs.Canonical.{name_at, names_at}
 use Rattle.rcv_grammar.specs.Printable.{IsName, AreNames, SomeNames, ArePrintableDecls, IsPrintableBody, ArePrintableBlocks, IsPrintable}
@@ -140,4 +140,4 @@ printable symbols p fine reads =
     }
 
 pub read_is_printable : (bundle : List ℕ) (part : Span) (tokens : List Token) (p : Protocol) → AreTokens bundle part tokens → IsRead (symbols_of bundle tokens) p → IsPrintable p
-read_is_printable bundle part tokens p are read = printable (symbols_of bundle tokens) p (tokens_fine bundle part tokens are) read.2
+read_is_printable bundle part tokens p are read = printable (symbols_of bundle tokens) p (tokens_fine bundle part tokens are) read.1

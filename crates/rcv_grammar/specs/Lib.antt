@@ -1,3 +1,3 @@
 pub mod Canonical
-pub mod Printable
 pub mod Laws
+pub mod Printable

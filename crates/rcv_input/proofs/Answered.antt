@@ -10,10 +10,12 @@ use Rattle.rcv_model.proofs.LeastRefusal.{accepted_or_refused}
 use Rattle.rcv_lexer.specs.declared.token.Token.{Token}
 use Rattle.rcv_lexer.specs.Parts.{parts_of}
 use Rattle.rcv_lexer.specs.Tokens.{line_at}
-use Rattle.rcv_reader.specs.Symbols as protocols
+use Rattle.rcv_syntax.specs.Symbols as protocols
 use Rattle.rcv_script.specs.Scripts.{messages_of}
 use Rattle.rcv_script.specs.Symbols as scripts
-use Rattle.rcv_script.specs.Machine as scripting
+use Rattle.rcv_script.specs.Refusals as scripting
+use Rattle.rcv_script.specs.Laws as scripted
+use Rattle.rcv_script.proofs.Once.{scripts_have_one_answer}
 use Rattle.rcv_plan.specs.Symbols as plans
 use Rattle.rcv_plan.specs.Refusing as planning
 use Rattle.rcv_plan.specs.Laws.{IsAnswered}
@@ -46,13 +48,13 @@ by_plan input p lines accepted are =
     ⊎_elim (λ cut. by_plan_tokens input p lines cut.0 accepted are cut.1) (λ bad. inr (Line 10 bad.0, plan_letter p lines bad.0 accepted are bad.1)) (one_reading.some input (parts_of input).plan)
 
 by_script_tokens : (input : List ℕ) (p : Protocol) (tokens : List Token) → IsAcceptedOf input p → AreScriptTokens input tokens → HasAnswer input
-by_script_tokens input p tokens accepted cut = go (scripting.reading p.roles (messages_of p) (scripts.symbols_of input tokens)) refl
+by_script_tokens input p tokens accepted cut = go (scripts_have_one_answer.answered p.roles (messages_of p) (scripts.symbols_of input tokens))
   where
-    go : (answer : scripting.Answer) → scripting.reading p.roles (messages_of p) (scripts.symbols_of input tokens) ≡ answer → HasAnswer input
-    go (scripting.Taken lines) is = by_plan input p lines accepted (record { tokens = tokens; cut = cut; read = is })
-    go (scripting.Refuses fault left) is =
-        let line = scripts.line_before tokens (line_at input (parts_of input).scripts.end) (length left) in
-        inr (Line (scripting.code_of fault) line, unscripted p tokens (scripting.code_of fault) line accepted cut (fault, left, is, refl))
+    go : scripted.IsAnswered p.roles (messages_of p) (scripts.symbols_of input tokens) → HasAnswer input
+    go (inl h) = by_plan input p h.0 accepted (record { tokens = tokens; cut = cut; read = h.1 })
+    go (inr h) =
+        let line = scripts.line_before tokens (line_at input (parts_of input).scripts.end) (length h.1) in
+        inr (Line (scripting.code_of h.0) line, unscripted p tokens (scripting.code_of h.0) line accepted cut (h.0, h.1, h.2, refl))
 
 by_scripts : (input : List ℕ) (p : Protocol) → IsAcceptedOf input p → HasAnswer input
 by_scripts input p accepted =

@@ -4,7 +4,9 @@ use Rattle.std.specs.Fmt.{digits}
 use Rattle.rcv_lexer.specs.declared.token.Kind.TheVariants.{Word}
 use Rattle.rcv_lexer.specs.declared.token.Token.{Token}
 use Rattle.rcv_lexer.specs.Parts.{span}
-use Rattle.rcv_reader.specs.declared.fault.Fault.TheVariants as faults
+use Rattle.rcv_syntax.specs.declared.fault.Fault.TheVariants as faults
+use Rattle.rcv_syntax.specs.Symbols.{symbols_of}
+use Rattle.rcv_machine.proofs.Exactly.{refusal_is_first}
 use Rattle.rcv_input.specs.declared.refused.Refused.TheVariants.{Line, Rule, NoRole}
 use Rattle.rcv_input.specs.Refusals.{IsFirstRefusal, letter, unread}
 use Rattle.rcv_input.specs.Line.{refusal_line}
@@ -33,4 +35,4 @@ abbrev word_module : Token
 word_module = record { kind = Word; span = span 0 6; line = 1 }
 
 cut_off : IsFirstRefusal (codes "module\n") (Line 11 2)
-cut_off = unread (word_module ∷ []) 11 2 (record { token = Some Word; len = 6 } ∷ record { token = None; len = 1 } ∷ [], (refl, (refl, refl)), refl) (faults.Token, [], refl, refl)
+cut_off = unread (word_module ∷ []) 11 2 (record { token = Some Word; len = 6 } ∷ record { token = None; len = 1 } ∷ [], (refl, (refl, refl)), refl) (faults.Token, [], refusal_is_first (symbols_of (codes "module\n") (word_module ∷ [])) faults.Token [] refl, refl)

@@ -5,15 +5,16 @@ use Rattle.std.proofs.lemmas.Bool.Decides.{nat_tests}
 use Rattle.rcv_tree.specs.declared.protocol.Protocol.{Protocol}
 use Rattle.rcv_model.specs.Text.{Body, body_of}
 use Rattle.rcv_model.specs.Form.{HasForm}
-use Rattle.rcv_reader.specs.declared.sign.Sign.TheVariants.{Global, Role, Open, Close, Left, Right}
-use Rattle.rcv_reader.specs.declared.sign.Sign.TheVariants as signs
-use Rattle.rcv_reader.specs.declared.fault.Fault.TheVariants.{Twice, TooMany}
-use Rattle.rcv_reader.specs.Symbols.{Symbol, Is, Word}
-use Rattle.rcv_reader.specs.Grammar.{Written, NoStmt, AMessage, AChoice, ARec, AContinue, APar, ADo, Blocks, NoBlock, ABlock, Source, roles_behind, decls, stmts, spelling}
-use Rattle.rcv_reader.specs.Machine.{Place, Item, This, AnyName, Decls, RoleName, MoreRoles, Rest, State, On, holds, behind, inside, inside_rec, unless, Taken, answer, begin, outermost, reading}
-use Rattle.rcv_reader.specs.Descent.{known}
-use Rattle.rcv_reader.specs.Trees.{role_at, points, points_of}
+use Rattle.rcv_syntax.specs.declared.sign.Sign.TheVariants.{Global, Role, Open, Close, Left, Right}
+use Rattle.rcv_syntax.specs.declared.sign.Sign.TheVariants as signs
+use Rattle.rcv_syntax.specs.declared.fault.Fault.TheVariants.{Twice, TooMany}
+use Rattle.rcv_syntax.specs.Symbols.{Symbol, Is, Word}
+use Rattle.rcv_syntax.specs.Grammar.{Written, NoStmt, AMessage, AChoice, ARec, AContinue, APar, ADo, Blocks, NoBlock, ABlock, Source, roles_behind, decls, stmts, spelling}
+use Rattle.rcv_syntax.specs.Codes.{is_among}
+use Rattle.rcv_machine.specs.Machine.{Place, Item, This, AnyName, Decls, RoleName, MoreRoles, Rest, State, On, behind, inside, inside_rec, unless, Taken, answer, begin, outermost, reading, known}
+use Rattle.rcv_syntax.specs.Trees.{role_at, points, points_of}
 use Rattle.rcv_reader.specs.Refusals.{IsRead}
+use Rattle.rcv_reader.proofs.Answering.{IsTakenAs, taken_of}
 use Rattle.rcv_reader.proofs.Formed.{tree_has_form}
 use Rattle.rcv_grammar.proofs.Passing.{AreTaken, Passes, PassAll, through}
 use Rattle.rcv_grammar.proofs.Headings.{modules_go, decls_follow}
@@ -65,7 +66,7 @@ few_more : (before ns : List (List ℕ)) (k : List Item) (next : List Symbol) (s
 few_more before [] k next st few e = subst (λ (l : List (List ℕ)). length l ≤ 8) (sym (append-nil before)) few
 few_more before (n ∷ ns) k next st few e =
     let on = On (known (before ++ n ∷ []) 0) (MoreRoles ∷ k) in
-    let a = through (holds n before) Twice (unless (nat_le 8 (length before)) TooMany on) (Word n) (roles_behind ns (Is Right ∷ next)) st e in
+    let a = through (is_among n before) Twice (unless (nat_le 8 (length before)) TooMany on) (Word n) (roles_behind ns (Is Right ∷ next)) st e in
     let b = through (nat_le 8 (length before)) TooMany on (Word n) (roles_behind ns (Is Right ∷ next)) st a.1 in
     let below = less 8 (length before) b.0 in
     subst (λ (l : List (List ℕ)). length l ≤ 8) (append_assoc before (n ∷ []) ns) (few_more (before ++ n ∷ []) ns k next st (omega (arith, below, length-append before (n ∷ []))) b.1)
@@ -82,10 +83,13 @@ few_roles s st e =
 
 -- ---- the form
 
-pub read_has_form : (symbols : List Symbol) (p : Protocol) → IsRead symbols p → HasForm (body_of p.body) (length p.roles)
-read_has_form symbols p (state, taken, r) =
+taken_has_form : (symbols : List Symbol) (p : Protocol) → IsTakenAs symbols p → HasForm (body_of p.body) (length p.roles)
+taken_has_form symbols p (state, taken, r) =
     let s = r.source in
     let is_taken : reading (spelling s) ≡ Taken state = subst (λ (x : List Symbol). reading x ≡ Taken state) r.spelled.2 taken in
     let few = few_points (s.role ∷ s.other_roles) 0 outermost s.body (body_passes s state r.spelled.1 is_taken) (omega arith) in
     let roles = subst (λ (l : List (List ℕ)). length l ≤ 8) (sym r.role_names) (few_roles s state is_taken) in
     subst (λ (b : Body). HasForm b (length p.roles)) (sym r.tree) (tree_has_form p.roles s.body r.fit roles (omega (arith, few)))
+
+pub read_has_form : (symbols : List Symbol) (p : Protocol) → IsRead symbols p → HasForm (body_of p.body) (length p.roles)
+read_has_form symbols p read = taken_has_form symbols p (taken_of symbols p read)

@@ -21,14 +21,16 @@ use Rattle.rcv_lexer.specs.declared.token.TextError.TheVariants as errors
 use Rattle.rcv_lexer.specs.Parts.{parts_of}
 use Rattle.rcv_lexer.specs.Tokens.{AreTokens, IsLetter, line_at}
 use Rattle.rcv_lexer.proofs.Once.{one_reading}
-use Rattle.rcv_reader.specs.Symbols as protocols
-use Rattle.rcv_reader.specs.Machine as reading
+use Rattle.rcv_syntax.specs.Symbols as protocols
+use Rattle.rcv_machine.specs.Machine as reading
 use Rattle.rcv_reader.specs.Refusals as reader
+use Rattle.rcv_reader.proofs.Answering.{taken_of, stopped_of}
 use Rattle.rcv_grammar.specs.Laws.{SayTheSame}
 use Rattle.rcv_grammar.proofs.Once.{texts_have_one_tree}
-use Rattle.rcv_points.specs.Follow.{message_of}
+use Rattle.rcv_points.specs.Follow.{PointView, message_of}
 use Rattle.rcv_script.specs.Symbols as scripts
-use Rattle.rcv_script.specs.Machine as scripting
+use Rattle.rcv_script.specs.Refusals as scripting
+use Rattle.rcv_script.proofs.Once.{scripts_have_one_answer}
 use Rattle.rcv_plan.specs.Symbols as plans
 use Rattle.rcv_plan.specs.Refusing as planning
 use Rattle.rcv_plan.proofs.Once.{plans_have_one_answer}
@@ -54,8 +56,10 @@ same_line c l d m codes lines = ap (λ (x : ℕ). Line x l) codes ∙ ap (λ (x 
 
 is_read : (input : List ℕ) (p : Protocol) (text : IsProtocolOf input p) (ts : List Token) (code line : ℕ) → AreProtocolTokens input ts → IsRefusedText input ts code line → ⊥
 is_read input p text ts code line cut h =
-    let taken : reading.reading (protocols.symbols_of input ts) ≡ reading.Taken text.read.0 = subst (λ (x : List Token). reading.reading (protocols.symbols_of input x) ≡ reading.Taken text.read.0) (one_reading.tokens input (parts_of input).protocol text.tokens ts text.cut cut) text.read.1 in
-    let refused = h.2 in
+    let t = taken_of (protocols.symbols_of input text.tokens) p text.read in
+    let same = one_reading.tokens input (parts_of input).protocol text.tokens ts text.cut cut in
+    let taken : reading.reading (protocols.symbols_of input ts) ≡ reading.Taken t.0 = subst (λ (x : List Token). reading.reading (protocols.symbols_of input x) ≡ reading.Taken t.0) same t.1 in
+    let refused = (stopped_of input ts (line_at input (parts_of input).protocol.end) (refusals.Text code line) h).2 in
     cc
 
 same_unread : (input : List ℕ) (ts us : List Token) (code line other_code other_line : ℕ) → AreProtocolTokens input ts → AreProtocolTokens input us → IsRefusedText input ts code line → IsRefusedText input us other_code other_line
@@ -64,12 +68,14 @@ same_unread input ts us code line other_code other_line a b x y = go (subst (λ 
   where
     go : IsRefusedText input ts other_code other_line → Line code line ≡ Line other_code other_line
     go z =
-        let x2 = x.2 in
-        let z2 = z.2 in
-        let faults : x.0 ≡ z.0 = cc in
-        let left : x.1 ≡ z.1 = cc in
-        let x3 = x.3 in
-        let z3 = z.3 in
+        let a' = stopped_of input ts (line_at input (parts_of input).protocol.end) (refusals.Text code line) x in
+        let b' = stopped_of input ts (line_at input (parts_of input).protocol.end) (refusals.Text other_code other_line) z in
+        let x2 = a'.2 in
+        let z2 = b'.2 in
+        let faults : a'.0 ≡ b'.0 = cc in
+        let left : a'.1 ≡ b'.1 = cc in
+        let x3 = a'.3 in
+        let z3 = b'.3 in
         let codes : code ≡ other_code = cc in
         let lines : line ≡ other_line = cc in
         same_line code line other_code other_line codes lines
@@ -105,46 +111,47 @@ same_rule input p q c r n name d s m other x y a b at there =
 
 -- ---- scripts
 
--- what a machine that reads them says of the scripts of one reading holds of the other's
-abbrev machine : List ℕ → List (List ℕ) → Body → List Token → scripting.Answer
-machine input roles body ts = scripting.reading roles (map message_of (singles body)) (scripts.symbols_of input ts)
+-- the messages of a text
+abbrev messages_by : Body → List PointView
+messages_by body = map message_of (singles body)
 
-same_machine : (input : List ℕ) (p q : Protocol) (ts us : List Token) → SayTheSame p q → AreScriptTokens input ts → AreScriptTokens input us
-    → machine input p.roles (body_of p.body) ts ≡ machine input q.roles (body_of q.body) us
-same_machine input p q ts us say cut other =
-    ap (λ (rs : List (List ℕ)). machine input rs (body_of p.body) ts) say.role_names
-    ∙ ap (λ (body : Body). machine input q.roles body ts) say.bodies
-    ∙ ap (machine input q.roles (body_of q.body)) (one_reading.tokens input (parts_of input).scripts ts us cut other)
+-- they are refused with this code and line, for these roles and this text
+abbrev RefusedScripts : List ℕ → ℕ → ℕ → List (List ℕ) → Body → List Token → Type 0
+RefusedScripts input code line roles body ts =
+    scripting.IsRefused input ts (line_at input (parts_of input).scripts.end) roles (messages_by body) (errors.Refused (refusals.Text code line))
+
+-- what a reader says of the scripts of one reading holds of the other's
+same_scripts_part : (input : List ℕ) (p q : Protocol) (ts us : List Token) (P : List (List ℕ) → Body → List Token → Type 0) → SayTheSame p q → AreScriptTokens input ts → AreScriptTokens input us
+    → P p.roles (body_of p.body) ts → P q.roles (body_of q.body) us
+same_scripts_part input p q ts us P say cut other h =
+    subst (P q.roles (body_of q.body)) (one_reading.tokens input (parts_of input).scripts ts us cut other)
+    (subst (λ (body : Body). P q.roles body ts) say.bodies (subst (λ (rs : List (List ℕ)). P rs (body_of p.body) ts) say.role_names h))
 
 are_scripts : (input : List ℕ) (p q : Protocol) (lines : List (List model.Line)) (us : List Token) (code line : ℕ) → SayTheSame p q → AreScriptsOf input p lines → AreScriptTokens input us
     → AreRefusedScripts input q us code line → ⊥
 are_scripts input p q lines us code line say s cut h =
-    let same = same_machine input p q s.tokens us say s.cut cut in
-    let taken = s.read in
-    let refused = h.2 in
-    cc
+    scripts_have_one_answer.either q.roles (messages_by (body_of q.body)) (scripts.symbols_of input us) lines h.0 h.1
+    (same_scripts_part input p q s.tokens us (λ rs body ts. scripting.AreRead rs (messages_by body) (scripts.symbols_of input ts) lines) say s.cut cut s.read) h.2
 
 same_lines : (input : List ℕ) (p q : Protocol) (l m : List (List model.Line)) → SayTheSame p q → AreScriptsOf input p l → AreScriptsOf input q m → l ≡ m
 same_lines input p q l m say s t =
-    let same = same_machine input p q s.tokens t.tokens say s.cut t.cut in
-    let taken = s.read in
-    let other = t.read in
-    cc
+    scripts_have_one_answer.one q.roles (messages_by (body_of q.body)) (scripts.symbols_of input t.tokens) l m
+    (same_scripts_part input p q s.tokens t.tokens (λ rs body ts. scripting.AreRead rs (messages_by body) (scripts.symbols_of input ts) l) say s.cut t.cut s.read) t.read
 
 same_unscripted : (input : List ℕ) (p q : Protocol) (ts us : List Token) (code line other_code other_line : ℕ) → SayTheSame p q → AreScriptTokens input ts
     → AreScriptTokens input us → AreRefusedScripts input p ts code line → AreRefusedScripts input q us other_code other_line → Line code line ≡ Line other_code other_line
-same_unscripted input p q ts us code line other_code other_line say cut other x y =
-    let same = same_machine input p q ts us say cut other in
-    let tokens = one_reading.tokens input (parts_of input).scripts ts us cut other in
-    let x2 = x.2 in
-    let y2 = y.2 in
-    let faults : x.0 ≡ y.0 = cc in
-    let left : x.1 ≡ y.1 = cc in
-    let x3 = x.3 in
-    let y3 = y.3 in
-    let codes : code ≡ other_code = cc in
-    let lines : line ≡ other_line = cc in
-    same_line code line other_code other_line codes lines
+same_unscripted input p q ts us code line other_code other_line say cut other x y = go (same_scripts_part input p q ts us (RefusedScripts input code line) say cut other x)
+  where
+    go : RefusedScripts input code line q.roles (body_of q.body) us → Line code line ≡ Line other_code other_line
+    go z =
+        let first = scripts_have_one_answer.first q.roles (messages_by (body_of q.body)) (scripts.symbols_of input us) z.0 y.0 z.1 y.1 z.2 y.2 in
+        let faults : z.0 ≡ y.0 = first.0 in
+        let left : z.1 ≡ y.1 = first.1 in
+        let z3 = z.3 in
+        let y3 = y.3 in
+        let codes : code ≡ other_code = cc in
+        let lines : line ≡ other_line = cc in
+        same_line code line other_code other_line codes lines
 
 -- ---- the plan
 

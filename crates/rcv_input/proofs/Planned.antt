@@ -7,7 +7,9 @@ use Rattle.rcv_lexer.specs.declared.token.Kind.TheVariants.{Number}
 use Rattle.rcv_lexer.specs.declared.token.Token.{Token}
 use Rattle.rcv_lexer.specs.Parts.{parts_of}
 use Rattle.rcv_lexer.specs.Tokens.{tokens_of}
-use Rattle.rcv_script.specs.Machine.{no_lines}
+use Rattle.rcv_script.specs.Meaning.{no_lines}
+use Rattle.rcv_script.specs.Scripts.{messages_of}
+use Rattle.rcv_script.proofs.Answering.{none_read}
 use Rattle.rcv_plan.specs.declared.sign.Sign.TheVariants.{Equals, Comma}
 use Rattle.rcv_plan.specs.Symbols as plans
 use Rattle.rcv_plan.specs.declared.fault.Fault.TheVariants.{Twice}
@@ -40,7 +42,7 @@ is_accepted plan = record {
 }
 
 are_scripts : (plan : List ℕ) → AreScriptsOf (with_plan plan) protocol (no_lines protocol.roles)
-are_scripts plan = record { tokens = []; cut = ([], refl, refl); read = refl }
+are_scripts plan = record { tokens = []; cut = ([], refl, refl); read = none_read protocol.roles (messages_of protocol) }
 
 -- ---- the first role crashes at 1, and both have one host
 

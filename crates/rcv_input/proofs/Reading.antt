@@ -12,11 +12,11 @@ use Rattle.rcv_lexer.specs.Parts.{parts_of}
 use Rattle.rcv_lexer.specs.Tokens as lexer
 use Rattle.rcv_lexer.specs.Tokens.{AreTokens, line_at}
 use Rattle.rcv_model.specs.Plan.{PlanLine}
-use Rattle.rcv_reader.specs.Symbols as protocols
-use Rattle.rcv_reader.specs.Machine as reading
+use Rattle.rcv_syntax.specs.Symbols as protocols
+use Rattle.rcv_syntax.specs.Codes.{code_of}
 use Rattle.rcv_reader.specs.Refusals as reader
 use Rattle.rcv_script.specs.Symbols as scripts
-use Rattle.rcv_script.specs.Machine as scripting
+use Rattle.rcv_script.specs.Refusals as scripting
 use Rattle.rcv_script.specs.Scripts as own
 use Rattle.rcv_script.specs.Scripts.{ScriptsView}
 use Rattle.rcv_plan.specs.Symbols as plans
@@ -39,7 +39,7 @@ by_letter input (errors.Refused r) h = (10, h.0, h.1, letter h.0 h.2)
 pub by_reader : (input : List ℕ) (tokens : List Token) (e : TextError) (part : Span) (last : ℕ) → part ≡ (parts_of input).protocol → last ≡ line_at input part.end → AreTokens input part tokens
     → reader.IsRefused input tokens last e → IsUnread input e
 by_reader input tokens errors.Memory part last is end cut h = tt
-by_reader input tokens (errors.Refused r) part last is end cut h = (reading.code_of h.0, line, h.3, unread tokens (reading.code_of h.0) line (subst (λ (p : Span). AreTokens input p tokens) is cut) (h.0, h.1, h.2, ap (λ (n : ℕ). refusals.Text (reading.code_of h.0) (protocols.line_before tokens n (length h.1))) (end ∙ ap (λ (p : Span). line_at input p.end) is)))
+by_reader input tokens (errors.Refused r) part last is end cut h = (code_of h.0, line, h.3, unread tokens (code_of h.0) line (subst (λ (p : Span). AreTokens input p tokens) is cut) (h.0, h.1, h.2, ap (λ (n : ℕ). refusals.Text (code_of h.0) (protocols.line_before tokens n (length h.1))) (end ∙ ap (λ (p : Span). line_at input p.end) is)))
   where
     line : ℕ
     line = protocols.line_before tokens last (length h.1)

@@ -20,10 +20,11 @@ use Rattle.rcv_model.proofs.PlacesLemmas.{offers_complete}
 use Rattle.rcv_lexer.specs.declared.piece.Piece.{Piece}
 use Rattle.rcv_lexer.specs.declared.token.Token.{Token}
 use Rattle.rcv_lexer.specs.Tokens.{tokens_of}
-use Rattle.rcv_reader.specs.Symbols.{Symbol, symbols_of}
-use Rattle.rcv_reader.specs.Grammar.{NoStmt, AMessage, AChoice, NoBlock, Source}
-use Rattle.rcv_reader.specs.Descent.{known}
+use Rattle.rcv_syntax.specs.Symbols.{Symbol, symbols_of}
+use Rattle.rcv_syntax.specs.Grammar.{NoStmt, AMessage, AChoice, NoBlock, Source}
+use Rattle.rcv_machine.specs.Machine.{known}
 use Rattle.rcv_reader.specs.Refusals.{IsRead}
+use Rattle.rcv_reader.proofs.Answering.{read_of}
 use Rattle.rcv_input.specs.declared.refused.Refused.TheVariants.{Rule}
 use Rattle.rcv_input.specs.Input.{AreProtocolTokens}
 use Rattle.rcv_input.specs.Line.{refusal_line}
@@ -125,7 +126,7 @@ its_body =
     ∙ ap (λ bs. Choose 1 bs End) its_branches
 
 is_read : IsRead symbols protocol
-is_read = (
+is_read = read_of symbols protocol (
   known both 1,
   refl,
   record {

@@ -24,13 +24,16 @@ use Rattle.rcv_lexer.specs.declared.token.Kind.TheVariants.{Word, Mark}
 use Rattle.rcv_lexer.specs.declared.token.Token.{Token}
 use Rattle.rcv_lexer.specs.Parts.{parts_of}
 use Rattle.rcv_lexer.specs.Tokens.{tokens_of}
-use Rattle.rcv_reader.specs.Symbols.{Symbol, symbols_of}
-use Rattle.rcv_reader.specs.Grammar.{NoStmt, AMessage, Source}
-use Rattle.rcv_reader.specs.Descent.{known}
+use Rattle.rcv_syntax.specs.Symbols.{Symbol, symbols_of}
+use Rattle.rcv_syntax.specs.Grammar.{NoStmt, AMessage, Source}
+use Rattle.rcv_machine.specs.Machine.{known}
 use Rattle.rcv_reader.specs.Refusals.{IsRead}
+use Rattle.rcv_reader.proofs.Answering.{read_of}
 use Rattle.rcv_grammar.proofs.Filling.{read_texts_are_full}
 use Rattle.rcv_grammar.proofs.Named.{read_texts_have_names}
-use Rattle.rcv_script.specs.Machine.{no_lines}
+use Rattle.rcv_script.specs.Meaning.{no_lines}
+use Rattle.rcv_script.specs.Scripts.{messages_of}
+use Rattle.rcv_script.proofs.Answering.{none_read as no_scripts_read}
 use Rattle.rcv_plan.proofs.Answered.{none_read}
 use Rattle.rcv_input.specs.Input.{AreProtocolTokens, IsTaken}
 use Rattle.rcv_input.proofs.Cutting.{cuts}
@@ -110,7 +113,7 @@ its_body =
     ∙ stmt_body-Message (codes "p") [] 0 1 1 End
 
 pub is_read : IsRead symbols protocol
-is_read = (
+is_read = read_of symbols protocol (
   known both 1,
   refl,
   record {
@@ -146,6 +149,6 @@ taken = record {
       subjects = fine.1;
     };
   };
-  are_scripts = record { tokens = []; cut = ([], refl, refl); read = refl };
+  are_scripts = record { tokens = []; cut = ([], refl, refl); read = no_scripts_read both (messages_of protocol) };
   plan = record { tokens = []; cut = ([], refl, refl); read = none_read both };
 }

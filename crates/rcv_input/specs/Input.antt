@@ -7,7 +7,7 @@ use Rattle.rcv_session.specs.Session.{SessionView}
 use Rattle.rcv_lexer.specs.declared.token.Token.{Token}
 use Rattle.rcv_lexer.specs.Parts.{parts_of}
 use Rattle.rcv_lexer.specs.Tokens.{AreTokens}
-use Rattle.rcv_reader.specs.Symbols as protocols
+use Rattle.rcv_syntax.specs.Symbols as protocols
 use Rattle.rcv_reader.specs.Refusals as reader
 use Rattle.rcv_accept.specs.Accepted.{IsAcceptedProtocol}
 use Rattle.rcv_script.specs.Symbols as scripts

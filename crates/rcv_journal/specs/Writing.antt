@@ -23,7 +23,7 @@ pub record BrokeText (setup : SessionView) (entries : List Entry) (start now : O
   pub later : before ≤ faults
   pub rose : Rose before faults
 
--- No call was made.
+-- What is told of the sink is as before.
 pub record IsUntouched (start now : Option (List ℕ)) (before faults : ℕ) : Type 0 where
   pub written : now ≡ start
   pub fine : faults ≡ before

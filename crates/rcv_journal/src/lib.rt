@@ -16,7 +16,7 @@ mod vec_sink;
 
 pub use fault::TextError;
 
-/// Want of memory, which is the one error of the calls of this crate.
+/// Want of memory, where nothing else can fail.
 pub use std::alloc::AllocError as Memory;
 
 /// Each role and each point in a legal journal of an accepted protocol has a name, and its events are made by the ends of

@@ -31,7 +31,7 @@ const LAST: usize = 64;
 /// says whether the session is completed.
 ///
 /// `WriteFault` comes exactly where a call of the sink failed: a beginning of the text was written then, and not all of
-/// it. `Memory` comes only before the first call of the sink.
+/// it. `Memory` comes only before the first call of the sink, so what is told of it is as before.
 pub fn write_text<K: Sink>(alloc: Global, book: &Book<'_>, sink: &mut K) -> Result<(), TextError>
     requires { IsFinal (rules_of book.now.setup) (state_of book.now) }
     ensures whole { OnOk result (WroteText book.now.setup book.now.entries

@@ -11,8 +11,13 @@ use Rattle.std.proofs.lemmas.Str.Ascii.{IsAscii-nil, IsAscii-from_all}
 use Rattle.rcv_tree.specs.Words.{is_letter, is_word_byte, Passes, IsWord}
 use Rattle.rcv_model.specs.Places.{SingleMessage, single_at, singles}
 use Rattle.rcv_accept.specs.Accepted.{IsAcceptedProtocol}
-use Rattle.rcv_session.specs.Session.{SessionView, text_of}
-use Rattle.rcv_json.specs.Texts.{HasTexts}
+use Rattle.rcv_session.specs.Session.{SessionView, net_for, text_of}
+use Rattle.rcv_journal.specs.JournalText.{name_of}
+
+-- The names of roles and the labels of points are text.
+pub record HasTexts (setup : SessionView) : Type 0 where
+  pub names : (r : ℕ) → IsUtf8 (name_of setup r)
+  pub labels : (p : ℕ) → IsUtf8 ((net_for setup).label p)
 
 letter_is_short : (b : ℕ) → is_letter b ≡ true → b < 128
 letter_is_short b is = grind (arith, nat_tests)

@@ -1,4 +1,3 @@
 pub mod Heads
 pub mod Laws
 pub mod Pieces
-pub mod Texts

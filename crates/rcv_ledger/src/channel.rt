@@ -1,8 +1,9 @@
 // The channels of a session: a queue for each ordered pair of roles, with all that was ever put on it.
 
-ghost use Rattle.std.specs.Prelude.{◌≡◌, ◌≢◌, ◌+◌, ◌<◌, ◌≤◌, ℕ, length, OnOk, OnErr, IfOk, IsOk, replicate, vec_capacity};
+ghost use Rattle.std.specs.Prelude.{◌≡◌, ◌≢◌, ◌+◌, ◌<◌, ◌≤◌, ℕ, length, OnOk, OnErr, IfOk, IsOk, replicate, slice_index, vec_capacity};
 ghost use Rattle.rcv_ledger.specs.Channels.{view_of, empty, between, channel_at, IsFront, HasFront, put_more, take_more};
 ghost use Rattle.rcv_ledger.specs.Channels.{put_less, take_less, with_put, with_taken, without_put, without_taken, with_list, IsReserved};
+ghost use Rattle.rcv_ledger.specs.Channels.{IsPutLess, IsTakenLess};
 
 use rcv_tree::event::Message;
 use rcv_tree::role::RoleId;
@@ -52,20 +53,20 @@ impl Channel {
         self.taken += 1;
     }
 
-    fn unput(&mut self)
-        requires { 0 < length self.old.put.items }
-        ensures view { view_of self.new ≡ put_less (view_of self.old) }
+    fn unput(&mut self, count: usize)
+        requires { count ≤ length self.old.put.items }
+        ensures view { view_of self.new ≡ put_less (view_of self.old) count }
         ensures capacity { vec_capacity self.new.put ≡ vec_capacity self.old.put }
     {
-        self.put.truncate(self.put.len() - 1);
+        self.put.truncate(self.put.len() - count);
     }
 
-    fn untake(&mut self)
-        requires { 0 < self.old.taken }
-        ensures view { view_of self.new ≡ take_less (view_of self.old) }
+    fn untake(&mut self, count: usize)
+        requires { count ≤ self.old.taken }
+        ensures view { view_of self.new ≡ take_less (view_of self.old) count }
         ensures capacity { vec_capacity self.new.put ≡ vec_capacity self.old.put }
     {
-        self.taken -= 1;
+        self.taken -= count;
     }
 
     fn front(&self) -> Option<Message>
@@ -139,22 +140,48 @@ impl Channels {
         self.channels[place_of(from, to)].take();
     }
 
-    /// Takes back the last message that was put on the channel, of which there is one. It takes no memory.
-    pub fn unput(&mut self, from: RoleId, to: RoleId)
+    /// Takes back so many of the last messages that were put on the channel, at most all. It takes no memory.
+    pub fn unput(&mut self, from: RoleId, to: RoleId, count: usize)
         requires roles { (from < 8) × (to < 8) }
-        requires some { 0 < length (channel_at self.old.list from to).put }
-        ensures { self.new ≡ with_list self.old (without_put self.old.list from to) }
+        requires some { count ≤ length (channel_at self.old.list from to).put }
+        ensures { self.new ≡ with_list self.old (without_put self.old.list from to count) }
     {
-        self.channels[place_of(from, to)].unput();
+        self.channels[place_of(from, to)].unput(count);
     }
 
-    /// Gives back the last message that was taken from the channel, of which there is one. It takes no memory.
-    pub fn untake(&mut self, from: RoleId, to: RoleId)
+    /// Gives back so many of the last messages that were taken from the channel, at most all. It takes no memory.
+    pub fn untake(&mut self, from: RoleId, to: RoleId, count: usize)
         requires roles { (from < 8) × (to < 8) }
-        requires some { 0 < (channel_at self.old.list from to).taken }
-        ensures { self.new ≡ with_list self.old (without_taken self.old.list from to) }
+        requires some { count ≤ (channel_at self.old.list from to).taken }
+        ensures { self.new ≡ with_list self.old (without_taken self.old.list from to count) }
     {
-        self.channels[place_of(from, to)].untake();
+        self.channels[place_of(from, to)].untake(count);
+    }
+
+    /// Takes back what a role put on its channel to each of eight roles: so many of the last messages. It takes no memory.
+    pub fn unput_each(&mut self, role: RoleId, counts: &[usize; ROLES])
+        requires role { role < 8 }
+        requires all { length self.old.list ≡ 64 }
+        requires some { (b : ℕ) → b < 8 → slice_index counts.now b ≤ length (channel_at self.old.list role b).put }
+        ensures less { IsPutLess self.old.list self.new.list role counts.now 8 }
+        ensures rest { self.new ≡ with_list self.old self.new.list }
+    {
+        for other in 0..ROLES {
+            self.unput(role, RoleId(other as u8), counts[other]);
+        }
+    }
+
+    /// Gives back what a role took from each of eight roles: so many of the last messages. It takes no memory.
+    pub fn untake_each(&mut self, role: RoleId, counts: &[usize; ROLES])
+        requires role { role < 8 }
+        requires all { length self.old.list ≡ 64 }
+        requires some { (a : ℕ) → a < 8 → slice_index counts.now a ≤ (channel_at self.old.list a role).taken }
+        ensures less { IsTakenLess self.old.list self.new.list role counts.now 8 }
+        ensures rest { self.new ≡ with_list self.old self.new.list }
+    {
+        for other in 0..ROLES {
+            self.untake(RoleId(other as u8), role, counts[other]);
+        }
     }
 
     /// The front message of the channel, if one waits there.

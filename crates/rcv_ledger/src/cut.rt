@@ -1,19 +1,20 @@
 // How many events of each role a recovery keeps, found from the ends of the logs.
 
-ghost use Rattle.std.specs.Prelude.{◌≡◌, ◌-◌, ◌<◌, ◌≤◌, ◌^◌, ℕ, MatchOption, length, slice_get, slice_index, slice_set, Some};
+ghost use Rattle.std.specs.Prelude.{◌≡◌, ◌-◌, ◌<◌, ◌≤◌, ◌^◌, ℕ, MatchOption, length, slice_index, slice_set};
 ghost use Rattle.std.specs.List.{sum};
 ghost use Rattle.rcv_points.specs.Follow.{net_in};
 ghost use Rattle.rcv_depend.specs.Keeps.{bound_of};
 ghost use Rattle.rcv_ledger.specs.Channels.{between};
-ghost use Rattle.rcv_ledger.specs.Logs.{log_at};
+ghost use Rattle.rcv_ledger.specs.Logs.{HasMark, log_at};
 ghost use Rattle.rcv_ledger.specs.Ledger.{AreSound, AreCarried};
 ghost use Rattle.rcv_ledger.specs.Cut.{AreFew, AllCounted, AllEven, IsCounted, IsKeptOf, StaysAbove, Owes};
 
 use crate::channel::{CHANNELS, ROLES, place_of};
 use crate::ledger::Ledger;
+use crate::logs::Mark;
 use rcv_depend::keeps::Keeps;
 use rcv_points::points::Points;
-use rcv_tree::event::{Dir, Event};
+use rcv_tree::event::Dir;
 use rcv_tree::role::RoleId;
 
 /// How many of its events each of eight roles keeps, where the failed roles lose all behind theirs: what remains when no
@@ -22,7 +23,7 @@ use rcv_tree::role::RoleId;
 /// How much was put on each channel and taken from it is known of all events. Only the channels between two roles with logs
 /// are looked at: a role without one put nothing and took nothing. From there it takes events off the ends of the logs:
 /// first what is lost, and then, for each channel from which more is taken than was put on it, the receiver's last events
-/// until that is even. So each undone event is looked at once, and no kept one.
+/// until that is even. So each undone event's mark is looked at once, and no kept one's.
 pub fn cut(ledger: &Ledger, points: &Points, keeps: &Keeps) -> [u32; 8]
     requires carried { AreCarried (net_in points.now) ledger.now.logs ledger.now.channels }
     requires few { AreFew ledger.now.logs }
@@ -86,11 +87,12 @@ impl Counted {
         ensures counted { IsCounted (net_in points.now) ledger.now.logs self.new }
         ensures counts { self.new.counts ≡ slice_set self.old.counts role (slice_index self.old.counts role - 1) }
     {
-        let event = event_at(ledger, role, self.counts[role] - 1);
+        let own = RoleId(role as u8);
+        let mark = mark_at(ledger, own, self.counts[role] - 1);
         self.counts[role] -= 1;
-        match event.dir {
-            Dir::Sent => take_one(&mut self.put, event.role, points.receiver(event.point)),
-            Dir::Got => take_one(&mut self.taken, points.sender(event.point), event.role),
+        match mark.dir {
+            Dir::Sent => take_one(&mut self.put, own, points.receiver(mark.point)),
+            Dir::Got => take_one(&mut self.taken, points.sender(mark.point), own),
         }
     }
 
@@ -166,13 +168,12 @@ fn take_one(counts: &mut [usize; CHANNELS], from: RoleId, to: RoleId)
     counts[place] = counts[place].saturating_sub(1);
 }
 
-// The event of a role with this number.
+// The mark of the event of a role with this number.
 #[inline(always)]
-fn event_at(ledger: &Ledger, role: usize, number: u32) -> &Event
-    requires few { length ledger.now.logs ≤ 8 }
+fn mark_at(ledger: &Ledger, role: RoleId, number: u32) -> Mark
     requires role { role < length ledger.now.logs }
     requires number { number < length (log_at ledger.now.logs role) }
-    ensures { slice_get (log_at ledger.now.logs role) number ≡ Some result.now }
+    ensures { HasMark ledger.now.logs role number result }
 {
-    ledger.event(RoleId(role as u8), number as usize)
+    ledger.mark(role, number as usize)
 }

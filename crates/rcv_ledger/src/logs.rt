@@ -1,34 +1,44 @@
-// A journal's entries, and the logs of the roles: for each role the places of its kept events among them.
+// A journal's entries, and the logs of the roles: for each role the marks of its kept events among them.
 
 ghost use Rattle.std.specs.Prelude.{◌≡◌, ◌^◌, ◌<◌, ◌≤◌, ℕ, [], length, slice_get, slice_index, Some, IfOk, IsOk, OnOk, OnErr, replicate};
-ghost use Rattle.rcv_ledger.specs.Logs.{HasEvent, log_at, log_to, with_lists, with_entry, with_logged, HasRoomIn};
-ghost use Rattle.rcv_ledger.specs.Logs.{places_in, places_at, place_rooms, with_place};
+ghost use Rattle.rcv_ledger.specs.Logs.{HasMark, log_at, log_to, entry_of, with_lists, with_entry, with_logged, HasRoomIn};
+ghost use Rattle.rcv_ledger.specs.Logs.{marks_in, marks_at, mark_rooms, with_mark};
 
 use rcv_tree::entry::Entry;
-use rcv_tree::event::Event;
+use rcv_tree::event::{Dir, Event};
+use rcv_tree::point::Point;
 use std::alloc::{AllocError, Global};
 use std::marker::Model;
+
+/// Where a kept event stands among the entries, with its point and its direction, so that a recovery needn't look there.
+#[derive(Clone, Copy, Debug, PartialEq, Eq)]
+pub struct Mark {
+    place: u32,
+    pub point: Point,
+    pub dir: Dir,
+}
 
 /// The entries of a journal, and for each role its kept events among them, in order. An event is stored once: in its
 /// entry. For so many entries, and events of each role, room is reserved at its start.
 #[derive(Drop)]
 pub struct Logs {
     entries: Vec<Entry>,
-    // For each role where its kept events stand.
-    places: Vec<Vec<u32>>,
+    // For each role those of its kept events.
+    marks: Vec<Vec<Mark>>,
     room: u32,
     most: usize,
 }
 
 impl Model for Logs {
     ghost use Rattle.std.specs.Prelude.{vec_capacity};
-    ghost use Rattle.rcv_ledger.specs.Logs.{LogsView, places_in, place_rooms, logs_of, AreLogs};
+    ghost use Rattle.rcv_ledger.specs.Logs.{LogsView, marks_in, mark_rooms, logs_of, AreLogs};
 
     ghost Value = { LogsView };
 
-    ghost view = { λ a. logs_of a.entries.items (places_in a.places.items) a.room a.most };
+    ghost view = { λ a. logs_of a.entries.items (marks_in a.marks.items) a.room a.most };
 
-    ghost invariant = { λ a. AreLogs a.entries.items (places_in a.places.items) (vec_capacity a.entries) (place_rooms a.places.items) a.room a.most };
+    ghost invariant = { λ a.
+        AreLogs a.entries.items (marks_in a.marks.items) (vec_capacity a.entries) (mark_rooms a.marks.items) a.room a.most };
 }
 
 impl Logs {
@@ -37,13 +47,13 @@ impl Logs {
     pub fn new(alloc: Global, roles: usize, room: u32, most: usize) -> Result<Logs, AllocError>
         ensures { IfOk result (λ logs. logs ≡ record { entries = []; lists = replicate roles []; room = room; most = most }) }
     {
-        let mut places = Vec::new(alloc);
+        let mut marks = Vec::new(alloc);
         for _role in 0..roles {
-            places.push(Vec::with_capacity(alloc, room as usize)?)?;
+            marks.push(Vec::with_capacity(alloc, room as usize)?)?;
         }
         Ok(Logs {
             entries: Vec::with_capacity(alloc, most)?,
-            places,
+            marks,
             room,
             most,
         })
@@ -54,7 +64,7 @@ impl Logs {
     pub fn roles(&self) -> usize
         ensures { result ≡ length self.now.lists }
     {
-        self.places.len()
+        self.marks.len()
     }
 
     /// All entries, in order. It takes no memory.
@@ -71,7 +81,7 @@ impl Logs {
         requires { role < length self.now.lists }
         ensures { result ≡ length (log_at self.now.lists role) }
     {
-        self.places[role].len()
+        self.marks[role].len()
     }
 
     /// The kept event of a role with this number, from 0. It takes no memory.
@@ -81,7 +91,7 @@ impl Logs {
         requires number { number < length (log_at self.now.lists role) }
         ensures { slice_get (log_at self.now.lists role) number ≡ Some result.now }
     {
-        let place = self.places[role][number] as usize;
+        let place = self.marks[role][number].place as usize;
         match &self.entries[place] {
             Entry::Send(event) => event,
             Entry::Recv(event) => event,
@@ -89,24 +99,36 @@ impl Logs {
         }
     }
 
-    /// Adds an entry with an event of a role that has a log, which is kept. Within the room it takes no memory and
-    /// succeeds. Else it fails where memory runs out; then all is as before.
+    /// The mark of the kept event of a role with this number, from 0. It takes no memory, and looks at no entry.
     #[inline(always)]
-    pub fn add(&mut self, entry: Entry, role: usize) -> Result<(), AllocError>
-        requires event { HasEvent entry }
+    pub fn mark(&self, role: usize, number: usize) -> Mark
+        requires role { role < length self.now.lists }
+        requires number { number < length (log_at self.now.lists role) }
+        ensures { HasMark self.now.lists role number result }
+    {
+        self.marks[role][number]
+    }
+
+    /// Adds the entry of a Send, or of a Recv, with this event of a role that has a log, which is kept. Within the room it
+    /// takes no memory and succeeds. Else it fails where memory runs out; then all is as before.
+    #[inline(always)]
+    pub fn add(&mut self, kind: Dir, event: &Event, role: usize) -> Result<(), AllocError>
         requires role { role < length self.old.lists }
         requires few { length self.old.entries < 2 ^ 32 }
-        ensures ok { OnOk result (self.new ≡ with_logged self.old entry role) }
+        ensures ok { OnOk result (self.new ≡ with_logged self.old (entry_of kind event.now) role) }
         ensures err { OnErr result (self.new ≡ self.old) }
         ensures room { HasRoomIn self.old role → IsOk result }
     {
-        let place = self.entries.len() as u32;
-        self.entries.push(entry)?;
-        let added = add_place(&mut self.places, role, place);
-        if added.is_err() {
-            let _taken_back = self.entries.pop();
-        }
-        added
+        let mark = Mark {
+            place: self.entries.len() as u32,
+            point: event.point,
+            dir: event.dir,
+        };
+        self.entries.reserve(1)?;
+        add_mark(&mut self.marks, role, mark)?;
+        // The entry is written once, into its room.
+        self.entries.push_reserved(entry_with(kind, event));
+        Ok(())
     }
 
     /// Adds an entry without an event to keep. Within the room for entries it takes no memory and succeeds. Else it
@@ -126,20 +148,31 @@ impl Logs {
         requires { role < length self.old.lists }
         ensures { self.new ≡ with_lists self.old (log_to self.old.lists role count) }
     {
-        self.places[role].truncate(count);
+        self.marks[role].truncate(count);
     }
 }
 
-// Adds a place to the log of a role. Within its room it succeeds. Else it fails where memory runs out; then the logs
-// are as before. No log's room gets less.
+// The entry of a Send, or of a Recv, with this event.
 #[inline(always)]
-fn add_place(places: &mut Vec<Vec<u32>>, role: usize, place: u32) -> Result<(), AllocError>
-    requires { role < length places.old.items }
-    ensures ok { OnOk result (places_in places.new.items ≡ with_place (places_in places.old.items) role place) }
-    ensures err { OnErr result (places_in places.new.items ≡ places_in places.old.items) }
-    ensures room { length (places_at (places_in places.old.items) role) < slice_index (place_rooms places.old.items) role → IsOk result }
-    ensures rooms { (r : ℕ) → slice_index (place_rooms places.old.items) r ≤ slice_index (place_rooms places.new.items) r }
+fn entry_with(kind: Dir, event: &Event) -> Entry
+    ensures { result ≡ entry_of kind event.now }
 {
-    places[role].push(place)?;
+    match kind {
+        Dir::Sent => Entry::Send(*event),
+        Dir::Got => Entry::Recv(*event),
+    }
+}
+
+// Adds a mark to the log of a role. Within its room it succeeds. Else it fails where memory runs out; then the logs are as
+// before. No log's room gets less.
+#[inline(always)]
+fn add_mark(marks: &mut Vec<Vec<Mark>>, role: usize, mark: Mark) -> Result<(), AllocError>
+    requires { role < length marks.old.items }
+    ensures ok { OnOk result (marks_in marks.new.items ≡ with_mark (marks_in marks.old.items) role mark) }
+    ensures err { OnErr result (marks_in marks.new.items ≡ marks_in marks.old.items) }
+    ensures room { length (marks_at (marks_in marks.old.items) role) < slice_index (mark_rooms marks.old.items) role → IsOk result }
+    ensures rooms { (r : ℕ) → slice_index (mark_rooms marks.old.items) r ≤ slice_index (mark_rooms marks.new.items) r }
+{
+    marks[role].push(mark)?;
     Ok(())
 }

@@ -8,8 +8,8 @@ use Rattle.rcv_form.specs.Journal.{JournalView}
 use Rattle.rcv_form.specs.Form.{MayBegin, Spells, IsFirstWrong, lines_of}
 use Rattle.rcv_lines.specs.Line.{LineView, SaysLine}
 use Rattle.rcv_lines.specs.Reading.{ReadingView, Follows, IsRead, TakesText}
-use Rattle.rcv_lines.specs.declared.text.TextError.{TextError}
-use Rattle.rcv_lines.specs.declared.text.TextError.TheVariants.{Line}
+use Rattle.rcv_lines.specs.declared.text.LinesError.{LinesError}
+use Rattle.rcv_lines.specs.declared.text.LinesError.TheVariants.{Line}
 use Rattle.rcv_lines.proofs.Views.{SaysOne}
 use Rattle.rcv_lines.proofs.Progress.{HasRead, completed, goes_on, next_follows, spelled, stops_early}
 
@@ -111,7 +111,7 @@ stopped setup text rest line behind number k old new taken one was is took not_t
         (λ other. other.2 (subst (Follows (roles_of setup) old) (one v other.0 says.0 other.1.0 (sym says.1 ∙ other.1.1)) follows))
         (subst (λ t. TakesText setup old line t new) not_taken took)
 
-pub finished_ok : (setup : SessionView) (text rest : List ℕ) (number : ℕ) (r : ReadingView) (found : Option JournalView) (e : TextError) (q : Result JournalView TextError) → q ≡ ok_or found e → HasRead setup text rest number r → length rest ≡ 0 → IfSome found (λ j. (r.over ≡ true) × (j ≡ r.journal)) → IfOk q (λ j. Spells setup text j)
+pub finished_ok : (setup : SessionView) (text rest : List ℕ) (number : ℕ) (r : ReadingView) (found : Option JournalView) (e : LinesError) (q : Result JournalView LinesError) → q ≡ ok_or found e → HasRead setup text rest number r → length rest ≡ 0 → IfSome found (λ j. (r.over ≡ true) × (j ≡ r.journal)) → IfOk q (λ j. Spells setup text j)
 finished_ok setup text rest number r None e q is was none over = subst (λ x. IfOk x (λ j. Spells setup text j)) (sym is) tt
 finished_ok setup text rest number r (Some j) e q is was none over =
     let whole : IsRead setup (lines_of text) r = subst (λ lines. IsRead setup lines r) (sym (all_read setup text rest number r was none)) was.read in
@@ -119,7 +119,7 @@ finished_ok setup text rest number r (Some j) e q is was none over =
     let says : Spells setup text j = subst (Spells setup text) (sym over.1) (spelled setup text r.journal.entries r.journal.roles r.journal.limited ended) in
     subst (λ x. IfOk x (λ j. Spells setup text j)) (sym is) says
 
-pub finished_line : (setup : SessionView) (text rest : List ℕ) (number : ℕ) (r : ReadingView) (found : Option JournalView) (q : Result JournalView TextError) → SaysOne setup → q ≡ ok_or found (Line number) → HasRead setup text rest number r → length rest ≡ 0 → IfNone found (r.over ≡ false) → IfErr q (λ e. (k : ℕ) → e ≡ Line k → IsFirstWrong setup text k)
+pub finished_line : (setup : SessionView) (text rest : List ℕ) (number : ℕ) (r : ReadingView) (found : Option JournalView) (q : Result JournalView LinesError) → SaysOne setup → q ≡ ok_or found (Line number) → HasRead setup text rest number r → length rest ≡ 0 → IfNone found (r.over ≡ false) → IfErr q (λ e. (k : ℕ) → e ≡ Line k → IsFirstWrong setup text k)
 finished_line setup text rest number r None q one is was none over =
     let wrong : (k : ℕ) → Line number ≡ Line k → IsFirstWrong setup text k = λ k at.
     let here : number ≡ k = cc in

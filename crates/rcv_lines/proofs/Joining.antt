@@ -1,8 +1,9 @@
 -- Fields are the cuts of their text.
 use Rattle.std.proofs.Common.{◌≡◌, ◌∙◌, ℕ, Bool, true, false, List, [], ◌∷◌, ◌++◌, flat_map, refl, sym, ap, append_assoc, append-nil, arith, nat_eq, ne_eqb}
 use Rattle.std.proofs.lemmas.Bool.Decides.{nat_tests}
-use Rattle.rcv_lines.specs.Cutting.{fields_from, fields_of, joined, spaced, Lacks, AllLack}
+use Rattle.rcv_lines.specs.Cutting.{fields_from, fields_of, joined, spaced, Lacks}
 use Rattle.rcv_lines.proofs.Cuts.{at_a_space, at_another}
+use Rattle.rcv_lines.proofs.Lacking.{AllLack}
 
 one_by_one : (begun field : List ℕ) (fields : List (List ℕ)) → Lacks 32 field → AllLack 32 fields
     → fields_from begun (field ++ flat_map spaced fields) ≡ (begun ++ field) ∷ fields

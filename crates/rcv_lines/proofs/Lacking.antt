@@ -10,7 +10,12 @@ use Rattle.std.proofs.lemmas.Fmt.{decimal_is_IsNumeral}
 use Rattle.std.proofs.lemmas.List.Elements.{All-head, All-tail}
 use Rattle.std.proofs.lemmas.Str.Parse.{digit_from_value}
 use Rattle.rcv_tree.specs.Words.{is_letter, is_word_byte, IsWord, Passes}
-use Rattle.rcv_lines.specs.Cutting.{AllLack, Lacks, joined, spaced}
+use Rattle.rcv_lines.specs.Cutting.{Lacks, joined, spaced}
+
+-- The byte is in none of the texts.
+abbrev pub AllLack : ℕ → List (List ℕ) → Type 0
+AllLack byte [] = Unit {0}
+AllLack byte (field ∷ fields) = Lacks byte field × AllLack byte fields
 
 -- It is no byte of a word, and no mark before or behind a number.
 pub record IsOutside (byte : ℕ) : Type 0 where

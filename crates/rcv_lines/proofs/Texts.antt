@@ -16,13 +16,13 @@ use Rattle.rcv_journal.specs.declared.line.RoleWord.{RoleWord}
 use Rattle.rcv_journal.specs.declared.line.RoleWord.TheVariants.{Done, Limit, Waits}
 use Rattle.rcv_journal.specs.JournalText.{kept_text, name_of, word_text}
 use Rattle.rcv_form.specs.Form.{IsFormedEvent}
-use Rattle.rcv_lines.specs.Cutting.{AllLack, Lacks, fields_of, joined, spaced}
+use Rattle.rcv_lines.specs.Cutting.{Lacks, fields_of, joined, spaced}
 use Rattle.rcv_lines.specs.Fields.{event_fields, line_fields}
 use Rattle.rcv_lines.specs.Laws.{LinesEndInFeeds}
 use Rattle.rcv_lines.specs.Line.{EndLine, EntryLine, IsFormedLine, LineView, RoleLineOf, SaysLine, line_text}
 use Rattle.rcv_lines.specs.Named.{cut_fields, kept_fields}
 use Rattle.rcv_lines.proofs.Joining.{cut_all, join_again}
-use Rattle.rcv_lines.proofs.Lacking.{IsOutside, all_both, both_lack, feed_is_outside, joined_lacks, names_lack, number_lacks, signed_lacks, space_is_outside, word_lacks, written_lacks}
+use Rattle.rcv_lines.proofs.Lacking.{AllLack, IsOutside, all_both, both_lack, feed_is_outside, joined_lacks, names_lack, number_lacks, signed_lacks, space_is_outside, word_lacks, written_lacks}
 use Rattle.rcv_lines.proofs.Parses.{within}
 use Rattle.rcv_lines.proofs.Regrouped.{event_joins, named_spaced, recovery_joins, recv_joins, role_joins, said_spaced, two_join}
 

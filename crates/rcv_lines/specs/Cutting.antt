@@ -26,7 +26,3 @@ joined (field ∷ fields) = field ++ flat_map spaced fields
 abbrev pub Lacks : ℕ → List ℕ → Type 0
 Lacks byte [] = Unit {0}
 Lacks byte (b ∷ rest) = (b ≡ byte → ⊥) × Lacks byte rest
-
-abbrev pub AllLack : ℕ → List (List ℕ) → Type 0
-AllLack byte [] = Unit {0}
-AllLack byte (field ∷ fields) = Lacks byte field × AllLack byte fields

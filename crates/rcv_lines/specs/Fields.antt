@@ -24,7 +24,8 @@ entry_fields setup (Send e) = event_fields setup (codes "send") e []
 entry_fields setup (Recv e) = event_fields setup (codes "recv") e ((60 ∷ decimal e.sent) ∷ [])
 entry_fields setup (Crash p) = codes "crash" ∷ name_of setup p ∷ []
 entry_fields setup (Recover p concerned kept undone) =
-    codes "recover" ∷ name_of setup p ∷ codes "undone" ∷ (decimal undone ++ 58 ∷ []) ∷ cuts_fields setup.protocol.roles concerned.0 kept (roles_of setup)
+    codes "recover" ∷ name_of setup p ∷ codes "undone" ∷ (decimal undone ++ 58 ∷ [])
+    ∷ cuts_fields setup.protocol.roles concerned.0 kept (roles_of setup)
 
 abbrev pub role_fields : SessionView → RoleLine → List (List ℕ)
 role_fields setup line =

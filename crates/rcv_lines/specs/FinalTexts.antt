@@ -35,7 +35,7 @@ limited_in [] = []
 limited_in (line ∷ lines) = if is_limit line.word then line.role ∷ limited_in lines else limited_in lines
 
 -- The bytes are read as the journal's entries, its lines of roles, and those of them that are at the limit.
-pub record IsReadAs (session : SessionView) (entries : List Entry) (bytes : List ℕ) : Type 0 where
+pub record IsReadAsJournal (session : SessionView) (entries : List Entry) (bytes : List ℕ) : Type 0 where
   pub lines : List RoleLine
   pub are_lines : AreLinesOf (rules_of session) (reading (rules_of session) entries) lines
   pub spells : Spells (bare session.protocol) bytes (record { entries = entries; roles = lines; limited = limited_in lines })
@@ -43,4 +43,4 @@ pub record IsReadAs (session : SessionView) (entries : List Entry) (bytes : List
 abbrev pub FinalTextsAreReadBack : Type 0
 FinalTextsAreReadBack =
     (session : SessionView) (entries : List Entry) (bytes : List ℕ)
-    → IsEnded session entries → IsTextOf session entries bytes → IsReadAs session entries bytes
+    → IsEnded session entries → IsTextOf session entries bytes → IsReadAsJournal session entries bytes

@@ -27,12 +27,18 @@ Follows roles r said = (r.over ≡ false) × MayCome roles (length r.journal.rol
 
 -- What was read with one line more.
 abbrev pub with_line : ReadingView → LineView → ReadingView
-with_line r (EntryLine e) =
-    record { journal = record { entries = r.journal.entries ++ e ∷ []; roles = r.journal.roles; limited = r.journal.limited }; over = r.over }
-with_line r (RoleLineOf line) =
-    record { journal = record { entries = r.journal.entries; roles = r.journal.roles ++ line ∷ []; limited = r.journal.limited }; over = r.over }
-with_line r (EndLine limited) =
-    record { journal = record { entries = r.journal.entries; roles = r.journal.roles; limited = limited }; over = true }
+with_line r (EntryLine e) = record {
+  journal = record { entries = r.journal.entries ++ e ∷ []; roles = r.journal.roles; limited = r.journal.limited };
+  over = r.over;
+}
+with_line r (RoleLineOf line) = record {
+  journal = record { entries = r.journal.entries; roles = r.journal.roles ++ line ∷ []; limited = r.journal.limited };
+  over = r.over;
+}
+with_line r (EndLine limited) = record {
+  journal = record { entries = r.journal.entries; roles = r.journal.roles; limited = limited };
+  over = true;
+}
 
 -- The last line, where it was read.
 abbrev pub end_read : SessionView → Bool → List ℕ → List (List ℕ)
@@ -62,4 +68,5 @@ abbrev pub TakesText : SessionView → ReadingView → List ℕ → Bool → Rea
 TakesText setup old text taken new =
     MatchBool taken
     ((said : LineView) × SaysLine setup text said × Follows (roles_of setup) old said × (new ≡ with_line old said))
-    (((said : LineView) → SaysLine setup text said → ⊥) ⊎ ((said : LineView) × SaysLine setup text said × (Follows (roles_of setup) old said → ⊥)))
+    (((said : LineView) → SaysLine setup text said → ⊥)
+    ⊎ ((said : LineView) × SaysLine setup text said × (Follows (roles_of setup) old said → ⊥)))

@@ -24,7 +24,8 @@ use rcv_tree::role::RoleId;
 fn crash(accepted: &Accepted, fields: &[&[u8]]) -> Option<RoleId>
     ensures declared { IfSome result (λ r. r < roles_of (bare accepted.now.protocol)) }
     ensures some { IfSome result (λ r. texts fields.now ≡ codes "crash" ∷ name_of (bare accepted.now.protocol) r ∷ []) }
-    ensures none { IfNone result ((r : ℕ) → r < roles_of (bare accepted.now.protocol) → texts fields.now ≡ codes "crash" ∷ name_of (bare accepted.now.protocol) r ∷ [] → ⊥) }
+    ensures none { IfNone result ((r : ℕ) → r < roles_of (bare accepted.now.protocol)
+        → texts fields.now ≡ codes "crash" ∷ name_of (bare accepted.now.protocol) r ∷ [] → ⊥) }
 {
     if fields.len() != 2 {
         return None;
@@ -39,7 +40,8 @@ fn crash(accepted: &Accepted, fields: &[&[u8]]) -> Option<RoleId>
 fn recovery_of(accepted: &Accepted, of: &[u8], number: &[u8], cuts: &[&[u8]]) -> Option<Entry>
     ensures formed { IfSome result (λ e. IsFormedEntry (bare accepted.now.protocol) e) }
     ensures says { IfSome result (λ e. SaysRecovery (bare accepted.now.protocol) e of.now number.now (texts cuts.now)) }
-    ensures none { IfNone result ((e : Entry) → IsFormedEntry (bare accepted.now.protocol) e → SaysRecovery (bare accepted.now.protocol) e of.now number.now (texts cuts.now) → ⊥) }
+    ensures none { IfNone result ((e : Entry) → IsFormedEntry (bare accepted.now.protocol) e
+        → SaysRecovery (bare accepted.now.protocol) e of.now number.now (texts cuts.now) → ⊥) }
 {
     let names = accepted.protocol().roles.as_slice();
     let role = role(names, of)?;
@@ -79,7 +81,8 @@ fn recover(accepted: &Accepted, fields: &[&[u8]]) -> Option<Entry>
 pub fn entry(accepted: &Accepted, fields: &[&[u8]]) -> Option<Entry>
     ensures formed { IfSome result (λ e. IsFormedEntry (bare accepted.now.protocol) e) }
     ensures some { IfSome result (λ e. texts fields.now ≡ entry_fields (bare accepted.now.protocol) e) }
-    ensures none { IfNone result ((e : Entry) → IsFormedEntry (bare accepted.now.protocol) e → texts fields.now ≡ entry_fields (bare accepted.now.protocol) e → ⊥) }
+    ensures none { IfNone result ((e : Entry) → IsFormedEntry (bare accepted.now.protocol) e
+        → texts fields.now ≡ entry_fields (bare accepted.now.protocol) e → ⊥) }
 {
     if let Some(event) = send(accepted, fields) {
         return Some(Entry::Send(event));

@@ -80,7 +80,8 @@ fn event_of(
     ensures says { IfSome result (λ e. SaysEvent (bare accepted.now.protocol) e of.now at.now named.now value.now) }
     ensures stamp { IfSome result (λ e. e.stamp ≡ stamp) }
     ensures sent { IfSome result (λ e. e.sent ≡ stamp) }
-    ensures none { IfNone result ((e : Event) → IsFormedEvent (bare accepted.now.protocol) dir e → SaysEvent (bare accepted.now.protocol) e of.now at.now named.now value.now → ⊥) }
+    ensures none { IfNone result ((e : Event) → IsFormedEvent (bare accepted.now.protocol) dir e
+        → SaysEvent (bare accepted.now.protocol) e of.now at.now named.now value.now → ⊥) }
 {
     let role = role(accepted.protocol().roles.as_slice(), of)?;
     let point = point(accepted, at)?;
@@ -129,7 +130,8 @@ pub fn send(accepted: &Accepted, fields: &[&[u8]]) -> Option<Event>
 // The Recv that the fields say.
 pub fn recv(accepted: &Accepted, fields: &[&[u8]]) -> Option<Event>
     ensures formed { IfSome result (λ e. IsFormedEvent (bare accepted.now.protocol) Got e) }
-    ensures some { IfSome result (λ e. texts fields.now ≡ event_fields (bare accepted.now.protocol) (codes "recv") e ((60 ∷ decimal e.sent) ∷ [])) }
+    ensures some { IfSome result (λ e. texts fields.now
+        ≡ event_fields (bare accepted.now.protocol) (codes "recv") e ((60 ∷ decimal e.sent) ∷ [])) }
     ensures none { IfNone result (SayNoRecv (bare accepted.now.protocol) (texts fields.now)) }
 {
     let (last, front) = fields.split_last()?;

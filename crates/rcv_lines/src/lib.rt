@@ -10,7 +10,7 @@ mod entries;
 mod events;
 mod fields;
 pub mod line;
-pub mod machine;
+mod machine;
 mod names;
 mod numbers;
 mod recovery;

@@ -28,7 +28,8 @@ fn roles(alloc: Global, names: &[Name], fields: &[&[u8]]) -> Result<Option<Vec<R
     requires { length names.now ≤ 8 }
     ensures declared { IfOk result (λ read. IfSome read (λ roles. HaveNames names.now roles.items)) }
     ensures some { IfOk result (λ read. IfSome read (λ roles. map (name_at names.now) roles.items ≡ texts fields.now)) }
-    ensures none { IfOk result (λ read. IfNone read ((roles : List ℕ) → HaveNames names.now roles → map (name_at names.now) roles ≡ texts fields.now → ⊥)) }
+    ensures none { IfOk result (λ read. IfNone read ((roles : List ℕ)
+        → HaveNames names.now roles → map (name_at names.now) roles ≡ texts fields.now → ⊥)) }
 {
     let mut roles = Vec::new(alloc);
     for field in fields {
@@ -66,7 +67,8 @@ pub fn roles_in_order(
     ensures declared { IfOk result (λ read. IfSome read (λ roles. HaveNames names.now roles.items)) }
     ensures ascending { IfOk result (λ read. IfSome read (λ roles. IsAscending roles.items)) }
     ensures some { IfOk result (λ read. IfSome read (λ roles. map (name_at names.now) roles.items ≡ texts fields.now)) }
-    ensures none { IfOk result (λ read. IfNone read ((roles : List ℕ) → HaveNames names.now roles → IsAscending roles → map (name_at names.now) roles ≡ texts fields.now → ⊥)) }
+    ensures none { IfOk result (λ read. IfNone read ((roles : List ℕ)
+        → HaveNames names.now roles → IsAscending roles → map (name_at names.now) roles ≡ texts fields.now → ⊥)) }
 {
     let Some(roles) = roles(alloc, names, fields)? else {
         return Ok(None);

@@ -41,7 +41,8 @@ impl Cuts {
     fn with(self, role: RoleId, count: Option<u32>) -> Cuts
         requires { role < 8 }
         ensures none { count ≡ None → result ≡ self }
-        ensures some { (n : ℕ) → count ≡ Some n → (q : ℕ) → q < 8 → has_bit result.concerned.0 q ≡ (has_bit self.concerned.0 q || role == q) }
+        ensures some { (n : ℕ) → count ≡ Some n → (q : ℕ) → q < 8
+            → has_bit result.concerned.0 q ≡ (has_bit self.concerned.0 q || role == q) }
         ensures kept { (n : ℕ) → count ≡ Some n → result.kept ≡ slice_set self.kept role n }
     {
         match count {

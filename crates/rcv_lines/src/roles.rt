@@ -44,7 +44,8 @@ fn line_of(
 ) -> Option<RoleLine>
     ensures formed { IfSome result (λ line. IsFormedRoleLine (bare accepted.now.protocol) line) }
     ensures says { IfSome result (λ line. SaysRole (bare accepted.now.protocol) line of.now kept.now raw.now ended.now) }
-    ensures none { IfNone result ((line : RoleLine) → IsFormedRoleLine (bare accepted.now.protocol) line → SaysRole (bare accepted.now.protocol) line of.now kept.now raw.now ended.now → ⊥) }
+    ensures none { IfNone result ((line : RoleLine) → IsFormedRoleLine (bare accepted.now.protocol) line
+        → SaysRole (bare accepted.now.protocol) line of.now kept.now raw.now ended.now → ⊥) }
 {
     Some(RoleLine {
         role: role(accepted.protocol().roles.as_slice(), of)?,

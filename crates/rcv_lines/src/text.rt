@@ -4,7 +4,7 @@ ghost use Rattle.std.specs.Prelude.{◌≡◌, ◌==◌, ◌<◌, ◌≤◌, ◌
 ghost use Rattle.rcv_form.specs.Journal.{bare};
 ghost use Rattle.rcv_form.specs.Form.{Spells, IsFirstWrong, lines_of};
 ghost use Rattle.rcv_lines.specs.Reading.{TakesText};
-ghost use Rattle.rcv_lines.specs.declared.text.TextError.TheVariants.{Line, Memory};
+ghost use Rattle.rcv_lines.specs.declared.text.LinesError.TheVariants.{Line, Memory};
 
 use crate::line::read_line;
 use crate::machine::Reading;
@@ -15,7 +15,7 @@ use thiserror::Error;
 
 /// Why a text has no journal.
 #[derive(Clone, Copy, Debug, PartialEq, Eq, Error)]
-pub enum TextError {
+pub enum LinesError {
     /// The first line, counted from 1, at which the text isn't of the form: no text of the form begins with the lines up
     /// to it, but one does with those before it. It is the number of lines plus 1 where the text stops too early.
     #[error("the text isn't of the form at its line {0}")]
@@ -25,11 +25,11 @@ pub enum TextError {
     Memory,
 }
 
-impl From<AllocError> for TextError {
+impl From<AllocError> for LinesError {
     ghost from_gives = { λ _ e. e ≡ Memory };
 
-    fn from(_e: AllocError) -> TextError {
-        TextError::Memory
+    fn from(_e: AllocError) -> LinesError {
+        LinesError::Memory
     }
 }
 
@@ -79,9 +79,10 @@ fn read_next(
     }
 }
 
-/// The journal of an accepted protocol that the text says, or the first line at which the text is none of the form.
-/// Whether the entries are legal and the last lines fit them isn't asked. `Memory` where memory runs out.
-pub fn read_text(alloc: Global, text: &[u8], accepted: &Accepted) -> Result<Journal, TextError>
+/// The journal of an accepted protocol that a text of fewer than 2^32 - 1 bytes says, or the first line at which the text
+/// is none of the form. Whether the entries are legal and the last lines fit them isn't asked. `Memory` where memory runs
+/// out.
+pub fn read_text(alloc: Global, text: &[u8], accepted: &Accepted) -> Result<Journal, LinesError>
     requires { length text.now < 2 ^ 32 - 1 }
     ensures ok { IfOk result (λ journal. Spells (bare accepted.now.protocol) text.now journal) }
     ensures line { IfErr result (λ e. (k : ℕ) → e ≡ Line k → IsFirstWrong (bare accepted.now.protocol) text.now k) }
@@ -93,10 +94,10 @@ pub fn read_text(alloc: Global, text: &[u8], accepted: &Accepted) -> Result<Jour
     while !rest.is_empty() {
         let (line, behind) = first_line(rest);
         if !read_next(alloc, accepted, roles, &mut reading, line)? {
-            return Err(TextError::Line(number));
+            return Err(LinesError::Line(number));
         }
         number += 1;
         rest = behind;
     }
-    reading.finish().ok_or(TextError::Line(number))
+    reading.finish().ok_or(LinesError::Line(number))
 }

@@ -24,15 +24,16 @@ state written faults held failed = record { written = written; faults = faults; 
 abbrev pub at : {K : Type 0} → (K → Option (List ℕ)) → (K → ℕ) → K → PageView → PageState
 at written faults sink page = state (written sink) (faults sink) page.held page.failed
 
--- Of a text that began on a sink of which `start` and `before` were told:
--- no call has failed, the front of the text was written, and the rest is held;
+-- Of a text that began on a sink of which `start` and `before` were told, no call has failed: the front of the text was
+-- written, and the rest is held.
 pub record Waits (start : Option (List ℕ)) (before : ℕ) (s : PageState) (text : List ℕ) : Type 0 where
   pub front : List ℕ
   pub whole : front ++ s.held ≡ text
   pub written : s.written ≡ append_known start front
   pub calm : s.faults ≡ before
 
--- a call has failed, and a beginning of the text was written, not all of it.
+-- Of a text that began on a sink of which `start` and `before` were told, a call has failed: a beginning of the text was
+-- written, not all of it.
 pub record Broke (start : Option (List ℕ)) (before : ℕ) (s : PageState) (text : List ℕ) : Type 0 where
   pub beginning : WroteBeginning start s.written text
   pub later : before ≤ s.faults
@@ -45,4 +46,7 @@ pub record Carries (start : Option (List ℕ)) (before : ℕ) (s : PageState) (t
 
 -- From s to t the text that is on its way went on with these bytes, whichever text it was.
 pub record Adds (s t : PageState) (added : List ℕ) : Type 0 where
-  pub goes_on : (start : Option (List ℕ)) (before : ℕ) (text : List ℕ) → Carries start before s text → Carries start before t (text ++ added)
+  pub goes_on :
+      (start : Option (List ℕ)) (before : ℕ) (text : List ℕ)
+      → Carries start before s text
+      → Carries start before t (text ++ added)

@@ -6,9 +6,9 @@ use Rattle.std.proofs.lemmas.Bool.{cases_Bool}
 use Rattle.std.proofs.lemmas.Slice.Eq.{bytes_eq-Decides}
 use Rattle.rcv_tree.specs.declared.protocol.Decl.{Decl}
 use Rattle.rcv_tree.specs.Words.{is_word_byte}
-use Rattle.rcv_reader.specs.declared.sign.Sign.TheVariants.{Role, From, To, Left, Right, Semicolon}
-use Rattle.rcv_reader.specs.Symbols.{Symbol, Is, Word}
-use Rattle.rcv_reader.specs.Grammar.{is_decl_word, dotted, names_behind, sort_list, roles_behind, decl, decls}
+use Rattle.rcv_syntax.specs.declared.sign.Sign.TheVariants.{Role, From, To, Left, Right, Semicolon}
+use Rattle.rcv_syntax.specs.Symbols.{Symbol, Is, Word}
+use Rattle.rcv_syntax.specs.Grammar.{is_decl_word, dotted, names_behind, sort_list, roles_behind, decl, decls}
 use Rattle.rcv_printer.specs.CanonicalText.{inner, listed, comma_list, decl_line, decl_lines, message_line}
 use Rattle.rcv_grammar.specs.Printable.{IsName, AreNames, IsPrintableDecl, ArePrintableDecls}
 use Rattle.rcv_printer.proofs.Pieces.{StopsAt}

@@ -8,10 +8,9 @@ use Rattle.rcv_lexer.specs.declared.token.Kind.TheVariants.{Word, Text, Mark}
 use Rattle.rcv_lexer.specs.declared.piece.Piece.{Piece}
 use Rattle.rcv_lexer.proofs.Fitting.{letter_is_word_byte}
 use Rattle.rcv_lexer.specs.Pieces.{is_inside, word_of, quoted, token_of, pairs, piece_of}
-use Rattle.rcv_tree.specs.Words.{is_letter, is_word_byte}
-use Rattle.rcv_reader.specs.Symbols.{unquoted}
+use Rattle.rcv_tree.specs.Words.{is_letter, is_word_byte, Passes, IsWord}
+use Rattle.rcv_syntax.specs.Symbols.{unquoted}
 use Rattle.rcv_lexer.specs.Tokens.{IsQuotable}
-use Rattle.rcv_tree.specs.Words.{Passes, IsWord}
 
 -- a piece with a token of this kind, or with none, and so many bytes
 abbrev pub piece : Option Kind → ℕ → Piece

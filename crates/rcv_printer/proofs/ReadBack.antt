@@ -7,8 +7,8 @@ use Rattle.rcv_tree.specs.declared.protocol.Protocol.{Protocol}
 use Rattle.rcv_model.specs.Text.{Body, body_of}
 use Rattle.rcv_lexer.specs.declared.token.Token.{Token}
 use Rattle.rcv_lexer.proofs.Once.{one_reading}
-use Rattle.rcv_reader.specs.Symbols.{Symbol, symbols_of}
-use Rattle.rcv_reader.specs.Grammar.{spelling}
+use Rattle.rcv_syntax.specs.Symbols.{Symbol, symbols_of}
+use Rattle.rcv_syntax.specs.Grammar.{spelling}
 use Rattle.rcv_reader.specs.Refusals.{IsRead}
 use Rattle.rcv_grammar.specs.Canonical.{source_of}
 use Rattle.rcv_grammar.specs.Laws.{SayTheSame}

@@ -7,14 +7,12 @@ use Rattle.rcv_lexer.specs.declared.token.Kind.{Kind}
 use Rattle.rcv_lexer.specs.declared.token.Kind.TheVariants as kinds
 use Rattle.rcv_lexer.specs.declared.piece.Piece.{Piece}
 use Rattle.rcv_lexer.specs.Pieces.{is_inside, piece_of}
-use Rattle.rcv_tree.specs.Words.{is_letter, is_word_byte}
-use Rattle.rcv_lexer.specs.Tokens.{Cuts}
-use Rattle.rcv_reader.specs.declared.sign.Sign.{Sign}
-use Rattle.rcv_reader.specs.declared.sign.Sign.TheVariants.{Open, Close, Left, Right, Comma, Semicolon, Dot, Less, Greater}
-use Rattle.rcv_reader.specs.Symbols.{Symbol, Is, Word, Text, symbol_by, sign_or, reserved}
+use Rattle.rcv_tree.specs.Words.{is_letter, is_word_byte, Passes, IsWord}
+use Rattle.rcv_lexer.specs.Tokens.{Cuts, IsQuotable}
+use Rattle.rcv_syntax.specs.declared.sign.Sign.{Sign}
+use Rattle.rcv_syntax.specs.declared.sign.Sign.TheVariants.{Open, Close, Left, Right, Comma, Semicolon, Dot, Less, Greater}
+use Rattle.rcv_syntax.specs.Symbols.{Symbol, Is, Word, Text, symbol_by, sign_or, reserved}
 use Rattle.rcv_grammar.specs.Printable.{IsName}
-use Rattle.rcv_lexer.specs.Tokens.{IsQuotable}
-use Rattle.rcv_tree.specs.Words.{Passes, IsWord}
 use Rattle.rcv_printer.proofs.Pieces.{piece, StopsAt, word_piece, in_quotes, text_piece, unquoted_is, left_piece, dot_piece, close_piece, less_piece, isn't}
 
 -- the symbol of a piece with these bytes, if it is a token, in front of others

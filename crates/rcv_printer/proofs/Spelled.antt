@@ -4,10 +4,10 @@ use Rattle.std.specs.Prelude.{codes}
 use Rattle.rcv_tree.specs.Lists.{declarations}
 use Rattle.rcv_tree.specs.declared.protocol.Protocol.{Protocol}
 use Rattle.rcv_model.specs.Text.{Body, End, Single, Choose, Loop, Again, Parallel, Call, Bodies, NoMore, Or, body_of}
-use Rattle.rcv_reader.specs.declared.sign.Sign.{Sign}
-use Rattle.rcv_reader.specs.declared.sign.Sign.TheVariants as sign
-use Rattle.rcv_reader.specs.Symbols.{Symbol, Is, Word}
-use Rattle.rcv_reader.specs.Grammar.{stmts, blocks_behind, dotted, roles_behind, spelling}
+use Rattle.rcv_syntax.specs.declared.sign.Sign.{Sign}
+use Rattle.rcv_syntax.specs.declared.sign.Sign.TheVariants as sign
+use Rattle.rcv_syntax.specs.Symbols.{Symbol, Is, Word}
+use Rattle.rcv_syntax.specs.Grammar.{stmts, blocks_behind, dotted, roles_behind, spelling}
 use Rattle.rcv_grammar.specs.Canonical.{name_at, names_at, first_name, more_names, written_of, blocks_of, source_of}
 use Rattle.rcv_printer.specs.CanonicalText.{inner, module_line, body_text, blocks_text, head_line, canonical}
 use Rattle.rcv_grammar.specs.Printable.{IsName, SomeNames, IsPrintableBody, ArePrintableBlocks, IsPrintable}

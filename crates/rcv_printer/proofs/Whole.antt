@@ -11,7 +11,7 @@ use Rattle.rcv_lexer.specs.declared.parts.Separator.{Separator}
 use Rattle.rcv_lexer.specs.Parts.{here, first_from, parts_from, or_else}
 use Rattle.rcv_lexer.specs.Tokens.{Cuts, line_at, token_at, tokens_of}
 use Rattle.rcv_lexer.proofs.TokenBytes.{bytes_at, bytes_behind}
-use Rattle.rcv_reader.specs.Symbols.{Symbol, symbols_of}
+use Rattle.rcv_syntax.specs.Symbols.{Symbol, symbols_of}
 use Rattle.rcv_printer.specs.Laws.{IsOnePart, IsTextOf}
 use Rattle.rcv_printer.proofs.Saying.{symbol_if, symbols_in, breaks, Says}
 

@@ -5,8 +5,8 @@ use Rattle.rcv_lexer.specs.declared.token.Span.{Span}
 use Rattle.rcv_lexer.specs.declared.token.Token.{Token}
 use Rattle.rcv_lexer.specs.Parts.{span, parts_of}
 use Rattle.rcv_lexer.specs.Tokens.{AreTokens}
-use Rattle.rcv_reader.specs.Symbols.{Symbol, symbols_of}
-use Rattle.rcv_reader.specs.Grammar.{spelling}
+use Rattle.rcv_syntax.specs.Symbols.{Symbol, symbols_of}
+use Rattle.rcv_syntax.specs.Grammar.{spelling}
 use Rattle.rcv_reader.specs.Refusals.{IsRead}
 use Rattle.rcv_grammar.specs.Canonical.{source_of}
 use Rattle.rcv_printer.specs.CanonicalText.{canonical}

@@ -1,6 +1,5 @@
 -- What statements, blocks and branches say, read one after another.
-use Rattle.std.proofs.Common.{◌≡◌, ℕ, ◌+◌, ◌<◌, ◌≤◌, Bool, false, List, [], ◌∷◌, ◌++◌, length, map, refl, sym, ap, subst, ◌∙◌, arith, append_assoc, append-nil, Result, Ok, Err}
-use Rattle.std.specs.Prelude.{OnOk}
+use Rattle.std.proofs.Common.{◌≡◌, ℕ, ◌+◌, ◌<◌, ◌≤◌, Bool, false, List, [], ◌∷◌, ◌++◌, length, map, refl, sym, ap, subst, ◌∙◌, arith, append_assoc, append-nil, length-append, Result, Ok, Err}
 use Rattle.rcv_tree.specs.Lists.{statements, blocks}
 use Rattle.rcv_tree.specs.declared.statement.Stmt.{Stmt}
 use Rattle.rcv_tree.specs.declared.statement.Stmt.TheVariants as stmt
@@ -9,14 +8,14 @@ use Rattle.rcv_tree.specs.declared.statement.Blocks.{Blocks}
 use Rattle.rcv_tree.specs.declared.statement.Stmt.TheFolds.{fold_out-Block, fold_out-Blocks}
 use Rattle.rcv_model.specs.Text as trees
 use Rattle.rcv_model.proofs.Text.{stmt_body-Message, stmt_body-Choice, stmt_body-Rec, stmt_body-Continue}
-use Rattle.rcv_reader.specs.declared.sign.Sign.TheVariants.{Open, Close, Or, Choice, Rec, Continue, Left, Right, From, To, At, Semicolon}
-use Rattle.rcv_reader.specs.declared.fault.Stop.{Stop}
-use Rattle.rcv_reader.specs.Symbols.{Symbol, Is, Word, IsNotNext}
-use Rattle.rcv_reader.specs.Grammar as grammar
-use Rattle.rcv_reader.specs.Grammar.{Written, NoStmt, AMessage, AChoice, ARec, AContinue, NoBlock, ABlock, stmts, sort_list, names_behind, blocks_behind, IsBegun, IsProper, AreProper}
-use Rattle.rcv_reader.specs.Machine.{Place, Item, Opening, First, Rest, More, State, behind, answer}
-use Rattle.rcv_reader.specs.Trees.{or_first, role_at, roles_at, points, points_of, singles, tree_of, trees_of, MayReceive, IsFit, AreFit}
-use Rattle.rcv_reader.specs.Descent.{known, place_at, Halts, Goes, a_name, MayBegin, IsRoleName, messages, in_front, branches_in_front, AreReceived, IsBlock, AreBranches, Adds, AddsSome}
+use Rattle.rcv_syntax.specs.declared.sign.Sign.TheVariants.{Open, Close, Or, Choice, Rec, Continue, Left, Right, From, To, At, Semicolon}
+use Rattle.rcv_reader.specs.declared.stop.Stop.{Stop}
+use Rattle.rcv_syntax.specs.Symbols.{Symbol, Is, Word, IsNotNext}
+use Rattle.rcv_syntax.specs.Grammar as grammar
+use Rattle.rcv_syntax.specs.Grammar.{Written, NoStmt, AMessage, AChoice, ARec, AContinue, NoBlock, ABlock, stmts, sort_list, names_behind, blocks_behind, IsBegun, IsProper, AreProper}
+use Rattle.rcv_machine.specs.Machine.{Place, Item, Opening, First, Rest, More, State, behind, answer, known}
+use Rattle.rcv_syntax.specs.Trees.{or_first, role_at, roles_at, points, points_of, singles, tree_of, trees_of, MayReceive, IsFit, AreFit}
+use Rattle.rcv_reader.specs.Descent.{place_at, Halts, Goes, a_name, MayBegin, IsRoleName, messages, in_front, branches_in_front, AreReceived, IsBlock, AreBranches, Adds, AddsSome}
 use Rattle.rcv_reader.proofs.Going.{halts_behind, rest_is_first, more_is_rest, in_message, to_message}
 use Rattle.rcv_reader.proofs.Reading.{IsSame, IsOther, known_same, halts_over}
 
@@ -25,11 +24,6 @@ pub goes_behind : (X : Type 0) (r : Result X Stop) (s s1 s2 : State) (front mid 
 goes_behind X (Ok x) s s1 s2 front mid behind' start between new goes h = λ k. goes k ∙ h k
 goes_behind X (Err e) s s1 s2 front mid behind' start between new goes h = halts_behind e s s1 front mid start between new goes h
 
--- what follows from a success
-pub on_ok : (X : Type 0) (r : Result X Stop) (P Q : Type 0) → (P → Q) → OnOk r P → OnOk r Q
-on_ok X (Ok x) P Q f h = f h
-on_ok X (Err e) P Q f h = tt
-
 -- ---- one statement
 
 messages_in_front : (label : List ℕ) (sorts : List (List ℕ)) (sender : ℕ) (rs : List ℕ) (n : ℕ) (rest : trees.Body) → singles label sorts sender rs n rest ≡ in_front (messages label sorts sender rs n) rest
@@ -37,18 +31,24 @@ messages_in_front label sorts sender [] n rest = refl
 messages_in_front label sorts sender (r ∷ rs) n rest = ap (trees.Single label sorts sender r (n + 1)) (messages_in_front label sorts sender rs (n + 1) rest)
     ∙ sym (stmt_body-Message label sorts sender r (n + 1) (in_front (messages label sorts sender rs (n + 1)) rest))
 
-pub message_read : (roles r4 r6 : List (List ℕ)) (count c6 c7 : ℕ) (label : List ℕ) (sorts : List (List ℕ)) (sender : ℕ) (block block' : List Stmt) (t0 t1 t2 t3 t4 t5 t6 t7 : List Symbol)
+places_long : (roles : List (List ℕ)) (xs : List (List ℕ)) → length (roles_at roles xs) ≡ length xs
+places_long roles [] = refl
+places_long roles (x ∷ xs) = let h = places_long roles xs in omega arith
+
+pub message_read : (roles r4 r6 : List (List ℕ)) (count c6 c7 : ℕ) (label : List ℕ) (sorts : List (List ℕ)) (sender : ℕ) (os : List ℕ) (last : ℕ) (block block' : List Stmt) (t0 t1 t2 t3 t4 t5 t6 t7 : List Symbol)
     → t0 ≡ a_name label t1 → t1 ≡ Is Left ∷ t2 → t2 ≡ sort_list sorts (Is Right ∷ t3) → t3 ≡ Is From ∷ t4 → r4 ≡ roles → IsRoleName r4 sender t4 t5 → t5 ≡ Is To ∷ t6
-    → r6 ≡ roles → c6 ≡ count → AreReceived r6 label sorts sender c6 c7 block block' t6 t7 → AddsSome roles count c7 block block' t0 t7
-message_read roles r4 r6 count c6 c7 label sorts sender block block' t0 t1 t2 t3 t4 t5 t6 t7 e0 e1 e2 e3 same4 is_role e5 same6 same-count received =
+    → r6 ≡ roles → c6 ≡ count → AreReceived r6 sender (os ++ last ∷ []) t6 t7 → c7 ≡ c6 + (length os + 1) → block' ≡ block ++ messages label sorts sender (os ++ last ∷ []) c6 → AddsSome roles count c7 block block' t0 t7
+message_read roles r4 r6 count c6 c7 label sorts sender os last block block' t0 t1 t2 t3 t4 t5 t6 t7 e0 e1 e2 e3 same4 is_role e5 same6 same-count received counted added =
     let role = subst (λ (x : List (List ℕ)). IsRoleName x sender t4 t5) same4 is_role in
-    let are = subst (λ (x : List (List ℕ)). AreReceived x label sorts sender count c7 block block' t6 t7) same6 (subst (λ (x : ℕ). AreReceived r6 label sorts sender x c7 block block' t6 t7) same-count received) in
+    let are = subst (λ (x : List (List ℕ)). AreReceived x sender (os ++ last ∷ []) t6 t7) same6 received in
     let place : role_at roles role.0 ≡ sender = ap or_first role.1 in
     let e4 = role.2 in
     let e6 = are.spelled in
-    let c = are.counted in (
+    let long = places_long roles (are.first ∷ are.others) in
+    let p = ap length are.places in
+    let c : c7 ≡ count + (1 + length are.others) = omega (arith, counted, same-count, p, long, length-append os (last ∷ [])) in (
       messages label sorts sender (roles_at roles (are.first ∷ are.others)) count,
-      are.added,
+      added ∙ ap (λ (x : ℕ). block ++ messages label sorts sender (os ++ last ∷ []) x) same-count ∙ ap (λ (x : List ℕ). block ++ messages label sorts sender x count) are.places,
       record {
         stmts = record {
           put = λ rest. AMessage label sorts role.0 are.first are.others rest;

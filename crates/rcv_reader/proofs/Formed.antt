@@ -7,8 +7,8 @@ use Rattle.std.proofs.lemmas.Bool.Decides.{nat_tests}
 use Rattle.rcv_model.specs.Text as trees
 use Rattle.rcv_model.specs.Places as places
 use Rattle.rcv_model.specs.Form.{IsNumberedFrom, HaveEnds, HaveSubjects, HaveSubjectsIn, HasForm}
-use Rattle.rcv_reader.specs.Grammar.{Written, NoStmt, AMessage, AChoice, ARec, AContinue, APar, ADo, Blocks, NoBlock, ABlock}
-use Rattle.rcv_reader.specs.Trees.{or_first, role_at, roles_at, points, points_of, singles, tree_of, trees_of, IsDeclared, MayReceive, IsFit, AreFit}
+use Rattle.rcv_syntax.specs.Grammar.{Written, NoStmt, AMessage, AChoice, ARec, AContinue, APar, ADo, Blocks, NoBlock, ABlock}
+use Rattle.rcv_syntax.specs.Trees.{or_first, role_at, roles_at, points, points_of, singles, tree_of, trees_of, IsDeclared, MayReceive, IsFit, AreFit}
 
 abbrev Messages : Type 0
 Messages = List (ℕ × places.SingleMessage)

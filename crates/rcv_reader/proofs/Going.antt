@@ -1,20 +1,15 @@
 -- How the machine goes on over the loops of the descent.
-use Rattle.std.proofs.Common.{◌≡◌, ℕ, true, false, List, [], ◌∷◌, refl, ap, subst, ◌∙◌}
-use Rattle.rcv_reader.specs.declared.sign.Sign.TheVariants.{Right, Comma, Semicolon, Close, Or, Choice, Rec, Continue, Left, From, At, Par, Do}
-use Rattle.rcv_reader.specs.declared.fault.Fault.{Fault}
-use Rattle.rcv_reader.specs.declared.fault.Fault.TheVariants.{Token, AfterContinue, Unguarded, NotYet}
-use Rattle.rcv_reader.specs.declared.fault.Stop.{Stop}
-use Rattle.rcv_reader.specs.declared.fault.Stop.TheVariants as errors
-use Rattle.rcv_reader.specs.Symbols.{Symbol, Is, Word, IsNotNext}
-use Rattle.rcv_reader.specs.Machine.{Place, Item, This, AnyName, Sorts, MoreSorts, Subject, Sender, MoreReceivers, RecName, AgainName, Opening, First, Rest, More, State, Outcome, Wrong, behind, is_open, step, after, Refuses, answer}
-use Rattle.rcv_reader.specs.Descent.{Halts, starts, waits, is_unguarded, MayBegin}
+use Rattle.std.proofs.Common.{◌≡◌, ℕ, false, List, [], ◌∷◌, refl, ap, ◌∙◌}
+use Rattle.rcv_syntax.specs.declared.sign.Sign.TheVariants.{Right, Comma, Semicolon, Close, Or, Choice, Rec, Continue, Left, From, Par, Do}
+use Rattle.rcv_reader.specs.declared.stop.Stop.{Stop}
+use Rattle.rcv_reader.specs.declared.stop.Stop.TheVariants as errors
+use Rattle.rcv_syntax.specs.Symbols.{Symbol, Is, Word, IsNotNext}
+use Rattle.rcv_machine.specs.Machine.{Place, Item, This, AnyName, Sorts, MoreSorts, Sender, MoreReceivers, First, Rest, More, State, Outcome, behind, step, after, answer}
+use Rattle.rcv_reader.specs.Descent.{Halts, waits, MayBegin}
 
 -- the same step, the same answer
 pub same_step : (s : State) (k k' : List Item) (t : Symbol) (ts : List Symbol) → step s t ts k ≡ step s t ts k' → answer s k (t ∷ ts) ≡ answer s k' (t ∷ ts)
 same_step s k k' t ts e = ap (λ (o : Outcome). after o (t ∷ ts) (λ s' k''. answer s' k'' ts)) e
-
-wrong_step : (s : State) (k : List Item) (f : Fault) (t : Symbol) (ts : List Symbol) → step s t ts k ≡ Wrong f → answer s k (t ∷ ts) ≡ Refuses f (t ∷ ts)
-wrong_step s k f t ts e = ap (λ (o : Outcome). after o (t ∷ ts) (λ s' k''. answer s' k'' ts)) e
 
 pub not_first : (m t : Symbol) (ts : List Symbol) → IsNotNext m (t ∷ ts) → t ≡ m → ⊥
 not_first m t ts h e = h ts (ap (λ (x : Symbol). x ∷ ts) e)
@@ -67,61 +62,6 @@ more_is_rest s p [] h k = refl
 more_is_rest s p (t ∷ ts) h k = same_step s (More p ∷ k) (Rest (behind p false) ∷ k) t ts (more_over s p t ts k (not_first (Is Or) t ts h))
 
 -- ---- the first symbol of a statement
-
-ended_starts : (s : State) (p : Place) (t : Symbol) (ts : List Symbol) (k : List Item) → p.ended ≡ true → starts (t ∷ ts) ≡ true → step s t ts (First p ∷ k) ≡ Wrong AfterContinue
-ended_starts s p (Word n) ts k e is = rw e refl
-ended_starts s p (Is Choice) ts k e is = rw e refl
-ended_starts s p (Is Rec) ts k e is = rw e refl
-ended_starts s p (Is Continue) ts k e is = rw e refl
-ended_starts s p (Is Par) ts k e is = rw e refl
-ended_starts s p (Is Do) ts k e is = rw e refl
-ended_starts s p _ ts k e is = absurd cc
-
-pub after_continue : (s : State) (p : Place) (ts : List Symbol) → p.ended ≡ true → starts ts ≡ true → (k : List Item) → answer s (First p ∷ k) ts ≡ Refuses AfterContinue ts
-after_continue s p [] e is k = absurd cc
-after_continue s p (t ∷ ts) e is k = wrong_step s (First p ∷ k) AfterContinue t ts (ended_starts s p t ts k e is)
-
-no_start : (s : State) (p : Place) (t : Symbol) (ts : List Symbol) (k : List Item) → starts (t ∷ ts) ≡ false → step s t ts (First p ∷ k) ≡ Wrong Token
-no_start s p (Word n) ts k is = absurd cc
-no_start s p (Is Choice) ts k is = absurd cc
-no_start s p (Is Rec) ts k is = absurd cc
-no_start s p (Is Continue) ts k is = absurd cc
-no_start s p (Is Par) ts k is = absurd cc
-no_start s p (Is Do) ts k is = absurd cc
-no_start s p _ ts k is = refl
-
-pub no_statement : (s : State) (p : Place) (ts : List Symbol) → starts ts ≡ false → (k : List Item) → answer s (First p ∷ k) ts ≡ Refuses Token ts
-no_statement s p [] is k = refl
-no_statement s p (t ∷ ts) is k = wrong_step s (First p ∷ k) Token t ts (no_start s p t ts k is)
-
-waits_now : (s : State) (p : Place) (t : Symbol) (ts : List Symbol) (k : List Item) → p.ended ≡ false → waits (t ∷ ts) ≡ true → step s t ts (First p ∷ k) ≡ Wrong NotYet
-waits_now s p (Is Par) ts k e is = rw e refl
-waits_now s p (Is Do) ts k e is = rw e refl
-waits_now s p _ ts k e is = absurd cc
-
-pub not_yet : (s : State) (p : Place) (ts : List Symbol) → p.ended ≡ false → waits ts ≡ true → (k : List Item) → answer s (First p ∷ k) ts ≡ Refuses NotYet ts
-not_yet s p [] e is k = absurd cc
-not_yet s p (t ∷ ts) e is k = wrong_step s (First p ∷ k) NotYet t ts (waits_now s p t ts k e is)
-
-open_now : (s : State) (p : Place) (t : Symbol) (ts : List Symbol) (k : List Item) → p.ended ≡ false → is_unguarded p (t ∷ ts) ≡ true → step s t ts (First p ∷ k) ≡ Wrong Unguarded
-open_now s p (Is Continue) ts k e is = rw (e, is) refl
-open_now s p _ ts k e is = absurd cc
-
-pub unguarded : (s : State) (p : Place) (ts : List Symbol) → p.ended ≡ false → is_unguarded p ts ≡ true → (k : List Item) → answer s (First p ∷ k) ts ≡ Refuses Unguarded ts
-unguarded s p [] e is k = absurd cc
-unguarded s p (t ∷ ts) e is k = wrong_step s (First p ∷ k) Unguarded t ts (open_now s p t ts k e is)
-
-pub to_choice : (s : State) (p : Place) (ts us : List Symbol) → MayBegin p ts → ts ≡ Is Choice ∷ us → (k : List Item) → answer s (First p ∷ k) ts ≡ answer s (This (Is At) ∷ Subject ∷ Opening p ∷ More p ∷ k) us
-to_choice s p ts us may e k = let u = may.unended in rw (e, u) refl
-
-pub to_rec : (s : State) (p : Place) (ts us : List Symbol) → MayBegin p ts → ts ≡ Is Rec ∷ us → (k : List Item) → answer s (First p ∷ k) ts ≡ answer s (RecName p ∷ Rest (behind p false) ∷ k) us
-to_rec s p ts us may e k = let u = may.unended in rw (e, u) refl
-
-pub to_continue : (s : State) (p : Place) (ts us : List Symbol) → MayBegin p ts → ts ≡ Is Continue ∷ us → (k : List Item) → answer s (First p ∷ k) ts ≡ answer s (AgainName p ∷ Rest (behind p true) ∷ k) us
-to_continue s p ts us may e k =
-    let u = may.unended in
-    let g : is_open p us ≡ false = subst (λ (x : List Symbol). is_unguarded p x ≡ false) e may.guarded in
-    rw (e, u, g) refl
 
 abbrev pub in_message : List Item → List Item
 in_message k = AnyName ∷ This (Is Left) ∷ Sorts ∷ This (Is From) ∷ Sender ∷ k

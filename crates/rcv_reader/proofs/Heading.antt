@@ -2,12 +2,12 @@
 use Rattle.std.proofs.Common.{◌≡◌, ℕ, ◌<◌, ◌≤◌, true, List, [], ◌∷◌, ◌++◌, length, refl, sym, ap, subst, ◌∙◌, arith}
 use Rattle.std.specs.Prelude.{◌≢◌}
 use Rattle.rcv_tree.specs.declared.protocol.Decl.{Decl}
-use Rattle.rcv_reader.specs.declared.sign.Sign.TheVariants.{Role, Right, Comma, Semicolon, Dot, Global}
-use Rattle.rcv_reader.specs.declared.fault.Fault.TheVariants.{Token}
-use Rattle.rcv_reader.specs.Symbols.{Symbol, Is, Word, Text, Number, IsNotNext, NoWord, NoText}
-use Rattle.rcv_reader.specs.Grammar.{dotted, roles_behind, decl, decls, AreDecls, is_decl_word}
-use Rattle.rcv_reader.specs.Machine.{Item, This, AnyName, AnyQuoted, MoreModules, Decls, RoleName, MoreRoles, State, Wrong, step, Refuses, answer}
-use Rattle.rcv_reader.specs.Descent.{known, module_list, names_of_roles, AddsName, IsDecl, AreSuch}
+use Rattle.rcv_syntax.specs.declared.sign.Sign.TheVariants.{Role, Right, Comma, Semicolon, Dot, Global}
+use Rattle.rcv_syntax.specs.declared.fault.Fault.TheVariants.{Token}
+use Rattle.rcv_syntax.specs.Symbols.{Symbol, Is, Word, Text, Number, IsNotNext, NoWord, NoText}
+use Rattle.rcv_syntax.specs.Grammar.{dotted, roles_behind, decl, decls, AreDecls, is_decl_word}
+use Rattle.rcv_machine.specs.Machine.{Item, This, AnyName, AnyQuoted, MoreModules, Decls, RoleName, MoreRoles, State, Wrong, step, Refuses, answer, known}
+use Rattle.rcv_reader.specs.Descent.{module_list, names_of_roles, AddsName, IsDecl, AreSuch}
 use Rattle.rcv_reader.proofs.Stops.{stops_by}
 use Rattle.rcv_reader.proofs.Reading.{IsSame, IsOther, known_same, not_empty}
 use Rattle.rcv_reader.proofs.Going.{same_step, not_first}
@@ -109,32 +109,12 @@ pub record RolesSoFar (roles roles' recs recs' : List (List ℕ)) (count count' 
   pub same : (recs' ≡ recs) × (count' ≡ count)
   pub shorter : length now ≤ length start
 
-pub roles_first : (roles r1 recs q1 : List (List ℕ)) (count c1 : ℕ) (start new : List Symbol) → roles ≡ []
-    → ((k : List Item) → answer (known roles count) (RoleName ∷ k) start ≡ answer (known r1 c1) (MoreRoles ∷ k) new) → AddsName roles r1 start new → length r1 ≤ 8 → (q1 ≡ recs) × (c1 ≡ count) → length new ≤ length start
-    → RolesSoFar roles r1 recs q1 count c1 start new
-roles_first roles r1 recs q1 count c1 start new none goes adds few same le =
-    let one : r1 ≡ adds.name ∷ [] = adds.added ∙ ap (λ (x : List (List ℕ)). x ++ adds.name ∷ []) none in
-    record {
-      goes = goes;
-      some = subst (λ (x : List (List ℕ)). x ≢ []) (sym one) (not_empty [] adds.name);
-      read = adds.spelled ∙ ap (λ (x : List (List ℕ)). names_of_roles x new) (sym one);
-      few = few;
-      same = same;
-      shorter = le;
-    }
-
 pub roles_to_next : (roles r0 r1 r2 recs q0 q1 q2 : List (List ℕ)) (count c0 c1 c2 : ℕ) (start now mid mid2 : List Symbol) → RolesSoFar roles r0 recs q0 count c0 start now → now ≡ Is Comma ∷ mid → IsSame r0 r1 q0 q1 c0 c1
     → ((k : List Item) → answer (known r1 c1) (This (Is Role) ∷ k) mid ≡ answer (known r2 c2) k mid2)
     → (k : List Item) → answer (known roles count) (RoleName ∷ k) start ≡ answer (known r2 c2) (RoleName ∷ k) mid2
 roles_to_next roles r0 r1 r2 recs q0 q1 q2 count c0 c1 c2 start now mid mid2 so_far e same goes k =
     so_far.goes k ∙ ap (λ (x : List Symbol). answer (known r0 c0) (MoreRoles ∷ k) x) e
     ∙ ap (λ (s : State). answer s (This (Is Role) ∷ RoleName ∷ k) mid) (known_same r0 r1 c0 c1 same.0 same.2) ∙ goes (RoleName ∷ k)
-
-pub roles_to_word : (roles r0 r1 recs q0 q1 : List (List ℕ)) (count c0 c1 : ℕ) (start now mid : List Symbol) → RolesSoFar roles r0 recs q0 count c0 start now → now ≡ Is Comma ∷ mid → IsSame r0 r1 q0 q1 c0 c1
-    → (k : List Item) → answer (known roles count) (RoleName ∷ k) start ≡ answer (known r1 c1) (This (Is Role) ∷ RoleName ∷ k) mid
-roles_to_word roles r0 r1 recs q0 q1 count c0 c1 start now mid so_far e same k =
-    so_far.goes k ∙ ap (λ (x : List Symbol). answer (known r0 c0) (MoreRoles ∷ k) x) e
-    ∙ ap (λ (s : State). answer s (This (Is Role) ∷ RoleName ∷ k) mid) (known_same r0 r1 c0 c1 same.0 same.2)
 
 pub roles_next : (roles r0 r1 r2 r3 recs q0 q1 q2 q3 : List (List ℕ)) (count c0 c1 c2 c3 : ℕ) (start now mid mid2 new : List Symbol) → RolesSoFar roles r0 recs q0 count c0 start now → now ≡ Is Comma ∷ mid → IsSame r0 r1 q0 q1 c0 c1
     → ((k : List Item) → answer (known r1 c1) (This (Is Role) ∷ k) mid ≡ answer (known r2 c2) k mid2) → mid ≡ Is Role ∷ mid2 → IsSame r1 r2 q1 q2 c1 c2

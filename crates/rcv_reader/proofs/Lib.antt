@@ -1,7 +1,3 @@
-pub mod Steps
-pub mod Heads
-pub mod Bodies
-pub mod Fair
 pub mod Stops
 pub mod Going
 pub mod Reading
@@ -9,3 +5,5 @@ pub mod Blocks
 pub mod Heading
 pub mod Formed
 pub mod Whole
+pub mod Answering
+pub mod Examples

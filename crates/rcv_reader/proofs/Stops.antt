@@ -1,11 +1,11 @@
 -- Where the machine stops at a symbol that isn't awaited.
 use Rattle.std.proofs.Common.{◌≡◌, ℕ, Bool, true, false, List, [], ◌∷◌, refl, ap}
 use Rattle.std.specs.Prelude.{cond}
-use Rattle.rcv_reader.specs.declared.sign.Sign.TheVariants.{Open}
-use Rattle.rcv_reader.specs.declared.fault.Fault.TheVariants.{Token}
-use Rattle.rcv_reader.specs.Symbols.{Symbol, Is, Word, Text, Number, IsNotNext, NoWord}
-use Rattle.rcv_reader.specs.Machine.{Place, Item, This, Opening, AnyName, Alias, RoleName, Subject, Sender, Receiver, RecName, AgainName, State, Outcome, On, Wrong, named, meets, step, after, Refuses, answer}
-use Rattle.rcv_reader.proofs.Heads.{meets_only}
+use Rattle.rcv_syntax.specs.declared.sign.Sign.TheVariants.{Open}
+use Rattle.rcv_syntax.specs.declared.fault.Fault.TheVariants.{Token}
+use Rattle.rcv_syntax.specs.Symbols.{Symbol, Is, Word, Text, Number, IsNotNext, NoWord}
+use Rattle.rcv_machine.specs.Machine.{Place, Item, This, Opening, AnyName, Alias, RoleName, Subject, Sender, Receiver, RecName, AgainName, State, Outcome, On, Wrong, named, meets, step, after, Refuses, answer}
+use Rattle.rcv_machine.proofs.Heads.{meets_only}
 
 -- an outcome decides the answer
 pub stops_by : (s : State) (k : List Item) (t : Symbol) (ts : List Symbol) → step s t ts k ≡ Wrong Token → answer s k (t ∷ ts) ≡ Refuses Token (t ∷ ts)

@@ -7,17 +7,18 @@ use Rattle.rcv_tree.specs.declared.protocol.Decl.{Decl}
 use Rattle.rcv_tree.specs.declared.protocol.Protocol.{Protocol}
 use Rattle.rcv_model.specs.Text as trees
 use Rattle.rcv_model.specs.Form.{HasForm}
-use Rattle.rcv_reader.specs.declared.sign.Sign.TheVariants.{Module, Global, Role, Left, Right, Open, Close, Semicolon}
-use Rattle.rcv_reader.specs.declared.sign.Sign.TheVariants as sign
-use Rattle.rcv_reader.specs.declared.fault.Fault.TheVariants.{Token}
-use Rattle.rcv_reader.specs.declared.fault.Stop.{Stop}
-use Rattle.rcv_reader.specs.declared.fault.Stop.TheVariants as errors
-use Rattle.rcv_reader.specs.Symbols.{Symbol, Is, Word, IsNotNext}
-use Rattle.rcv_reader.specs.Grammar.{NoStmt, decls}
-use Rattle.rcv_reader.specs.Machine.{Item, This, AnyName, MoreModules, Decls, RoleName, Rest, outermost, step, Wrong, State, Refuses, answer, reading}
-use Rattle.rcv_reader.specs.Trees.{Reads, tree_of}
+use Rattle.rcv_syntax.specs.declared.sign.Sign.TheVariants.{Module, Global, Role, Left, Right, Open, Close, Semicolon}
+use Rattle.rcv_syntax.specs.declared.sign.Sign.TheVariants as sign
+use Rattle.rcv_syntax.specs.declared.fault.Fault.TheVariants.{Token}
+use Rattle.rcv_reader.specs.declared.stop.Stop.{Stop}
+use Rattle.rcv_reader.specs.declared.stop.Stop.TheVariants as errors
+use Rattle.rcv_syntax.specs.Symbols.{Symbol, Is, Word, IsNotNext}
+use Rattle.rcv_syntax.specs.Grammar.{NoStmt, decls}
+use Rattle.rcv_machine.specs.Machine.{in_head, Item, Rest, outermost, step, Wrong, State, Refuses, answer, reading, known}
+use Rattle.rcv_syntax.specs.Trees.{Reads, tree_of}
 use Rattle.rcv_reader.specs.Refusals.{IsRead}
-use Rattle.rcv_reader.specs.Descent.{known, Halts, Ends, EndFails, IsHead, Adds, module_list, names_of_roles, in_front, place_at}
+use Rattle.rcv_reader.specs.Descent.{Halts, Ends, EndFails, IsHead, Adds, module_list, names_of_roles, in_front, place_at}
+use Rattle.rcv_machine.proofs.Exactly.{refusal_is_first, taken_is_free}
 use Rattle.rcv_reader.proofs.Stops.{stops_by}
 use Rattle.rcv_reader.proofs.Reading.{known_same}
 use Rattle.rcv_reader.proofs.Blocks.{body_of-in_front}
@@ -31,11 +32,6 @@ parts_of : (xs : List (List ℕ)) → (xs ≡ [] → ⊥) → Parts xs
 parts_of [] some = absurd (some refl)
 parts_of (x ∷ xs) some = (x, xs, refl)
 
--- what is awaited in front of the body
-abbrev pub in_head : List Item → List Item
-in_head k =
-    This (Is Module) ∷ AnyName ∷ MoreModules ∷ Decls [] ∷ This (Is sign.Protocol) ∷ AnyName ∷ This (Is Left) ∷ This (Is Role) ∷ RoleName ∷ This (Is Open) ∷ k
-
 pub to_body : (roles r recs q : List (List ℕ)) (count c : ℕ) (old mid : List Symbol) → roles ≡ [] → recs ≡ [] → count ≡ 0 → q ≡ recs
     → ((k : List Item) → answer (known roles count) (in_head k) old ≡ answer (known r c) k mid) → reading old ≡ answer (known r c) (Rest (place_at q 1 0 false) ∷ []) mid
 to_body roles r recs q count c old mid none outside fresh same goes =
@@ -43,14 +39,21 @@ to_body roles r recs q count c old mid none outside fresh same goes =
     ∙ goes (Rest outermost ∷ [])
     ∙ ap (λ (x : List (List ℕ)). answer (known r c) (Rest (place_at x 1 0 false) ∷ []) mid) (sym (same ∙ outside))
 
+pub head_fails : (e : Stop) (roles : List (List ℕ)) (count : ℕ) (old new : List Symbol) → roles ≡ [] → count ≡ 0
+    → Halts e (known roles count) in_head old new → Ends e old new
+head_fails errors.Memory roles count old new none fresh h = tt
+head_fails (errors.Refused fault) roles count old new none fresh h =
+    refusal_is_first old fault new
+    (ap (λ (s : State). answer s (in_head (Rest outermost ∷ [])) old) (known_same [] roles 0 count none fresh) ∙ h (Rest outermost ∷ []))
+
 pub stmts_fail : (e : Stop) (r q : List (List ℕ)) (c : ℕ) (old mid new : List Symbol) → reading old ≡ answer (known r c) (Rest (place_at q 1 0 false) ∷ []) mid → Halts e (known r c) (λ k. Rest (place_at q 1 0 false) ∷ k) mid new → Ends e old new
 stmts_fail errors.Memory r q c old mid new begun h = tt
-stmts_fail (errors.Refused fault) r q c old mid new begun h = begun ∙ h []
+stmts_fail (errors.Refused fault) r q c old mid new begun h = refusal_is_first old fault new (begun ∙ h [])
 
 pub end_fails : (e : Stop) (r q r2 : List (List ℕ)) (c c2 : ℕ) (old mid left : List Symbol) → reading old ≡ answer (known r c) (Rest (place_at q 1 0 false) ∷ []) mid
     → ((k : List Item) → answer (known r c) (Rest (place_at q 1 0 false) ∷ k) mid ≡ answer (known r2 c2) k left) → EndFails e (known r2 c2) left → Ends e old left
 end_fails errors.Memory r q r2 c c2 old mid left begun goes h = tt
-end_fails (errors.Refused fault) r q r2 c c2 old mid left begun goes h = begun ∙ goes [] ∙ h
+end_fails (errors.Refused fault) r q r2 c c2 old mid left begun goes h = refusal_is_first old fault left (begun ∙ goes [] ∙ h)
 
 abbrev whole_of : List (List ℕ) → List Decl → List ℕ → List (List ℕ) → List Symbol → List Symbol
 whole_of modules ds name roles mid = Is Module ∷ module_list modules (Is Semicolon ∷ decls ds (Is Global ∷ Is sign.Protocol ∷ Word name ∷ Is Left ∷ Is Role ∷ names_of_roles roles (Is Right ∷ Is Open ∷ mid)))
@@ -86,7 +89,7 @@ protocol_read p r q r2 c c2 none old mid left begun goes done h d empty fresh ro
     let d1 = subst (λ (x : ℕ). Adds p.roles x c2 none (statements p.body) mid (Is Close ∷ left)) fresh d0 in
     let d2 = subst (λ (x : List Stmt). Adds p.roles 0 c2 x (statements p.body) mid (Is Close ∷ left)) empty d1 in
     let d3 = subst (λ (x : List Symbol). Adds p.roles 0 c2 [] (statements p.body) mid (Is Close ∷ x)) done d2 in
-    (known r2 c2, begun ∙ goes [] ∙ ap (λ (x : List Symbol). answer (known r2 c2) [] x) done, reads p c c2 old mid h' d3)
+    ((taken_is_free old (known r2 c2) (begun ∙ goes [] ∙ ap (λ (x : List Symbol). answer (known r2 c2) [] x) done)).1, reads p c c2 old mid h' d3)
 
 no_second : (s : State) (t : Symbol) (ts : List Symbol) → (t ≡ Is Global → ⊥) → step s t ts [] ≡ Wrong Token
 no_second s (Is Global) ts h = absurd (h refl)

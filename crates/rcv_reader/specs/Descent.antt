@@ -1,22 +1,22 @@
 -- What the functions of the descent say: how the machine goes on, and how what was read is spelled.
-use Rattle.std.specs.Prelude.{◌≡◌, ℕ, ◌+◌, ◌==◌, Bool, true, false, List, [], ◌∷◌, ◌++◌, length, Result, Ok, Err, Some}
+use Rattle.std.specs.Prelude.{◌≡◌, ℕ, ◌+◌, ◌==◌, Bool, true, false, List, [], ◌∷◌, ◌++◌, Result, Ok, Err, Some}
 use Rattle.rcv_tree.specs.declared.statement.Stmt.{Stmt}
 use Rattle.rcv_tree.specs.declared.statement.Stmt.TheVariants as statements
 use Rattle.rcv_tree.specs.declared.statement.Block.{Block}
 use Rattle.rcv_tree.specs.declared.statement.Blocks.{Blocks}
 use Rattle.rcv_model.specs.Text as trees
-use Rattle.rcv_reader.specs.declared.sign.Sign.TheVariants.{Module, Global, Protocol, Role, Left, Right, Open, Close, Or, Choice, Rec, Continue, Par, Do, Semicolon}
-use Rattle.rcv_reader.specs.declared.fault.Stop.{Stop}
-use Rattle.rcv_reader.specs.declared.fault.Stop.TheVariants as errors
-use Rattle.rcv_reader.specs.Symbols.{Symbol, Is, Word, Text}
-use Rattle.rcv_reader.specs.Grammar as grammar
-use Rattle.rcv_reader.specs.Grammar.{Written, stmts, names_behind, roles_behind, dotted, decl, decls, is_decl_word, AreDecls, blocks_behind, IsBegun, IsProper, AreProper}
+use Rattle.rcv_syntax.specs.declared.sign.Sign.TheVariants.{Module, Global, Protocol, Role, Left, Right, Open, Close, Or, Choice, Rec, Continue, Par, Do, Semicolon}
+use Rattle.rcv_reader.specs.declared.parser.Parser.{Parser}
+use Rattle.rcv_reader.specs.declared.parser.Spot.{Spot}
+use Rattle.rcv_reader.specs.declared.stop.Stop.{Stop}
+use Rattle.rcv_reader.specs.declared.stop.Stop.TheVariants as errors
+use Rattle.rcv_syntax.specs.Symbols.{Symbol, Is, Word, Text}
+use Rattle.rcv_syntax.specs.Grammar as grammar
+use Rattle.rcv_syntax.specs.Grammar.{Written, stmts, names_behind, roles_behind, dotted, decl, decls, is_decl_word, AreDecls, blocks_behind, IsBegun, IsProper, AreProper}
 use Rattle.rcv_tree.specs.declared.protocol.Decl.{Decl}
-use Rattle.rcv_reader.specs.Machine.{Item, Decls, State, Refuses, answer, reading, place_of, is_listed, Place, is_open}
-use Rattle.rcv_reader.specs.Trees.{roles_at, points, points_of, tree_of, trees_of, MayReceive, IsFit, AreFit}
-
-abbrev pub known : List (List ℕ) → ℕ → State
-known roles count = record { roles = roles; count = count }
+use Rattle.rcv_syntax.specs.Trees.{place_of, is_listed, roles_at, points, points_of, tree_of, trees_of, MayReceive, IsFit, AreFit}
+use Rattle.rcv_syntax.specs.Refusing.{IsFirst}
+use Rattle.rcv_machine.specs.Machine.{Item, Decls, State, Refuses, answer, Place, is_open, known}
 
 abbrev pub place_at : List (List ℕ) → ℕ → ℕ → Bool → Place
 place_at recs depth comes ended = record { depth = depth; recs = recs; comes = comes; ended = ended }
@@ -79,24 +79,20 @@ abbrev pub branches_in_front : List Block → trees.Bodies → trees.Bodies
 branches_in_front [] others = others
 branches_in_front (b ∷ bs) others = trees.Or (trees.body_of b) (branches_in_front bs others)
 
--- One receiver was read: its name, its role, and its message behind n points.
-pub record IsReceived (roles : List (List ℕ)) (label : List ℕ) (sorts : List (List ℕ)) (sender n : ℕ) (before before' : List ℕ) (block block' : List Stmt) (old new : List Symbol) : Type 0 where
+-- One receiver was read: its name and its role.
+pub record IsReceived (roles : List (List ℕ)) (sender : ℕ) (before : List ℕ) (role : ℕ) (old new : List Symbol) : Type 0 where
   pub name : List ℕ
-  pub role : ℕ
   pub is_role : place_of roles name ≡ Some role
   pub first : is_listed role before ≡ false
   pub apart : (role == sender) ≡ false
-  pub joins : before' ≡ before ++ role ∷ []
-  pub added : block' ≡ block ++ statements.Message label sorts sender role (n + 1) ∷ []
   pub spelled : old ≡ Word name ∷ new
 
 -- All receivers of a message were read, and the mark behind them.
-pub record AreReceived (roles : List (List ℕ)) (label : List ℕ) (sorts : List (List ℕ)) (sender n n' : ℕ) (block block' : List Stmt) (old new : List Symbol) : Type 0 where
+pub record AreReceived (roles : List (List ℕ)) (sender : ℕ) (receivers : List ℕ) (old new : List Symbol) : Type 0 where
   pub first : List ℕ
   pub others : List (List ℕ)
   pub may : MayReceive roles sender [] (first ∷ others)
-  pub counted : n' ≡ n + (1 + length others)
-  pub added : block' ≡ block ++ messages label sorts sender (roles_at roles (first ∷ others)) n
+  pub places : receivers ≡ roles_at roles (first ∷ others)
   pub spelled : old ≡ Word first ∷ names_behind others (Is Semicolon ∷ new)
 
 -- Statements were read: what is written, in front of any others of its block, with its symbols and its tree.
@@ -184,16 +180,35 @@ declaring aliases = Decls aliases
 -- the whole answer
 abbrev pub Ends : Stop → List Symbol → List Symbol → Type 0
 Ends errors.Memory old new = Unit {0}
-Ends (errors.Refused fault) old new = reading old ≡ Refuses fault new
+Ends (errors.Refused fault) old new = IsFirst old fault new
 
 -- the head of a module was read, with the first brace of the body
 pub record IsHead (modules : List (List ℕ)) (ds : List Decl) (name : List ℕ) (roles : List (List ℕ)) (old new : List Symbol) : Type 0 where
   pub some_module : modules ≡ [] → ⊥
   pub some_role : roles ≡ [] → ⊥
   pub words : AreDecls ds
-  pub spelled : old ≡ Is Module ∷ module_list modules (Is Semicolon ∷ decls ds (Is Global ∷ Is Protocol ∷ Word name ∷ Is Left ∷ Is Role ∷ names_of_roles roles (Is Right ∷ Is Open ∷ new)))
+  pub spelled : old ≡ Is Module ∷ module_list modules
+      (Is Semicolon ∷ decls ds (Is Global ∷ Is Protocol ∷ Word name ∷ Is Left ∷ Is Role ∷ names_of_roles roles (Is Right ∷ Is Open ∷ new)))
 
 -- the fault behind the protocol
 abbrev pub EndFails : Stop → State → List Symbol → Type 0
 EndFails errors.Memory s left = Unit {0}
 EndFails (errors.Refused fault) s left = answer s [] left ≡ Refuses fault left
+
+-- ---- in the words of the parser
+
+-- where the parser stands in its block
+abbrev pub place_of_spot : Parser → Spot → Place
+place_of_spot p spot = place_at p.recs.items spot.depth spot.comes spot.ended
+
+-- From what is awaited in front the parser comes to what is awaited behind, or it stops.
+abbrev pub Takes : {X : Type 0} → Result X Stop → Parser → Parser → (List Item → List Item) → (X → List Item → List Item) → Type 0
+Takes result old new front behind = Goes result (known old.roles old.count) (known new.roles new.count) front behind old.rest new.rest
+
+-- The parser knows what it knew before.
+abbrev pub Keeps : Parser → Parser → Type 0
+Keeps old new = (new.roles ≡ old.roles) × (new.recs.items ≡ old.recs.items) × (new.count ≡ old.count)
+
+-- Statements were read from these symbols on, and added to the block.
+abbrev pub TakesSome : Parser → Parser → List Stmt → List Stmt → List Symbol → Type 0
+TakesSome old new block block' start = AddsSome old.roles old.count new.count block block' start new.rest

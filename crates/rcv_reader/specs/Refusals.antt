@@ -1,23 +1,23 @@
--- What the reader answers.
+-- What the reader answers, by the grammar and the table of the codes alone.
 use Rattle.std.specs.Prelude.{◌≡◌, ℕ, List, length}
 use Rattle.rcv_tree.specs.declared.refusal.Refusal.TheVariants as refusals
 use Rattle.rcv_tree.specs.declared.protocol.Protocol.{Protocol}
 use Rattle.rcv_lexer.specs.declared.token.Token.{Token}
 use Rattle.rcv_lexer.specs.declared.token.TextError.{TextError}
 use Rattle.rcv_lexer.specs.declared.token.TextError.TheVariants as errors
-use Rattle.rcv_reader.specs.declared.fault.Fault.{Fault}
-use Rattle.rcv_reader.specs.Symbols.{Symbol, symbols_of, line_before}
-use Rattle.rcv_reader.specs.Machine.{State, Taken, Refuses, reading, code_of}
-use Rattle.rcv_reader.specs.Trees.{Reads}
+use Rattle.rcv_syntax.specs.declared.fault.Fault.{Fault}
+use Rattle.rcv_syntax.specs.Symbols.{Symbol, symbols_of, line_before}
+use Rattle.rcv_syntax.specs.Codes.{code_of}
+use Rattle.rcv_syntax.specs.Refusing.{IsFree, IsFirst}
+use Rattle.rcv_syntax.specs.Trees.{Reads}
 
--- no code holds in the symbols, and this is their tree
+-- The grammar derives the symbols, no code holds at any of them nor at the end, and this is their tree.
 abbrev pub IsRead : List Symbol → Protocol → Type 0
-IsRead symbols p = (state : State) × (reading symbols ≡ Taken state) × Reads symbols p
+IsRead symbols p = IsFree symbols × Reads symbols p
 
--- The machine stops at this token, or at the end, with this code. That it is the first at which a code holds, and the
--- least that holds at it, is how the machine is defined; for the code 11 it is a law.
+-- The code holds at this token, or at the end; no lesser one holds there, and none at an earlier token.
 abbrev pub IsRefused : List ℕ → List Token → ℕ → TextError → Type 0
 IsRefused bundle tokens last errors.Memory = Unit {0}
 IsRefused bundle tokens last (errors.Refused r) =
-    (fault : Fault) × (left : List Symbol) × (reading (symbols_of bundle tokens) ≡ Refuses fault left)
+    (fault : Fault) × (left : List Symbol) × IsFirst (symbols_of bundle tokens) fault left
     × (r ≡ refusals.Text (code_of fault) (line_before tokens last (length left)))

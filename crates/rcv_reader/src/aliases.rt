@@ -1,7 +1,7 @@
 // The aliases of the declarations so far, which are found without going through all of them.
 
 ghost use Rattle.std.specs.Prelude.{◌≡◌, [], ◌∷◌, ◌++◌, OnOk, OnErr};
-ghost use Rattle.rcv_reader.specs.Machine.{holds};
+ghost use Rattle.rcv_syntax.specs.Codes.{is_among};
 
 use std::alloc::{AllocError, Global};
 use std::collections::BTreeSet;
@@ -21,13 +21,13 @@ impl<'a> Model for Aliases<'a> {
     ghost use Rattle.std.specs.Ordering.{nat_cmp};
     ghost use Rattle.std.specs.Cmp.Lexicographic.{slice_cmp};
     ghost use Rattle.std.specs.BTreeSet.{contains_by};
-    ghost use Rattle.rcv_reader.specs.Machine.{holds};
+    ghost use Rattle.rcv_syntax.specs.Codes.{is_among};
 
     ghost Value = { List (List ℕ) };
 
     ghost view = { λ a. map (λ n. n.now) a.names.items };
 
-    ghost invariant = { λ a. (name : List ℕ) → contains_by (λ n. slice_cmp nat_cmp name n.now) a.found ≡ holds name (map (λ n. n.now) a.names.items) };
+    ghost invariant = { λ a. (name : List ℕ) → contains_by (λ n. slice_cmp nat_cmp name n.now) a.found ≡ is_among name (map (λ n. n.now) a.names.items) };
 }
 
 impl<'a> Aliases<'a> {
@@ -43,7 +43,7 @@ impl<'a> Aliases<'a> {
 
     /// Whether the name is one of these. It takes about the logarithm of their number in comparisons.
     pub fn holds(&self, bytes: &[u8]) -> bool
-        ensures { result ≡ holds bytes.now self.now }
+        ensures { result ≡ is_among bytes.now self.now }
     {
         self.found.contains(bytes)
     }

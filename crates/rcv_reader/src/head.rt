@@ -2,16 +2,16 @@
 
 ghost use Rattle.std.specs.Prelude.{◌≡◌, ◌≢◌, ◌<◌, ◌≤◌, ◌+◌, ◌++◌, ◌∷◌, [], length, ℕ, List, codes, IfOk, OnOk, IfErr, true, false};
 ghost use Rattle.rcv_tree.specs.Lists.{declarations};
-ghost use Rattle.rcv_reader.specs.Symbols.{Is, IsNotNext};
-ghost use Rattle.rcv_reader.specs.Grammar.{decls, is_decl_word};
-ghost use Rattle.rcv_reader.specs.Machine.{This, AnyName, AnyQuoted, MoreModules, Alias, RoleName, MoreRoles};
-ghost use Rattle.rcv_reader.specs.Descent.{declaring, a_name, a_name_of, a_quoted, AddsName, module_list, names_of_roles, known, Goes, IsDecl, AreSuch};
+ghost use Rattle.rcv_syntax.specs.Symbols.{Is, IsNotNext};
+ghost use Rattle.rcv_syntax.specs.Grammar.{decls, is_decl_word};
+ghost use Rattle.rcv_machine.specs.Machine.{This, AnyName, AnyQuoted, MoreModules, Alias, RoleName, MoreRoles};
+ghost use Rattle.rcv_reader.specs.Descent.{declaring, a_name, a_name_of, a_quoted, AddsName, module_list, names_of_roles, IsDecl, AreSuch, Takes, Keeps};
 
 use crate::aliases::Aliases;
-use crate::fault::{Fault, Stop};
 use crate::parser::{Parser, holds};
-use crate::sign::Sign;
+use crate::stop::Stop;
 use rcv_scan::is;
+use rcv_syntax::{Fault, Sign};
 use rcv_tree::name::{Name, Names};
 use rcv_tree::protocol::{Decl, Decls};
 use std::alloc::Global;
@@ -26,9 +26,9 @@ fn is_decl_word(word: &[u8]) -> bool
 impl<'a> Parser<'a> {
     // Takes what stands between two quotes.
     fn quoted(&mut self, alloc: Global) -> Result<Name, Stop>
-        ensures goes { Goes result (known self.old.roles self.old.count) (known self.new.roles self.new.count) (λ k. AnyQuoted ∷ k) (λ x k. k) self.old.rest self.new.rest }
+        ensures goes { Takes result self.old self.new (λ k. AnyQuoted ∷ k) (λ x k. k) }
         ensures read { IfOk result (λ q. self.old.rest ≡ a_quoted q self.new.rest) }
-        ensures kept { (self.new.roles ≡ self.old.roles) × (self.new.recs.items ≡ self.old.recs.items) × (self.new.count ≡ self.old.count) }
+        ensures kept { Keeps self.old self.new }
         ensures shorter { length self.new.rest ≤ length self.old.rest }
     {
         let Some((bytes, after)) = self.rest.text() else {
@@ -41,9 +41,9 @@ impl<'a> Parser<'a> {
 
     /// Takes the names of the module, and the mark behind them.
     pub fn modules(&mut self, alloc: Global) -> Result<Names, Stop>
-        ensures goes { Goes result (known self.old.roles self.old.count) (known self.new.roles self.new.count) (λ k. AnyName ∷ MoreModules ∷ k) (λ x k. k) self.old.rest self.new.rest }
+        ensures goes { Takes result self.old self.new (λ k. AnyName ∷ MoreModules ∷ k) (λ x k. k) }
         ensures read { IfOk result (λ names. (names ≢ []) × (self.old.rest ≡ module_list names (Is Sign.Semicolon ∷ self.new.rest))) }
-        ensures kept { (self.new.roles ≡ self.old.roles) × (self.new.recs.items ≡ self.old.recs.items) × (self.new.count ≡ self.old.count) }
+        ensures kept { Keeps self.old self.new }
         ensures shorter { length self.new.rest ≤ length self.old.rest }
     {
         let mut names = Names::new(alloc);
@@ -60,7 +60,7 @@ impl<'a> Parser<'a> {
     // Takes the name of one more role.
     fn add_role(&mut self, alloc: Global) -> Result<(), Stop>
         requires few { length self.old.roles ≤ 8 }
-        ensures goes { Goes result (known self.old.roles self.old.count) (known self.new.roles self.new.count) (λ k. RoleName ∷ k) (λ x k. MoreRoles ∷ k) self.old.rest self.new.rest }
+        ensures goes { Takes result self.old self.new (λ k. RoleName ∷ k) (λ x k. MoreRoles ∷ k) }
         ensures read { OnOk result (AddsName self.old.roles self.new.roles self.old.rest self.new.rest) }
         ensures few { length self.new.roles ≤ 8 }
         ensures kept { (self.new.recs.items ≡ self.old.recs.items) × (self.new.count ≡ self.old.count) }
@@ -83,8 +83,9 @@ impl<'a> Parser<'a> {
     /// Takes the roles behind the first word `role`, and the parenthesis behind them.
     pub fn role_names(&mut self, alloc: Global) -> Result<(), Stop>
         requires none { self.old.roles ≡ [] }
-        ensures goes { Goes result (known self.old.roles self.old.count) (known self.new.roles self.new.count) (λ k. RoleName ∷ k) (λ x k. k) self.old.rest self.new.rest }
-        ensures read { OnOk result ((self.new.roles ≢ []) × (self.old.rest ≡ names_of_roles self.new.roles (Is Sign.Right ∷ self.new.rest))) }
+        ensures goes { Takes result self.old self.new (λ k. RoleName ∷ k) (λ x k. k) }
+        ensures read { OnOk result ((self.new.roles ≢ []) × (self.old.rest ≡ names_of_roles self.new.roles
+            (Is Sign.Right ∷ self.new.rest))) }
         ensures few { length self.new.roles ≤ 8 }
         ensures kept { (self.new.recs.items ≡ self.old.recs.items) × (self.new.count ≡ self.old.count) }
         ensures shorter { length self.new.rest ≤ length self.old.rest }
@@ -99,9 +100,9 @@ impl<'a> Parser<'a> {
 
     // Takes the word `as`.
     fn word_as(&mut self) -> Result<(), Stop>
-        ensures goes { Goes result (known self.old.roles self.old.count) (known self.new.roles self.new.count) (λ k. This (a_name_of (codes "as")) ∷ k) (λ x k. k) self.old.rest self.new.rest }
+        ensures goes { Takes result self.old self.new (λ k. This (a_name_of (codes "as")) ∷ k) (λ x k. k) }
         ensures read { OnOk result (self.old.rest ≡ a_name (codes "as") self.new.rest) }
-        ensures kept { (self.new.roles ≡ self.old.roles) × (self.new.recs.items ≡ self.old.recs.items) × (self.new.count ≡ self.old.count) }
+        ensures kept { Keeps self.old self.new }
         ensures shorter { length self.new.rest ≤ length self.old.rest }
     {
         let Some((bytes, after)) = self.rest.word() else {
@@ -116,9 +117,10 @@ impl<'a> Parser<'a> {
 
     // Takes the alias of a declaration.
     fn alias(&mut self, alloc: Global, aliases: &mut Aliases<'a>) -> Result<Name, Stop>
-        ensures goes { Goes result (known self.old.roles self.old.count) (known self.new.roles self.new.count) (λ k. Alias aliases.old ∷ k) (λ x k. This (Is Sign.Semicolon) ∷ declaring aliases.new ∷ k) self.old.rest self.new.rest }
+        ensures goes { Takes result self.old self.new (λ k. Alias aliases.old ∷ k)
+            (λ x k. This (Is Sign.Semicolon) ∷ declaring aliases.new ∷ k) }
         ensures read { IfOk result (λ n. self.old.rest ≡ a_name n self.new.rest) }
-        ensures kept { (self.new.roles ≡ self.old.roles) × (self.new.recs.items ≡ self.old.recs.items) × (self.new.count ≡ self.old.count) }
+        ensures kept { Keeps self.old self.new }
         ensures shorter { length self.new.rest ≤ length self.old.rest }
     {
         let Some((bytes, after)) = self.rest.word() else {
@@ -136,9 +138,11 @@ impl<'a> Parser<'a> {
     // Takes the word that begins a declaration.
     fn decl_word(&mut self, alloc: Global, aliases: &Aliases<'a>) -> Result<Name, Stop>
         requires { IsNotNext (Is Sign.Global) self.old.rest }
-        ensures goes { Goes result (known self.old.roles self.old.count) (known self.new.roles self.new.count) (λ k. declaring aliases.now ∷ k) (λ x k. This (Is Sign.Less) ∷ AnyName ∷ This (Is Sign.Greater) ∷ AnyQuoted ∷ This (Is Sign.From) ∷ AnyQuoted ∷ This (a_name_of (codes "as")) ∷ Alias aliases.now ∷ k) self.old.rest self.new.rest }
+        ensures goes { Takes result self.old self.new (λ k. declaring aliases.now ∷ k)
+            (λ x k. This (Is Sign.Less) ∷ AnyName ∷ This (Is Sign.Greater) ∷ AnyQuoted
+            ∷ This (Is Sign.From) ∷ AnyQuoted ∷ This (a_name_of (codes "as")) ∷ Alias aliases.now ∷ k) }
         ensures read { IfOk result (λ n. (is_decl_word n ≡ true) × (self.old.rest ≡ a_name n self.new.rest)) }
-        ensures kept { (self.new.roles ≡ self.old.roles) × (self.new.recs.items ≡ self.old.recs.items) × (self.new.count ≡ self.old.count) }
+        ensures kept { Keeps self.old self.new }
         ensures shorter { length self.new.rest ≤ length self.old.rest }
         ensures taken { OnOk result (length self.new.rest < length self.old.rest) }
     {
@@ -156,9 +160,9 @@ impl<'a> Parser<'a> {
     // Takes a declaration.
     fn decl(&mut self, alloc: Global, aliases: &mut Aliases<'a>) -> Result<Decl, Stop>
         requires { IsNotNext (Is Sign.Global) self.old.rest }
-        ensures goes { Goes result (known self.old.roles self.old.count) (known self.new.roles self.new.count) (λ k. declaring aliases.old ∷ k) (λ x k. declaring aliases.new ∷ k) self.old.rest self.new.rest }
+        ensures goes { Takes result self.old self.new (λ k. declaring aliases.old ∷ k) (λ x k. declaring aliases.new ∷ k) }
         ensures read { IfOk result (λ d. IsDecl d self.old.rest self.new.rest) }
-        ensures kept { (self.new.roles ≡ self.old.roles) × (self.new.recs.items ≡ self.old.recs.items) × (self.new.count ≡ self.old.count) }
+        ensures kept { Keeps self.old self.new }
         ensures shorter { length self.new.rest ≤ length self.old.rest }
         ensures taken { OnOk result (length self.new.rest < length self.old.rest) }
     {
@@ -183,9 +187,9 @@ impl<'a> Parser<'a> {
 
     /// Takes the declarations, and the word `global` behind them.
     pub fn decls(&mut self, alloc: Global) -> Result<Decls, Stop>
-        ensures goes { Goes result (known self.old.roles self.old.count) (known self.new.roles self.new.count) (λ k. declaring [] ∷ k) (λ x k. k) self.old.rest self.new.rest }
+        ensures goes { Takes result self.old self.new (λ k. declaring [] ∷ k) (λ x k. k) }
         ensures read { IfOk result (λ ds. AreSuch (declarations ds) self.old.rest (Is Sign.Global ∷ self.new.rest)) }
-        ensures kept { (self.new.roles ≡ self.old.roles) × (self.new.recs.items ≡ self.old.recs.items) × (self.new.count ≡ self.old.count) }
+        ensures kept { Keeps self.old self.new }
         ensures shorter { length self.new.rest ≤ length self.old.rest }
     {
         let mut list = Decls::new(alloc);

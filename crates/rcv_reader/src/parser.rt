@@ -3,19 +3,21 @@
 ghost use Rattle.std.specs.Prelude.{◌≡◌, ◌<◌, ◌≤◌, ◌+◌, ◌-◌, ◌++◌, ◌∷◌, [], length, ℕ, List, drop, IfSome, IfNone, OnOk, IfOk, IfErr, true, false, Option};
 ghost use Rattle.rcv_tree.specs.Lists.{statements};
 ghost use Rattle.rcv_tree.specs.declared.statement.Stmt.{Stmt};
-ghost use Rattle.rcv_reader.specs.Symbols.{Is, IsNotNext};
-ghost use Rattle.rcv_reader.specs.Grammar.{sort_list};
-ghost use Rattle.rcv_reader.specs.Machine.{place_of, holds, is_listed, is_open, This, AnyName, Sorts, MoreSorts, Subject, Sender, Receiver, MoreReceivers, RecName, AgainName, Opening, First, Rest, More, inside, inside_rec, behind};
-ghost use Rattle.rcv_reader.specs.Descent.{a_name, is_unguarded, MayBegin, IsReceived, AreReceived, Adds, AddsSome, Halts, known, place_at, starts, waits, Goes, IsRoleName, messages, AreStmts, AreSomeStmts, IsBlock, AreBranches};
+ghost use Rattle.rcv_syntax.specs.Symbols.{Is, IsNotNext};
+ghost use Rattle.rcv_syntax.specs.Grammar.{sort_list};
+ghost use Rattle.rcv_syntax.specs.Codes.{is_among};
+ghost use Rattle.rcv_syntax.specs.Trees.{place_of, is_listed};
+ghost use Rattle.rcv_machine.specs.Machine.{This, AnyName, Sorts, Subject, Sender, Receiver, MoreReceivers, RecName, AgainName, Opening, First, Rest, More, inside, behind, known};
+ghost use Rattle.rcv_reader.specs.Descent.{a_name, is_unguarded, MayBegin, IsReceived, AreReceived, Adds, Halts, starts, waits, IsRoleName, messages, IsBlock, AreBranches, Takes, Keeps, TakesSome, place_of_spot};
 
-use crate::fault::{Fault, Stop};
-use crate::sign::Sign;
+use crate::stop::Stop;
 use rcv_scan::{Ahead, Lexeme};
+use rcv_syntax::{Fault, Sign};
 use rcv_tree::name::{Name, Names};
 use rcv_tree::point::Point;
 use rcv_tree::role::{RoleId, Roles};
 use rcv_tree::statement::{Block, Blocks, Stmt};
-use std::alloc::Global;
+use std::alloc::{AllocError, Global};
 
 /// A place in a block: how many blocks are open, for how many of the innermost recursions a walk comes from the start
 /// of their body without a message, and whether a `continue` of this block stands before.
@@ -44,9 +46,16 @@ struct Heading {
     sender: RoleId,
 }
 
+// The receivers of a message, of which the last takes its label and sorts.
+#[derive(Drop)]
+struct Receivers {
+    others: Roles,
+    last: RoleId,
+}
+
 /// Whether the name is one of these.
 pub fn holds(name: &[u8], names: &[Name]) -> bool
-    ensures { result ≡ holds name.now names.now }
+    ensures { result ≡ is_among name.now names.now }
 {
     names.iter().any(|other| name == other.as_slice())
 }
@@ -65,10 +74,9 @@ fn is_listed(role: RoleId, before: &[RoleId]) -> bool
     before.iter().any(|other| role == *other)
 }
 
-/// The same names once more.
-pub fn copy_of(alloc: Global, names: &Names) -> Result<Names, Stop>
-    ensures ok { IfOk result (λ copy. copy ≡ names.now) }
-    ensures err { IfErr result (λ e. e ≡ Stop.Memory) }
+// The same names once more.
+fn copy_of(alloc: Global, names: &Names) -> Result<Names, AllocError>
+    ensures { IfOk result (λ copy. copy ≡ names.now) }
 {
     let mut copy = Names::new(alloc);
     for name in names.as_slice() {
@@ -77,12 +85,38 @@ pub fn copy_of(alloc: Global, names: &Names) -> Result<Names, Stop>
     Ok(copy)
 }
 
+// Adds a message for each of these receivers, behind so many points, with copies of the label and the sorts.
+fn add_copies(
+    alloc: Global,
+    heading: &Heading,
+    receivers: &[RoleId],
+    points: u16,
+    block: &mut Block,
+) -> Result<(), AllocError>
+    requires few { points + length receivers.now ≤ 256 }
+    ensures { OnOk result (statements block.new ≡ statements block.old
+        ++ messages heading.now.label heading.now.sorts heading.now.sender receivers.now points) }
+{
+    let mut point = points;
+    for receiver in receivers {
+        point += 1;
+        block.push(Stmt::Message {
+            label: Name::of(alloc, heading.label.as_slice())?,
+            sorts: copy_of(alloc, &heading.sorts)?,
+            sender: heading.sender,
+            receiver: *receiver,
+            point: Point(point),
+        })?;
+    }
+    Ok(())
+}
+
 impl<'a> Parser<'a> {
     /// Takes this word or mark.
     pub fn expect(&mut self, sign: Sign) -> Result<(), Stop>
-        ensures goes { Goes result (known self.old.roles self.old.count) (known self.new.roles self.new.count) (λ k. This (Is sign) ∷ k) (λ x k. k) self.old.rest self.new.rest }
+        ensures goes { Takes result self.old self.new (λ k. This (Is sign) ∷ k) (λ x k. k) }
         ensures read { OnOk result (self.old.rest ≡ Is sign ∷ self.new.rest) }
-        ensures kept { (self.new.roles ≡ self.old.roles) × (self.new.recs.items ≡ self.old.recs.items) × (self.new.count ≡ self.old.count) }
+        ensures kept { Keeps self.old self.new }
         ensures shorter { length self.new.rest ≤ length self.old.rest }
     {
         let Some(after) = self.rest.sign(sign) else {
@@ -97,7 +131,7 @@ impl<'a> Parser<'a> {
         ensures yes { result ≡ true → self.old.rest ≡ Is sign ∷ self.new.rest }
         ensures taken { result ≡ true → length self.new.rest < length self.old.rest }
         ensures no { result ≡ false → (self.new.rest ≡ self.old.rest) × IsNotNext (Is sign) self.old.rest }
-        ensures kept { (self.new.roles ≡ self.old.roles) × (self.new.recs.items ≡ self.old.recs.items) × (self.new.count ≡ self.old.count) }
+        ensures kept { Keeps self.old self.new }
         ensures shorter { length self.new.rest ≤ length self.old.rest }
     {
         let Some(after) = self.rest.sign(sign) else {
@@ -109,9 +143,9 @@ impl<'a> Parser<'a> {
 
     /// Takes any name.
     pub fn name(&mut self, alloc: Global) -> Result<Name, Stop>
-        ensures goes { Goes result (known self.old.roles self.old.count) (known self.new.roles self.new.count) (λ k. AnyName ∷ k) (λ x k. k) self.old.rest self.new.rest }
+        ensures goes { Takes result self.old self.new (λ k. AnyName ∷ k) (λ x k. k) }
         ensures read { IfOk result (λ n. self.old.rest ≡ a_name n self.new.rest) }
-        ensures kept { (self.new.roles ≡ self.old.roles) × (self.new.recs.items ≡ self.old.recs.items) × (self.new.count ≡ self.old.count) }
+        ensures kept { Keeps self.old self.new }
         ensures shorter { length self.new.rest ≤ length self.old.rest }
     {
         let Some((bytes, after)) = self.rest.word() else {
@@ -125,10 +159,10 @@ impl<'a> Parser<'a> {
     // Takes the name of a role: the subject of a choice, or a sender.
     fn role(&mut self) -> Result<RoleId, Stop>
         requires few { length self.old.roles ≤ 8 }
-        ensures subject { Goes result (known self.old.roles self.old.count) (known self.new.roles self.new.count) (λ k. Subject ∷ k) (λ r k. k) self.old.rest self.new.rest }
-        ensures sender { Goes result (known self.old.roles self.old.count) (known self.new.roles self.new.count) (λ k. Sender ∷ k) (λ r k. This (Is Sign.To) ∷ Receiver r [] ∷ k) self.old.rest self.new.rest }
+        ensures subject { Takes result self.old self.new (λ k. Subject ∷ k) (λ r k. k) }
+        ensures sender { Takes result self.old self.new (λ k. Sender ∷ k) (λ r k. This (Is Sign.To) ∷ Receiver r [] ∷ k) }
         ensures read { IfOk result (λ r. IsRoleName self.old.roles r self.old.rest self.new.rest) }
-        ensures kept { (self.new.roles ≡ self.old.roles) × (self.new.recs.items ≡ self.old.recs.items) × (self.new.count ≡ self.old.count) }
+        ensures kept { Keeps self.old self.new }
         ensures shorter { length self.new.rest ≤ length self.old.rest }
     {
         let Some((bytes, after)) = self.rest.word() else {
@@ -143,9 +177,9 @@ impl<'a> Parser<'a> {
 
     // Takes sorts, and the parenthesis behind them.
     fn sorts(&mut self, alloc: Global) -> Result<Names, Stop>
-        ensures goes { Goes result (known self.old.roles self.old.count) (known self.new.roles self.new.count) (λ k. Sorts ∷ k) (λ x k. k) self.old.rest self.new.rest }
+        ensures goes { Takes result self.old self.new (λ k. Sorts ∷ k) (λ x k. k) }
         ensures read { IfOk result (λ sorts. self.old.rest ≡ sort_list sorts (Is Sign.Right ∷ self.new.rest)) }
-        ensures kept { (self.new.roles ≡ self.old.roles) × (self.new.recs.items ≡ self.old.recs.items) × (self.new.count ≡ self.old.count) }
+        ensures kept { Keeps self.old self.new }
         ensures shorter { length self.new.rest ≤ length self.old.rest }
     {
         let mut sorts = Names::new(alloc);
@@ -162,18 +196,12 @@ impl<'a> Parser<'a> {
         Ok(sorts)
     }
 
-    // Takes one receiver of a message, which makes a point, and adds its message to the block.
-    fn receiver(
-        &mut self,
-        alloc: Global,
-        heading: &Heading,
-        before: &mut Roles,
-        block: &mut Block,
-    ) -> Result<(), Stop>
+    // Takes one receiver of a message, which makes a point. These stand before it.
+    fn receiver(&mut self, sender: RoleId, before: &[RoleId]) -> Result<RoleId, Stop>
         requires few { length self.old.roles ≤ 8 }
         requires count { self.old.count ≤ 256 }
-        ensures goes { Goes result (known self.old.roles self.old.count) (known self.new.roles self.new.count) (λ k. Receiver heading.now.sender before.old ∷ k) (λ x k. MoreReceivers heading.now.sender before.new ∷ k) self.old.rest self.new.rest }
-        ensures read { OnOk result (IsReceived self.old.roles heading.now.label heading.now.sorts heading.now.sender self.old.count before.old before.new (statements block.old) (statements block.new) self.old.rest self.new.rest) }
+        ensures goes { Takes result self.old self.new (λ k. Receiver sender before.now ∷ k) (λ r k. MoreReceivers sender (before.now ++ r ∷ []) ∷ k) }
+        ensures read { IfOk result (λ r. IsReceived self.old.roles sender before.now r self.old.rest self.new.rest) }
         ensures counted { OnOk result ((self.new.count ≡ self.old.count + 1) × (self.new.count ≤ 256)) }
         ensures kept { (self.new.roles ≡ self.old.roles) × (self.new.recs.items ≡ self.old.recs.items) }
         ensures shorter { length self.new.rest ≤ length self.old.rest }
@@ -185,52 +213,49 @@ impl<'a> Parser<'a> {
             return Err(Stop::Refused(Fault::NoName));
         };
         let receiver = RoleId(place as u8);
-        if is_listed(receiver, before.as_slice()) {
+        if is_listed(receiver, before) {
             return Err(Stop::Refused(Fault::Twice));
         }
-        if receiver == heading.sender {
+        if receiver == sender {
             return Err(Stop::Refused(Fault::SelfMessage));
         }
         if self.count >= 256 {
             return Err(Stop::Refused(Fault::TooMany));
         }
-        before.push(receiver)?;
-        block.push(Stmt::Message {
-            label: Name::of(alloc, heading.label.as_slice())?,
-            sorts: copy_of(alloc, &heading.sorts)?,
-            sender: heading.sender,
-            receiver,
-            point: Point(self.count + 1),
-        })?;
         self.count += 1;
         self.rest = after;
-        Ok(())
+        Ok(receiver)
     }
 
     // Takes all receivers of a message, and the mark behind them.
-    fn receivers(&mut self, alloc: Global, heading: &Heading, block: &mut Block) -> Result<(), Stop>
+    fn receivers(&mut self, alloc: Global, sender: RoleId) -> Result<Receivers, Stop>
         requires few { length self.old.roles ≤ 8 }
         requires count { self.old.count ≤ 256 }
-        ensures goes { Goes result (known self.old.roles self.old.count) (known self.new.roles self.new.count) (λ k. Receiver heading.now.sender [] ∷ k) (λ x k. k) self.old.rest self.new.rest }
-        ensures read { OnOk result (AreReceived self.old.roles heading.now.label heading.now.sorts heading.now.sender self.old.count self.new.count (statements block.old) (statements block.new) self.old.rest self.new.rest) }
-        ensures kept { OnOk result ((self.new.roles ≡ self.old.roles) × (self.new.recs.items ≡ self.old.recs.items) × (self.new.count ≤ 256)) }
+        ensures goes { Takes result self.old self.new (λ k. Receiver sender [] ∷ k) (λ x k. k) }
+        ensures read { IfOk result (λ rs. AreReceived self.old.roles sender (rs.others ++ rs.last ∷ []) self.old.rest self.new.rest) }
+        ensures counted { IfOk result (λ rs. (self.new.count ≡ self.old.count + (length rs.others + 1)) × (self.new.count ≤ 256)) }
+        ensures kept { OnOk result ((self.new.roles ≡ self.old.roles) × (self.new.recs.items ≡ self.old.recs.items)) }
         ensures shorter { length self.new.rest ≤ length self.old.rest }
     {
-        let mut before = Roles::new(alloc);
-        self.receiver(alloc, heading, &mut before, block)?;
+        let mut others = Roles::new(alloc);
+        let mut last = self.receiver(sender, others.as_slice())?;
         while self.takes(Sign::Comma) {
-            self.receiver(alloc, heading, &mut before, block)?;
+            others.push(last)?;
+            last = self.receiver(sender, others.as_slice())?;
         }
-        self.expect(Sign::Semicolon)
+        self.expect(Sign::Semicolon)?;
+        Ok(Receivers { others, last })
     }
 
     // Takes a message.
     fn message(&mut self, alloc: Global, block: &mut Block) -> Result<(), Stop>
         requires few { length self.old.roles ≤ 8 }
         requires count { self.old.count ≤ 256 }
-        ensures goes { Goes result (known self.old.roles self.old.count) (known self.new.roles self.new.count) (λ k. AnyName ∷ This (Is Sign.Left) ∷ Sorts ∷ This (Is Sign.From) ∷ Sender ∷ k) (λ x k. k) self.old.rest self.new.rest }
-        ensures read { OnOk result (AddsSome self.old.roles self.old.count self.new.count (statements block.old) (statements block.new) self.old.rest self.new.rest) }
-        ensures kept { OnOk result ((self.new.roles ≡ self.old.roles) × (self.new.recs.items ≡ self.old.recs.items) × (self.new.count ≤ 256)) }
+        ensures goes { Takes result self.old self.new
+            (λ k. AnyName ∷ This (Is Sign.Left) ∷ Sorts ∷ This (Is Sign.From) ∷ Sender ∷ k) (λ x k. k) }
+        ensures read { OnOk result (TakesSome self.old self.new (statements block.old) (statements block.new) self.old.rest) }
+        ensures kept { OnOk result ((self.new.roles ≡ self.old.roles) × (self.new.recs.items ≡ self.old.recs.items)
+            × (self.new.count ≤ 256)) }
         ensures shorter { length self.new.rest ≤ length self.old.rest }
         ensures taken { OnOk result (length self.new.rest < length self.old.rest) }
     {
@@ -245,16 +270,28 @@ impl<'a> Parser<'a> {
             sorts,
             sender,
         };
-        self.receivers(alloc, &heading, block)
+        let points = self.count;
+        let receivers = self.receivers(alloc, sender)?;
+        add_copies(alloc, &heading, receivers.others.as_slice(), points, block)?;
+        block.push(Stmt::Message {
+            label: heading.label,
+            sorts: heading.sorts,
+            sender,
+            receiver: receivers.last,
+            point: Point(self.count),
+        })?;
+        Ok(())
     }
 
     // Takes the name behind `continue`, which is that of an enclosing recursion, and the mark behind it.
     fn again(&mut self, alloc: Global, spot: Spot, block: &mut Block) -> Result<(), Stop>
         requires count { self.old.count ≤ 256 }
-        ensures goes { let p = place_at self.old.recs.items spot.depth spot.comes spot.ended in
-            Goes result (known self.old.roles self.old.count) (known self.new.roles self.new.count) (λ k. AgainName p ∷ k) (λ x k. k) self.old.rest self.new.rest }
-        ensures read { OnOk result (AddsSome self.old.roles self.old.count self.new.count (statements block.old) (statements block.new) (Is Sign.Continue ∷ self.old.rest) self.new.rest) }
-        ensures kept { OnOk result ((self.new.roles ≡ self.old.roles) × (self.new.recs.items ≡ self.old.recs.items) × (self.new.count ≤ 256)) }
+        ensures goes { let p = place_of_spot self.old spot in
+            Takes result self.old self.new (λ k. AgainName p ∷ k) (λ x k. k) }
+        ensures read { OnOk result (TakesSome self.old self.new (statements block.old) (statements block.new)
+            (Is Sign.Continue ∷ self.old.rest)) }
+        ensures kept { OnOk result ((self.new.roles ≡ self.old.roles) × (self.new.recs.items ≡ self.old.recs.items)
+            × (self.new.count ≤ 256)) }
         ensures shorter { length self.new.rest ≤ length self.old.rest }
     {
         let Some((bytes, after)) = self.rest.word() else {
@@ -272,10 +309,10 @@ impl<'a> Parser<'a> {
 
     // Takes the brace that begins a block.
     fn open(&mut self, spot: Spot) -> Result<(), Stop>
-        ensures goes { let p = place_at self.old.recs.items spot.depth spot.comes spot.ended in
-            Goes result (known self.old.roles self.old.count) (known self.new.roles self.new.count) (λ k. Opening p ∷ k) (λ x k. First (inside p) ∷ k) self.old.rest self.new.rest }
+        ensures goes { let p = place_of_spot self.old spot in
+            Takes result self.old self.new (λ k. Opening p ∷ k) (λ x k. First (inside p) ∷ k) }
         ensures read { OnOk result (self.old.rest ≡ Is Sign.Open ∷ self.new.rest) }
-        ensures kept { (self.new.roles ≡ self.old.roles) × (self.new.recs.items ≡ self.old.recs.items) × (self.new.count ≡ self.old.count) }
+        ensures kept { Keeps self.old self.new }
         ensures shorter { length self.new.rest ≤ length self.old.rest }
         ensures taken { OnOk result ((length self.new.rest < length self.old.rest) × (spot.depth < 32)) }
     {
@@ -292,7 +329,7 @@ impl<'a> Parser<'a> {
     // Whether `continue` is next with the name of a recursion to which a walk comes from the start of its body.
     fn is_unguarded(&self, spot: Spot) -> bool
         requires { spot.comes ≤ length self.now.recs.items }
-        ensures { result ≡ is_unguarded (place_at self.now.recs.items spot.depth spot.comes spot.ended) self.now.rest }
+        ensures { result ≡ is_unguarded (place_of_spot self.now spot) self.now.rest }
     {
         let Some(after) = self.rest.sign(Sign::Continue) else {
             return false;
@@ -330,8 +367,8 @@ impl<'a> Parser<'a> {
     // Nothing but the grammar may speak against a statement here.
     fn may_begin(&self, spot: Spot) -> Result<(), Stop>
         requires { spot.comes ≤ length self.now.recs.items }
-        ensures may { OnOk result (MayBegin (place_at self.now.recs.items spot.depth spot.comes spot.ended) self.now.rest) }
-        ensures err { let p = place_at self.now.recs.items spot.depth spot.comes spot.ended in
+        ensures may { OnOk result (MayBegin (place_of_spot self.now spot) self.now.rest) }
+        ensures err { let p = place_of_spot self.now spot in
             IfErr result (λ e. Halts e (known self.now.roles self.now.count) (λ k. First p ∷ k) self.now.rest self.now.rest) }
     {
         if spot.ended && self.starts() {
@@ -355,10 +392,12 @@ impl<'a> Parser<'a> {
         requires few { length self.old.roles ≤ 8 }
         requires count { self.old.count ≤ 256 }
         requires comes { spot.comes ≤ length self.old.recs.items }
-        ensures goes { let p = place_at self.old.recs.items spot.depth spot.comes spot.ended in
-            Goes result (known self.old.roles self.old.count) (known self.new.roles self.new.count) (λ k. RecName p ∷ k) (λ x k. k) self.old.rest self.new.rest }
-        ensures read { OnOk result (AddsSome self.old.roles self.old.count self.new.count (statements block.old) (statements block.new) (Is Sign.Rec ∷ self.old.rest) self.new.rest) }
-        ensures kept { OnOk result ((self.new.roles ≡ self.old.roles) × (self.new.recs.items ≡ self.old.recs.items) × (self.new.count ≤ 256)) }
+        ensures goes { let p = place_of_spot self.old spot in
+            Takes result self.old self.new (λ k. RecName p ∷ k) (λ x k. k) }
+        ensures read { OnOk result (TakesSome self.old self.new (statements block.old) (statements block.new)
+            (Is Sign.Rec ∷ self.old.rest)) }
+        ensures kept { OnOk result ((self.new.roles ≡ self.old.roles) × (self.new.recs.items ≡ self.old.recs.items)
+            × (self.new.count ≤ 256)) }
         ensures shorter { length self.new.rest ≤ length self.old.rest }
     {
         let Some((bytes, after)) = self.rest.word() else {
@@ -384,10 +423,12 @@ impl<'a> Parser<'a> {
         requires few { length self.old.roles ≤ 8 }
         requires count { self.old.count ≤ 256 }
         requires comes { spot.comes ≤ length self.old.recs.items }
-        ensures goes { let p = place_at self.old.recs.items spot.depth spot.comes spot.ended in
-            Goes result (known self.old.roles self.old.count) (known self.new.roles self.new.count) (λ k. This (Is Sign.At) ∷ Subject ∷ Opening p ∷ More p ∷ k) (λ x k. Rest (behind p false) ∷ k) self.old.rest self.new.rest }
-        ensures read { OnOk result (AddsSome self.old.roles self.old.count self.new.count (statements block.old) (statements block.new) (Is Sign.Choice ∷ self.old.rest) self.new.rest) }
-        ensures kept { OnOk result ((self.new.roles ≡ self.old.roles) × (self.new.recs.items ≡ self.old.recs.items) × (self.new.count ≤ 256)) }
+        ensures goes { let p = place_of_spot self.old spot in
+            Takes result self.old self.new (λ k. This (Is Sign.At) ∷ Subject ∷ Opening p ∷ More p ∷ k) (λ x k. Rest (behind p false) ∷ k) }
+        ensures read { OnOk result (TakesSome self.old self.new (statements block.old) (statements block.new)
+            (Is Sign.Choice ∷ self.old.rest)) }
+        ensures kept { OnOk result ((self.new.roles ≡ self.old.roles) × (self.new.recs.items ≡ self.old.recs.items)
+            × (self.new.count ≤ 256)) }
         ensures shorter { length self.new.rest ≤ length self.old.rest }
     {
         self.expect(Sign::At)?;
@@ -403,10 +444,11 @@ impl<'a> Parser<'a> {
         requires few { length self.old.roles ≤ 8 }
         requires count { self.old.count ≤ 256 }
         requires comes { spot.comes ≤ length self.old.recs.items }
-        ensures goes { let p = place_at self.old.recs.items spot.depth spot.comes spot.ended in
-            Goes result (known self.old.roles self.old.count) (known self.new.roles self.new.count) (λ k. Opening p ∷ More p ∷ k) (λ x k. Rest (behind p false) ∷ k) self.old.rest self.new.rest }
+        ensures goes { let p = place_of_spot self.old spot in
+            Takes result self.old self.new (λ k. Opening p ∷ More p ∷ k) (λ x k. Rest (behind p false) ∷ k) }
         ensures read { IfOk result (λ bs. AreBranches self.old.roles self.old.count self.new.count bs self.old.rest self.new.rest) }
-        ensures kept { OnOk result ((self.new.roles ≡ self.old.roles) × (self.new.recs.items ≡ self.old.recs.items) × (self.new.count ≤ 256)) }
+        ensures kept { OnOk result ((self.new.roles ≡ self.old.roles) × (self.new.recs.items ≡ self.old.recs.items)
+            × (self.new.count ≤ 256)) }
         ensures shorter { length self.new.rest ≤ length self.old.rest }
     {
         let mut branches = Blocks::new(alloc);
@@ -425,10 +467,11 @@ impl<'a> Parser<'a> {
         requires few { length self.old.roles ≤ 8 }
         requires count { self.old.count ≤ 256 }
         requires comes { spot.comes ≤ length self.old.recs.items }
-        ensures goes { let p = place_at self.old.recs.items spot.depth spot.comes spot.ended in
-            Goes result (known self.old.roles self.old.count) (known self.new.roles self.new.count) (λ k. Opening p ∷ k) (λ x k. k) self.old.rest self.new.rest }
+        ensures goes { let p = place_of_spot self.old spot in
+            Takes result self.old self.new (λ k. Opening p ∷ k) (λ x k. k) }
         ensures read { IfOk result (λ b. IsBlock self.old.roles self.old.count self.new.count b self.old.rest self.new.rest) }
-        ensures kept { OnOk result ((self.new.roles ≡ self.old.roles) × (self.new.recs.items ≡ self.old.recs.items) × (self.new.count ≤ 256)) }
+        ensures kept { OnOk result ((self.new.roles ≡ self.old.roles) × (self.new.recs.items ≡ self.old.recs.items)
+            × (self.new.count ≤ 256)) }
         ensures shorter { length self.new.rest ≤ length self.old.rest }
     {
         self.open(spot)?;
@@ -454,10 +497,12 @@ impl<'a> Parser<'a> {
         requires few { length self.old.roles ≤ 8 }
         requires count { self.old.count ≤ 256 }
         requires comes { spot.comes ≤ length self.old.recs.items }
-        ensures goes { let p = place_at self.old.recs.items spot.depth spot.comes spot.ended in
-            Goes result (known self.old.roles self.old.count) (known self.new.roles self.new.count) (λ k. Rest p ∷ k) (λ x k. k) self.old.rest self.new.rest }
-        ensures read { OnOk result (Adds self.old.roles self.old.count self.new.count (statements block.old) (statements block.new) self.old.rest (Is Sign.Close ∷ self.new.rest)) }
-        ensures kept { OnOk result ((self.new.roles ≡ self.old.roles) × (self.new.recs.items ≡ self.old.recs.items) × (self.new.count ≤ 256)) }
+        ensures goes { let p = place_of_spot self.old spot in
+            Takes result self.old self.new (λ k. Rest p ∷ k) (λ x k. k) }
+        ensures read { OnOk result (Adds self.old.roles self.old.count self.new.count (statements block.old) (statements block.new)
+            self.old.rest (Is Sign.Close ∷ self.new.rest)) }
+        ensures kept { OnOk result ((self.new.roles ≡ self.old.roles) × (self.new.recs.items ≡ self.old.recs.items)
+            × (self.new.count ≤ 256)) }
         ensures shorter { length self.new.rest ≤ length self.old.rest }
     {
         let mut here = spot;
@@ -478,10 +523,11 @@ impl<'a> Parser<'a> {
         requires few { length self.old.roles ≤ 8 }
         requires count { self.old.count ≤ 256 }
         requires comes { spot.comes ≤ length self.old.recs.items }
-        ensures goes { let p = place_at self.old.recs.items spot.depth spot.comes spot.ended in
-            Goes result (known self.old.roles self.old.count) (known self.new.roles self.new.count) (λ k. First p ∷ k) (λ ended k. Rest (behind p ended) ∷ k) self.old.rest self.new.rest }
-        ensures read { OnOk result (AddsSome self.old.roles self.old.count self.new.count (statements block.old) (statements block.new) self.old.rest self.new.rest) }
-        ensures kept { OnOk result ((self.new.roles ≡ self.old.roles) × (self.new.recs.items ≡ self.old.recs.items) × (self.new.count ≤ 256)) }
+        ensures goes { let p = place_of_spot self.old spot in
+            Takes result self.old self.new (λ k. First p ∷ k) (λ ended k. Rest (behind p ended) ∷ k) }
+        ensures read { OnOk result (TakesSome self.old self.new (statements block.old) (statements block.new) self.old.rest) }
+        ensures kept { OnOk result ((self.new.roles ≡ self.old.roles) × (self.new.recs.items ≡ self.old.recs.items)
+            × (self.new.count ≤ 256)) }
         ensures shorter { length self.new.rest ≤ length self.old.rest }
         ensures taken { OnOk result (length self.new.rest < length self.old.rest) }
     {

@@ -6,21 +6,22 @@ ghost use Rattle.rcv_tree.specs.Lists.{statements, declarations};
 ghost use Rattle.rcv_model.specs.Form.{HasForm};
 ghost use Rattle.rcv_model.specs.Text.{body_of};
 ghost use Rattle.rcv_lexer.specs.Parts.{LiesIn};
-ghost use Rattle.rcv_reader.specs.Symbols.{Is, symbols_of};
-ghost use Rattle.rcv_reader.specs.Machine.{Taken, answer, This, AnyName, MoreModules, RoleName, Rest, outermost};
-ghost use Rattle.rcv_reader.specs.Descent.{declaring, known, Goes, Ends, EndFails, IsHead, Adds};
+ghost use Rattle.rcv_syntax.specs.Symbols.{Is, symbols_of};
+ghost use Rattle.rcv_machine.specs.Machine.{in_head, known};
+ghost use Rattle.rcv_reader.specs.Descent.{Ends, EndFails, IsHead, Takes};
 ghost use Rattle.rcv_reader.specs.Refusals.{IsRead, IsRefused};
 
-use crate::fault::{Fault, Stop};
-use crate::parser::{Parser, Spot, copy_of};
-use crate::sign::Sign;
+use crate::parser::{Parser, Spot};
+use crate::stop::Stop;
 use rcv_lexer::token::{TextError, Token};
 use rcv_scan::{Ahead, line_before};
+use rcv_syntax::{Fault, Sign};
 use rcv_tree::name::{Name, Names};
 use rcv_tree::protocol::{Decls, Protocol};
 use rcv_tree::refusal::Refusal;
 use rcv_tree::statement::Block;
 use std::alloc::Global;
+use std::mem;
 
 // What stands before the body, but for the roles.
 #[derive(Drop)]
@@ -34,9 +35,7 @@ impl<'a> Parser<'a> {
     // Takes what stands before the body, with its first brace.
     fn head(&mut self, alloc: Global) -> Result<Head, Stop>
         requires none { self.old.roles ≡ [] }
-        ensures goes { Goes result (known self.old.roles self.old.count) (known self.new.roles self.new.count)
-            (λ k. This (Is Sign.Module) ∷ AnyName ∷ MoreModules ∷ declaring [] ∷ This (Is Sign.Protocol) ∷ AnyName ∷ This (Is Sign.Left) ∷ This (Is Sign.Role) ∷ RoleName ∷ This (Is Sign.Open) ∷ k)
-            (λ x k. k) self.old.rest self.new.rest }
+        ensures goes { Takes result self.old self.new in_head (λ x k. k) }
         ensures read { IfOk result (λ h. IsHead h.«module» (declarations h.decls) h.name self.new.roles self.old.rest self.new.rest) }
         ensures few { OnOk result (length self.new.roles ≤ 8) }
         ensures kept { OnOk result ((self.new.recs.items ≡ self.old.recs.items) × (self.new.count ≡ self.old.count)) }
@@ -89,7 +88,7 @@ impl<'a> Parser<'a> {
         };
         self.stmts(alloc, spot, &mut body)?;
         self.end()?;
-        let roles = copy_of(alloc, &self.roles)?;
+        let roles = mem::replace(&mut self.roles, Names::new(alloc));
         Ok(Protocol {
             module: head.module,
             decls: head.decls,
@@ -102,7 +101,8 @@ impl<'a> Parser<'a> {
 
 /// The protocol that the tokens of a part of the bundle spell. `last` is the line of the part's end.
 ///
-/// Refused where the step machine of the grammar stops, with its code and the line of the token or of the part's end:
+/// Read exactly where the grammar derives the tokens and no code holds at any of them. Else refused at the first token, or
+/// the end, at which a code holds, with the least one that holds there and the line of the token or of the part's end:
 /// 11 where the grammar doesn't have the token or the end there, 12 at the brace of the 33rd nested block, 13 at a role
 /// that isn't declared or the name of no enclosing recursion, 14 at a role, an alias or a receiver that stands before,
 /// 15 at a receiver that is the sender, 16 at a statement behind a `continue`, 17 at a `continue` to which a walk comes

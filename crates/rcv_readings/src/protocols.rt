@@ -16,7 +16,7 @@ global protocol Ping(role A, role B) {
 }
 ";
 
-/// A crash of a role that is done, which loses all of its events.
+/// Two buyers and a seller, without scripts and plan.
 pub const TWO_BUYER: &[u8] = b"module shop;
 type <java> \"java.lang.String\" from \"rt.jar\" as String;
 type <java> \"java.lang.Integer\" from \"rt.jar\" as Int;

@@ -3,7 +3,7 @@
 use crate::protocols::{PING, TWO_BUYER, accepted, recv, send};
 use rcv_accept::accepted::Accepted;
 use rcv_journal::line::{RoleLine, RoleWord};
-use rcv_lines::text::{TextError, read_text};
+use rcv_lines::text::{LinesError, read_text};
 use rcv_tree::entry::Entry;
 use rcv_tree::role::{RoleId, RoleSet};
 use std::alloc::{AllocError, Global};
@@ -21,6 +21,7 @@ role B kept 2 raw 2 done
 completed
 ";
 
+// A crash of a role that is done, which loses all of its events.
 const TWO_BUYER_TEXT: &[u8] = b"send A 1 title 7 @1
 recv S 1 title 7 @2 <1
 send S 2 quote 80 @3
@@ -65,7 +66,7 @@ fn done(role: u8, kept: u32, raw: u32) -> RoleLine {
     }
 }
 
-// Whether the entries with these numbers are these ones.
+// Whether the entry with this number is this one.
 fn has_entry(entries: &[Entry], number: usize, entry: Entry) -> bool {
     entries.get(number) == Some(&entry)
 }
@@ -77,8 +78,8 @@ fn first_wrong(alloc: Global, accepted: &Accepted, text: &[u8]) -> Result<Option
     }
     match read_text(alloc, text, accepted) {
         Ok(_) => Ok(None),
-        Err(TextError::Line(line)) => Ok(Some(line)),
-        Err(TextError::Memory) => Err(AllocError),
+        Err(LinesError::Line(line)) => Ok(Some(line)),
+        Err(LinesError::Memory) => Err(AllocError),
     }
 }
 

@@ -1,7 +1,6 @@
 pub mod Points
 pub mod Lists
 pub mod Places
-pub mod Letters
 pub mod Ring
 pub mod Views
 pub mod Shown

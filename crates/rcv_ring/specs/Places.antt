@@ -1,21 +1,17 @@
--- Where the counts and the messages of a ring lie among the words of its table.
-use Rattle.std.specs.Prelude.{ℕ, ◌+◌, ◌*◌, ◌%◌}
+-- Where the counts of a ring lie among the words of its table, and its messages among the slots.
+use Rattle.std.specs.Prelude.{ℕ, ◌%◌}
 
--- The word that counts what was put, the one that counts what was got, and the first word of the cells. They lie 16
--- words apart, so that no two of them share a cache line of 64 bytes, nor a pair of such lines.
+-- The word that counts what was put, the one that counts what was got, and how many words there are. The counts lie 16
+-- words apart, so that they share neither a cache line of 64 bytes nor a pair of such lines.
 abbrev pub at_put : ℕ
 at_put = 0
 
 abbrev pub at_got : ℕ
 at_got = 16
 
-abbrev pub at_cells : ℕ
-at_cells = 32
+abbrev pub all_words : ℕ
+all_words = 32
 
--- The words of a table for so many messages, of three words each.
-abbrev pub words_for : ℕ → ℕ
-words_for room = at_cells + 3 * room
-
--- The word j of the cell of the message i, both counted from 0.
-abbrev pub place : ℕ → ℕ → ℕ → ℕ
-place room i j = at_cells + 3 * (i % room) + j
+-- The slot of the message i, counted from 0.
+abbrev pub place : ℕ → ℕ → ℕ
+place room i = i % room

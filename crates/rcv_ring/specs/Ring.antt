@@ -1,73 +1,81 @@
 -- The ring's rule, which holds between any two steps.
-use Rattle.std.specs.Prelude.{◌≡◌, ℕ, ◌+◌, ◌<◌, ◌≤◌, true, List, length, slice_index}
+use Rattle.std.specs.Prelude.{◌≡◌, ℕ, ◌+◌, ◌<◌, ◌≤◌, true, List, [], ◌∷◌, length, slice_index}
 use mathlib.Core.Option.{some}
 use lib.ListN.{get_elem?}
 use Rattle.atomic_table.specs.Table.{State}
-use Rattle.rcv_ring.specs.declared.rule.Letter.{Letter}
+use Rattle.rcv_tree.specs.declared.event.Message.{Message}
 use Rattle.rcv_ring.specs.declared.rule.View.{View}
-use Rattle.rcv_ring.specs.Letters.{letter_at, part, IsLegal}
 use Rattle.rcv_ring.specs.Lists.{Begins}
-use Rattle.rcv_ring.specs.Places.{place, at_put, at_got, words_for}
+use Rattle.rcv_ring.specs.Places.{place, at_put, at_got, all_words}
+use Rattle.rcv_ring.specs.Points.{CanPass}
 
--- The table's words, and what each seat knows.
+-- The table's words, the slots with their messages, and what each seat knows.
 abbrev pub Cells : Type 0
-Cells = State (Unit {0}) View
+Cells = State Message View
 
--- The word j of the cell of the message i is that of this message.
-abbrev pub IsInCell : ℕ → List ℕ → List Letter → ℕ → ℕ → Type 0
-IsInCell room words sent i j = slice_index words (place room i j) ≡ part (letter_at sent i) j
+-- The message lies in the slot of the message i; some message lies there.
+abbrev pub IsAt : ℕ → Cells → ℕ → Message → Type 0
+IsAt room s i m = get_elem? s.homes (place room i) ≡ some (some m)
 
--- A message is in front, and this is its word j.
-abbrev pub IsRead : List Letter → List Letter → ℕ → ℕ → Type 0
-IsRead sent taken j word = (length taken < length sent) × (word ≡ part (letter_at sent (length taken)) j)
+abbrev pub IsHome : ℕ → Cells → ℕ → Type 0
+IsHome room s i = (m : Message) × IsAt room s i m
 
--- The view of seat k is the pusher's. It knows all that was sent, no more of what was taken than was, and which words
--- it filled of the cell behind what was sent.
-pub record IsPusher (room : ℕ) (points words : List ℕ) (sent taken : List Letter) (pusher k : ℕ) (v : View) : Type 0 where
+-- The view of seat k is the pusher's. It knows all that was sent, and no more of what was taken than was. So many
+-- slots are out with it.
+pub record IsPusher (room : ℕ) (points : List ℕ) (sent taken : List Message) (filling pusher k : ℕ) (v : View) : Type 0 where
   pub seat : k ≡ pusher
   pub all : v.sent ≡ sent
   pub seen : v.seen ≤ length taken
   pub known : v.known ≤ length taken
-  pub filled : (j : ℕ) → j < length v.words → slice_index words (place room (length sent) j) ≡ slice_index v.words j
+  pub out_is : length v.out ≡ filling
   pub room_is : v.room ≡ room
   pub points_is : v.points ≡ points
 
--- The view of seat k is the puller's. It knows all that was taken, no more of what was sent than was, and where it has
--- read words of the front message, there is one, and they are its words.
-pub record IsPuller (room : ℕ) (points : List ℕ) (sent taken : List Letter) (puller k : ℕ) (v : View) : Type 0 where
+-- The view of seat k is the puller's. It knows all that was taken, and no more of what was sent than was. So many slots
+-- are out with it, and where one is, its message is the front one.
+pub record IsPuller (room : ℕ) (points : List ℕ) (sent taken : List Message) (lifting puller k : ℕ) (v : View) : Type 0 where
   pub seat : k ≡ puller
   pub all : v.taken ≡ taken
   pub seen : v.seen ≤ length sent
   pub known : v.known ≤ length sent
-  pub read : (j : ℕ) → j < length v.words → IsRead sent taken j (slice_index v.words j)
+  pub out_is : length v.out ≡ lifting
+  pub front : (m : Message) → v.out ≡ m ∷ [] → get_elem? sent (length taken) ≡ some m
   pub room_is : v.room ≡ room
   pub points_is : v.points ≡ points
 
--- Any seat, also a note of what an end knew: what was sent and taken begins with what it was told. One seat alone may
--- push, and one alone pull.
-pub record Fits (room : ℕ) (points words : List ℕ) (sent taken : List Letter) (pusher puller k : ℕ) (v : View) : Type 0 where
-  pub told_sent : Begins v.sent sent
-  pub told_taken : Begins v.taken taken
-  pub pushes : v.pushes ≡ true → IsPusher room points words sent taken pusher k v
-  pub pulls : v.pulls ≡ true → IsPuller room points sent taken puller k v
-
-abbrev pub AllFit : ℕ → List ℕ → List ℕ → List Letter → List Letter → ℕ → ℕ → List View → Type 0
-AllFit room points words sent taken pusher puller views =
-    (k : ℕ) (v : View) → get_elem? views k ≡ some v → Fits room points words sent taken pusher puller k v
-
--- What was taken begins what was sent, which is at most `room` longer. Each message between is one that the ring
--- carries, and its words lie in its cell. A released cell holds no message that counts.
-pub record Ring (room : ℕ) (points : List ℕ) (s : Cells) : Type 0 where
-  pub sent : List Letter
-  pub taken : List Letter
+-- Who the two ends are, and how many slots are out with each: none, or one.
+pub record Ends : Type 0 where
   pub pusher : ℕ
   pub puller : ℕ
+  pub filling : ℕ
+  pub lifting : ℕ
+
+-- Any seat, also a note of what an end knew: what was sent and taken begins with what it was told. One seat alone may
+-- push, and one alone pull.
+pub record Fits (room : ℕ) (points : List ℕ) (sent taken : List Message) (ends : Ends) (k : ℕ) (v : View) : Type 0 where
+  pub told_sent : Begins v.sent sent
+  pub told_taken : Begins v.taken taken
+  pub pushes : v.pushes ≡ true → IsPusher room points sent taken ends.filling ends.pusher k v
+  pub pulls : v.pulls ≡ true → IsPuller room points sent taken ends.lifting ends.puller k v
+
+abbrev pub AllFit : ℕ → List ℕ → List Message → List Message → Ends → List View → Type 0
+AllFit room points sent taken ends views = (k : ℕ) (v : View) → get_elem? views k ≡ some v → Fits room points sent taken ends k v
+
+-- What was taken begins what was sent, which is at most `room` longer. Each message that was sent is one that the ring
+-- carries, and each between lies in its slot, but the front one where the puller has it out. The slots behind what was
+-- sent are free, but the first one where the pusher has it out.
+pub record Ring (room : ℕ) (points : List ℕ) (s : Cells) : Type 0 where
+  pub sent : List Message
+  pub taken : List Message
+  pub ends : Ends
   pub some_room : 0 < room
-  pub size : length s.words ≡ words_for room
+  pub size : length s.words ≡ all_words
+  pub slots : length s.homes ≡ room
   pub put : slice_index s.words at_put ≡ length sent
   pub got : slice_index s.words at_got ≡ length taken
   pub begins : Begins taken sent
   pub within : length sent ≤ length taken + room
-  pub cells : (i j : ℕ) → length taken ≤ i → i < length sent → j < 3 → IsInCell room s.words sent i j
-  pub legal : (i : ℕ) → i < length sent → IsLegal points (letter_at sent i)
-  pub fits : AllFit room points s.words sent taken pusher puller s.views
+  pub cells : (i : ℕ) (m : Message) → length taken + ends.lifting ≤ i → get_elem? sent i ≡ some m → IsAt room s i m
+  pub free : (i : ℕ) → length sent + ends.filling ≤ i → i < length taken + room → IsHome room s i
+  pub legal : (i : ℕ) (m : Message) → get_elem? sent i ≡ some m → CanPass points m
+  pub fits : AllFit room points sent taken ends s.views

@@ -3,7 +3,6 @@ use Rattle.std.specs.Prelude.{◌≡◌, ℕ, ◌+◌, ◌<◌, ◌≤◌, List,
 use Rattle.atomic_table.specs.Seated.{TableId}
 use Rattle.rcv_tree.specs.declared.event.Message.{Message}
 use Rattle.rcv_ring.specs.declared.rule.View.{View}
-use Rattle.rcv_ring.specs.Letters.{messages}
 
 -- which ring it is
 abbrev pub RingId : Type 0
@@ -28,8 +27,8 @@ shown id v =
       ring = id;
       room = v.room;
       points = v.points;
-      sent = messages v.sent;
-      taken = messages v.taken;
+      sent = v.sent;
+      taken = v.taken;
       seen = v.seen;
       known = v.known;
       looks = v.looks;

@@ -1,37 +1,38 @@
 // A seat of the ring's table, with the steps that either end makes on it.
 
-ghost use Rattle.std.specs.Prelude.{◌≡◌, ◌<◌};
+ghost use Rattle.std.specs.Prelude.{◌≡◌, ◌<◌, []};
 ghost use Rattle.std.specs.Arc.{arc_value};
-ghost use Rattle.rcv_ring.specs.Places.{words_for};
+ghost use Rattle.rcv_ring.specs.Places.{all_words};
 
 use crate::rule::{
-    CELLS, Fills, GOT, HearsSent, HearsTaken, InOrder, Key, Notes, PUT, Parts, Publishes, Reads,
-    Releases, SeesGot, SeesPut, View,
+    Claims, GOT, HearsSent, HearsTaken, InOrder, Key, Lifts, Notes, PUT, Parts, Publishes,
+    Releases, SeesGot, SeesPut, View, WORDS,
 };
 use atomic_table::{Seat, Table};
+use rcv_tree::event::Message;
+use rcv_tree::point::Point;
 use std::alloc::{AllocError, Global};
 use std::sync::Arc;
 
-type Cells = Table<(), View, Key, InOrder, Global>;
+type Cells = Table<Message, View, Key, InOrder, Global>;
 
 /// A seat of the table that both ends share. It says what the seat knows; each end keeps what it needs of that at hand.
 #[derive(Drop)]
 pub(crate) struct End {
     table: Arc<Cells, Global>,
-    pub(crate) seat: Seat<(), View>,
+    pub(crate) seat: Seat<Message, View>,
     ghost seated: { seat.table_id ≡ (arc_value table).shared.table_id },
-    ghost sized: { (arc_value table).shared.table_id.words ≡ words_for seat.me.0.room },
-    ghost keyed: { seat.me.0.room ≡ (arc_value table).shared.key.room },
+    ghost sized: { (arc_value table).shared.table_id.words ≡ all_words },
+    ghost idle: { seat.me.1 ≡ [] },
     ghost roomy: { 0 < seat.me.0.room },
 }
 
 impl End {
-    ghost use Rattle.std.specs.Prelude.{◌≡◌, ◌+◌, ◌^◌, ◌<◌, ◌≤◌, true, [], length, IfOk};
-    ghost use Rattle.rcv_ring.specs.Points.{HasPoint};
+    ghost use Rattle.std.specs.Prelude.{◌≡◌, ◌+◌, ◌<◌, ◌≤◌, true, [], ◌∷◌, length, IfOk};
+    ghost use Rattle.rcv_ring.specs.Points.{CanPass};
     ghost use Rattle.rcv_ring.specs.Lists.{Begins};
-    ghost use Rattle.rcv_ring.specs.Letters.{letter_of, IsLegal};
-    ghost use Rattle.rcv_ring.specs.Views.{newcomer, pusher_of, puller_of, note_of, heard_taken, heard_sent, with_word};
-    ghost use Rattle.rcv_ring.specs.Views.{published, released, looked, Pushing, Pulling, MayFill, MayRead};
+    ghost use Rattle.rcv_ring.specs.Views.{newcomer, pusher_of, puller_of, note_of, heard_taken, heard_sent};
+    ghost use Rattle.rcv_ring.specs.Views.{published, holding, released, looked, Pushing, Pulling, MayFill, MayRead};
     ghost use Rattle.rcv_ring.specs.Views.{fill_place, read_place};
 
     /// The two ends of a new ring.
@@ -51,8 +52,17 @@ impl End {
         requires { (0 < key.now.room) × (key.now.room ≤ 1024) }
         ensures { IfOk result (λ end. end.seat.me.0 ≡ newcomer key.now.room key.now.points) }
     {
-        let words = vec![in alloc; 0u64; CELLS + 3 * key.room as usize]?;
-        let (table, seat) = Table::of_words(alloc, words.as_slice(), key)?;
+        let words = vec![in alloc; 0u64; WORDS]?;
+        // Each slot holds some message, which nobody reads before another is written over it.
+        let none = Message {
+            point: Point(0),
+            value: 0,
+            stamp: 0,
+        };
+        let slots = vec![in alloc; none; key.room as usize]?;
+        let Ok((table, seat)) = Table::new(alloc, words.as_slice(), slots, key) else {
+            return Err(AllocError);
+        };
         let table = Arc::new(alloc, table)?;
         Ok(End { table, seat })
     }
@@ -60,7 +70,7 @@ impl End {
     // Leaves this seat the pusher's, and gives the puller's.
     fn part(&mut self) -> Result<End, AllocError>
         requires both { (self.old.seat.me.0.pushes ≡ true) × (self.old.seat.me.0.pulls ≡ true) }
-        requires empty { self.old.seat.me.0.words ≡ [] }
+        requires empty { self.old.seat.me.0.out ≡ [] }
         ensures this { IfOk result (λ end. self.new.seat.me.0 ≡ pusher_of self.old.seat.me.0) }
         ensures that { IfOk result (λ end. end.seat.me.0 ≡ puller_of self.old.seat.me.0) }
         ensures ring { IfOk result (λ end. self.new.seat.table_id ≡ end.seat.table_id) }
@@ -70,31 +80,22 @@ impl End {
         Ok(End { table, seat })
     }
 
-    /// Fills in a word of the cell behind what was sent.
-    pub(crate) fn fill(&mut self, word: usize, x: u64)
+    /// Sends the message in this slot: so many are sent now. The slot is plain memory, so this writes one word alone: each
+    /// write of a word is an exchange, which waits until all that was written before is seen by all.
+    pub(crate) fn send(&mut self, slot: usize, put: u64, message: Message)
         requires pushes { Pushing self.old.seat.me.0 }
-        requires few { length self.old.seat.me.0.words < 3 }
+        requires between { self.old.seat.me.0.out ≡ [] }
+        requires passes { CanPass self.old.seat.me.0.points message }
         requires room { MayFill self.old.seat.me.0 }
-        requires place { word ≡ fill_place self.old.seat.me.0 }
-        ensures ring { self.new.seat.table_id ≡ self.old.seat.table_id }
-        ensures view { self.new.seat.me.0 ≡ with_word self.old.seat.me.0 x }
-    {
-        self.table.shared.store::<Fills>(&mut self.seat, word, x);
-    }
-
-    /// Sends the message whose words are filled in: so many are sent now.
-    pub(crate) fn publish(&mut self, put: u64)
-        requires pushes { Pushing self.old.seat.me.0 }
-        requires whole { length self.old.seat.me.0.words ≡ 3 }
-        requires legal { IsLegal self.old.seat.me.0.points (letter_of self.old.seat.me.0.words) }
-        requires room { MayFill self.old.seat.me.0 }
+        requires place { slot ≡ fill_place self.old.seat.me.0 }
         requires next { put ≡ length self.old.seat.me.0.sent + 1 }
         ensures ring { self.new.seat.table_id ≡ self.old.seat.table_id }
-        ensures view { self.new.seat.me.0 ≡ published self.old.seat.me.0 }
+        ensures view { self.new.seat.me.0 ≡ published self.old.seat.me.0 (message ∷ []) }
     {
-        self.table
-            .shared
-            .swap::<Publishes>(&mut self.seat, PUT, put);
+        let shared = &self.table.shared;
+        shared.load::<Claims>(&mut self.seat, PUT);
+        shared.exchange(&mut self.seat, slot, message);
+        shared.swap::<Publishes>(&mut self.seat, PUT, put);
     }
 
     /// Looks how many messages were taken.
@@ -122,29 +123,22 @@ impl End {
         self.table.shared.load::<SeesPut>(&mut self.seat, PUT)
     }
 
-    /// Reads a word of the front message.
-    pub(crate) fn read(&mut self, word: usize) -> u64
+    /// Takes the message of this slot, and gives the slot free: so many are taken now. This, too, writes one word alone.
+    pub(crate) fn take(&mut self, slot: usize, got: u64) -> Message
         requires pulls { Pulling self.old.seat.me.0 }
-        requires few { length self.old.seat.me.0.words < 3 }
+        requires between { self.old.seat.me.0.out ≡ [] }
         requires more { MayRead self.old.seat.me.0 }
-        requires place { word ≡ read_place self.old.seat.me.0 }
-        ensures ring { self.new.seat.table_id ≡ self.old.seat.table_id }
-        ensures view { self.new.seat.me.0 ≡ with_word self.old.seat.me.0 result }
-        ensures point { length self.old.seat.me.0.words ≡ 0 → HasPoint self.old.seat.me.0.points result }
-        ensures stamp { length self.old.seat.me.0.words ≡ 2 → result ≤ 2 ^ 62 }
-    {
-        self.table.shared.load::<Reads>(&mut self.seat, word)
-    }
-
-    /// Takes the message whose words are read, and gives its cell free: so many are taken now.
-    pub(crate) fn release(&mut self, got: u64)
-        requires pulls { Pulling self.old.seat.me.0 }
-        requires whole { length self.old.seat.me.0.words ≡ 3 }
+        requires place { slot ≡ read_place self.old.seat.me.0 }
         requires next { got ≡ length self.old.seat.me.0.taken + 1 }
         ensures ring { self.new.seat.table_id ≡ self.old.seat.table_id }
-        ensures view { self.new.seat.me.0 ≡ released self.old.seat.me.0 }
+        ensures view { self.new.seat.me.0 ≡ released (holding self.old.seat.me.0 result) }
+        ensures passes { CanPass self.old.seat.me.0.points result }
     {
-        self.table.shared.swap::<Releases>(&mut self.seat, GOT, got);
+        let shared = &self.table.shared;
+        shared.load::<Lifts>(&mut self.seat, GOT);
+        let message = *self.seat.slot_mut(shared, slot);
+        shared.swap::<Releases>(&mut self.seat, GOT, got);
+        message
     }
 
     /// The pusher hears what the puller took.
@@ -178,7 +172,7 @@ impl End {
     }
 
     // A seat that knows what this one knows, and may do nothing.
-    fn note(&mut self) -> Seat<(), View>
+    fn note(&mut self) -> Seat<Message, View>
         ensures ring { self.new.seat.table_id ≡ self.old.seat.table_id }
         ensures view { self.new.seat.me.0 ≡ self.old.seat.me.0 }
         ensures note_ring { result.table_id ≡ self.old.seat.table_id }

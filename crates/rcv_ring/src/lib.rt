@@ -5,6 +5,7 @@ mod end;
 mod make;
 mod pull;
 mod push;
+mod rest;
 mod rule;
 #[cfg(test)]
 mod tests;

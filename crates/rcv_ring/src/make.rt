@@ -26,6 +26,7 @@ pub fn ring(alloc: Global, room: u32, points: PointSet) -> Result<(Pusher, Pulle
         put: 0,
         seen: 0,
         room,
+        in_vain: false,
     };
     let puller = Puller {
         end: puller,

@@ -7,21 +7,9 @@ ghost use Rattle.rcv_ring.specs.Shown.{HasLooked, HasMore, IsSameEnd, LooksOnce,
 
 use crate::end::End;
 use crate::push::Pusher;
-use crate::rule::CELLS;
+use crate::rest::rest;
 use rcv_tree::event::Message;
-use rcv_tree::point::Point;
 use std::marker::Model;
-
-// How often an end spins that looked in vain twice, which takes two or three microseconds.
-const SPINS: u32 = 64;
-
-// Rests for a moment, whatever the other end does. A look takes the count's cache line from the end that sends, which
-// has to fetch it back for its next message: looks without a rest hold it up, and find one message at a time.
-fn rest() {
-    for _ in 0..SPINS {
-        std::hint::spin_loop();
-    }
-}
 
 /// The end that pulls, which lies on any thread. Contracts see what it took, all of it, and what it was told of what
 /// the other end sent; see `Shown` for the rest.
@@ -88,6 +76,7 @@ impl Puller {
         ensures same { IsSameEnd self.old self.new × IsSameEnd beside.old beside.new }
     {
         self.in_vain = false;
+        beside.in_vain = false;
         // An end learns what it heard by its next look, and then hears once more, so that it knows just that.
         self.end.hear_sent(&mut beside.end);
         beside.end.hear_taken(&mut self.end);
@@ -144,22 +133,15 @@ impl Puller {
         self.in_vain = true;
     }
 
-    // Reads the front message from its cell, gives the cell free, and counts the message.
+    // Reads the front message from its slot, gives the slot free, and counts the message.
     fn take(&mut self) -> Message
         requires more { HasMore self.old }
         ensures taken { self.new ≡ with_taken self.old result }
         ensures passes { CanPass self.old.points result }
     {
-        let first = CELLS + 3 * (self.got % self.room) as usize;
-        let point = self.end.read(first);
-        let value = self.end.read(first + 1);
-        let stamp = self.end.read(first + 2);
-        self.end.release(self.got + 1);
+        let slot = (self.got % self.room) as usize;
+        let message = self.end.take(slot, self.got + 1);
         self.got += 1;
-        Message {
-            point: Point(point as u16),
-            value: value.cast_signed(),
-            stamp,
-        }
+        message
     }
 }

@@ -6,7 +6,7 @@ ghost use Rattle.rcv_ring.specs.Lists.{Begins};
 ghost use Rattle.rcv_ring.specs.Shown.{HasLooked, HasRoom, IsSameEnd, LooksOnce, WasFull, through, with_sent};
 
 use crate::end::End;
-use crate::rule::CELLS;
+use crate::rest::rest;
 use rcv_tree::event::Message;
 use std::marker::Model;
 
@@ -19,6 +19,8 @@ pub struct Pusher {
     pub(crate) put: u64,
     pub(crate) seen: u64,
     pub(crate) room: u64,
+    // Whether its last look was in vain, so that it rests behind a further one.
+    pub(crate) in_vain: bool,
 }
 
 impl Model for Pusher {
@@ -36,7 +38,8 @@ impl Model for Pusher {
 
 impl Pusher {
     /// Sends a message of one of the ring's points, with a stamp up to 2^62. Where a look of this call found the ring
-    /// full it comes back, and nothing is sent. It never waits, and takes no memory.
+    /// full it comes back, and nothing is sent; where the call before it was in vain, too, it lasts some microseconds
+    /// longer. It never waits for the other end, and takes no memory.
     pub fn push(&mut self, message: Message) -> Result<(), Message>
         requires passes { CanPass self.old.points message }
         requires through { through self.old < 2 ^ 62 }
@@ -54,9 +57,11 @@ impl Pusher {
         }
         self.look();
         if self.has_room() {
+            self.in_vain = false;
             self.write(message);
             return Ok(());
         }
+        self.give_up();
         Err(message)
     }
 
@@ -81,18 +86,25 @@ impl Pusher {
         self.seen = self.end.see_got();
     }
 
-    // Writes the message into its cell, which is free, and counts it.
+    // Rests where it was in vain before.
+    fn give_up(&mut self)
+        ensures { self.new ≡ self.old }
+    {
+        if self.in_vain {
+            rest();
+        }
+        self.in_vain = true;
+    }
+
+    // Writes the message into its slot, which is free, and counts it.
     fn write(&mut self, message: Message)
         requires passes { CanPass self.old.points message }
         requires through { through self.old < 2 ^ 62 }
         requires room { HasRoom self.old }
         ensures { self.new ≡ with_sent self.old message }
     {
-        let first = CELLS + 3 * (self.put % self.room) as usize;
-        self.end.fill(first, u64::from(message.point.0));
-        self.end.fill(first + 1, message.value.cast_unsigned());
-        self.end.fill(first + 2, message.stamp);
-        self.end.publish(self.put + 1);
+        let slot = (self.put % self.room) as usize;
+        self.end.send(slot, self.put + 1, message);
         self.put += 1;
     }
 }

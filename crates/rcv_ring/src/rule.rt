@@ -1,13 +1,7 @@
-// The ring as a table of words: what each seat knows, the rule, and what each step tells.
+// The ring as a table of two counts and a slot for each message: what each seat knows, the rule, and what each step tells.
 use atomic_table::{Join, Play, Split, TableRule};
+use rcv_tree::event::Message;
 use std::collections::LinkedList;
-
-/// A message as it lies in the cells.
-pub struct Letter {
-    pub point: u64,
-    pub value: u64,
-    pub stamp: u64,
-}
 
 /// What a ring is told once, when it is made.
 #[derive(Drop)]
@@ -22,10 +16,10 @@ pub struct View {
     pub pushes: bool,
     pub pulls: bool,
     // What was sent and taken: of its own doing all, of the other end's what it was told.
-    pub sent: LinkedList<Letter>,
-    pub taken: LinkedList<Letter>,
-    // The words filled so far of the next letter, or read of the front one.
-    pub words: LinkedList<u64>,
+    pub sent: LinkedList<Message>,
+    pub taken: LinkedList<Message>,
+    // What the slot holds that is out with the seat, if one is.
+    pub out: LinkedList<Message>,
     // The other end's count as the last look found it, as far as it is known, and how often it looked.
     pub seen: u64,
     pub known: u64,
@@ -34,18 +28,18 @@ pub struct View {
     pub points: [u64; 4],
 }
 
-// Where the counts and the cells lie in the table. One thread writes the one count and one the other, so they stand on
-// cache lines of their own.
+// Where the counts lie in the table, and how many words it has. One thread writes the one count and one the other, so
+// they stand on cache lines of their own.
 pub(crate) const PUT: usize = 0;
 
 pub(crate) const GOT: usize = 16;
 
-pub(crate) const CELLS: usize = 32;
+pub(crate) const WORDS: usize = 32;
 
-/// The rule: what was taken begins what was sent, and what lies between stands in its cells.
+/// The rule: what was taken begins what was sent, and what lies between stands in its slots.
 pub struct InOrder;
 
-impl TableRule<(), View, Key> for InOrder {
+impl TableRule<Message, View, Key> for InOrder {
     ghost use Rattle.rcv_ring.specs.Ring.{Ring};
     ghost use Rattle.rcv_ring.specs.Views.{newcomer};
 
@@ -54,19 +48,19 @@ impl TableRule<(), View, Key> for InOrder {
     ghost first = { λ k. newcomer k.room k.points };
 }
 
-/// The pusher fills in a word of the cell behind what it sent.
-pub struct Fills;
+/// The pusher has the slot behind what it sent out, to write it as plain memory.
+pub struct Claims;
 
-impl Play<(), View> for Fills {
-    ghost use Rattle.rcv_ring.specs.Views.{Filled};
+impl Play<Message, View> for Claims {
+    ghost use Rattle.rcv_ring.specs.Views.{Claimed};
 
-    ghost then = { Filled };
+    ghost then = { Claimed };
 }
 
-/// The pusher counts a message that is filled in: now it is sent.
+/// The pusher gives the slot back and counts its message: now it is sent.
 pub struct Publishes;
 
-impl Play<(), View> for Publishes {
+impl Play<Message, View> for Publishes {
     ghost use Rattle.rcv_ring.specs.Views.{Published};
 
     ghost then = { Published };
@@ -75,7 +69,7 @@ impl Play<(), View> for Publishes {
 /// The pusher looks at the count of what was taken.
 pub struct SeesGot;
 
-impl Play<(), View> for SeesGot {
+impl Play<Message, View> for SeesGot {
     ghost use Rattle.rcv_ring.specs.Views.{SawGot};
 
     ghost then = { SawGot };
@@ -84,25 +78,25 @@ impl Play<(), View> for SeesGot {
 /// The puller looks at the count of what was sent.
 pub struct SeesPut;
 
-impl Play<(), View> for SeesPut {
+impl Play<Message, View> for SeesPut {
     ghost use Rattle.rcv_ring.specs.Views.{SawPut};
 
     ghost then = { SawPut };
 }
 
-/// The puller reads a word of the front cell.
-pub struct Reads;
+/// The puller has the front slot out, to read it as plain memory.
+pub struct Lifts;
 
-impl Play<(), View> for Reads {
-    ghost use Rattle.rcv_ring.specs.Views.{Read};
+impl Play<Message, View> for Lifts {
+    ghost use Rattle.rcv_ring.specs.Views.{Lifted};
 
-    ghost then = { Read };
+    ghost then = { Lifted };
 }
 
-/// The puller counts a message that is read: now its cell may be filled again.
+/// The puller gives the slot back and counts its message: now it may be filled again.
 pub struct Releases;
 
-impl Play<(), View> for Releases {
+impl Play<Message, View> for Releases {
     ghost use Rattle.rcv_ring.specs.Views.{Released};
 
     ghost then = { Released };

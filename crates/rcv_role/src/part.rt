@@ -14,6 +14,7 @@ ghost use Rattle.rcv_role.specs.Part.{PartView, IsOwn, IsOwnSend, IsRecvOf, Offe
 ghost use Rattle.rcv_role.specs.Part.{HasNoStrangers, HoldsStates, first_part, with_event, with_crash, entry_of, first_lost, point_in};
 ghost use Rattle.rcv_role.specs.Part.{IsReached, cleared, gone_back, cut_back};
 
+use rcv_checkpoint::changed::Changed;
 use rcv_checkpoint::stack::Stack;
 use rcv_checkpoint::state::State;
 use rcv_core::setup::Setup;
@@ -245,9 +246,11 @@ impl<'a> Part<'a> {
         requires own { IsOwn self.now.setup self.now.role event.now }
         ensures { result ≡ state_behind (vars_by self.now.setup) self.now.role (self.now.own.events ++ event.now ∷ []) }
     {
+        let mut vars = self.stack.top().vars;
+        let _changed = self.setup.receive(event, &mut vars);
         State {
             k: place_behind(event),
-            vars: self.setup.vars_behind(&self.stack.top().vars, event),
+            vars,
         }
     }
 
@@ -383,7 +386,7 @@ fn hold(stack: &mut Stack, state: &State)
     requires few { held stack.old + 1 < 2 ^ 32 }
     ensures { stack.new ≡ with_states stack.old (stack.old.states ++ state.now ∷ []) }
 {
-    let _saved = stack.save(state);
+    let _saved = stack.save(state.k, &state.vars, Changed::Any);
 }
 
 // The number of the attempt behind a recovery that keeps so many of the events made.

@@ -1,5 +1,6 @@
 // A gate that counts: with one worker it is passed once for each entry.
 
+use crate::alone::completes;
 use crate::inputs::{PING, setup_of};
 use rcv_core::book::Book;
 use rcv_super::session::{Session, Turn};
@@ -10,9 +11,6 @@ use std::alloc::AllocError;
 use std::sync::atomic::{AtomicU64, Ordering};
 use std::test::Fail;
 use std::thread::Threads;
-
-// How many turns a session may take.
-const TURNS: u32 = 1000;
 
 // Counts how often it is passed.
 #[derive(Drop)]
@@ -65,7 +63,7 @@ fn passes_once<R: AllocGlobal + Threads + Sync>(rt: &R, several: bool) -> Result
     }
     let before = session.book().len();
     let gate = Counter::new();
-    let completed = completes(rt, &mut session, &gate);
+    let completed = completes(rt, &mut session, &gate) == Ok(true);
     let (recoveries, steps) = counts(session.book(), before);
     Ok(
         completed
@@ -73,21 +71,6 @@ fn passes_once<R: AllocGlobal + Threads + Sync>(rt: &R, several: bool) -> Result
             && gate.recoveries.load(Ordering::SeqCst) == recoveries as u64
             && gate.steps.load(Ordering::SeqCst) == steps as u64,
     )
-}
-
-// Turns a session to its end with one worker, and says whether it completes.
-fn completes<R: AllocGlobal + Threads + Sync>(
-    rt: &R,
-    session: &mut Session<'_>,
-    gate: &Counter,
-) -> bool {
-    for _ in 0..TURNS {
-        match session.turn(rt, rt.alloc(), 1, gate) {
-            Ok(Turn::More) => {}
-            end => return end == Ok(Turn::Completed),
-        }
-    }
-    false
 }
 
 #[test]

@@ -4,6 +4,7 @@
 ghost use Rattle.std.specs.Prelude.{◌<◌};
 ghost use Rattle.rcv_session.specs.Session.{roles_of};
 
+use crate::alone::{TURNS, completes};
 use crate::inputs::{TWO_BUYER, setup_of};
 use rcv_core::book::Book;
 use rcv_super::session::{Session, SessionError, Turn};
@@ -13,9 +14,6 @@ use rcv_tree::role::RoleId;
 use std::alloc::AllocError;
 use std::test::Fail;
 use std::thread::Threads;
-
-// How many turns a session may take.
-const TURNS: u32 = 1000;
 
 // B is done when it crashes, and loses all of its events.
 const TWO_BUYER_PLAN: &[u8] = b"%% plan
@@ -77,20 +75,6 @@ fn completes_by_turns<R: AllocGlobal + Threads + Sync>(
     Ok(false)
 }
 
-// Turns a session to its end with one worker, and says whether it completes.
-fn completes_alone<R: AllocGlobal + Threads + Sync>(
-    rt: &R,
-    session: &mut Session<'_>,
-) -> Result<bool, SessionError> {
-    for _ in 0..TURNS {
-        match session.turn(rt, rt.alloc(), 1, &NoGate)? {
-            Turn::More => {}
-            end => return Ok(end == Turn::Completed),
-        }
-    }
-    Ok(false)
-}
-
 // Whether a role keeps the same in two books: the same sends and receives, of the same points, with the same numbers.
 fn keeps_the_same(book: &Book<'_>, other: &Book<'_>, role: RoleId) -> bool
     requires here { role < roles_of book.now.setup }
@@ -143,7 +127,7 @@ fn keeps_by_turns<R: AllocGlobal + Threads + Sync>(
     };
     let mut alone = Session::new(alloc, &setup)?;
     let mut turned = Session::new(alloc, &setup)?;
-    let completed = completes_alone(rt, &mut alone) == Ok(true)
+    let completed = completes(rt, &mut alone, &NoGate) == Ok(true)
         && completes_by_turns(rt, &mut turned) == Ok(true);
     Ok(
         completed

@@ -1,5 +1,6 @@
 -- Where the machine stops at a symbol that isn't awaited.
-use Rattle.std.proofs.Common.{◌≡◌, ℕ, Bool, true, false, List, [], ◌∷◌, refl, sym, ap, subst, ◌∙◌, cond}
+use Rattle.std.proofs.Common.{◌≡◌, ℕ, Bool, true, false, List, [], ◌∷◌, refl, sym, ap, subst, ◌∙◌, cond, arith}
+use Rattle.std.proofs.lemmas.Bool.Decides.{nat_tests}
 use Rattle.std.proofs.lemmas.Slice.Eq.{bytes_eq-Decides}
 use Rattle.std.specs.Prelude.{Option, ℤ}
 use Rattle.rcv_model.specs.Script.{Test}
@@ -38,6 +39,8 @@ same_only _ _ e = absurd cc
 pub meets_only : (t m : Symbol) → meets t m ≡ true → t ≡ m
 meets_only (Is a) (Is b) e = ap Is (same_only a b e)
 meets_only (Word a) (Word b) e = ap Word ((bytes_eq-Decides a b).0 e)
+meets_only (Number a) (Number b) e = let same : a ≡ b = grind (arith, nat_tests) in ap Number same
+meets_only (Text a) (Text b) e = ap Text ((bytes_eq-Decides a b).0 e)
 meets_only _ _ e = absurd cc
 
 no_this : (b : Bool) (k : Item) (t m : Symbol) → meets t m ≡ b → (t ≡ m → ⊥) → cond b (On k) (Wrong Token) ≡ Wrong Token

@@ -10,8 +10,7 @@ use Rattle.rcv_script.specs.declared.fault.ScriptError.{ScriptError}
 use Rattle.rcv_script.specs.declared.fault.ScriptError.TheVariants as errors
 use Rattle.rcv_script.specs.Symbols.{Symbol, Is, Word, Number, Text, IsNotNext}
 use Rattle.rcv_script.specs.Machine.{Item, Scripts, Known, On, Wrong, script, script_of, with_script, scripts, no_lines, awaited, reading, Taken, Refuses, answer}
-use Rattle.rcv_script.specs.Descent.{Halts}
-use Rattle.rcv_script.specs.Refusals.{Ends}
+use Rattle.rcv_script.specs.Descent.{Halts, Ceases}
 use Rattle.rcv_script.proofs.Stops.{stops_by, not_first}
 
 abbrev pub known : List (List ℕ) → List PointView → List (List Line) → List ℕ → Known
@@ -54,7 +53,7 @@ scripts_next roles messages ss ss' given seen given' role ls start now mid new s
 
 pub scripts_fail : (e : ScriptError) (roles : List (List ℕ)) (messages : List PointView) (ss : List (List Line)) (given seen : List ℕ) (start now mid new : List Symbol)
     → seen ≡ given → ScriptsSoFar roles messages ss given start now → now ≡ Word (codes "role") ∷ mid
-    → Halts e (λ (k : ℕ × List Line → Item). script roles seen messages k) mid new → Ends roles messages e start new
+    → Halts e (λ (k : ℕ × List Line → Item). script roles seen messages k) mid new → Ceases roles messages e start new
 scripts_fail errors.Memory roles messages ss given seen start now mid new same so_far is h = tt
 scripts_fail (errors.Refused fault) roles messages ss given seen start now mid new same so_far is h =
     scripts_to_next roles messages ss given seen start now mid same so_far is ∙ h (λ x. Scripts (with_script (known roles messages ss given) x.0 x.1))

@@ -1,5 +1,5 @@
 -- What the functions of the descent say: how the machine goes on with what was read, or stops.
-use Rattle.std.specs.Prelude.{◌≡◌, ℕ, Bool, true, false, List, ◌∷◌, map, Option, Result, Ok, Err}
+use Rattle.std.specs.Prelude.{◌≡◌, ℕ, Bool, true, false, List, map, Option, Result, Ok, Err}
 use Rattle.rcv_model.specs.Script as script
 use Rattle.rcv_points.specs.Follow.{PointView}
 use Rattle.rcv_script.specs.declared.fault.Fault.{Fault}
@@ -13,7 +13,7 @@ use Rattle.rcv_script.specs.declared.sign.Sign.TheVariants as signs
 use Rattle.rcv_script.specs.Expressions.{atom_expr, sum_expr}
 use Rattle.rcv_script.specs.Lines.{line_of, test_of}
 use Rattle.rcv_script.specs.Symbols.{Symbol}
-use Rattle.rcv_script.specs.Machine.{Item, Place, Writing, Refuses, On, Wrong, word_atom, answer}
+use Rattle.rcv_script.specs.Machine.{Item, Place, Writing, Taken, Refuses, On, Wrong, word_atom, answer, reading}
 
 -- The machine stops at what is left, whatever is awaited behind.
 abbrev pub Halts : {Y : Type 0} → ScriptError → ((Y → Item) → Item) → List Symbol → List Symbol → Type 0
@@ -60,3 +60,12 @@ IsNoWordAtom p w fault = (k : script.Expr → Item) → word_atom p w k ≡ Wron
 -- a condition as the machine gives it on
 abbrev pub parts_of : Condition → script.Expr × script.Test × script.Expr
 parts_of c = (sum_expr c.left, test_of c.comparison, sum_expr c.right)
+
+-- it comes to the end of all scripts, with these lines of each role
+abbrev pub Comes : List (List ℕ) → List PointView → List Symbol → List (List script.Line) → Type 0
+Comes roles messages symbols scripts = reading roles messages symbols ≡ Taken scripts
+
+-- it stops at this fault, with these symbols left
+abbrev pub Ceases : List (List ℕ) → List PointView → ScriptError → List Symbol → List Symbol → Type 0
+Ceases roles messages errors.Memory old new = Unit {0}
+Ceases roles messages (errors.Refused fault) old new = reading roles messages old ≡ Refuses fault new

@@ -1,12 +1,9 @@
--- Scripts as they are written, each in front of what follows, and what they say where no code holds.
-use Rattle.std.specs.Prelude.{◌≡◌, ◌≢◌, ◌⊎◌, ℕ, ◌<◌, Bool, true, false, codes, List, [], ◌∷◌, ◌++◌, Some, None, ℤ, pos, neg_ℤ}
-use Rattle.rcv_model.specs.Script.{Expr, Literal, TheValue, TheAttempt, Variable, Negated, Plus, Minus, Times, Test, Less, AtMost, Same, Differ, More, AtLeast, Line, VarLine, SendLine, PickLine, OnLine}
-use Rattle.rcv_points.specs.Follow.{PointView}
+-- Scripts as they are written, each in front of what follows. Nothing here says what a name stands for.
+use Rattle.std.specs.Prelude.{◌≡◌, ℕ, Bool, true, false, codes, List, [], ◌∷◌, ◌++◌}
+use Rattle.rcv_model.specs.Script.{Test, Less, AtMost, Same, Differ, More, AtLeast}
 use Rattle.rcv_script.specs.declared.sign.Sign.{Sign}
 use Rattle.rcv_script.specs.declared.sign.Sign.TheVariants as signs
-use Rattle.rcv_script.specs.declared.words.LineKind.TheVariants as kinds
 use Rattle.rcv_script.specs.Symbols.{Symbol, Is, Word, Number}
-use Rattle.rcv_script.specs.Machine.{Place, Writing, Known, deeper, deciding, remembering, place_of, place_in, var_fault, set_fault, send_fault, pick_fault, on_fault, role_fault, line_fault, with_line, begun, with_script, no_lines}
 
 mutual
   -- A number, a word, a sign in front of an atom, or a sum in parentheses.
@@ -16,16 +13,20 @@ mutual
     Signed : (a : WrittenAtom) → WrittenAtom
     Inside : (s : WrittenSum) → WrittenAtom
 
-  -- the products of a sum and the atoms of a product associate to the left
-  pub data WrittenProduct : Type 0 where
-    OneFactor : (a : WrittenAtom) → WrittenProduct
-    Multiplied : (x : WrittenProduct) (a : WrittenAtom) → WrittenProduct
+  -- ("*" atom)*
+  pub data MoreAtoms : Type 0 where
+    NoAtom : MoreAtoms
+    TimesAtom : (a : WrittenAtom) (more : MoreAtoms) → MoreAtoms
 
-  -- one product, or a sum with one more product
+  -- (("+" | "-") atom ("*" atom)*)*
+  pub data MoreProducts : Type 0 where
+    NoProduct : MoreProducts
+    PlusProduct : (a : WrittenAtom) (atoms : MoreAtoms) (more : MoreProducts) → MoreProducts
+    MinusProduct : (a : WrittenAtom) (atoms : MoreAtoms) (more : MoreProducts) → MoreProducts
+
+  -- atom ("*" atom)* (("+" | "-") atom ("*" atom)*)*
   pub data WrittenSum : Type 0 where
-    OneTerm : (x : WrittenProduct) → WrittenSum
-    Added : (s : WrittenSum) (x : WrittenProduct) → WrittenSum
-    Subtracted : (s : WrittenSum) (x : WrittenProduct) → WrittenSum
+    SumOf : (a : WrittenAtom) (atoms : MoreAtoms) (more : MoreProducts) → WrittenSum
 
 -- A line, with the words of its labels and variables.
 pub data WrittenLine : Type 0 where
@@ -50,16 +51,20 @@ abbrev mutual
   atom_text (Signed a) next = Is signs.Minus ∷ atom_text a next
   atom_text (Inside s) next = Is signs.Left ∷ sum_text s (Is signs.Right ∷ next)
 
-  -- atoms with the mark * between them
-  pub product_text : WrittenProduct → List Symbol → List Symbol
-  product_text (OneFactor a) next = atom_text a next
-  product_text (Multiplied x a) next = product_text x (Is signs.Times ∷ atom_text a next)
+  -- more atoms of a product
+  pub atoms_text : MoreAtoms → List Symbol → List Symbol
+  atoms_text NoAtom next = next
+  atoms_text (TimesAtom a more) next = Is signs.Times ∷ atom_text a (atoms_text more next)
 
-  -- products with the marks + and - between them
+  -- more products of a sum
+  pub products_text : MoreProducts → List Symbol → List Symbol
+  products_text NoProduct next = next
+  products_text (PlusProduct a atoms more) next = Is signs.Plus ∷ atom_text a (atoms_text atoms (products_text more next))
+  products_text (MinusProduct a atoms more) next = Is signs.Minus ∷ atom_text a (atoms_text atoms (products_text more next))
+
+  -- a sum
   pub sum_text : WrittenSum → List Symbol → List Symbol
-  sum_text (OneTerm x) next = product_text x next
-  sum_text (Added s x) next = sum_text s (Is signs.Plus ∷ product_text x next)
-  sum_text (Subtracted s x) next = sum_text s (Is signs.Minus ∷ product_text x next)
+  sum_text (SumOf a atoms more) next = atom_text a (atoms_text atoms (products_text more next))
 
 -- the mark that compares
 abbrev pub test_mark : Test → Sign
@@ -97,73 +102,10 @@ abbrev pub scripts_text : List WrittenScript → List Symbol
 scripts_text [] = []
 scripts_text (w ∷ ws) = Word (codes "role") ∷ Word w.role ∷ Is signs.Open ∷ lines_text w.lines (scripts_text ws)
 
--- ---- what is said, where no code holds
+-- The grammar derives the list.
+abbrev pub IsDerived : List Symbol → Type 0
+IsDerived symbols = (ws : List WrittenScript) × (symbols ≡ scripts_text ws)
 
--- the words value and attempt where nothing speaks against them, and the names of variables
-abbrev pub WordSays : Place → List ℕ → Expr → Type 0
-WordSays p w e =
-    ((w ≡ codes "value") × (p.value ≡ None) × (e ≡ TheValue))
-    ⊎ (((w ≡ codes "attempt") × (p.attempt ≡ None) × (e ≡ TheAttempt))
-    ⊎ ((w ≢ codes "value") × (w ≢ codes "attempt") × (n : ℕ) × (place_of p.names w ≡ Some n) × (e ≡ Variable n)))
-
--- At most 32 parentheses and signs are open.
-abbrev mutual
-  -- an atom says this expression
-  pub AtomSays : Place → WrittenAtom → Expr → Type 0
-  AtomSays p (Digits n) e = e ≡ Literal n
-  AtomSays p (Named w) e = WordSays p w e
-  AtomSays p (Signed a) e = (p.depth < 32) × (f : Expr) × AtomSays (deeper p) a f × (e ≡ Negated f)
-  AtomSays p (Inside s) e = (p.depth < 32) × SumSays (deeper p) s e
-
-  -- a product does
-  pub ProductSays : Place → WrittenProduct → Expr → Type 0
-  ProductSays p (OneFactor a) e = AtomSays p a e
-  ProductSays p (Multiplied x a) e = (f : Expr) × (g : Expr) × ProductSays p x f × AtomSays p a g × (e ≡ Times f g)
-
-  -- a sum does
-  pub SumSays : Place → WrittenSum → Expr → Type 0
-  SumSays p (OneTerm x) e = ProductSays p x e
-  SumSays p (Added s x) e = (f : Expr) × (g : Expr) × SumSays p s f × ProductSays p x g × (e ≡ Plus f g)
-  SumSays p (Subtracted s x) e = (f : Expr) × (g : Expr) × SumSays p s f × ProductSays p x g × (e ≡ Minus f g)
-
--- the number that is written
-abbrev pub signed_number : Bool → ℕ → ℤ
-signed_number false n = pos n
-signed_number true n = neg_ℤ (pos n)
-
--- a line behind others of the role, with the variables behind it
-abbrev pub LineSays : Writing → WrittenLine → List (List ℕ) × Line → Type 0
-LineSays s (VarText name below n) x =
-    (line_fault s.names s.lines kinds.Var ≡ None) × (var_fault s.names name ≡ None)
-    × (x ≡ (s.names ++ name ∷ [], VarLine (signed_number below n)))
-LineSays s (SendText label t) x =
-    (line_fault s.names s.lines kinds.Send ≡ None) × (send_fault s.messages s.role s.lines label ≡ None)
-    × (e : Expr) × SumSays (deciding s.names) t e × (x ≡ (s.names, SendLine label e))
-LineSays s (PickText label) x =
-    (line_fault s.names s.lines kinds.Pick ≡ None) × (pick_fault s.messages s.role label ≡ None)
-    × (x ≡ (s.names, PickLine label None))
-LineSays s (WhenText label left test right) x =
-    (line_fault s.names s.lines kinds.Pick ≡ None) × (pick_fault s.messages s.role label ≡ None)
-    × (a : Expr) × (b : Expr) × SumSays (deciding s.names) left a × SumSays (deciding s.names) right b
-    × (x ≡ (s.names, PickLine label (Some (record { left = a; test = test; right = b }))))
-LineSays s (OnText label name t) x =
-    (line_fault s.names s.lines kinds.On ≡ None) × (on_fault s.messages s.role label ≡ None) × (set_fault s.names name ≡ None)
-    × (e : Expr) × SumSays (remembering s label) t e
-    × (x ≡ (s.names, OnLine label (place_in s.names name) e))
-
--- lines behind others of the role
-abbrev pub LinesSay : Writing → List WrittenLine → List Line → Type 0
-LinesSay s [] ls = ls ≡ s.lines
-LinesSay s (w ∷ ws) ls = (x : List (List ℕ) × Line) × LineSays s w x × LinesSay (with_line s x) ws ls
-
--- scripts behind others
-abbrev pub ScriptsSay : Known → List WrittenScript → List (List Line) → Type 0
-ScriptsSay known [] ss = ss ≡ known.scripts
-ScriptsSay known (w ∷ ws) ss =
-    (role_fault known.roles known.given w.role ≡ None)
-    × (ls : List Line) × LinesSay (begun known.messages (place_in known.roles w.role)) w.lines ls
-    × ScriptsSay (with_script known (place_in known.roles w.role) ls) ws ss
-
--- Written scripts of a protocol with these roles and messages say these lines, role by role.
-abbrev pub Say : List (List ℕ) → List PointView → List WrittenScript → List (List Line) → Type 0
-Say roles messages ws ss = ScriptsSay (record { roles = roles; messages = messages; scripts = no_lines roles; given = [] }) ws ss
+-- The symbols begin a list that the grammar derives.
+abbrev pub IsBeginning : List Symbol → Type 0
+IsBeginning symbols = (more : List Symbol) × IsDerived (symbols ++ more)

@@ -1,29 +1,24 @@
--- What the machine's answer says in the grammar's words.
-use Rattle.std.specs.Prelude.{◌≡◌, ℕ, List, ◌∷◌, ◌++◌}
+-- What holds of each list of symbols.
+use Rattle.std.specs.Prelude.{◌≡◌, ◌⊎◌, ℕ, List}
 use Rattle.rcv_model.specs.Script.{Line}
 use Rattle.rcv_points.specs.Follow.{PointView}
 use Rattle.rcv_script.specs.declared.fault.Fault.{Fault}
 use Rattle.rcv_script.specs.Symbols.{Symbol}
-use Rattle.rcv_script.specs.Machine.{Taken, Refuses, reading}
-use Rattle.rcv_script.specs.Grammar.{WrittenScript, scripts_text, Say}
+use Rattle.rcv_script.specs.Refusals.{IsFirst, AreRead}
 
--- Scripts that are written by the grammar and against which no code speaks are read as what they say.
-abbrev pub WrittenScriptsAreRead : Type 0
-WrittenScriptsAreRead =
-    (roles : List (List ℕ)) (messages : List PointView) (ws : List WrittenScript) (ss : List (List Line))
-    → Say roles messages ws ss → reading roles messages (scripts_text ws) ≡ Taken ss
+-- The symbols are read as scripts, or there is a first and least code.
+abbrev pub IsAnswered : List (List ℕ) → List PointView → List Symbol → Type 0
+IsAnswered roles messages symbols =
+    ((ss : List (List Line)) × AreRead roles messages symbols ss)
+    ⊎ ((f : Fault) × (left : List Symbol) × IsFirst roles messages symbols f left)
 
--- What is read is written by the grammar, no code speaks against it, and it says what was read.
-abbrev pub ReadScriptsAreWritten : Type 0
-ReadScriptsAreWritten =
-    (roles : List (List ℕ)) (messages : List PointView) (symbols : List Symbol) (ss : List (List Line))
-    → reading roles messages symbols ≡ Taken ss
-    → (ws : List WrittenScript) × (symbols ≡ scripts_text ws) × Say roles messages ws ss
-
--- Where a symbol is refused, no scripts against which no code speaks begin with the symbols up to it.
-abbrev pub RefusalsAreFinal : Type 0
-RefusalsAreFinal =
-    (roles : List (List ℕ)) (messages : List PointView) (front : List Symbol) (t : Symbol) (left : List Symbol) (fault : Fault)
-    → reading roles messages (front ++ t ∷ left) ≡ Refuses fault (t ∷ left)
-    → (more : List Symbol) (ws : List WrittenScript) (ss : List (List Line))
-    → scripts_text ws ≡ front ++ t ∷ more → Say roles messages ws ss → ⊥
+-- Scripts are read or refused, never both. Those that are written by the grammar and in which no code holds are read as
+-- what they say, and say nothing else. There is one first and least code.
+pub record ScriptsHaveOneAnswer : Type 0 where
+  pub answered : (roles : List (List ℕ)) (messages : List PointView) (symbols : List Symbol) → IsAnswered roles messages symbols
+  pub either : (roles : List (List ℕ)) (messages : List PointView) (symbols : List Symbol) (ss : List (List Line))
+      → (f : Fault) (left : List Symbol) → AreRead roles messages symbols ss → IsFirst roles messages symbols f left → ⊥
+  pub one : (roles : List (List ℕ)) (messages : List PointView) (symbols : List Symbol) (ss others : List (List Line))
+      → AreRead roles messages symbols ss → AreRead roles messages symbols others → ss ≡ others
+  pub first : (roles : List (List ℕ)) (messages : List PointView) (symbols : List Symbol) (f g : Fault) (left other : List Symbol)
+      → IsFirst roles messages symbols f left → IsFirst roles messages symbols g other → (f ≡ g) × (left ≡ other)

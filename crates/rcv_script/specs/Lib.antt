@@ -3,9 +3,13 @@ pub mod Lines
 pub mod Codes
 pub mod Attempts
 pub mod Symbols
+pub mod Labels
+pub mod Grammar
+pub mod Meaning
+pub mod Table
+pub mod Refusals
 pub mod Machine
 pub mod Descent
-pub mod Refusals
-pub mod Grammar
 pub mod Laws
 pub mod Scripts
+pub mod Acts

@@ -1,5 +1,6 @@
--- Reading one symbol after another. What is awaited says itself what is awaited behind it, and what was read.
-use Rattle.std.specs.Prelude.{ℕ, ◌+◌, ◌==◌, ◌&&◌, ◌||◌, not, nat_le, Bool, true, false, cond, if◌then◌else◌, codes, List, [], ◌∷◌, ◌++◌, length, map, Option, Some, None, position, slice_set, ℤ, pos, neg_ℤ}
+-- Reading one symbol after another, for the contracts of the descent alone: what is awaited says itself what is awaited behind
+-- it, and what was read. That it reads by grammar and table is a lemma, and no contract of a public function cites it.
+use Rattle.std.specs.Prelude.{ℕ, ◌+◌, ◌==◌, ◌||◌, not, nat_le, Bool, true, false, cond, if◌then◌else◌, codes, List, [], ◌∷◌, ◌++◌, length, Option, Some, None, slice_set, ℤ, pos, neg_ℤ}
 use Rattle.std.specs.List.{list_any}
 use Rattle.std.specs.Str.{bytes_eq}
 use Rattle.rcv_model.specs.Script.{Condition, Expr, Literal, TheValue, TheAttempt, Variable, Negated, Plus, Minus, Times, Test, Less, AtMost, Same, Differ, More, AtLeast, Line, VarLine, SendLine, PickLine, OnLine}
@@ -11,16 +12,8 @@ use Rattle.rcv_script.specs.declared.fault.Fault.TheVariants as faults
 use Rattle.rcv_script.specs.declared.words.LineKind.{LineKind}
 use Rattle.rcv_script.specs.declared.words.LineKind.TheVariants as kinds
 use Rattle.rcv_script.specs.Symbols.{Symbol, Is, Word, Number, Text}
-
--- the code of a fault
-abbrev pub code_of : Fault → ℕ
-code_of faults.Token = 30
-code_of faults.Role = 31
-code_of faults.Label = 32
-code_of faults.Variable = 33
-code_of faults.AttemptInState = 34
-code_of faults.NoPayload = 35
-code_of faults.TooMany = 36
+pub use Rattle.rcv_script.specs.Meaning.{no_lines}
+pub use Rattle.rcv_script.specs.Labels.{place_of, or_zero, place_in, is_sent, is_part, sends, takes_part, sends_bare, takes_bare}
 
 -- ---- what is known
 
@@ -84,19 +77,6 @@ or_fault (Some fault) other = Some fault
 
 -- ---- names of roles, labels and variables
 
--- the name's place, counted from 0
-abbrev pub place_of : List (List ℕ) → List ℕ → Option ℕ
-place_of names name = position (λ other. bytes_eq other name) names
-
--- the place that was found
-abbrev pub or_zero : Option ℕ → ℕ
-or_zero None = 0
-or_zero (Some n) = n
-
--- the place of a name that is known
-abbrev pub place_in : List (List ℕ) → List ℕ → ℕ
-place_in names name = or_zero (place_of names name)
-
 -- a place was found
 abbrev pub is_some : Option ℕ → Bool
 is_some None = false
@@ -114,30 +94,6 @@ new_role given (Some r) = fault_if (is_listed r given) faults.Role
 -- what speaks against the name of a role
 abbrev pub role_fault : List (List ℕ) → List ℕ → List ℕ → Option Fault
 role_fault roles given name = new_role given (place_of roles name)
-
--- the role sends the message with this label
-abbrev pub is_sent : ℕ → List ℕ → PointView → Bool
-is_sent role label m = (m.sender == role) && bytes_eq m.label label
-
--- it sends or receives it
-abbrev pub is_part : ℕ → List ℕ → PointView → Bool
-is_part role label m = (m.sender == role || m.receiver == role) && bytes_eq m.label label
-
--- the role sends a message with this label
-abbrev pub sends : List PointView → ℕ → List ℕ → Bool
-sends messages role label = list_any (is_sent role label) messages
-
--- it sends or receives one
-abbrev pub takes_part : List PointView → ℕ → List ℕ → Bool
-takes_part messages role label = list_any (is_part role label) messages
-
--- one of them has no sorts
-abbrev pub sends_bare : List PointView → ℕ → List ℕ → Bool
-sends_bare messages role label = list_any (λ m. is_sent role label m && not m.payload) messages
-
--- one that it sends or receives has no sorts
-abbrev pub takes_bare : List PointView → ℕ → List ℕ → Bool
-takes_bare messages role label = list_any (λ m. is_part role label m && not m.payload) messages
 
 -- a send line with this label
 abbrev pub is_send_of : List ℕ → Line → Bool
@@ -163,6 +119,13 @@ pick_fault messages role label = fault_if (not (sends messages role label)) faul
 -- of one of an on line
 abbrev pub on_fault : List PointView → ℕ → List ℕ → Option Fault
 on_fault messages role label = fault_if (not (takes_part messages role label)) faults.Label
+
+-- of one of a line of this kind; a var line has none
+abbrev pub label_fault : LineKind → List PointView → ℕ → List Line → List ℕ → Option Fault
+label_fault kinds.Send messages role before label = send_fault messages role before label
+label_fault kinds.Pick messages role before label = pick_fault messages role label
+label_fault kinds.On messages role before label = on_fault messages role label
+label_fault kinds.Var messages role before label = None
 
 -- a variable is declared once, and isn't called as what expressions read otherwise
 abbrev pub var_fault : List (List ℕ) → List ℕ → Option Fault
@@ -245,7 +208,7 @@ var_line names k =
 
 -- what is awaited behind the word send
 abbrev pub send_line : Writing → (List (List ℕ) × Line → Item) → Item
-send_line s k = AWord (send_fault s.messages s.role s.lines) (λ l. with_expr (deciding s.names) (λ e. k (s.names, SendLine l e)))
+send_line s k = AWord (label_fault kinds.Send s.messages s.role s.lines) (λ l. with_expr (deciding s.names) (λ e. k (s.names, SendLine l e)))
 
 -- expr, a mark that compares, expr ";"
 abbrev pub condition : Place → (Expr × Test × Expr → Item) → Item
@@ -257,12 +220,12 @@ rest_of_pick p k = AnEnd (k None) (condition p (λ c. k (Some (record { left = c
 
 -- what is awaited behind the word pick
 abbrev pub pick_line : Writing → (List (List ℕ) × Line → Item) → Item
-pick_line s k = AWord (pick_fault s.messages s.role) (λ l. rest_of_pick (deciding s.names) (λ when. k (s.names, PickLine l when)))
+pick_line s k = AWord (label_fault kinds.Pick s.messages s.role s.lines) (λ l. rest_of_pick (deciding s.names) (λ when. k (s.names, PickLine l when)))
 
 -- what is awaited behind the word on
 abbrev pub on_line : Writing → (List (List ℕ) × Line → Item) → Item
 on_line s k =
-    AWord (on_fault s.messages s.role) (λ l. This (Word (codes "set")) (AWord (set_fault s.names) (λ n.
+    AWord (label_fault kinds.On s.messages s.role s.lines) (λ l. This (Word (codes "set")) (AWord (set_fault s.names) (λ n.
     with_expr (remembering s l) (λ e. k (s.names, OnLine l (place_in s.names n) e)))))
 
 -- what a line does, by its first word
@@ -360,6 +323,8 @@ same _ _ = false
 abbrev pub meets : Symbol → Symbol → Bool
 meets (Is a) (Is b) = same a b
 meets (Word a) (Word b) = bytes_eq a b
+meets (Number a) (Number b) = a == b
+meets (Text a) (Text b) = bytes_eq a b
 meets _ _ = false
 
 -- any word against which nothing speaks
@@ -430,10 +395,6 @@ after (Wrong fault) left go = Refuses fault left
 abbrev pub answer : Item → List Symbol → Answer
 answer item [] = at_end item
 answer item (t ∷ ts) = after (step t item) (t ∷ ts) (λ next. answer next ts)
-
--- no lines of any role
-abbrev pub no_lines : List (List ℕ) → List (List Line)
-no_lines roles = map (λ name. []) roles
 
 -- what is awaited at first
 abbrev pub awaited : List (List ℕ) → List PointView → Item

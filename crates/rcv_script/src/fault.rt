@@ -2,7 +2,7 @@
 
 ghost use Rattle.std.specs.Prelude.{◌≡◌};
 ghost use Rattle.rcv_script.specs.declared.fault.ScriptError.TheVariants.{Memory};
-ghost use Rattle.rcv_script.specs.Machine.{code_of};
+ghost use Rattle.rcv_script.specs.Refusals.{code_of};
 
 use std::alloc::{AllocError, AllocFailed};
 

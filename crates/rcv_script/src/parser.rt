@@ -4,12 +4,12 @@ ghost use Rattle.std.specs.Prelude.{◌≡◌, ◌<◌, ◌≤◌, ◌∷◌, �
 ghost use Rattle.rcv_script.specs.Symbols.{Is, Word};
 ghost use Rattle.rcv_script.specs.Expressions.{sum_expr};
 ghost use Rattle.rcv_script.specs.Lines.{line_of, when_of};
-ghost use Rattle.rcv_script.specs.Machine.{AWord, ASigned, ANumber, Lines, ALine, var_fault, set_fault, send_fault, pick_fault, on_fault, var_line, send_line, pick_line, on_line, line_behind, line_fault, rest_of_pick, place_in, fault_if, takes_bare};
+ghost use Rattle.rcv_script.specs.Machine.{AWord, ASigned, ANumber, Lines, ALine, var_fault, set_fault, label_fault, var_line, send_line, pick_line, on_line, line_behind, line_fault, rest_of_pick, place_in, fault_if, takes_bare};
 ghost use Rattle.rcv_script.specs.Descent.{Goes, writing, place_at};
 
 use crate::fault::{Fault, ScriptError};
 use crate::formula::{Banned, place_of};
-use crate::labels::{on_fault, pick_fault, send_fault, takes_bare};
+use crate::labels::{label_fault, takes_bare};
 use crate::line::{Condition, Line};
 use crate::sign::Sign;
 use crate::words::{LineKind, kind_of};
@@ -120,58 +120,23 @@ impl<'a> Parser<'a> {
         Ok(Line::Var { first })
     }
 
-    // Takes the label of a `send` line.
-    fn send_label(
+    // Takes the label of a line of this kind.
+    fn label(
         &mut self,
         alloc: Global,
+        kind: LineKind,
         points: &Points,
         role: usize,
         lines: &[Line],
     ) -> Result<Name, ScriptError>
-        ensures goes { Goes result (λ k. AWord (send_fault points.now.messages role (map line_of lines.now)) k) (λ n. n) self.old.rest self.new.rest }
+        ensures goes { Goes result (λ k. AWord (label_fault kind points.now.messages role (map line_of lines.now)) k)
+            (λ n. n) self.old.rest self.new.rest }
         ensures shorter { length self.new.rest ≤ length self.old.rest }
     {
         let Some((word, after)) = self.rest.word() else {
             return Err(ScriptError::Refused(Fault::Token));
         };
-        if let Some(fault) = send_fault(points, role, lines, word) {
-            return Err(ScriptError::Refused(fault));
-        }
-        let label = Name::of(alloc, word)?;
-        self.rest = after;
-        Ok(label)
-    }
-
-    // Takes the label of a `pick` line.
-    fn pick_label(
-        &mut self,
-        alloc: Global,
-        points: &Points,
-        role: usize,
-    ) -> Result<Name, ScriptError>
-        ensures goes { Goes result (λ k. AWord (pick_fault points.now.messages role) k) (λ n. n) self.old.rest self.new.rest }
-        ensures shorter { length self.new.rest ≤ length self.old.rest }
-    {
-        let Some((word, after)) = self.rest.word() else {
-            return Err(ScriptError::Refused(Fault::Token));
-        };
-        if let Some(fault) = pick_fault(points, role, word) {
-            return Err(ScriptError::Refused(fault));
-        }
-        let label = Name::of(alloc, word)?;
-        self.rest = after;
-        Ok(label)
-    }
-
-    // Takes the label of an `on` line.
-    fn on_label(&mut self, alloc: Global, points: &Points, role: usize) -> Result<Name, ScriptError>
-        ensures goes { Goes result (λ k. AWord (on_fault points.now.messages role) k) (λ n. n) self.old.rest self.new.rest }
-        ensures shorter { length self.new.rest ≤ length self.old.rest }
-    {
-        let Some((word, after)) = self.rest.word() else {
-            return Err(ScriptError::Refused(Fault::Token));
-        };
-        if let Some(fault) = on_fault(points, role, word) {
+        if let Some(fault) = label_fault(kind, points, role, lines, word) {
             return Err(ScriptError::Refused(fault));
         }
         let label = Name::of(alloc, word)?;
@@ -192,7 +157,7 @@ impl<'a> Parser<'a> {
             (λ line. (names.now, line_of line)) self.old.rest self.new.rest }
         ensures shorter { length self.new.rest ≤ length self.old.rest }
     {
-        let label = self.send_label(alloc, points, role, lines)?;
+        let label = self.label(alloc, LineKind::Send, points, role, lines)?;
         let number = self.number_set(alloc, names, DECIDING)?;
         Ok(Line::Send { label, number })
     }
@@ -210,7 +175,7 @@ impl<'a> Parser<'a> {
             (λ line. (names.now, line_of line)) self.old.rest self.new.rest }
         ensures shorter { length self.new.rest ≤ length self.old.rest }
     {
-        let label = self.pick_label(alloc, points, role)?;
+        let label = self.label(alloc, LineKind::Pick, points, role, lines)?;
         let when = self.when(alloc, names)?;
         Ok(Line::Pick { label, when })
     }
@@ -240,7 +205,7 @@ impl<'a> Parser<'a> {
             (λ line. (names.now, line_of line)) self.old.rest self.new.rest }
         ensures shorter { length self.new.rest ≤ length self.old.rest }
     {
-        let label = self.on_label(alloc, points, role)?;
+        let label = self.label(alloc, LineKind::On, points, role, lines)?;
         let banned = remembering(points, role, label.as_slice());
         self.expect_word(b"set")?;
         let place = self.variable(names)?;

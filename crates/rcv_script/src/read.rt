@@ -6,8 +6,7 @@ ghost use Rattle.rcv_lexer.specs.Parts.{LiesIn};
 ghost use Rattle.rcv_script.specs.Symbols.{Word, IsNotNext, symbols_of};
 ghost use Rattle.rcv_script.specs.Lines.{line_of};
 ghost use Rattle.rcv_script.specs.Machine.{AWord, is_listed, role_fault, script, place_in, no_lines};
-ghost use Rattle.rcv_script.specs.Descent.{Goes};
-ghost use Rattle.rcv_script.specs.Refusals.{AreRead, Ends};
+ghost use Rattle.rcv_script.specs.Descent.{Goes, Comes, Ceases};
 ghost use Rattle.rcv_script.specs.Scripts.{AreScriptsOf, AreRefusedFor};
 
 use crate::fault::{Fault, ScriptError};
@@ -96,9 +95,9 @@ impl<'a> Parser<'a> {
         roles: &Names,
         points: &Points,
     ) -> Result<Vec<Script>, ScriptError>
-        ensures ok { IfOk result (λ scripts. AreRead roles.now points.now.messages self.old.rest scripts.items) }
+        ensures ok { IfOk result (λ scripts. Comes roles.now points.now.messages self.old.rest scripts.items) }
         ensures all { IfOk result (λ scripts. length scripts.items ≡ length roles.now) }
-        ensures err { IfErr result (λ e. Ends roles.now points.now.messages e self.old.rest self.new.rest) }
+        ensures err { IfErr result (λ e. Ceases roles.now points.now.messages e self.old.rest self.new.rest) }
     {
         let mut scripts = no_lines(alloc, roles)?;
         let mut given = Vec::new(alloc);
@@ -137,7 +136,7 @@ fn no_lines(alloc: Global, roles: &Names) -> Result<Vec<Script>, ScriptError>
 /// The scripts that the tokens of a part of the bundle say, for an accepted protocol. `last` is the line of the part's
 /// end. A part without tokens gives each role a script without lines.
 ///
-/// Refused where the step machine of the grammar stops, with its code and the line of the token or of the part's end:
+/// Refused at the first token at which a code holds, or at the part's end, with the least code at it and its line:
 /// 30 where the grammar doesn't have the token or the end there, and at a number above 9223372036854775807; 31 at a role
 /// that isn't declared or has a script before; 32 at a label of `send` or `pick` that the role never sends, one of `on`
 /// that it neither sends nor receives, and that of a second `send` line; 33 at a variable that isn't declared before,
@@ -145,6 +144,7 @@ fn no_lines(alloc: Global, roles: &Names) -> Result<Vec<Script>, ScriptError>
 /// `attempt` in an `on` line; 35 at a label of `send` that stands for a message without sorts, and at `value` in an `on`
 /// line of such a label; 36 at the word `var` of the 17th variable, the first word of the 257th line of a role, and the
 /// 33rd nested parenthesis or sign of an expression. `Memory` where no memory is left.
+#[tactic(auto, using(crate::proofs::Answering::taken, crate::proofs::Answering::refused))]
 pub fn read_scripts(
     alloc: Global,
     bundle: &[u8],

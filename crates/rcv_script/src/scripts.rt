@@ -1,14 +1,19 @@
 // The scripts of a protocol's roles, and what they decide.
 
-ghost use Rattle.std.specs.Prelude.{◌≡◌, ◌≢◌, ◌↔◌, ℕ, [], map, false, IfOk, IfSome, IfNone};
+ghost use Rattle.std.specs.Prelude.{◌≡◌, ◌≢◌, ◌↔◌, ◌<◌, ℕ, ℤ, List, [], length, map, false, slice_get, IfOk, IfSome, IfNone};
 ghost use Rattle.std.specs.List.{All};
 ghost use Rattle.rcv_model.specs.Script.{first_vars, carry_out, pick, number_for, first_with};
 ghost use Rattle.rcv_model.specs.Transparent.{AreBlind};
+ghost use Rattle.rcv_checkpoint.specs.Changed.{IsChange};
 ghost use Rattle.rcv_script.specs.Lines.{line_of, lines_at};
 ghost use Rattle.rcv_script.specs.Attempts.{lines_read, scripts_read};
 ghost use Rattle.rcv_script.specs.Scripts.{net_by, HasPoint};
+ghost use Rattle.rcv_script.specs.Acts.{acts_on, acts_by_point, set_by, set_by_all, sent_by};
 
+use crate::acts::{Acts, ActsByPoint};
 use crate::line::{Line, is_met, set};
+use crate::setting::behind_set;
+use rcv_checkpoint::changed::Changed;
 use rcv_points::points::{Message, Points};
 use rcv_scan::is;
 use rcv_tree::name::Name;
@@ -44,11 +49,14 @@ pub struct Scripts {
     roles: Vec<Script>,
     // By point, less 1.
     messages: Vec<Message>,
+    // By role.
+    acts: Vec<ActsByPoint>,
 }
 
 impl Model for Scripts {
     ghost use Rattle.rcv_script.specs.Codes.{expr_code};
     ghost use Rattle.rcv_script.specs.Scripts.{ScriptsView};
+    ghost use Rattle.rcv_script.specs.Acts.{IsIndex};
     ghost use Rattle.std.specs.Coded.{codes};
 
     ghost Value = { ScriptsView };
@@ -56,6 +64,8 @@ impl Model for Scripts {
     ghost coded = { Prim.hlevel (codes, expr_code) };
 
     ghost view = { λ a. record { lines = a.roles.items; messages = a.messages.items } };
+
+    ghost invariant = { λ a. IsIndex a.roles.items a.messages.items a.acts.items };
 }
 
 impl Scripts {
@@ -68,7 +78,12 @@ impl Scripts {
         ensures { IfOk result (λ scripts. scripts ≡ record { lines = roles.items; messages = points.now.messages }) }
     {
         let messages = messages_of(alloc, points)?;
-        Ok(Scripts { roles, messages })
+        let acts = acts_of(alloc, roles.as_slice(), messages.as_slice())?;
+        Ok(Scripts {
+            roles,
+            messages,
+            acts,
+        })
     }
 
     /// The variables of a role before any event: the first values in order of declaration, and 0 at the other places.
@@ -102,7 +117,7 @@ impl Scripts {
         ensures { result ≡ number_for ((net_by self.now.messages).label point) (lines_at self.now.lines role) vars.now attempt }
     {
         match self.script(role) {
-            Some(script) => script.number(label_of(self.messages.as_slice(), point), vars, attempt),
+            Some(script) => script.number(self.acts(role, point).send, vars, attempt),
             None => 0,
         }
     }
@@ -114,9 +129,24 @@ impl Scripts {
         requires { HasPoint self.now.messages point }
         ensures { result ≡ carry_out ((net_by self.now.messages).label point) value (lines_at self.now.lines role) vars.now }
     {
+        let mut now = *vars;
+        self.receive(role, &mut now, point, value);
+        now
+    }
+
+    /// As `received`, in place; answers which of the variables may have changed.
+    #[inline(always)]
+    pub fn receive(&self, role: RoleId, vars: &mut Vars, point: Point, value: i64) -> Changed
+        requires { HasPoint self.now.messages point }
+        ensures vars { vars.new ≡ carry_out ((net_by self.now.messages).label point) value (lines_at self.now.lines role) vars.old }
+        ensures changed { IsChange result vars.old vars.new }
+    {
         match self.script(role) {
-            Some(script) => script.behind(label_of(self.messages.as_slice(), point), value, vars),
-            None => *vars,
+            Some(script) => {
+                let acts = self.acts(role, point);
+                script.carry_out(acts.on.as_slice(), value, vars)
+            }
+            None => Changed::Nothing,
         }
     }
 
@@ -148,11 +178,23 @@ impl Scripts {
     }
 
     // The script of a role; none where no line is known.
+    #[inline(always)]
     fn script(&self, role: RoleId) -> Option<&Script>
         ensures some { IfSome result (λ script. script.now ≡ lines_at self.now.lines role) }
+        ensures within { IfSome result (λ script. role < length self.now.lines) }
         ensures none { IfNone result (lines_at self.now.lines role ≡ []) }
     {
         self.roles.get(role.0 as usize)
+    }
+
+    // Which lines of a role's script are for a point.
+    #[inline(always)]
+    fn acts(&self, role: RoleId, point: Point) -> &Acts
+        requires role { role < length self.now.lines }
+        requires point { HasPoint self.now.messages point }
+        ensures { result.now ≡ acts_on ((net_by self.now.messages).label point) (lines_at self.now.lines role) }
+    {
+        self.acts[role.0 as usize].at(point)
     }
 }
 
@@ -191,45 +233,44 @@ impl Script {
         vars
     }
 
-    // The variables behind an event with this label.
+    // Carries out the lines at these places, of those that set a variable; answers what they may have changed.
     #[inline(always)]
-    fn behind(&self, label: &[u8], value: i64, vars: &Vars) -> Vars
-        ensures { result ≡ carry_out label.now value self.now vars.now }
+    fn carry_out(&self, on: &[usize], value: i64, vars: &mut Vars) -> Changed
+        ensures vars { vars.new ≡ set_by_all self.now on.now value vars.old }
+        ensures changed { IsChange result vars.old vars.new }
     {
-        let mut now = *vars;
-        for line in self.lines.as_slice() {
-            if let Line::On {
-                label: other,
-                place,
-                number,
-            } = line
-            {
-                if is(other.as_slice(), label) {
-                    let number = number.value(&now, value, 0);
-                    set(&mut now, *place, number);
-                }
-            }
+        let mut changed = Changed::Nothing;
+        for line in on {
+            changed = self.set(*line, value, vars, changed);
         }
-        now
+        changed
     }
 
-    // The number that is sent with this label.
+    // Carries out the line at a place, if it sets a variable; answers what may have changed behind such a change.
     #[inline(always)]
-    fn number(&self, label: &[u8], vars: &Vars, attempt: u32) -> i64
-        ensures { result ≡ number_for label.now self.now vars.now attempt }
+    fn set(&self, line: usize, value: i64, vars: &mut Vars, changed: Changed) -> Changed
+        ensures vars { vars.new ≡ set_by (slice_get self.now line) value vars.old }
+        ensures changed { (from : List ℤ) → IsChange changed from vars.old → IsChange result from vars.new }
     {
-        for line in self.lines.as_slice() {
-            if let Line::Send {
-                label: other,
-                number,
-            } = line
-            {
-                if is(other.as_slice(), label) {
-                    return number.value(vars, 0, attempt);
-                }
+        match self.lines.get(line) {
+            Some(Line::On { place, number, .. }) => {
+                let number = number.value(vars, value, 0);
+                set(vars, *place, number);
+                behind_set(changed, *place)
             }
+            _ => changed,
         }
-        0
+    }
+
+    // The number that the line at this place sends; 0 where there is none.
+    #[inline(always)]
+    fn number(&self, send: usize, vars: &Vars, attempt: u32) -> i64
+        ensures { result ≡ sent_by (slice_get self.now send) vars.now attempt }
+    {
+        match self.lines.get(send) {
+            Some(Line::Send { number, .. }) => number.value(vars, 0, attempt),
+            _ => 0,
+        }
     }
 
     // The offered point that is chosen.
@@ -272,6 +313,21 @@ fn label_of(messages: &[Message], point: Point) -> &[u8]
 {
     let message = &messages[point.0 as usize - 1];
     message.label.as_slice()
+}
+
+// Which lines of each script are for each point.
+fn acts_of(
+    alloc: Global,
+    roles: &[Script],
+    messages: &[Message],
+) -> Result<Vec<ActsByPoint>, AllocError>
+    ensures { IfOk result (λ acts. acts.items ≡ map (acts_by_point messages.now) roles.now) }
+{
+    let mut acts = Vec::new(alloc);
+    for script in roles {
+        acts.push(ActsByPoint::of(alloc, script.lines.as_slice(), messages)?)?;
+    }
+    Ok(acts)
 }
 
 // A copy of the messages of all points.

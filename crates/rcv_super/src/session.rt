@@ -63,7 +63,7 @@ pub enum Turn {
     Limited,
 }
 
-/// Why a turn or a recovery failed.
+/// Why a turn, a run to the end or a recovery failed.
 #[derive(Clone, Copy, Debug, PartialEq, Eq)]
 pub enum SessionError {
     /// An earlier call found no memory.

@@ -4,13 +4,15 @@ use Rattle.std.specs.Prelude.{slice_range}
 use Rattle.rcv_tree.specs.declared.protocol.Protocol.{Protocol}
 use Rattle.rcv_session.specs.Session.{SessionView}
 use Rattle.rcv_accept.specs.Accepted.{IsAcceptedProtocol}
-use Rattle.rcv_script.specs.Machine.{no_lines}
+use Rattle.rcv_script.specs.Meaning.{no_lines}
 use Rattle.rcv_lexer.specs.declared.parts.Parts.{Parts}
 use Rattle.rcv_lexer.specs.Parts.{parts_of}
 use Rattle.rcv_lexer.specs.Tokens.{AreTokens}
 use Rattle.rcv_printer.specs.CanonicalText.{canonical}
 use Rattle.rcv_printer.specs.Laws.{IsReadAs}
 use Rattle.rcv_printer.proofs.ReadBack.{reads_back}
+use Rattle.rcv_script.specs.Scripts.{messages_of}
+use Rattle.rcv_script.proofs.Answering as scripts
 use Rattle.rcv_plan.proofs.Answered.{none_read}
 use Rattle.rcv_input.specs.Input.{IsTaken}
 use Rattle.rcv_top.specs.declared.status.Status.{Status}
@@ -32,7 +34,7 @@ bare p = record { protocol = p; scripts = no_lines p.roles; plan = [] }
 taken_again : (text : List ℕ) (p : Protocol) → IsReadAs text p → IsAcceptedProtocol p → IsTaken text (bare p)
 taken_again text p back lawful = record {
   protocol = record { text = record { tokens = back.tokens; cut = subst (λ (parts : Parts). AreTokens text parts.protocol back.tokens) (sym back.one_part) back.are_tokens; read = back.read }; accepted = lawful };
-  are_scripts = record { tokens = []; cut = subst (λ (parts : Parts). AreTokens text parts.scripts []) (sym back.one_part) ([], nothing_there text (length text), refl); read = refl };
+  are_scripts = record { tokens = []; cut = subst (λ (parts : Parts). AreTokens text parts.scripts []) (sym back.one_part) ([], nothing_there text (length text), refl); read = scripts.none_read p.roles (messages_of p) };
   plan = record { tokens = []; cut = subst (λ (parts : Parts). AreTokens text parts.plan []) (sym back.one_part) ([], nothing_there text (length text), refl); read = none_read p.roles };
 }
 

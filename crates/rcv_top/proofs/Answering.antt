@@ -35,6 +35,7 @@ use Rattle.rcv_top.specs.Headline.{IsExactRecovery, IsHeadline}
 use Rattle.rcv_top.proofs.Asking.{one_command, text_given, gen_asks, none_asks}
 use Rattle.rcv_top.specs.Calls.{Around, Answers, TellsFault, WroteNothing, source_of, HasTaken, IsInput, TakesTooMuch, WantsMemory, FailsToRead, Says, WritesLegalJournal}
 use Rattle.rcv_top.specs.Writing.{Wrote}
+use Rattle.rcv_top.proofs.Traceless.{traceless_so}
 
 nothing_more : (o : Option (List ℕ)) → append_known o [] ≡ o
 nothing_more None = refl
@@ -283,4 +284,5 @@ wrote_headline words call command v bytes status result workers json is run got 
           is_journal = held.is_journal;
           writes = w.1;
           headline = session_headline json text.input session held.journal s bytes taken held.is_journal;
+          traceless = traceless_so json text.input session held.journal s bytes taken held.is_journal;
         }

@@ -84,6 +84,11 @@ written : (json : Bool) (session : SessionView) (journal : List Entry) (lines : 
 written true session journal lines are = (json_text session journal lines, record { lines = lines; are_lines = are; is_json = refl })
 written false session journal lines are = (journal_text session journal lines, record { lines = lines; are_lines = are; is_text = refl })
 
+pub has_text : (json : Bool) (session : SessionView) (journal : List Entry) → IsProper (rules_of session).net (rules_of session).roles → (bytes : List ℕ) × IsWritten json session journal bytes
+has_text json session journal lawful =
+    let s : State = reading (rules_of session) journal in
+    written json session journal (lines_from (rules_of session) s lawful 0 (rules_of session).roles) (are_lines (rules_of session) s lawful)
+
 -- ---- the session of a text
 
 -- the journal of one thread, which is legal and final, with the lines of the roles

@@ -4,7 +4,7 @@ use Rattle.std.specs.Prelude.{◌↔◌}
 use Rattle.rcv_session.specs.Session.{rules_of}
 use Rattle.rcv_accept.specs.Accepted.{IsAcceptedProtocol, net_for}
 use Rattle.rcv_lexer.specs.Parts.{parts_of}
-use Rattle.rcv_reader.specs.Grammar.{spelling}
+use Rattle.rcv_syntax.specs.Grammar.{spelling}
 use Rattle.rcv_reader.specs.Refusals.{IsRead}
 use Rattle.rcv_grammar.specs.Canonical.{source_of}
 use Rattle.rcv_grammar.specs.Laws.{SayTheSame}

@@ -11,4 +11,6 @@ pub mod RoleTexts
 pub mod TableTexts
 pub mod Existing
 pub mod Again
+pub mod Traceless
 mod Examples
+mod Unseen

@@ -60,19 +60,19 @@ ran workers json session setup first last book which empty finished same status 
     run_of workers json session setup first.book last status bytes which (ap (λ (v : SuperView). v.book) empty) finished
     (subst (λ (b : BookView). IsJournalOf json b.setup b.entries status bytes) same held)
 
--- the summary of what one worker brought to its end
-pub summed : (number : ℕ) (session setup : SessionView) (first : SuperView) (last book : BookView) (status : Status) (bytes : List ℕ) → setup ≡ session
-    → first ≡ record { book = record { setup = setup; entries = [] }; closed = false } → HasFinished 1 first.book last → book ≡ last
-    → IsSummaryOf book.setup book.entries number bytes → status ≡ statuses.Completed → IsSummaryRun number session status bytes
-summed number session setup first last book status bytes which empty finished same summary completed =
-    let e = ended session setup first.book last which (ap (λ (v : SuperView). v.book) empty) (finished.alone refl) in
+-- the summary of what a book alone brought to its end
+pub summed : (number : ℕ) (session setup : SessionView) (first last : BookView) (status : Status) (bytes : List ℕ) → setup ≡ session
+    → first ≡ record { setup = setup; entries = [] } → EndsAlone first last
+    → IsSummaryOf last.setup last.entries number bytes → status ≡ statuses.Completed → IsSummaryRun number session status bytes
+summed number session setup first last status bytes which empty ends summary completed =
+    let e = ended session setup first last which empty ends in
     let law = one_journal (rules_of session) e.journal e.journal in
     record {
       journal = e.journal;
       legal = law.legal e.alone;
       final = law.final e.alone;
       alone = e.alone;
-      summary = subst (λ (b : BookView). IsSummaryOf b.setup b.entries number bytes) (same ∙ e.is) summary;
+      summary = subst (λ (b : BookView). IsSummaryOf b.setup b.entries number bytes) e.is summary;
       completed = completed;
     }
 

@@ -7,6 +7,8 @@ use Rattle.rcv_io.specs.Causes.{Rose}
 use Rattle.rcv_io.specs.Source.{Took}
 use Rattle.rcv_io.specs.Sink.{WroteBeginning}
 use Rattle.rcv_session.specs.Session.{SessionView, rules_of}
+use Rattle.rcv_transparent.specs.Calm.{ReadsNoAttempt}
+use Rattle.rcv_transparent.specs.Traces.{LeavesNoTrace}
 use Rattle.rcv_top.specs.declared.status.Status.{Status}
 use Rattle.rcv_top.specs.declared.status.Status.TheVariants.{Completed, Usage, Refused, Limited, ReadFault, WriteFault, Memory, TooLong}
 use Rattle.rcv_top.specs.Commands.{AskForSource}
@@ -140,7 +142,7 @@ pub record TellsFault (before now : ℕ) (fault result : Status) : Type 0 where
   pub always : before < now → result ≡ fault
 
 -- The whole input is taken as a session, and what was written is the JSON or the text of a journal of it that is as the
--- headline says.
+-- headline says. Where all roles come to be done and no script reads the attempt, its crashes leave no trace in what is kept.
 pub record WritesLegalJournal (json : Bool) (call : Around) (status : Status) : Type 0 where
   pub input : List ℕ
   pub takes : Takes call input
@@ -152,3 +154,4 @@ pub record WritesLegalJournal (json : Bool) (call : Around) (status : Status) : 
   pub is_journal : IsJournalOf json session journal status bytes
   pub writes : call.written_after ≡ append_known call.written_before bytes
   pub headline : IsHeadline (rules_of session) journal
+  pub traceless : status ≡ Completed → ReadsNoAttempt session → LeavesNoTrace session journal

@@ -3,10 +3,6 @@ use Rattle.std.specs.Prelude.{◌≤◌, ℕ, Bool, List, ⊤}
 use Rattle.rcv_words.specs.Commands.{CommandView, Run, Gen, IsCommand}
 use Rattle.rcv_gen.specs.Generated.{generated}
 
--- The words are a command.
-abbrev pub IsSomeCommand : List (List ℕ) → Type 0
-IsSomeCommand words = (command : CommandView) × IsCommand words command
-
 -- The words ask for more than one worker.
 abbrev pub AskForSeveral : List (List ℕ) → Type 0
 AskForSeveral words = (workers : ℕ) × (json : Bool) × (2 ≤ workers) × IsCommand words (Run workers json)

@@ -3,10 +3,12 @@ use Rattle.std.specs.Prelude.{◌≡◌, ℕ, ◌≤◌, Bool, codes, List, [], 
 use Rattle.rcv_tree.specs.declared.entry.Entry.{Entry}
 use Rattle.rcv_session.specs.Session.{SessionView, rules_of}
 use Rattle.rcv_input.specs.Input.{IsTaken}
+use Rattle.rcv_transparent.specs.Calm.{calm, ReadsNoAttempt}
+use Rattle.rcv_transparent.specs.Traces.{LeavesNoTrace}
 use Rattle.rcv_top.specs.declared.status.Status.{Status}
 use Rattle.rcv_top.specs.declared.status.Status.TheVariants.{Completed}
 use Rattle.rcv_top.specs.Commands.{AskForSeveral}
-use Rattle.rcv_top.specs.Running.{IsJournalOf, IsOneThreadRun}
+use Rattle.rcv_top.specs.Running.{IsJournalOf, IsOneThreadRun, IsRunOf}
 use Rattle.rcv_top.specs.Outcome.{most_bytes, IsOutcome}
 use Rattle.rcv_top.specs.Headline.{IsHeadline}
 
@@ -30,6 +32,26 @@ abbrev pub SessionsAreLegal : Type 0
 SessionsAreLegal =
     (json : Bool) (input : List ℕ) (session : SessionView) (journal : List Entry) (status : Status) (bytes : List ℕ)
     → IsTaken input session → IsJournalOf json session journal status bytes → IsHeadline (rules_of session) journal
+
+-- An input whose scripts don't read the attempt is taken as this session, and this journal of it leaves all roles done.
+pub record CompletesBlind (json : Bool) (input : List ℕ) (session : SessionView) (journal : List Entry) (bytes : List ℕ) : Type 0 where
+  pub taken : IsTaken input session
+  pub blind : ReadsNoAttempt session
+  pub is_journal : IsJournalOf json session journal Completed bytes
+
+-- Its crashes leave no trace in what is kept.
+abbrev pub SessionsLeaveNoTrace : Type 0
+SessionsLeaveNoTrace =
+    (json : Bool) (input : List ℕ) (session : SessionView) (journal : List Entry) (bytes : List ℕ)
+    → CompletesBlind json input session journal bytes → LeavesNoTrace session journal
+
+-- And so many workers complete the session without its crash lines, however many they are.
+abbrev pub CalmSessionsComplete : Type 0
+CalmSessionsComplete =
+    (json : Bool) (input : List ℕ) (session : SessionView) (journal : List Entry) (bytes : List ℕ)
+    → CompletesBlind json input session journal bytes
+    → (workers : ℕ) (as_json : Bool) (status : Status) (written : List ℕ) → IsRunOf workers as_json (calm session) status written
+    → status ≡ Completed
 
 -- The session of each input that is taken comes to its end: all roles are done, or some role is at the limit.
 abbrev pub SessionsEnd : Type 0

@@ -16,7 +16,9 @@ Wrote before after faults_before faults_after bytes status result =
     ⊎ ((result ≡ WriteFault) × Rose faults_before faults_after × WroteBeginning before after bytes)
 
 -- A status and bytes of this kind were written so.
-pub record WroteSome (IsKind : Status → List ℕ → Type 0) (before after : Option (List ℕ)) (faults_before faults_after : ℕ) (result : Status) : Type 0 where
+pub record WroteSome
+    (IsKind : Status → List ℕ → Type 0)
+    (before after : Option (List ℕ)) (faults_before faults_after : ℕ) (result : Status) : Type 0 where
   pub status : Status
   pub bytes : List ℕ
   pub is_kind : IsKind status bytes
@@ -29,7 +31,8 @@ Writes IsKind before after faults_before faults_after (Err e) = (after ≡ befor
 
 -- What was made was written, if it was made.
 abbrev pub Put : Result Output AllocError → Option (List ℕ) → Option (List ℕ) → ℕ → ℕ → Result Status AllocError → Type 0
-Put (Ok output) before after faults_before faults_after (Ok result) = Wrote before after faults_before faults_after output.bytes.items output.status result
+Put (Ok output) before after faults_before faults_after (Ok result) =
+    Wrote before after faults_before faults_after output.bytes.items output.status result
 Put (Err e) before after faults_before faults_after (Err d) = (after ≡ before) × (faults_after ≡ faults_before)
 Put (Ok output) before after faults_before faults_after (Err d) = ⊥
 Put (Err e) before after faults_before faults_after (Ok result) = ⊥

@@ -58,7 +58,7 @@ pub fn answer<R: Threads + Sync, K: Sink, G: Gate>(
                 project_role(alloc, &taken.accepted, role.as_slice()),
             ),
             Command::Table => put(sink, write_tables(alloc, &taken.accepted)),
-            Command::Gen { number } => put(sink, run_generated(rt, alloc, taken, *number, gate)),
+            Command::Gen { number } => put(sink, run_generated(alloc, taken, *number)),
         },
         Err(error) => put(sink, refuse(alloc, error)),
     }

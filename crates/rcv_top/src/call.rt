@@ -44,6 +44,9 @@ const USAGE: &[u8] =
 /// `run` without `--workers` asks for one worker. One worker writes the one journal of the session that one thread makes;
 /// several ones run the roles on as many threads, and which journal of the session they write may differ from call to
 /// call. `gate` is called before each step that a role attempts, and with a failed role before its recovery.
+///
+/// Where the session completed and no script reads the attempt, what each role kept and each channel carried is, but for
+/// stamps, what one thread makes of the session without its crash lines, which completes, too.
 pub fn recover<R: Threads + Sync, S: Source, K: Sink, G: Gate>(
     rt: &R,
     alloc: Global,
@@ -54,7 +57,8 @@ pub fn recover<R: Threads + Sync, S: Source, K: Sink, G: Gate>(
 ) -> Status
     ensures says { Says (texts_of words.now)
         (around S.rest S.given S.faults source.old source.new K.written K.faults sink.old sink.new) result }
-    ensures headline { (workers : ℕ) (json : Bool) → IsCommand (texts_of words.now) (Run workers json) → (result ≡ Status.Completed) ⊎ (result ≡ Status.Limited)
+    ensures headline { (workers : ℕ) (json : Bool) → IsCommand (texts_of words.now) (Run workers json)
+        → (result ≡ Status.Completed) ⊎ (result ≡ Status.Limited)
         → WritesLegalJournal json (around S.rest S.given S.faults source.old source.new K.written K.faults sink.old sink.new) result }
     ensures source_faults { TellsFault (S.faults source.old) (S.faults source.new) Status.ReadFault result }
     ensures sink_faults { TellsFault (K.faults sink.old) (K.faults sink.new) Status.WriteFault result }

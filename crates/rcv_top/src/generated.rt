@@ -10,7 +10,6 @@ ghost use Rattle.rcv_journal.specs.Lines.{AreLinesOf};
 ghost use Rattle.rcv_top.specs.Generating.{kept_in, IsSummaryOf, IsSummaryRun};
 
 use crate::output::Output;
-use crate::run::finish;
 use crate::status::Status;
 use rcv_core::book::Book;
 use rcv_core::setup::Setup;
@@ -19,19 +18,11 @@ use rcv_input::Input;
 use rcv_journal::line::RoleLine;
 use rcv_journal::role_lines::lines_of;
 use rcv_journal::text::last_line_of;
-use rcv_role::gate::Gate;
-use rcv_super::session::Session;
 use std::alloc::{AllocError, Global};
-use std::thread::Threads;
 
-/// Runs the session of the generated input with this number by one thread, and writes the summary of its journal.
-pub fn run_generated<R: Threads + Sync, G: Gate>(
-    rt: &R,
-    alloc: Global,
-    taken: Input,
-    number: u32,
-    gate: &G,
-) -> Result<Output, AllocError>
+/// Runs the session of the generated input with this number by one thread, and writes the summary of its journal. A book
+/// alone does that: no cell is needed.
+pub fn run_generated(alloc: Global, taken: Input, number: u32) -> Result<Output, AllocError>
     requires belong { AreScriptsFor taken.accepted.protocol taken.scripts }
     requires planned { IsPlanned (length taken.accepted.protocol.roles) taken.plan }
     ensures { IfOk result (λ output. IsSummaryRun number
@@ -39,11 +30,11 @@ pub fn run_generated<R: Threads + Sync, G: Gate>(
         output.status output.bytes.items) }
 {
     let setup = Setup::new(alloc, taken.accepted, taken.scripts, taken.plan)?;
-    let mut session = Session::new(alloc, &setup)?;
-    finish(rt, alloc, &mut session, 1, gate)?;
+    let mut book = Book::new(alloc, &setup)?;
+    book.run_alone();
     Ok(Output {
         status: Status::Completed,
-        bytes: summary_of(alloc, session.book(), number)?,
+        bytes: summary_of(alloc, &book, number)?,
     })
 }
 

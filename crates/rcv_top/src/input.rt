@@ -16,7 +16,7 @@ use std::alloc::Global;
 const MOST: usize = 1_048_576;
 
 // The number of the text that a command generates; none of a command that works on the source.
-fn number_of(command: &Command) -> Option<u32>
+fn generated_number(command: &Command) -> Option<u32>
     ensures some { IfSome result (λ number. view_of command.now ≡ Gen number) }
     ensures none { IfNone result (WorksOnSource (view_of command.now)) }
 {
@@ -43,7 +43,7 @@ pub fn input_of<S: Source>(
     ensures later { S.faults source.old ≤ S.faults source.new }
     ensures got { HasGot (view_of command.now) (reading_of S.rest S.given S.faults source.old source.new) result }
 {
-    match number_of(command) {
+    match generated_number(command) {
         Some(number) => Ok(generate(alloc, number)?),
         None => read_all(alloc, source, MOST),
     }

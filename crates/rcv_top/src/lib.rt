@@ -1,7 +1,8 @@
 // The whole program as one call: from words and an input to a status and bytes.
 #![tactic(auto)]
 
-ghost use Rattle.rcv_top.specs.Laws.{ChecksStay, OneOutcome, OutcomesExist, SessionsAreLegal, SessionsEnd};
+ghost use Rattle.rcv_top.specs.Laws.{ChecksStay, OneOutcome, OutcomesExist};
+ghost use Rattle.rcv_top.specs.Laws.{CalmSessionsComplete, SessionsAreLegal, SessionsEnd, SessionsLeaveNoTrace};
 
 mod answer;
 mod call;
@@ -29,6 +30,16 @@ pub fn outcomes_exist()
 /// The journal of each session is what the headline says.
 pub fn sessions_are_legal()
     ensures { SessionsAreLegal }
+{}
+
+/// Where no script reads the attempt and the session completes, its crashes leave no trace in what is kept.
+pub fn sessions_leave_no_trace()
+    ensures { SessionsLeaveNoTrace }
+{}
+
+/// The session without its crash lines completes then, with each number of workers.
+pub fn calm_sessions_complete()
+    ensures { CalmSessionsComplete }
 {}
 
 /// The session of each input that is taken completes, or it is limited by a role at the limit.

@@ -52,6 +52,7 @@ pub record Given : Type 0 where
   pub role : Option Text
   pub number : Option ℕ
 
+-- The number that is given for the option. `one_of` gives the text without a `-` in front, which only a 0 that passed has.
 abbrev pub number_in : Text → List Row → Option ℕ
 number_in name rows = option_map (λ text. digits_value 10 (without_leading_plus text)) (one_of name rows)
 
@@ -85,7 +86,12 @@ pub record HasOptions (g : Given) (r : Option Text) (n : Option ℕ) : Type 0 wh
 
 -- What is given says the command: its word and its options, and no option of another one.
 abbrev pub Says : Given → CommandView → Type 0
-Says g (Run workers json) = (g.command ≡ Some (codes "run")) × (unwrap_or g.workers 1 ≡ workers) × (g.json ≡ json) × (g.role ≡ None) × (g.number ≡ None)
+Says g (Run workers json) =
+    (g.command ≡ Some (codes "run"))
+    × (unwrap_or g.workers 1 ≡ workers)
+    × (g.json ≡ json)
+    × (g.role ≡ None)
+    × (g.number ≡ None)
 Says g Check = (g.command ≡ Some (codes "check")) × HasOptions g None None
 Says g (Project role) = (g.command ≡ Some (codes "project")) × HasOptions g (Some role) None
 Says g Table = (g.command ≡ Some (codes "table")) × HasOptions g None None

@@ -1,5 +1,5 @@
 use Rattle.rcv_grammar.specs.Canonical.{source_of}
-use Rattle.rcv_reader.specs.Grammar.{spelling}
+use Rattle.rcv_syntax.specs.Grammar.{spelling}
 use Rattle.rcv_printer.specs.CanonicalText.{canonical}
 use Rattle.rcv_printer.proofs.Spelled.{says_canonical}
 use Rattle.rcv_printer.proofs.Whole.{is_text_of}

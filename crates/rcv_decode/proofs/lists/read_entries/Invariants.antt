@@ -2,7 +2,7 @@
 use Rattle.std.proofs.Common.{map}
 use Rattle.serde_json.specs.View.{view}
 use Rattle.rcv_form.specs.Journal.{bare}
-use Rattle.rcv_decode.specs.Parts.{AreFirstEntries}
+use Rattle.rcv_decode.proofs.Firsts.{AreFirstEntries}
 use Rattle.rcv_decode.proofs.lists.read_entries.Given as goal
 
 abbrev pub invariant-loop-part : goal.invariant-loop-part

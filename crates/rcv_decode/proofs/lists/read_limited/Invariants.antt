@@ -2,7 +2,7 @@
 use Rattle.std.proofs.Common.{map}
 use Rattle.serde_json.specs.View.{view}
 use Rattle.rcv_form.specs.Journal.{bare}
-use Rattle.rcv_decode.specs.Parts.{AreFirstLimited}
+use Rattle.rcv_decode.proofs.Firsts.{AreFirstLimited}
 use Rattle.rcv_decode.proofs.lists.read_limited.Given as goal
 
 abbrev pub invariant-loop-part : goal.invariant-loop-part

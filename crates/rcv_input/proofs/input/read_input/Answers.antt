@@ -1,6 +1,6 @@
 -- A rule of acceptance that fails.
 use Rattle.std.proofs.lemmas.Result.{err_from_is_err_and}
-use Rattle.rcv_reader.specs.Symbols.{symbols_of}
+use Rattle.rcv_syntax.specs.Symbols.{symbols_of}
 use Rattle.rcv_lexer.specs.Parts.{parts_of}
 use Rattle.rcv_grammar.proofs.Filling.{read_texts_are_full}
 use Rattle.rcv_grammar.proofs.Named.{read_texts_have_names}

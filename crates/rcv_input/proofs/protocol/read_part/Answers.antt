@@ -4,7 +4,7 @@ use Rattle.std.specs.Prelude.{MatchResult}
 use Rattle.std.proofs.lemmas.Result.{err_from_is_err_and}
 use Rattle.rcv_lexer.specs.declared.token.Token.{Token}
 use Rattle.rcv_lexer.specs.Tokens as lexer
-use Rattle.rcv_reader.specs.Symbols.{symbols_of}
+use Rattle.rcv_syntax.specs.Symbols.{symbols_of}
 use Rattle.rcv_reader.specs.Refusals as reader
 use Rattle.rcv_input.proofs.Reading.{by_letter, text_read}
 use Rattle.rcv_input.proofs.protocol.read_part.Goals as goal

@@ -1,8 +1,8 @@
 use Rattle.std.proofs.Common.{◌∷◌, [], ℕ, List, ◌++◌, refl, sym, ap, ◌∙◌, arith}
 use Rattle.std.proofs.lemmas.Result.{err_from_is_err_and}
 use Rattle.rcv_tree.specs.declared.statement.Block.{Block}
-use Rattle.rcv_reader.specs.Symbols.{Word}
-use Rattle.rcv_reader.specs.Machine.{RecName, First}
+use Rattle.rcv_syntax.specs.Symbols.{Word}
+use Rattle.rcv_machine.specs.Machine.{RecName, First}
 use Rattle.rcv_reader.specs.Descent.{place_at}
 use Rattle.rcv_reader.proofs.Stops.{no_name}
 use Rattle.rcv_reader.proofs.Going.{halts_behind}

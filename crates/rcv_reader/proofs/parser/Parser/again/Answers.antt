@@ -1,8 +1,8 @@
 use Rattle.std.proofs.Common.{◌∷◌, ℕ, List, refl, sym, ap, ◌∙◌}
-use Rattle.rcv_reader.specs.Symbols.{Word}
+use Rattle.rcv_syntax.specs.Symbols.{Word}
 use Rattle.rcv_reader.proofs.Blocks.{again_read}
 use Rattle.rcv_reader.specs.Descent.{place_at}
-use Rattle.rcv_reader.specs.Machine.{AgainName}
+use Rattle.rcv_machine.specs.Machine.{AgainName}
 use Rattle.rcv_reader.proofs.Stops.{no_name}
 use Rattle.rcv_reader.proofs.parser.Parser.again.Goals as goal
 

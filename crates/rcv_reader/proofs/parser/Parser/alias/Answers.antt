@@ -1,5 +1,5 @@
 use Rattle.std.proofs.Common.{refl}
-use Rattle.rcv_reader.specs.Machine.{Alias}
+use Rattle.rcv_machine.specs.Machine.{Alias}
 use Rattle.rcv_reader.proofs.Stops.{no_name}
 use Rattle.rcv_reader.proofs.parser.Parser.alias.Goals as goal
 

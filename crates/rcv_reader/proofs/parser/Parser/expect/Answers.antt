@@ -1,4 +1,4 @@
-use Rattle.rcv_reader.specs.Symbols.{Is}
+use Rattle.rcv_syntax.specs.Symbols.{Is}
 use Rattle.rcv_reader.proofs.Stops.{no_sign}
 use Rattle.rcv_reader.proofs.parser.Parser.expect.Goals as goal
 

@@ -1,8 +1,8 @@
 use Rattle.std.proofs.Common.{◌∷◌, [], ◌∙◌}
 use Rattle.std.proofs.lemmas.Result.{err_from_is_err_and}
-use Rattle.rcv_reader.specs.declared.sign.Sign.TheVariants as sign
-use Rattle.rcv_reader.specs.Symbols.{Is}
-use Rattle.rcv_reader.specs.Machine.{This, AnyName, MoreModules, Decls, RoleName}
+use Rattle.rcv_syntax.specs.declared.sign.Sign.TheVariants as sign
+use Rattle.rcv_syntax.specs.Symbols.{Is}
+use Rattle.rcv_machine.specs.Machine.{This, AnyName, MoreModules, Decls, RoleName}
 use Rattle.rcv_reader.proofs.Going.{halts_behind}
 use Rattle.rcv_reader.proofs.parser.Parser.head.Goals as goal
 

@@ -1,5 +1,5 @@
 use Rattle.std.proofs.Common.{refl}
-use Rattle.rcv_reader.specs.Machine.{AnyName}
+use Rattle.rcv_machine.specs.Machine.{AnyName}
 use Rattle.rcv_reader.proofs.Stops.{no_name}
 use Rattle.rcv_reader.proofs.parser.Parser.name.Goals as goal
 

@@ -1,7 +1,7 @@
 use Rattle.std.proofs.Common.{refl}
-use Rattle.rcv_reader.specs.Machine.{Receiver}
+use Rattle.rcv_machine.specs.Machine.{Receiver}
 use Rattle.rcv_reader.proofs.Stops.{no_name}
 use Rattle.rcv_reader.proofs.parser.Parser.receiver.Goals as goal
 
 pub returns-in_default-clause-goes : goal.returns-in_default-clause-goes
-returns-in_default-clause-goes c = no_name _ (Receiver c.args.heading.now.sender c.args.before.now) _ refl c.in_default.ensures.none
+returns-in_default-clause-goes c = no_name _ (Receiver c.args.sender c.args.before.now) _ refl c.in_default.ensures.none

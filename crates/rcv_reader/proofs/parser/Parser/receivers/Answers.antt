@@ -1,18 +1,22 @@
-use Rattle.std.proofs.Common.{◌∙◌}
+use Rattle.std.proofs.Common.{◌∙◌, ℕ, List, [], ◌∷◌, ◌++◌, ap}
+use Rattle.std.proofs.lemmas.Result.{err_from_is_err_and}
+use Rattle.rcv_reader.proofs.Going.{halts_behind}
 use Rattle.rcv_reader.proofs.Reading.{receivers_to_end, receivers_next, receivers_read}
-use Rattle.rcv_reader.proofs.Blocks.{goes_behind, on_ok}
 use Rattle.rcv_reader.proofs.parser.Parser.receivers.Goals as goal
 
-pub loop-alloc-preserved : goal.loop-alloc-preserved
-loop-alloc-preserved c =
-    receivers_next _ _ _ _ _ _ _ _ _ _ _ _ _ _ _ _ _ _ _ _ _ _ _ _ c.loop-alloc.invariant (c.takes.ensures.yes c.loop-alloc-test.true) c.takes.ensures.kept
-    c.in_ok-receiver-2.ensures.goes c.in_ok-receiver-2.ensures.read c.in_ok-receiver-2.ensures.counted c.receiver-in-loop-alloc.ensures.kept c.receiver-in-loop-alloc.ensures.shorter (c.takes.ensures.taken c.loop-alloc-test.true)
+pub loop-sender-preserved : goal.loop-sender-preserved
+loop-sender-preserved c =
+    receivers_next _ _ _ _ _ _ _ _ _ _ _ _ _ _ _ _ c.in_ok-last-2.last _ _ _ _ c.loop-sender.invariant (c.takes.ensures.yes c.loop-sender-test.true) c.takes.ensures.kept
+    (c.as_slice-in-loop-sender.ensures ∙ c.in_ok-push.ensures.ok) (ap (λ (x : List ℕ). x ++ c.in_ok-last-2.last ∷ []) c.in_ok-push.ensures.ok)
+    c.in_ok-last-2.ensures.goes c.in_ok-last-2.ensures.read c.in_ok-last-2.ensures.counted c.receiver-in-loop-sender.ensures.kept c.receiver-in-loop-sender.ensures.shorter
+    (c.takes.ensures.taken c.loop-sender-test.true)
 
-pub returns-clause-goes : goal.returns-clause-goes
-returns-clause-goes c =
-    goes_behind _ c.expect.result _ _ _ _ _ _ _ _ _
-    (receivers_to_end _ _ _ _ _ _ _ _ _ _ _ _ _ _ _ _ _ _ c.loop-alloc.invariant (c.takes.ensures.no c.loop-alloc-test.false) c.takes.ensures.kept) c.expect.ensures.goes
+pub returns-in_err-expect-clause-goes : goal.returns-in_err-expect-clause-goes
+returns-in_err-expect-clause-goes c =
+    let p = err_from_is_err_and c.from_residual-in_err-expect.result c.from_residual-in_err-expect.ensures.1 in
+    rw (p.1, p.2) (halts_behind c.in_err-expect.field-0.0 _ _ _ _ _ _ _
+    (receivers_to_end _ _ _ _ _ _ _ _ _ _ _ _ _ _ c.loop-sender.invariant (c.takes.ensures.no c.loop-sender-test.false) c.takes.ensures.kept)
+    c.in_err-expect.ensures.goes)
 
 pub returns-clause-read : goal.returns-clause-read
-returns-clause-read c =
-    on_ok _ c.expect.result _ _ (λ e. receivers_read _ _ _ _ _ _ _ _ _ _ _ _ _ _ _ _ _ c.loop-alloc.invariant (c.takes.ensures.no c.loop-alloc-test.false) (c.expect.ensures.kept.2 ∙ c.takes.ensures.kept.2) e) c.expect.ensures.read
+returns-clause-read c = receivers_read _ _ _ _ _ _ _ _ _ _ _ _ c.loop-sender.invariant (c.takes.ensures.no c.loop-sender-test.false) c.in_ok-expect.ensures.read

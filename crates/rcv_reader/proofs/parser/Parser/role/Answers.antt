@@ -1,5 +1,5 @@
 use Rattle.std.proofs.Common.{refl}
-use Rattle.rcv_reader.specs.Machine.{Subject, Sender}
+use Rattle.rcv_machine.specs.Machine.{Subject, Sender}
 use Rattle.rcv_reader.proofs.Stops.{no_name}
 use Rattle.rcv_reader.proofs.parser.Parser.role.Goals as goal
 

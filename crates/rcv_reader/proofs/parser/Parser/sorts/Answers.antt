@@ -1,6 +1,6 @@
 use Rattle.std.proofs.Common.{◌∷◌}
 use Rattle.std.proofs.lemmas.Result.{err_from_is_err_and}
-use Rattle.rcv_reader.specs.Machine.{AnyName, MoreSorts}
+use Rattle.rcv_machine.specs.Machine.{AnyName, MoreSorts}
 use Rattle.rcv_reader.proofs.Going.{halts_behind}
 use Rattle.rcv_reader.proofs.Reading.{halts_over, sorts_to_first, sorts_next, sorts_to_end}
 use Rattle.rcv_reader.proofs.parser.Parser.sorts.Goals as goal

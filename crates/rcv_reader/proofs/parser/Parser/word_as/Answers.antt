@@ -1,5 +1,5 @@
 use Rattle.std.proofs.Common.{◌∷◌, []}
-use Rattle.rcv_reader.specs.Symbols.{Word}
+use Rattle.rcv_syntax.specs.Symbols.{Word}
 use Rattle.rcv_reader.proofs.Stops.{no_sign}
 use Rattle.rcv_reader.proofs.parser.Parser.word_as.Goals as goal
 

@@ -1,12 +1,22 @@
-use Rattle.std.proofs.Common.{ℕ, List, ap, ◌∙◌}
+use Rattle.std.proofs.Common.{ℕ, List, ap, ◌∙◌, codes}
 use Rattle.std.proofs.lemmas.Result.{err_from_is_err_and}
 use Rattle.rcv_model.specs.Script.{Expr, Line, OnLine}
-use Rattle.rcv_script.specs.Machine.{AWord, on_line, with_expr, remembering, set_fault, fault_if, takes_bare, place_in}
+use Rattle.rcv_script.specs.Symbols.{Word}
+use Rattle.rcv_script.specs.Machine.{Item, This, AWord, on_line, with_expr, remembering, set_fault, fault_if, takes_bare, place_in}
 use Rattle.rcv_script.specs.declared.fault.Fault.TheVariants.{NoPayload}
 use Rattle.rcv_script.specs.Descent.{writing, place_at}
-use Rattle.rcv_script.proofs.Going.{halts_behind}
+use Rattle.rcv_script.proofs.Going.{halts_behind, stops_behind}
 use Rattle.rcv_script.proofs.Written.{on_to_place, on_to_number}
 use Rattle.rcv_script.proofs.parser.Parser.on_line.Goals as goal
+
+pub returns-in_err-expect_word-clause-goes : goal.returns-in_err-expect_word-clause-goes
+returns-in_err-expect_word-clause-goes c =
+    let p = err_from_is_err_and c.from_residual-in_err-expect_word.result c.from_residual-in_err-expect_word.ensures.1 in
+    let s = writing c.args.points.now.messages c.args.role c.args.names.now c.args.lines.now in
+    let l = c.in_ok-label.label in
+    let set : (List (List ℕ) × Line → Item) → List ℕ → Item = λ k m. AWord (set_fault s.names) (λ n. with_expr (remembering s m) (λ e. k (s.names, OnLine m (place_in s.names n) e))) in
+    rw (p.1, p.2) (stops_behind (List (List ℕ) × Line) c.in_err-expect_word.field-0.0 (λ k. on_line s k) (λ k. This (Word (codes "set")) k) (λ k. set k l) _ _ _
+    (λ k. c.in_ok-label.ensures.goes (λ m. This (Word (codes "set")) (set k m))) c.in_err-expect_word.ensures.goes)
 
 pub returns-in_err-place-clause-goes : goal.returns-in_err-place-clause-goes
 returns-in_err-place-clause-goes c =

@@ -1,0 +1,5 @@
+use Rattle.rcv_machine.proofs.Fair.{codes_are_fair}
+use Rattle.rcv_machine.proofs.codes_are_fair.Goals as goal
+
+pub returns : goal.returns
+returns c = codes_are_fair

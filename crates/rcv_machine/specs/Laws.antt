@@ -1,0 +1,41 @@
+-- What the machine's answer says in the grammar's words.
+use Rattle.std.specs.Prelude.{◌≡◌, ◌⊎◌, ◌↔◌, List, [], ◌∷◌, ◌++◌}
+use Rattle.rcv_syntax.specs.declared.sign.Sign.TheVariants.{Global}
+use Rattle.rcv_syntax.specs.declared.fault.Fault.{Fault}
+use Rattle.rcv_syntax.specs.declared.fault.Fault.TheVariants.{Token}
+use Rattle.rcv_syntax.specs.Symbols.{Symbol, Is}
+use Rattle.rcv_syntax.specs.Grammar.{IsDerived, IsBeginning}
+use Rattle.rcv_syntax.specs.Refusing.{IsFree, IsFirst}
+use Rattle.rcv_machine.specs.Machine.{State, Answer, Taken, Refuses, reading}
+
+-- At left the first wrong symbol stands, or the end where it comes too early: the symbols before are the beginning
+-- of a list that the grammar derives, and with this symbol they are not; at the end the whole list isn't derived.
+abbrev pub IsFirstWrong : List Symbol → List Symbol → Type 0
+IsFirstWrong symbols [] = IsBeginning symbols × (IsDerived symbols → ⊥)
+IsFirstWrong symbols (t ∷ ts) =
+    (front : List Symbol) × (symbols ≡ front ++ t ∷ ts) × IsBeginning front × (IsBeginning (front ++ t ∷ []) → ⊥)
+
+-- The symbols up to this one are the beginning of a list that the grammar derives, or this one begins a second protocol.
+abbrev pub IsSoFar : List Symbol → List Symbol → Type 0
+IsSoFar symbols [] = ⊥
+IsSoFar symbols (t ∷ ts) =
+    (front : List Symbol) × (symbols ≡ front ++ t ∷ ts)
+    × (IsBeginning (front ++ t ∷ []) ⊎ ((t ≡ Is Global) × IsDerived front))
+
+abbrev pub IsFair : List Symbol → Answer → Type 0
+IsFair symbols (Taken state) = IsDerived symbols
+IsFair symbols (Refuses Token left) = IsFirstWrong symbols left
+IsFair symbols (Refuses _ left) = IsSoFar symbols left
+
+-- The machine takes only what the grammar derives, and refuses at the right symbol.
+abbrev pub CodesAreFair : Type 0
+CodesAreFair = (symbols : List Symbol) → IsFair symbols (reading symbols)
+
+-- A text is taken exactly where the grammar derives it and no code holds.
+abbrev pub TextsAreTakenExactly : Type 0
+TextsAreTakenExactly = (symbols : List Symbol) → ((s : State) × (reading symbols ≡ Taken s)) ↔ (IsDerived symbols × IsFree symbols)
+
+-- It is refused exactly at the first symbol, or the end, at which a code holds, with the least one.
+abbrev pub TextsAreRefusedExactly : Type 0
+TextsAreRefusedExactly = (symbols : List Symbol) (f : Fault) (left : List Symbol) → (reading symbols ≡ Refuses f left)
+    ↔ IsFirst symbols f left

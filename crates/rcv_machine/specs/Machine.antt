@@ -1,0 +1,289 @@
+-- Reading one symbol after another, with a stack of what is awaited. Each item that needs it knows its place in the text.
+use Rattle.std.specs.Prelude.{◌≡◌, ℕ, ◌+◌, ◌-◌, ◌==◌, nat_le, Bool, true, false, not, cond, codes, List, [], ◌∷◌, ◌++◌, length, drop, Option, Some, None}
+use Rattle.std.specs.Str.{bytes_eq}
+use Rattle.rcv_tree.specs.declared.protocol.Decl.{Decl}
+use Rattle.rcv_syntax.specs.declared.sign.Sign.{Sign}
+use Rattle.rcv_syntax.specs.declared.sign.Sign.TheVariants.{Module, Global, Protocol, Role, From, To, Choice, At, Or, Rec, Continue, Par, And, Do, Open, Close, Left, Right, Comma, Semicolon, Dot, Less, Greater, Foreign}
+use Rattle.rcv_syntax.specs.declared.fault.Fault.{Fault}
+use Rattle.rcv_syntax.specs.declared.fault.Fault.TheVariants.{Token, Deep, NoName, Twice, SelfMessage, AfterContinue, Unguarded, TooMany, NotYet}
+use Rattle.rcv_syntax.specs.Symbols.{Symbol, Is, Word, Text, Number}
+use Rattle.rcv_syntax.specs.Grammar.{Written, Blocks, is_decl_word, dotted, names_behind, sort_list, roles_behind, decls, stmts, blocks_behind, IsBegun, IsProper, AreProper, AreDecls}
+use Rattle.rcv_syntax.specs.Codes.{is_among}
+use Rattle.rcv_syntax.specs.Trees.{place_of, is_listed}
+
+-- A place in a block.
+pub record Place : Type 0 where
+  pub depth : ℕ  -- so many blocks are open
+  pub recs : List (List ℕ)  -- the names of the enclosing recursions, the innermost last
+  pub comes : ℕ  -- so many of the innermost have a walk from the start of their body to here without a message
+  pub ended : Bool  -- behind a `continue` of this block
+
+pub data Item : Type 0 where
+  This : (symbol : Symbol) → Item
+  AnyName : Item
+  AnyQuoted : Item
+  MoreModules : Item  -- ("." Name)* ";"
+  Decls : (aliases : List (List ℕ)) → Item  -- decl* "global"
+  Alias : (aliases : List (List ℕ)) → Item  -- Name ";" decl* "global"
+  RoleName : Item  -- Name ("," "role" Name)* ")"
+  MoreRoles : Item  -- ("," "role" Name)* ")"
+  Sorts : Item  -- [Name ("," Name)*] ")"
+  MoreSorts : Item  -- ("," Name)* ")"
+  Subject : Item  -- Name
+  Sender : Item  -- Name "to" Name ("," Name)* ";"
+  Receiver : (sender : ℕ) (before : List ℕ) → Item  -- Name ("," Name)* ";"
+  MoreReceivers : (sender : ℕ) (before : List ℕ) → Item  -- ("," Name)* ";"
+  RecName : (place : Place) → Item  -- Name block
+  AgainName : (place : Place) → Item  -- Name ";"
+  Opening : (place : Place) → Item  -- block
+  First : (place : Place) → Item  -- stmt+ "}"
+  Rest : (place : Place) → Item  -- stmt* "}"
+  More : (place : Place) → Item  -- ("or" block)* stmt* "}"
+
+-- The roles and the number of points so far.
+pub record State : Type 0 where
+  pub roles : List (List ℕ)
+  pub count : ℕ
+
+abbrev pub known : List (List ℕ) → ℕ → State
+known roles count = record { roles = roles; count = count }
+
+-- there is a step, or the fault with the least code that holds
+pub data Outcome : Type 0 where
+  On : (state : State) (items : List Item) → Outcome
+  Wrong : (fault : Fault) → Outcome
+
+-- Behind a statement no walk comes without a message.
+abbrev pub behind : Place → Bool → Place
+behind p ended = record { depth = p.depth; recs = p.recs; comes = 0; ended = ended }
+
+abbrev pub inside : Place → Place
+inside p = record { depth = p.depth + 1; recs = p.recs; comes = p.comes; ended = false }
+
+abbrev pub inside_rec : Place → List ℕ → Place
+inside_rec p name = record { depth = p.depth; recs = p.recs ++ name ∷ []; comes = p.comes + 1; ended = false }
+
+-- the fault where the test holds, else what follows
+abbrev pub unless : Bool → Fault → Outcome → Outcome
+unless test fault next = cond test (Wrong fault) next
+
+abbrev pub named : Symbol → (List ℕ → Outcome) → Outcome
+named (Word n) next = next n
+named _ next = Wrong Token
+
+abbrev pub by_place : Option ℕ → (ℕ → Outcome) → Outcome
+by_place None next = Wrong NoName
+by_place (Some r) next = next r
+
+-- the name of a declared role
+abbrev pub role_named : State → Symbol → (ℕ → Outcome) → Outcome
+role_named s t next = named t (λ n. by_place (place_of s.roles n) next)
+
+-- one and the same
+abbrev pub same : Sign → Sign → Bool
+same Module Module = true
+same Global Global = true
+same Protocol Protocol = true
+same Role Role = true
+same From From = true
+same To To = true
+same Choice Choice = true
+same At At = true
+same Or Or = true
+same Rec Rec = true
+same Continue Continue = true
+same Par Par = true
+same And And = true
+same Do Do = true
+same Open Open = true
+same Close Close = true
+same Left Left = true
+same Right Right = true
+same Comma Comma = true
+same Semicolon Semicolon = true
+same Dot Dot = true
+same Less Less = true
+same Greater Greater = true
+same Foreign Foreign = true
+same _ _ = false
+
+abbrev pub meets : Symbol → Symbol → Bool
+meets (Is a) (Is b) = same a b
+meets (Word a) (Word b) = bytes_eq a b
+meets (Text a) (Text b) = bytes_eq a b
+meets (Number a) (Number b) = a == b
+meets _ _ = false
+
+-- What is awaited behind the symbol, where k is awaited behind the item.
+abbrev pub quoted : Symbol → Outcome → Outcome
+quoted (Text q) next = next
+quoted _ next = Wrong Token
+
+abbrev pub modules : State → Symbol → List Item → Outcome
+modules s (Is Dot) k = On s (AnyName ∷ MoreModules ∷ k)
+modules s (Is Semicolon) k = On s k
+modules s _ k = Wrong Token
+
+abbrev pub declares : State → List (List ℕ) → Symbol → List Item → Outcome
+declares s aliases (Is Global) k = On s k
+declares s aliases (Word w) k =
+    cond (is_decl_word w) (On s (This (Is Less) ∷ AnyName ∷ This (Is Greater) ∷ AnyQuoted ∷ This (Is From) ∷ AnyQuoted
+    ∷ This (Word (codes "as")) ∷ Alias aliases ∷ k)) (Wrong Token)
+declares s aliases _ k = Wrong Token
+
+abbrev pub more_roles : State → Symbol → List Item → Outcome
+more_roles s (Is Comma) k = On s (This (Is Role) ∷ RoleName ∷ k)
+more_roles s (Is Right) k = On s k
+more_roles s _ k = Wrong Token
+
+abbrev pub sorts : State → Symbol → List Item → Outcome
+sorts s (Word n) k = On s (MoreSorts ∷ k)
+sorts s (Is Right) k = On s k
+sorts s _ k = Wrong Token
+
+abbrev pub more_sorts : State → Symbol → List Item → Outcome
+more_sorts s (Is Comma) k = On s (AnyName ∷ MoreSorts ∷ k)
+more_sorts s (Is Right) k = On s k
+more_sorts s _ k = Wrong Token
+
+abbrev pub more_receivers : State → ℕ → List ℕ → Symbol → List Item → Outcome
+more_receivers s sender before (Is Comma) k = On s (Receiver sender before ∷ k)
+more_receivers s sender before (Is Semicolon) k = On s k
+more_receivers s sender before _ k = Wrong Token
+
+-- A receiver makes a point.
+abbrev pub receives : State → ℕ → List ℕ → List Item → ℕ → Outcome
+receives s sender before k r =
+    unless (is_listed r before) Twice
+    (unless (r == sender) SelfMessage
+    (unless (nat_le 256 s.count) TooMany
+    (On (record s { count = s.count + 1 }) (MoreReceivers sender (before ++ r ∷ []) ∷ k))))
+
+abbrev pub declares_role : State → List Item → List ℕ → Outcome
+declares_role s k n =
+    unless (is_among n s.roles) Twice
+    (unless (nat_le 8 (length s.roles)) TooMany
+    (On (record s { roles = s.roles ++ n ∷ [] }) (MoreRoles ∷ k)))
+
+abbrev pub opens : State → Place → Symbol → List Item → Outcome
+opens s p (Is Open) k = unless (nat_le 32 p.depth) Deep (On s (First (inside p) ∷ k))
+opens s p _ k = Wrong Token
+
+-- The name behind `continue` is that of a recursion from the start of whose body a walk comes here without a message.
+abbrev pub is_open : Place → List Symbol → Bool
+is_open p (Word n ∷ ts) = is_among n (drop (length p.recs - p.comes) p.recs)
+is_open p _ = false
+
+-- the first symbol of a statement, with the symbols behind it
+abbrev pub begins : State → Place → Symbol → List Symbol → List Item → Outcome
+begins s p (Word n) ts k =
+    unless p.ended AfterContinue (On s (This (Is Left) ∷ Sorts ∷ This (Is From) ∷ Sender ∷ Rest (behind p false) ∷ k))
+begins s p (Is Choice) ts k = unless p.ended AfterContinue (On s (This (Is At) ∷ Subject ∷ Opening p ∷ More p ∷ k))
+begins s p (Is Rec) ts k = unless p.ended AfterContinue (On s (RecName p ∷ Rest (behind p false) ∷ k))
+begins s p (Is Continue) ts k =
+    unless p.ended AfterContinue (unless (is_open p ts) Unguarded (On s (AgainName p ∷ Rest (behind p true) ∷ k)))
+begins s p (Is Par) ts k = unless p.ended AfterContinue (Wrong NotYet)
+begins s p (Is Do) ts k = unless p.ended AfterContinue (Wrong NotYet)
+begins s p _ ts k = Wrong Token
+
+abbrev pub ends : State → Place → Symbol → List Symbol → List Item → Outcome
+ends s p (Is Close) ts k = On s k
+ends s p t ts k = begins s p t ts k
+
+abbrev pub branches : State → Place → Symbol → List Symbol → List Item → Outcome
+branches s p (Is Or) ts k = On s (Opening p ∷ More p ∷ k)
+branches s p t ts k = ends s (behind p false) t ts k
+
+-- behind the protocol
+abbrev pub behind_all : Symbol → Outcome
+behind_all (Is Global) = Wrong NotYet
+behind_all _ = Wrong Token
+
+abbrev pub step : State → Symbol → List Symbol → List Item → Outcome
+step s t ts [] = behind_all t
+step s t ts (This m ∷ k) = cond (meets t m) (On s k) (Wrong Token)
+step s t ts (AnyName ∷ k) = named t (λ n. On s k)
+step s t ts (AnyQuoted ∷ k) = quoted t (On s k)
+step s t ts (MoreModules ∷ k) = modules s t k
+step s t ts (Decls aliases ∷ k) = declares s aliases t k
+step s t ts (Alias aliases ∷ k) = named t (λ n. unless (is_among n aliases) Twice
+    (On s (This (Is Semicolon) ∷ Decls (aliases ++ n ∷ []) ∷ k)))
+step s t ts (RoleName ∷ k) = named t (declares_role s k)
+step s t ts (MoreRoles ∷ k) = more_roles s t k
+step s t ts (Sorts ∷ k) = sorts s t k
+step s t ts (MoreSorts ∷ k) = more_sorts s t k
+step s t ts (Subject ∷ k) = role_named s t (λ r. On s k)
+step s t ts (Sender ∷ k) = role_named s t (λ r. On s (This (Is To) ∷ Receiver r [] ∷ k))
+step s t ts (Receiver sender before ∷ k) = role_named s t (receives s sender before k)
+step s t ts (MoreReceivers sender before ∷ k) = more_receivers s sender before t k
+step s t ts (RecName p ∷ k) = named t (λ n. On s (Opening (inside_rec p n) ∷ k))
+step s t ts (AgainName p ∷ k) = named t (λ n. unless (not (is_among n p.recs)) NoName (On s (This (Is Semicolon) ∷ k)))
+step s t ts (Opening p ∷ k) = opens s p t k
+step s t ts (First p ∷ k) = begins s p t ts k
+step s t ts (Rest p ∷ k) = ends s p t ts k
+step s t ts (More p ∷ k) = branches s p t ts k
+
+-- The answer: what is known behind all symbols, or the fault and what is left from its symbol on.
+pub data Answer : Type 0 where
+  Taken : (state : State) → Answer
+  Refuses : (fault : Fault) (left : List Symbol) → Answer
+
+abbrev pub at_end : State → List Item → Answer
+at_end s [] = Taken s
+at_end s (i ∷ k) = Refuses Token []
+
+abbrev pub after : Outcome → List Symbol → (State → List Item → Answer) → Answer
+after (On s k) left go = go s k
+after (Wrong fault) left go = Refuses fault left
+
+abbrev pub answer : State → List Item → List Symbol → Answer
+answer s k [] = at_end s k
+answer s k (t ∷ ts) = after (step s t ts k) (t ∷ ts) (λ s' k'. answer s' k' ts)
+
+-- what is awaited and known at first
+abbrev pub begin : State
+begin = record { roles = []; count = 0 }
+
+-- in the protocol's own block
+abbrev pub outermost : Place
+outermost = record { depth = 1; recs = []; comes = 0; ended = false }
+
+-- what is awaited in front of the body, and in all
+abbrev pub in_head : List Item → List Item
+in_head k =
+    This (Is Module) ∷ AnyName ∷ MoreModules ∷ Decls [] ∷ This (Is Protocol) ∷ AnyName ∷ This (Is Left) ∷ This (Is Role) ∷ RoleName
+    ∷ This (Is Open) ∷ k
+
+abbrev pub awaited : List Item
+awaited = in_head (Rest outermost ∷ [])
+
+abbrev pub reading : List Symbol → Answer
+reading symbols = answer begin awaited symbols
+
+-- In the grammar's words: what an item derives, in front of what follows.
+abbrev pub Front : Item → List Symbol → List Symbol → Type 0
+Front (This m) ts us = ts ≡ m ∷ us
+Front AnyName ts us = (n : List ℕ) × (ts ≡ Word n ∷ us)
+Front AnyQuoted ts us = (q : List ℕ) × (ts ≡ Text q ∷ us)
+Front MoreModules ts us = (ns : List (List ℕ)) × (ts ≡ dotted ns (Is Semicolon ∷ us))
+Front (Decls aliases) ts us = (ds : List Decl) × AreDecls ds × (ts ≡ decls ds (Is Global ∷ us))
+Front (Alias aliases) ts us = (n : List ℕ) × (ds : List Decl) × AreDecls ds × (ts ≡ Word n ∷ Is Semicolon ∷ decls ds (Is Global ∷ us))
+Front RoleName ts us = (n : List ℕ) × (ns : List (List ℕ)) × (ts ≡ Word n ∷ roles_behind ns (Is Right ∷ us))
+Front MoreRoles ts us = (ns : List (List ℕ)) × (ts ≡ roles_behind ns (Is Right ∷ us))
+Front Sorts ts us = (ns : List (List ℕ)) × (ts ≡ sort_list ns (Is Right ∷ us))
+Front MoreSorts ts us = (ns : List (List ℕ)) × (ts ≡ names_behind ns (Is Right ∷ us))
+Front Subject ts us = (n : List ℕ) × (ts ≡ Word n ∷ us)
+Front Sender ts us = (n r : List ℕ) × (rs : List (List ℕ)) × (ts ≡ Word n ∷ Is To ∷ Word r ∷ names_behind rs (Is Semicolon ∷ us))
+Front (Receiver sender before) ts us = (r : List ℕ) × (rs : List (List ℕ)) × (ts ≡ Word r ∷ names_behind rs (Is Semicolon ∷ us))
+Front (MoreReceivers sender before) ts us = (rs : List (List ℕ)) × (ts ≡ names_behind rs (Is Semicolon ∷ us))
+Front (RecName p) ts us = (n : List ℕ) × (b : Written) × IsBegun b × IsProper b × (ts ≡ Word n ∷ Is Open ∷ stmts b (Is Close ∷ us))
+Front (AgainName p) ts us = (n : List ℕ) × (ts ≡ Word n ∷ Is Semicolon ∷ us)
+Front (Opening p) ts us = (b : Written) × IsBegun b × IsProper b × (ts ≡ Is Open ∷ stmts b (Is Close ∷ us))
+Front (First p) ts us = (b : Written) × IsBegun b × IsProper b × (ts ≡ stmts b (Is Close ∷ us))
+Front (Rest p) ts us = (b : Written) × IsProper b × (ts ≡ stmts b (Is Close ∷ us))
+Front (More p) ts us = (bs : Blocks) × (b : Written) × AreProper bs × IsProper b × (ts ≡ blocks_behind Or bs (stmts b (Is Close ∷ us)))
+
+-- what the awaited items, one after another, derive
+abbrev pub Derives : List Item → List Symbol → Type 0
+Derives [] ts = ts ≡ []
+Derives (i ∷ k) ts = (us : List Symbol) × Front i ts us × Derives k us

@@ -1,0 +1,65 @@
+-- Pieces of texts, for worked cases.
+use Rattle.std.proofs.Common.{ℕ, zero, suc, codes, List, [], ◌∷◌}
+use Rattle.rcv_syntax.specs.declared.sign.Sign.TheVariants.{Module, Global, Protocol, Role, From, To, Rec, Continue, Open, Left, Right, Comma, Semicolon, Less, Greater}
+use Rattle.rcv_syntax.specs.Symbols.{Symbol, Is, Word, Text}
+
+-- names
+abbrev pub a : Symbol
+a = Word (codes "A")
+
+abbrev pub b : Symbol
+b = Word (codes "B")
+
+abbrev pub c : Symbol
+c = Word (codes "C")
+
+abbrev pub x : Symbol
+x = Word (codes "X")
+
+abbrev pub y : Symbol
+y = Word (codes "Y")
+
+abbrev pub both : List (List ℕ)
+both = codes "A" ∷ codes "B" ∷ []
+
+-- module X; global protocol Y(role A, role B) {
+abbrev pub text : List Symbol → List Symbol
+text next = Is Module ∷ x ∷ Is Semicolon ∷ Is Global ∷ Is Protocol ∷ y ∷ Is Left ∷ Is Role ∷ a ∷ Is Comma ∷ Is Role ∷ b ∷ Is Right
+    ∷ Is Open ∷ next
+
+-- X() from A to
+abbrev pub sends : List Symbol → List Symbol
+sends next = x ∷ Is Left ∷ Is Right ∷ Is From ∷ a ∷ Is To ∷ next
+
+-- X() from A to B;
+abbrev pub message : List Symbol → List Symbol
+message next = sends (b ∷ Is Semicolon ∷ next)
+
+-- rec X { and continue X;
+abbrev pub rec_x : List Symbol → List Symbol
+rec_x next = Is Rec ∷ x ∷ Is Open ∷ next
+
+abbrev pub again_x : List Symbol → List Symbol
+again_x next = Is Continue ∷ x ∷ Is Semicolon ∷ next
+
+-- n recursions, one in another
+abbrev pub nested : ℕ → List Symbol → List Symbol
+nested zero next = next
+nested (suc n) next = rec_x (nested n next)
+
+-- type <X> "" from "" as A;
+abbrev pub alias_a : List Symbol → List Symbol
+alias_a next = Word (codes "type") ∷ Is Less ∷ x ∷ Is Greater ∷ Text [] ∷ Is From ∷ Text [] ∷ Word (codes "as") ∷ a ∷ Is Semicolon ∷ next
+
+-- the roles A, B and C to H
+abbrev pub more_roles : List (List ℕ)
+more_roles = codes "C" ∷ codes "D" ∷ codes "E" ∷ codes "F" ∷ codes "G" ∷ codes "H" ∷ []
+
+-- module X; global protocol Y(role A, role B, role .., role
+abbrev pub with_others : List (List ℕ) → List Symbol → List Symbol
+with_others [] next = Is Comma ∷ Is Role ∷ next
+with_others (n ∷ ns) next = Is Comma ∷ Is Role ∷ Word n ∷ with_others ns next
+
+abbrev pub with_roles : List (List ℕ) → List Symbol → List Symbol
+with_roles names next =
+    Is Module ∷ x ∷ Is Semicolon ∷ Is Global ∷ Is Protocol ∷ y ∷ Is Left ∷ Is Role ∷ a ∷ Is Comma ∷ Is Role ∷ b ∷ with_others names next

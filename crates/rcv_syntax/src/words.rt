@@ -1,0 +1,112 @@
+// What a token says: a reserved word or a mark, a name, or what stands between quotes.
+
+ghost use Rattle.std.specs.Prelude.{◌≡◌, Option, None};
+ghost use Rattle.rcv_syntax.specs.Symbols.{head_word, stmt_word, reserved, mark};
+
+use crate::sign::Sign;
+use rcv_lexer::token::Kind;
+use rcv_scan::{Alphabet, Lexeme, is, number_of, unquoted};
+
+impl Alphabet for Sign {
+    ghost use Rattle.rcv_scan.specs.Symbols.{greatest};
+    ghost use Rattle.rcv_syntax.specs.Symbols.{symbol_by};
+
+    ghost symbol_by = { symbol_by };
+
+    ghost greatest = { greatest };
+
+    fn is(self, other: Sign) -> bool {
+        self == other
+    }
+
+    fn lexeme<'a>(kind: Kind, bytes: &'a [u8]) -> Lexeme<'a, Sign> {
+        match kind {
+            Kind::Word => match reserved(bytes) {
+                Some(sign) => Lexeme::Is(sign),
+                None => Lexeme::Word(bytes),
+            },
+            Kind::Number => Lexeme::Number(number_of(bytes)),
+            Kind::Text => Lexeme::Text(unquoted(bytes)),
+            Kind::Mark => Lexeme::Is(mark(bytes)),
+        }
+    }
+}
+
+fn head_word(word: &[u8]) -> Option<Sign>
+    ensures { result ≡ head_word word.now }
+{
+    if is(word, b"module") {
+        Some(Sign::Module)
+    } else if is(word, b"global") {
+        Some(Sign::Global)
+    } else if is(word, b"protocol") {
+        Some(Sign::Protocol)
+    } else if is(word, b"role") {
+        Some(Sign::Role)
+    } else {
+        None
+    }
+}
+
+fn stmt_word(word: &[u8]) -> Option<Sign>
+    ensures { result ≡ stmt_word word.now }
+{
+    if is(word, b"from") {
+        Some(Sign::From)
+    } else if is(word, b"to") {
+        Some(Sign::To)
+    } else if is(word, b"choice") {
+        Some(Sign::Choice)
+    } else if is(word, b"at") {
+        Some(Sign::At)
+    } else if is(word, b"or") {
+        Some(Sign::Or)
+    } else if is(word, b"rec") {
+        Some(Sign::Rec)
+    } else if is(word, b"continue") {
+        Some(Sign::Continue)
+    } else if is(word, b"par") {
+        Some(Sign::Par)
+    } else if is(word, b"and") {
+        Some(Sign::And)
+    } else if is(word, b"do") {
+        Some(Sign::Do)
+    } else {
+        None
+    }
+}
+
+fn reserved(word: &[u8]) -> Option<Sign>
+    ensures { result ≡ reserved word.now }
+{
+    match head_word(word) {
+        Some(sign) => Some(sign),
+        None => stmt_word(word),
+    }
+}
+
+fn mark(bytes: &[u8]) -> Sign
+    ensures { result ≡ mark bytes.now }
+{
+    if is(bytes, b"{") {
+        Sign::Open
+    } else if is(bytes, b"}") {
+        Sign::Close
+    } else if is(bytes, b"(") {
+        Sign::Left
+    } else if is(bytes, b")") {
+        Sign::Right
+    } else if is(bytes, b",") {
+        Sign::Comma
+    } else if is(bytes, b";") {
+        Sign::Semicolon
+    } else if is(bytes, b".") {
+        Sign::Dot
+    } else if is(bytes, b"<") {
+        Sign::Less
+    } else if is(bytes, b">") {
+        Sign::Greater
+    } else {
+        Sign::Foreign
+    }
+}

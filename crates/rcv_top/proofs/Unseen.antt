@@ -1,0 +1,110 @@
+-- An input whose first role crashes behind its only event, with a host that takes both roles: its session completes, and its
+-- crash leaves no trace.
+use Rattle.std.proofs.Common.{◌≡◌, ℕ, zero, suc, false, List, [], ◌∷◌, length, replicate, refl, sym, ap, subst, arith}
+use Rattle.std.specs.Prelude.{if◌then◌else◌, slice_index}
+use Rattle.rcv_tree.specs.Bits.{has_bit, is_listed}
+use Rattle.rcv_tree.specs.declared.entry.Entry.{Entry}
+use Rattle.rcv_tree.specs.declared.entry.Entry.TheVariants.{Send, Recv, Crash}
+use Rattle.rcv_model.specs.Form.{HasForm}
+use Rattle.rcv_model.specs.Net.{Net}
+use Rattle.rcv_model.specs.Next.{IsProper}
+use Rattle.rcv_model.specs.Places.{net_of}
+use Rattle.rcv_model.specs.Plan.{session_rules}
+use Rattle.rcv_model.specs.Run.{acts}
+use Rattle.rcv_model.specs.Journal.{Rules, State, start, after, place, reading, concerned_in, kept_by, May, IsLegal}
+use Rattle.rcv_model.specs.Final.{IsFinal, AreDone}
+use Rattle.rcv_model.proofs.Cases.{says, hears, recover}
+use Rattle.rcv_model.proofs.Checked.{next_by, send_by, recv_by}
+use Rattle.rcv_model.proofs.Forms.{proper}
+use Rattle.rcv_model.proofs.Journals.{below_8}
+use Rattle.rcv_model.proofs.Recovering.{may_recover}
+use Rattle.rcv_model.proofs.Stepping.{final_by}
+use Rattle.rcv_session.specs.Session.{lines_of, rules_of}
+use Rattle.rcv_input.proofs.Planned.{input, session, is_taken}
+use Rattle.rcv_input.proofs.Worked.{one, its_body}
+use Rattle.rcv_transparent.specs.Calm.{calm, ReadsNoAttempt}
+use Rattle.rcv_transparent.specs.Traces.{LeavesNoTrace}
+use Rattle.rcv_top.specs.declared.status.Status.{Status}
+use Rattle.rcv_top.specs.declared.status.Status.TheVariants.{Completed}
+use Rattle.rcv_top.specs.Running.{all_done, IsWritten, IsJournalOf, IsRunOf}
+use Rattle.rcv_top.specs.Laws.{CompletesBlind}
+use Rattle.rcv_top.proofs.Ending.{has_text}
+use Rattle.rcv_top.proofs.Traceless.{sessions_leave_no_trace, calm_sessions_complete}
+
+abbrev net : Net
+net = net_of one
+
+abbrev rules : Rules
+rules = session_rules one 2 (lines_of session) session.plan
+
+same_rules : rules_of session ≡ rules
+same_rules = ap (λ b. session_rules b 2 (lines_of session) session.plan) its_body
+
+form : HasForm one 2
+form = record { numbered = (refl, tt); ends = (omega arith, omega arith, (λ e. omega arith), tt); subjects = tt; few_roles = omega arith; few_points = omega arith }
+
+lawful : IsProper net 2
+lawful = proper one 2 form
+
+-- A has saved what it sent, so nothing is taken back, and both clocks are raised
+abbrev back : Entry
+back = recover 0 3 (1 ∷ replicate 7 0) 0
+
+abbrev journal : List Entry
+journal = Send (says 0 1 0 1) ∷ Crash 0 ∷ back ∷ Recv (hears 1 1 0 3 1) ∷ []
+
+abbrev s0 : State
+s0 = start 2
+
+abbrev s1 : State
+s1 = after rules s0 (Send (says 0 1 0 1))
+
+abbrev s2 : State
+s2 = after rules s1 (Crash 0)
+
+abbrev s3 : State
+s3 = after rules s2 back
+
+abbrev s4 : State
+s4 = after rules s3 (Recv (hears 1 1 0 3 1))
+
+goes_back : May rules s2 back
+goes_back = may_recover rules s2 0 lawful 3 (1 ∷ replicate 7 0) 0 refl (omega arith) (below_8 (λ q. has_bit 3 q ≡ is_listed (concerned_in rules s2 0) q) refl refl refl refl refl refl refl refl) refl (below_8 (λ q. slice_index (1 ∷ replicate 7 0) q ≡ (if has_bit 3 q then length (acts q (kept_by rules s2 0)) else 0)) refl refl refl refl refl refl refl refl) refl
+
+legal : IsLegal rules journal
+legal = (send_by rules s0 (says 0 1 0 1) refl refl refl refl refl refl refl, ((omega arith, (refl, omega arith)), (goes_back, (recv_by rules s3 (hears 1 1 0 3 1) [] refl refl refl refl refl, tt))))
+
+done : AreDone rules (reading rules journal)
+done zero lt z n = (next_by net 0 (place s4 0) refl).complete z n
+done (suc zero) lt z n = (next_by net 1 (place s4 1) refl).complete z n
+done (suc (suc r)) lt z n = omega arith
+
+final : IsFinal rules (reading rules journal)
+final = final_by rules s4 lawful.two_ends refl
+
+text : (bytes : List ℕ) × IsWritten false session journal bytes
+text = has_text false session journal (subst (λ (x : Rules). IsProper x.net x.roles) (sym same_rules) lawful)
+
+is_journal : IsJournalOf false session journal Completed text.0
+is_journal = record {
+  legal = subst (λ (x : Rules). IsLegal x journal) (sym same_rules) legal;
+  final = subst (λ (x : Rules). IsFinal x (reading x journal)) (sym same_rules) final;
+  ends = all_done (subst (λ (x : Rules). AreDone x (reading x journal)) (sym same_rules) done);
+  written = text.1;
+}
+
+-- there are no scripts
+blind : ReadsNoAttempt session
+blind zero = tt
+blind (suc zero) = tt
+blind (suc (suc r)) = tt
+
+completes : CompletesBlind false input session journal text.0
+completes = record { taken = is_taken; blind = blind; is_journal = is_journal }
+
+no_trace : LeavesNoTrace session journal
+no_trace = sessions_leave_no_trace false input session journal text.0 completes
+
+-- four workers complete the session without the crash line, too
+by_four : (status : Status) (bytes : List ℕ) → IsRunOf 4 false (calm session) status bytes → status ≡ Completed
+by_four status bytes run = calm_sessions_complete false input session journal text.0 completes 4 false status bytes run
