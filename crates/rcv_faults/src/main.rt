@@ -24,6 +24,7 @@ fn main(rt: HostRuntime) -> io::Result<()> {
     cuts::try_cuts(&rt, session)?;
     reads::try_reads(&rt, session, journal)?;
     writes::try_writes(&rt, session, journal)?;
+    storms::try_without_an_event(&rt, journal)?;
     storms::try_storms(&rt, session, journal)?;
     println!(rt; "each fault was tried")
 }

@@ -66,6 +66,18 @@ fn many_crashes(alloc: Global) -> Result<String, AllocError> {
     Ok(plan)
 }
 
+/// Prints where a journal counts as the same without its first event, by which storms would tell nothing.
+pub fn try_without_an_event<R: AllocGlobal + Print>(rt: &R, journal: &[u8]) -> io::Result<()> {
+    let text = String::from_utf8_lossy(rt.alloc(), journal)?;
+    let Some((_, rest)) = text.as_str().split_once("\n") else {
+        return println!(rt; "the journal has one line");
+    };
+    if keep_the_same(rt.alloc(), journal, rest.as_bytes())? {
+        println!(rt; "a journal counts as the same without its first event")?;
+    }
+    Ok(())
+}
+
 // Prints what differs with this plan, with one worker and with four.
 fn try_plan<R: AllocGlobal + Print + Threads + Sync>(
     rt: &R,

@@ -10,13 +10,17 @@ struct Role<'a> {
     events: Vec<&'a str>,
 }
 
-/// Whether two journals keep the same events of each role.
+/// Whether two journals keep the same events of each role. A journal that names no role at its end is like no other.
 pub fn keep_the_same(alloc: Global, journal: &[u8], other: &[u8]) -> Result<bool, AllocError> {
     let journal = String::from_utf8_lossy(alloc, journal)?;
     let other = String::from_utf8_lossy(alloc, other)?;
     let roles = kept(alloc, journal.as_str())?;
     let others = kept(alloc, other.as_str())?;
-    Ok(roles.len() == others.len() && all_same(roles.as_slice(), others.as_slice()))
+    Ok(
+        roles.len() != 0
+            && roles.len() == others.len()
+            && all_same(roles.as_slice(), others.as_slice()),
+    )
 }
 
 // Whether each of these roles and the one at its place keep the same events.
