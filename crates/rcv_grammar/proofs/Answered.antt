@@ -1,6 +1,6 @@
 -- Symbols are read as some protocol or refused: a protocol can be built of what is written.
 use denote.RawPtr.{null_ptr}
-use Rattle.std.proofs.Common.{◌≡◌, ℕ, ◌+◌, ◌^◌, ◌<◌, ◌≤◌, List, [], ◌∷◌, length, map, refl, sym, ap, subst, ◌∙◌, inl, inr, arith}
+use Rattle.std.proofs.Common.{◌≡◌, ℕ, ◌+◌, ◌^◌, ◌<◌, ◌≤◌, true, false, List, [], ◌∷◌, length, map, refl, sym, ap, ◌∙◌, inl, inr, arith}
 use Rattle.std.specs.Prelude.{◌⊎◌}
 use Rattle.std.specs.Global.{Vec}
 use Rattle.rcv_tree.specs.declared.statement.Stmt.{Stmt}
@@ -12,8 +12,8 @@ use Rattle.rcv_tree.specs.declared.statement.Blocks.{Blocks}
 use Rattle.rcv_tree.specs.declared.protocol.Decl.{Decl}
 use Rattle.rcv_tree.specs.declared.protocol.Protocol.{Protocol}
 use Rattle.rcv_tree.specs.declared.refusal.Refusal.TheVariants as refusals
-use Rattle.rcv_model.specs.Text.{Body, End, Single, Choose, Loop, Again, Parallel, Call, Bodies, NoMore, Or, stmt_body, body_of, bodies_of, joined, alternatives}
-use Rattle.rcv_model.proofs.Text.{body_of_lem, bodies_of_lem, stmt_body-Message, stmt_body-Choice, stmt_body-Rec, stmt_body-Continue, stmt_body-Par, stmt_body-Do}
+use Rattle.rcv_model.specs.Text.{Body, Single, Choose, Loop, Again, Bodies, Or, stmt_body, body_of, bodies_of, joined, alternatives}
+use Rattle.rcv_model.proofs.Text.{body_of_lem, bodies_of_lem, stmt_body-Message, stmt_body-Choice, stmt_body-Rec, stmt_body-Continue}
 use Rattle.rcv_lexer.specs.declared.token.Span.{Span}
 use Rattle.rcv_lexer.specs.declared.token.Token.{Token}
 use Rattle.rcv_lexer.specs.Tokens.{AreTokens, IsLetter}
@@ -23,7 +23,7 @@ use Rattle.rcv_syntax.specs.declared.sign.Sign.TheVariants.{Global, Role, From, 
 use Rattle.rcv_syntax.specs.declared.sign.Sign.TheVariants as sign
 use Rattle.rcv_syntax.specs.Symbols.{Symbol, Is, Word, symbols_of}
 use Rattle.rcv_syntax.specs.Grammar.{Written, NoStmt, AMessage, AChoice, ARec, AContinue, APar, ADo, Blocks as Blocks', NoBlock, ABlock, Source, Spells, spelling, stmts, blocks_behind, names_behind, sort_list, dotted, decls, roles_behind}
-use Rattle.rcv_machine.specs.Machine.{State, Answer, Taken, Refuses, outermost, reading}
+use Rattle.rcv_machine.specs.Machine.{Place, State, Answer, Taken, Refuses, behind, inside, inside_rec, outermost, reading}
 use Rattle.rcv_syntax.specs.Trees.{role_at, roles_at, points, points_of, singles, tree_of, trees_of}
 use Rattle.rcv_reader.specs.Refusals.{IsRead}
 use Rattle.rcv_machine.specs.Laws.{IsFair}
@@ -31,7 +31,7 @@ use Rattle.rcv_machine.proofs.Fair.{codes_are_fair}
 use Rattle.rcv_machine.proofs.Exactly.{refusal_is_first}
 use Rattle.rcv_reader.proofs.Answering.{taken_of, read_of, stopped_of}
 use Rattle.rcv_grammar.specs.Laws.{IsRefusedAs, IsReadPart, IsRefusedPart, HasRefusal, PartsHaveOneAnswer}
-use Rattle.rcv_grammar.proofs.Cutting.{passes_fit}
+use Rattle.rcv_grammar.proofs.Passing.{Passes, PassAll, passes_fit}
 use Rattle.rcv_grammar.proofs.Canonizing.{body_passes}
 
 -- ---- a block for each body
@@ -40,198 +40,143 @@ use Rattle.rcv_grammar.proofs.Canonizing.{body_passes}
 abbrev a_vec : (X : Type 0) (xs : List X) → length xs < 2 ^ 63 → Vec X
 a_vec X xs short = record { items = xs; ptr = null_ptr; len = length xs; cap = length xs; alloc = record { memory = record { seal = tt } }; ok = (refl, omega arith); small = short }
 
-abbrev block_from : (xs : List Stmt) → length xs < 2 ^ 63 → Block
-block_from xs short = roll-Block (record { items = a_vec Stmt xs short })
+-- statements that say the body, so few that with k more they are at most m; and blocks that say the bodies
+record HasStmts (b : Body) (k m : ℕ) : Type 0 where
+  pub list : List Stmt
+  pub say : joined (map stmt_body list) ≡ b
+  pub few : length list + k ≤ m
 
-abbrev blocks_from : (xs : List Block) → length xs < 2 ^ 63 → Blocks
-blocks_from xs short = roll-Blocks (record { items = a_vec Block xs short })
+record HasBlocks (bs : Bodies) (k m : ℕ) : Type 0 where
+  pub list : List Block
+  pub say : alternatives (map body_of list) ≡ bs
+  pub few : length list + k ≤ m
 
-block_says : (xs : List Stmt) (short : length xs < 2 ^ 63) → body_of (block_from xs short) ≡ joined (map stmt_body xs)
-block_says xs short =
-    body_of_lem (block_from xs short)
-    ∙ ap (λ (b : Block-F Stmt Block Blocks). joined (map stmt_body b.items.items)) (out-roll-Block (record { items = a_vec Stmt xs short }))
+block_of : (b : Body) (k m : ℕ) → HasStmts b k m → m < 2 ^ 63 → (block : Block) × (body_of block ≡ b)
+block_of b k m h lt =
+    let items = a_vec Stmt h.list (omega (arith, lt, h.few)) in (
+      roll-Block (record { items = items }),
+      body_of_lem (roll-Block (record { items = items }))
+          ∙ ap (λ (x : Block-F Stmt Block Blocks). joined (map stmt_body x.items.items)) (out-roll-Block (record { items = items }))
+          ∙ h.say,
+    )
 
-blocks_say : (xs : List Block) (short : length xs < 2 ^ 63) → bodies_of (blocks_from xs short) ≡ alternatives (map body_of xs)
-blocks_say xs short =
-    bodies_of_lem (blocks_from xs short)
-    ∙ ap (λ (b : Blocks-F Stmt Block Blocks). alternatives (map body_of b.items.items)) (out-roll-Blocks (record { items = a_vec Block xs short }))
+blocks_of : (bs : Bodies) (k m : ℕ) → HasBlocks bs k m → m < 2 ^ 63 → (blocks : Blocks) × (bodies_of blocks ≡ bs)
+blocks_of bs k m h lt =
+    let items = a_vec Block h.list (omega (arith, lt, h.few)) in (
+      roll-Blocks (record { items = items }),
+      bodies_of_lem (roll-Blocks (record { items = items }))
+          ∙ ap (λ (x : Blocks-F Stmt Block Blocks). alternatives (map body_of x.items.items)) (out-roll-Blocks (record { items = items }))
+          ∙ h.say,
+    )
 
--- how many statements and blocks a body has in all
-abbrev mutual
-  size : Body → ℕ
-  size End = 0
-  size (Single label sorts s r p rest) = 1 + size rest
-  size (Choose s bs rest) = 1 + size_of bs + size rest
-  size (Loop name body rest) = 1 + size body + size rest
-  size (Again name rest) = 1 + size rest
-  size (Parallel bs rest) = 1 + size_of bs + size rest
-  size (Call name places rest) = 1 + size rest
+add_stmt : (x : Stmt) (from : Body → Body) (rest : Body) (k m l : ℕ) → ((b : Body) → stmt_body x b ≡ from b) → 1 + m ≤ l → HasStmts rest k m → HasStmts (from rest) k l
+add_stmt x from rest k m l says le h = record { list = x ∷ h.list; say = says (joined (map stmt_body h.list)) ∙ ap from h.say; few = omega (arith, le, h.few) }
 
-  size_of : Bodies → ℕ
-  size_of NoMore = 0
-  size_of (Or b bs) = 1 + size b + size_of bs
+add_singles : (roles : List (List ℕ)) (label : List ℕ) (sorts : List (List ℕ)) (s : ℕ) (rs : List (List ℕ)) (n : ℕ) (rest : Body) (k m l : ℕ) → length rs + m ≤ l
+    → HasStmts rest k m → HasStmts (singles label sorts s (roles_at roles rs) n rest) k l
+add_singles roles label sorts s [] n rest k m l le h = record { list = h.list; say = h.say; few = omega (arith, le, h.few) }
+add_singles roles label sorts s (r ∷ rs) n rest k m l le h =
+    let at = role_at roles r in
+    let more = add_singles roles label sorts s rs (n + 1) rest k m (length rs + m) (omega arith) h in
+    add_stmt (stmt.Message label sorts s at (n + 1)) (Single label sorts s at (n + 1)) _ k (length rs + m) l (stmt_body-Message label sorts s at (n + 1)) (omega (arith, le)) more
 
--- statements that say the body, and blocks that say the bodies
-abbrev HasStmts : Body → Type 0
-HasStmts b = (xs : List Stmt) × (joined (map stmt_body xs) ≡ b) × (length xs ≤ size b)
-
-abbrev HasBlocks : Bodies → Type 0
-HasBlocks bs = (xs : List Block) × (alternatives (map body_of xs) ≡ bs) × (length xs ≤ size_of bs)
-
-add_stmt : (x : Stmt) (from : Body → Body) (rest : Body) → ((b : Body) → stmt_body x b ≡ from b) → 1 + size rest ≤ size (from rest)
-    → HasStmts rest → HasStmts (from rest)
-add_stmt x from rest says le h =
-    let h2 = h.2 in
-    (x ∷ h.0, says (joined (map stmt_body h.0)) ∙ ap from h.1, omega (arith, le, h2))
-
-mutual
-  has_stmts : (b : Body) → size b < 2 ^ 63 → HasStmts b
-  has_stmts End lt = ([], refl, omega arith)
-  has_stmts (Single label sorts s r p rest) lt =
-      add_stmt (stmt.Message label sorts s r p) (Single label sorts s r p) rest (stmt_body-Message label sorts s r p) (omega arith) (has_stmts rest (omega (arith, lt)))
-  has_stmts (Choose s bs rest) lt =
-      let c = has_blocks bs (omega (arith, lt)) in
-      let c2 = c.2 in
-      let short : length c.0 < 2 ^ 63 = omega (arith, lt, c2) in
-      add_stmt (stmt.Choice s (blocks_from c.0 short)) (Choose s bs) rest
-      (λ b. stmt_body-Choice s (blocks_from c.0 short) b ∙ ap (λ (x : Bodies). Choose s x b) (blocks_say c.0 short ∙ c.1))
-      (omega arith) (has_stmts rest (omega (arith, lt)))
-  has_stmts (Loop name body rest) lt =
-      let c = has_stmts body (omega (arith, lt)) in
-      let c2 = c.2 in
-      let short : length c.0 < 2 ^ 63 = omega (arith, lt, c2) in
-      add_stmt (stmt.Rec name (block_from c.0 short)) (Loop name body) rest
-      (λ b. stmt_body-Rec name (block_from c.0 short) b ∙ ap (λ (x : Body). Loop name x b) (block_says c.0 short ∙ c.1))
-      (omega arith) (has_stmts rest (omega (arith, lt)))
-  has_stmts (Again name rest) lt =
-      add_stmt (stmt.Continue name) (Again name) rest (stmt_body-Continue name) (omega arith) (has_stmts rest (omega (arith, lt)))
-  has_stmts (Parallel bs rest) lt =
-      let c = has_blocks bs (omega (arith, lt)) in
-      let c2 = c.2 in
-      let short : length c.0 < 2 ^ 63 = omega (arith, lt, c2) in
-      add_stmt (stmt.Par (blocks_from c.0 short)) (Parallel bs) rest
-      (λ b. stmt_body-Par (blocks_from c.0 short) b ∙ ap (λ (x : Bodies). Parallel x b) (blocks_say c.0 short ∙ c.1))
-      (omega arith) (has_stmts rest (omega (arith, lt)))
-  has_stmts (Call name places rest) lt =
-      add_stmt (stmt.Do name places) (Call name places) rest (stmt_body-Do name places) (omega arith) (has_stmts rest (omega (arith, lt)))
-
-  has_blocks : (bs : Bodies) → size_of bs < 2 ^ 63 → HasBlocks bs
-  has_blocks NoMore lt = ([], refl, omega arith)
-  has_blocks (Or b bs) lt =
-      let c = has_stmts b (omega (arith, lt)) in
-      let c2 = c.2 in
-      let short : length c.0 < 2 ^ 63 = omega (arith, lt, c2) in
-      let d = has_blocks bs (omega (arith, lt)) in
-      let d2 = d.2 in (
-        block_from c.0 short ∷ d.0,
-        ap (λ (x : Body). Or x (alternatives (map body_of d.0))) (block_says c.0 short ∙ c.1) ∙ ap (Or b) d.1,
-        omega (arith, d2),
-      )
+add_block : (b : Body) (bs : Bodies) (k m k' m' l : ℕ) → m < 2 ^ 63 → 1 + m' ≤ l → HasStmts b k m → HasBlocks bs k' m' → HasBlocks (Or b bs) k' l
+add_block b bs k m k' m' l lt le first others =
+    let block = block_of b k m first lt in
+    let says = block.1 in
+    let say = others.say in
+    record { list = block.0 ∷ others.list; say = cc; few = omega (arith, le, others.few) }
 
 -- ---- a text is longer than its tree
 
-names_long : (ns : List (List ℕ)) (next : List Symbol) → length (names_behind ns next) ≡ length ns + length ns + length next
+names_long : (ns : List (List ℕ)) (next : List Symbol) → length ns + length next ≤ length (names_behind ns next)
 names_long [] next = omega arith
-names_long (n ∷ ns) next = let h = names_long ns next in omega (arith, h)
+names_long (n ∷ ns) next = omega (arith, names_long ns next)
 
 sorts_long : (ns : List (List ℕ)) (next : List Symbol) → length next ≤ length (sort_list ns next)
 sorts_long [] next = omega arith
-sorts_long (n ∷ ns) next = let h = names_long ns next in omega (arith, h)
-
-singles_long : (label : List ℕ) (sorts : List (List ℕ)) (sender : ℕ) (rs : List ℕ) (n : ℕ) (rest : Body)
-    → size (singles label sorts sender rs n rest) ≡ length rs + size rest
-singles_long label sorts sender [] n rest = omega arith
-singles_long label sorts sender (r ∷ rs) n rest = let h = singles_long label sorts sender rs (n + 1) rest in omega (arith, h)
-
-roles_long : (roles rs : List (List ℕ)) → length (roles_at roles rs) ≡ length rs
-roles_long roles [] = refl
-roles_long roles (r ∷ rs) = let h = roles_long roles rs in omega (arith, h)
+sorts_long (n ∷ ns) next = omega (arith, names_long ns next)
 
 mutual
-  longer : (roles : List (List ℕ)) (n : ℕ) (w : Written) (next : List Symbol) → size (tree_of roles n w) + length next ≤ length (stmts w next)
-  longer roles n NoStmt next = omega arith
-  longer roles n (AMessage label ss s r rs rest) next =
-      let behind = Is Semicolon ∷ stmts rest next in
-      let a = sorts_long ss (Is Right ∷ Is From ∷ Word s ∷ Is To ∷ Word r ∷ names_behind rs behind) in
-      let b = names_long rs behind in
-      let c = longer roles (n + (1 + length rs)) rest next in
-      let d = singles_long label ss (role_at roles s) (roles_at roles (r ∷ rs)) n (tree_of roles (n + (1 + length rs)) rest) in
-      let e = roles_long roles rs in
-      omega (arith, a, b, c, d, e)
-  longer roles n (AChoice s f os rest) next =
-      let a = longer roles n f (Is Close ∷ blocks_behind sign.Or os (stmts rest next)) in
-      let b = all_longer roles (n + points f) sign.Or os (stmts rest next) in
-      let c = longer roles (n + (points f + points_of os)) rest next in
-      omega (arith, a, b, c)
-  longer roles n (ARec name body rest) next =
-      let a = longer roles n body (Is Close ∷ stmts rest next) in
-      let c = longer roles (n + points body) rest next in
-      omega (arith, a, c)
-  longer roles n (AContinue name rest) next = let c = longer roles n rest next in omega (arith, c)
-  longer roles n (APar f g os rest) next =
-      let a = longer roles n f (Is Close ∷ Is And ∷ Is Open ∷ stmts g (Is Close ∷ blocks_behind And os (stmts rest next))) in
-      let d = longer roles (n + points f) g (Is Close ∷ blocks_behind And os (stmts rest next)) in
-      let b = all_longer roles (n + points f + points g) And os (stmts rest next) in
-      let c = longer roles (n + (points f + (points g + points_of os))) rest next in
-      omega (arith, a, b, c, d)
-  longer roles n (ADo name r rs rest) next =
-      let b = names_long rs (Is Right ∷ Is Semicolon ∷ stmts rest next) in
-      let c = longer roles n rest next in
-      omega (arith, b, c)
+  has_stmts : (roles : List (List ℕ)) (n : ℕ) (p : Place) (w : Written) (next : List Symbol) → Passes roles n p w → length (stmts w next) < 2 ^ 63
+      → HasStmts (tree_of roles n w) (length next) (length (stmts w next))
+  has_stmts roles n p NoStmt next h lt = record { list = []; say = refl; few = omega arith }
+  has_stmts roles n p (AMessage label ss s r rs rest) next h lt =
+      let us = stmts rest next in
+      let a = sorts_long ss (Is Right ∷ Is From ∷ Word s ∷ Is To ∷ Word r ∷ names_behind rs (Is Semicolon ∷ us)) in
+      let b = names_long rs (Is Semicolon ∷ us) in
+      let more = has_stmts roles (n + (1 + length rs)) (behind p false) rest next h.3 (omega (arith, lt, a, b)) in
+      add_singles roles label ss (role_at roles s) (r ∷ rs) n _ (length next) (length us) _ (omega (arith, a, b)) more
+  has_stmts roles n p (AChoice s f os rest) next h lt =
+      let us = stmts rest next in
+      let at = role_at roles s in
+      let ts = stmts f (Is Close ∷ blocks_behind sign.Or os us) in
+      let first = has_stmts roles n (inside p) f (Is Close ∷ blocks_behind sign.Or os us) h.3 (omega (arith, lt)) in
+      let others = all_have roles (n + points f) p sign.Or os us h.4 (omega (arith, lt, first.few)) in
+      let more = has_stmts roles (n + (points f + points_of os)) (behind p false) rest next h.5 (omega (arith, lt, first.few, others.few)) in
+      let all = blocks_of _ (length us) (length ts) (add_block _ _ _ _ (length us) _ (length ts) (omega (arith, lt)) (omega (arith, first.few)) first others) (omega (arith, lt)) in
+      add_stmt (stmt.Choice at all.0) (Choose at _) _ (length next) (length us) _ (λ b. stmt_body-Choice at all.0 b ∙ ap (λ (x : Bodies). Choose at x b) all.1)
+      (omega (arith, first.few, others.few)) more
+  has_stmts roles n p (ARec name body rest) next h lt =
+      let us = stmts rest next in
+      let first = has_stmts roles n (inside (inside_rec p name)) body (Is Close ∷ us) h.2 (omega (arith, lt)) in
+      let more = has_stmts roles (n + points body) (behind p false) rest next h.3 (omega (arith, lt, first.few)) in
+      let block = block_of _ _ _ first (omega (arith, lt)) in
+      add_stmt (stmt.Rec name block.0) (Loop name _) _ (length next) (length us) _ (λ b. stmt_body-Rec name block.0 b ∙ ap (λ (x : Body). Loop name x b) block.1)
+      (omega (arith, first.few)) more
+  has_stmts roles n p (AContinue name rest) next h lt =
+      let more = has_stmts roles n (behind p true) rest next h.3 (omega (arith, lt)) in
+      add_stmt (stmt.Continue name) (Again name) _ (length next) _ _ (stmt_body-Continue name) (omega arith) more
+  has_stmts roles n p (APar f g os rest) next h lt = absurd h
+  has_stmts roles n p (ADo name r rs rest) next h lt = absurd h
 
-  all_longer : (roles : List (List ℕ)) (n : ℕ) (word : Sign) (os : Blocks') (next : List Symbol)
-      → size_of (trees_of roles n os) + length next ≤ length (blocks_behind word os next)
-  all_longer roles n word NoBlock next = omega arith
-  all_longer roles n word (ABlock f os) next =
-      let a = longer roles n f (Is Close ∷ blocks_behind word os next) in
-      let b = all_longer roles (n + points f) word os next in
-      omega (arith, a, b)
+  all_have : (roles : List (List ℕ)) (n : ℕ) (p : Place) (word : Sign) (os : Blocks') (next : List Symbol) → PassAll roles n p os → length (blocks_behind word os next) < 2 ^ 63
+      → HasBlocks (trees_of roles n os) (length next) (length (blocks_behind word os next))
+  all_have roles n p word NoBlock next h lt = record { list = []; say = refl; few = omega arith }
+  all_have roles n p word (ABlock f os) next h lt =
+      let first = has_stmts roles n (inside p) f (Is Close ∷ blocks_behind word os next) h.1 (omega (arith, lt)) in
+      let others = all_have roles (n + points f) p word os next h.2 (omega (arith, lt, first.few)) in
+      add_block _ _ _ _ (length next) _ _ (omega (arith, lt)) (omega (arith, first.few)) first others
 
 dots_long : (ns : List (List ℕ)) (next : List Symbol) → length next ≤ length (dotted ns next)
 dots_long [] next = omega arith
-dots_long (n ∷ ns) next = let h = dots_long ns next in omega (arith, h)
+dots_long (n ∷ ns) next = omega (arith, dots_long ns next)
 
 decls_long : (ds : List Decl) (next : List Symbol) → length ds + length next ≤ length (decls ds next)
 decls_long [] next = omega arith
-decls_long (d ∷ ds) next = let h = decls_long ds next in omega (arith, h)
+decls_long (d ∷ ds) next = omega (arith, decls_long ds next)
 
 role_names_long : (ns : List (List ℕ)) (next : List Symbol) → length next ≤ length (roles_behind ns next)
 role_names_long [] next = omega arith
-role_names_long (n ∷ ns) next = let h = role_names_long ns next in omega (arith, h)
+role_names_long (n ∷ ns) next = omega (arith, role_names_long ns next)
 
-abbrev roles_of : Source → List (List ℕ)
-roles_of s = s.role ∷ s.other_roles
-
-source_long : (s : Source) → length s.declared + size (tree_of (roles_of s) 0 s.body) ≤ length (spelling s)
+source_long : (s : Source) → length s.declared + length (stmts s.body (Is Close ∷ [])) ≤ length (spelling s)
 source_long s =
     let body = stmts s.body (Is Close ∷ []) in
     let roles = roles_behind s.other_roles (Is Right ∷ Is Open ∷ body) in
-    let declared = decls s.declared (Is Global ∷ Is sign.Protocol ∷ Word s.name ∷ Is Left ∷ Is Role ∷ Word s.role ∷ roles) in
-    let a = dots_long s.module_more (Is Semicolon ∷ declared) in
-    let b = decls_long s.declared (Is Global ∷ Is sign.Protocol ∷ Word s.name ∷ Is Left ∷ Is Role ∷ Word s.role ∷ roles) in
+    let named = Is Global ∷ Is sign.Protocol ∷ Word s.name ∷ Is Left ∷ Is Role ∷ Word s.role ∷ roles in
+    let a = dots_long s.module_more (Is Semicolon ∷ decls s.declared named) in
+    let b = decls_long s.declared named in
     let c = role_names_long s.other_roles (Is Right ∷ Is Open ∷ body) in
-    let d = longer (roles_of s) 0 s.body (Is Close ∷ []) in
-    omega (arith, a, b, c, d)
+    omega (arith, a, b, c)
 
 -- ---- a protocol for each source
 
 pub source_read : (symbols : List Symbol) (s : Source) (state : State) → length symbols < 2 ^ 63 → Spells symbols s → reading symbols ≡ Taken state
     → (p : Protocol) × IsRead symbols p
 source_read symbols s state lt spells taken =
-    let is_taken : reading (spelling s) ≡ Taken state = subst (λ (x : List Symbol). reading x ≡ Taken state) spells.2 taken in
-    let passes = body_passes s state spells.1 is_taken in
+    let passes = body_passes s state spells.1 (rw spells.2 at taken) in
+    let roles = s.role ∷ s.other_roles in
     let long = source_long s in
     let same = ap length spells.2 in
-    let few : length s.declared < 2 ^ 63 = omega (arith, lt, long, same) in
-    let c = has_stmts (tree_of (roles_of s) 0 s.body) (omega (arith, lt, long, same)) in
-    let c2 = c.2 in
-    let short : length c.0 < 2 ^ 63 = omega (arith, lt, long, same, c2) in (
+    let few : length (stmts s.body (Is Close ∷ [])) < 2 ^ 63 = omega (arith, lt, long, same) in
+    let block = block_of _ _ _ (has_stmts roles 0 outermost s.body (Is Close ∷ []) passes few) few in (
       record {
         «module» = s.module_name ∷ s.module_more;
-        decls = record { items = a_vec Decl s.declared few };
+        decls = record { items = a_vec Decl s.declared (omega (arith, lt, long, same)) };
         name = s.name;
-        roles = roles_of s;
-        body = block_from c.0 short;
+        roles = roles;
+        body = block.0;
       },
       read_of symbols _ (
         state,
@@ -243,8 +188,8 @@ source_read symbols s state lt spells taken =
           declared = refl;
           named = refl;
           role_names = refl;
-          fit = passes_fit (roles_of s) 0 outermost s.body passes;
-          tree = block_says c.0 short ∙ c.1;
+          fit = passes_fit roles 0 outermost s.body passes;
+          tree = block.1;
         },
       ),
     )
@@ -253,9 +198,6 @@ answered : (symbols : List Symbol) (a : Answer) → length symbols < 2 ^ 63 → 
     → ((p : Protocol) × IsRead symbols p) ⊎ IsRefusedAs symbols
 answered symbols (Taken state) lt e fair = inl (source_read symbols fair.0 state lt fair.1 e)
 answered symbols (Refuses fault left) lt e fair = inr (fault, left, refusal_is_first symbols fault left e)
-
-texts_are_answered : (symbols : List Symbol) → length symbols < 2 ^ 63 → ((p : Protocol) × IsRead symbols p) ⊎ IsRefusedAs symbols
-texts_are_answered symbols lt = answered symbols (reading symbols) lt refl (codes_are_fair symbols)
 
 -- ---- a part
 
@@ -275,7 +217,8 @@ either_answered : (bundle : List ℕ) (part : Span) (last : ℕ) → length bund
 either_answered bundle part last lt (inl h) =
     let few = tokens_few bundle part h.0 h.1 in
     let same = symbols_few bundle h.0 in
-    part_answered bundle part last h.0 h.1 (texts_are_answered (symbols_of bundle h.0) (omega (arith, lt, few, same)))
+    let symbols = symbols_of bundle h.0 in
+    part_answered bundle part last h.0 h.1 (answered symbols (reading symbols) (omega (arith, lt, few, same)) refl (codes_are_fair symbols))
 either_answered bundle part last lt (inr h) = inr (10, h.0, inl (refl, h.1))
 
 read_not_refused : (bundle : List ℕ) (part : Span) (last code line : ℕ) → IsReadPart bundle part → IsRefusedPart bundle part last code line → ⊥

@@ -1,5 +1,5 @@
 -- Worked cases of the machine: what it takes, and where it refuses with which code.
-use Rattle.std.proofs.Common.{◌≡◌, ℕ, true, codes, List, [], ◌∷◌, ◌++◌, Some, None, refl, arith}
+use Rattle.std.proofs.Common.{◌≡◌, ℕ, true, codes, List, [], ◌∷◌, ◌++◌, map, Some, None, refl, arith}
 use Rattle.std.specs.Prelude.{Option}
 use Rattle.rcv_lexer.specs.Parts.{parts_of}
 use Rattle.rcv_lexer.specs.Tokens.{line_at}
@@ -26,87 +26,72 @@ shown (Refuses fault left) = Some (code_of fault, left)
 abbrev refusal : List Symbol → Option (ℕ × List Symbol)
 refusal symbols = shown (reading symbols)
 
-one_message : reading (text (message (Is Close ∷ []))) ≡ Taken (known both 1)
-one_message = refl
+-- where a receiver is awaited behind so many points, and where a ninth role is
+abbrev at_receiver : ℕ → List ℕ → List Symbol → Option (ℕ × List Symbol)
+at_receiver count before symbols = shown (answer (known both count) (Receiver 0 before ∷ []) symbols)
 
--- ---- each code
+abbrev at_ninth : Symbol → Option (ℕ × List Symbol)
+at_ninth role = shown (answer (known (both ++ more_roles) 0) (RoleName ∷ []) (role ∷ []))
 
-wrong_token : refusal (text (x ∷ y ∷ Is Close ∷ [])) ≡ Some (11, y ∷ Is Close ∷ [])
-wrong_token = refl
+-- an answer, the code that it has, and what is left
+abbrev Case : Type 0
+Case = Option (ℕ × List Symbol) × ℕ × List Symbol
 
-early_end : refusal (text (message [])) ≡ Some (11, [])
-early_end = refl
+abbrev AreRefused : List Case → Type 0
+AreRefused cases = map (λ (c : Case). c.0) cases ≡ map (λ (c : Case). Some (c.1, c.2)) cases
 
--- a branch without a statement
-empty_branch : refusal (text (Is Choice ∷ Is At ∷ a ∷ Is Open ∷ Is Close ∷ [])) ≡ Some (11, Is Close ∷ [])
-empty_branch = refl
+each_code : AreRefused (
+    -- a wrong symbol, an early end, a branch without a statement, and the end behind the deepest block
+    (refusal (text (x ∷ y ∷ Is Close ∷ [])), 11, y ∷ Is Close ∷ [])
+    ∷ (refusal (text (message [])), 11, [])
+    ∷ (refusal (text (Is Choice ∷ Is At ∷ a ∷ Is Open ∷ Is Close ∷ [])), 11, Is Close ∷ [])
+    ∷ (refusal (text (nested 31 [])), 11, [])
+    -- a block too deep
+    ∷ (refusal (text (nested 31 (rec_x []))), 12, Is Open ∷ [])
+    -- a receiver and a subject that are no roles
+    ∷ (refusal (text (sends (c ∷ Is Semicolon ∷ []))), 13, c ∷ Is Semicolon ∷ [])
+    ∷ (refusal (text (Is Choice ∷ Is At ∷ c ∷ [])), 13, c ∷ [])
+    -- received twice, declared twice
+    ∷ (refusal (text (sends (b ∷ Is Comma ∷ b ∷ []))), 14, b ∷ [])
+    ∷ (refusal (Is Module ∷ x ∷ Is Semicolon ∷ alias_a (alias_a [])), 14, a ∷ Is Semicolon ∷ [])
+    -- a message to its sender
+    ∷ (refusal (text (sends (a ∷ []))), 15, a ∷ [])
+    -- a statement behind a continue
+    ∷ (refusal (text (rec_x (message (again_x (message []))))), 16, message [])
+    -- a continue without a message before it, also through a branch and past a recursion inside
+    ∷ (refusal (text (rec_x (again_x []))), 17, again_x [])
+    ∷ (refusal (text (rec_x (Is Choice ∷ Is At ∷ a ∷ Is Open ∷ Is Rec ∷ y ∷ Is Open ∷ again_x []))), 17, again_x [])
+    -- a ninth role, and a point behind 256
+    ∷ (at_ninth (Word (codes "I")), 18, Word (codes "I") ∷ [])
+    ∷ (at_receiver 256 [] (b ∷ Is Semicolon ∷ []), 18, b ∷ Is Semicolon ∷ [])
+    -- what waits: par, do and a second protocol; no other symbol behind a protocol
+    ∷ (refusal (text (Is Par ∷ [])), 19, Is Par ∷ [])
+    ∷ (refusal (text (Is Do ∷ [])), 19, Is Do ∷ [])
+    ∷ (refusal (text (Is Close ∷ Is Global ∷ [])), 19, Is Global ∷ [])
+    ∷ (refusal (text (Is Close ∷ Is Close ∷ [])), 11, Is Close ∷ [])
+    ∷ [])
+each_code = refl
 
-deepest : refusal (text (nested 31 [])) ≡ Some (11, [])
-deepest = refl
+-- code 17 at the word, before its name is read
+at_continue : AreRefused (
+    (refusal (text (rec_x (Is Continue ∷ x ∷ []))), 17, Is Continue ∷ x ∷ [])
+    ∷ (refusal (text (rec_x (Is Continue ∷ []))), 11, [])
+    ∷ (refusal (text (rec_x (Is Continue ∷ y ∷ Is Semicolon ∷ []))), 13, y ∷ Is Semicolon ∷ [])
+    ∷ [])
+at_continue = refl
 
-too_deep : refusal (text (nested 31 (rec_x []))) ≡ Some (12, Is Open ∷ [])
-too_deep = refl
-
-no_role : refusal (text (sends (c ∷ Is Semicolon ∷ []))) ≡ Some (13, c ∷ Is Semicolon ∷ [])
-no_role = refl
-
-no_subject : refusal (text (Is Choice ∷ Is At ∷ c ∷ [])) ≡ Some (13, c ∷ [])
-no_subject = refl
-
-twice_received : refusal (text (sends (b ∷ Is Comma ∷ b ∷ []))) ≡ Some (14, b ∷ [])
-twice_received = refl
-
-twice_declared : refusal (Is Module ∷ x ∷ Is Semicolon ∷ alias_a (alias_a [])) ≡ Some (14, a ∷ Is Semicolon ∷ [])
-twice_declared = refl
-
-to_itself : refusal (text (sends (a ∷ []))) ≡ Some (15, a ∷ [])
-to_itself = refl
-
-behind_continue : refusal (text (rec_x (message (again_x (message []))))) ≡ Some (16, message [])
-behind_continue = refl
-
-unguarded : refusal (text (rec_x (again_x []))) ≡ Some (17, again_x [])
-unguarded = refl
-
--- through a branch, and past a recursion inside
-unguarded_branch : refusal (text (rec_x (Is Choice ∷ Is At ∷ a ∷ Is Open ∷ Is Rec ∷ y ∷ Is Open ∷ again_x []))) ≡ Some (17, again_x [])
-unguarded_branch = refl
-
-ninth_role : shown (answer (known (both ++ more_roles) 0) (RoleName ∷ []) (Word (codes "I") ∷ [])) ≡ Some (18, Word (codes "I") ∷ [])
-ninth_role = refl
-
--- behind 255 points there is one more
-last_point : answer (known both 255) (Receiver 0 [] ∷ []) (b ∷ Is Semicolon ∷ []) ≡ Taken (known both 256)
-last_point = refl
-
-too_many_points : shown (answer (known both 256) (Receiver 0 [] ∷ []) (b ∷ Is Semicolon ∷ [])) ≡ Some (18, b ∷ Is Semicolon ∷ [])
-too_many_points = refl
-
-par_waits : refusal (text (Is Par ∷ [])) ≡ Some (19, Is Par ∷ [])
-par_waits = refl
-
-do_waits : refusal (text (Is Do ∷ [])) ≡ Some (19, Is Do ∷ [])
-do_waits = refl
-
-second_protocol : refusal (text (Is Close ∷ Is Global ∷ [])) ≡ Some (19, Is Global ∷ [])
-second_protocol = refl
-
--- no other symbol behind a protocol
-behind_all : refusal (text (Is Close ∷ Is Close ∷ [])) ≡ Some (11, Is Close ∷ [])
-behind_all = refl
-
--- ---- code 17 at the word, before its name is read
-
-unguarded_at_the_end : refusal (text (rec_x (Is Continue ∷ x ∷ []))) ≡ Some (17, Is Continue ∷ x ∷ [])
-unguarded_at_the_end = refl
-
-no_name_yet : refusal (text (rec_x (Is Continue ∷ []))) ≡ Some (11, [])
-no_name_yet = refl
-
-another_name : refusal (text (rec_x (Is Continue ∷ y ∷ Is Semicolon ∷ []))) ≡ Some (13, y ∷ Is Semicolon ∷ [])
-another_name = refl
-
--- ---- the least code at one symbol
+least_code : AreRefused (
+    -- par and do behind a continue
+    (refusal (text (rec_x (message (again_x (Is Par ∷ []))))), 16, Is Par ∷ [])
+    ∷ (refusal (text (rec_x (message (again_x (Is Do ∷ []))))), 16, Is Do ∷ [])
+    -- where no point is left: a name of no role, one that stands before, the sender
+    ∷ (at_receiver 256 [] (c ∷ []), 13, c ∷ [])
+    ∷ (at_receiver 256 (1 ∷ []) (b ∷ []), 14, b ∷ [])
+    ∷ (at_receiver 256 [] (a ∷ []), 15, a ∷ [])
+    -- a ninth role with the name of the first
+    ∷ (at_ninth a, 14, a ∷ [])
+    ∷ [])
+least_code = refl
 
 -- behind a continue, at a place to which a walk comes
 abbrev ended_place : Place
@@ -115,28 +100,16 @@ ended_place = record { depth = 2; recs = codes "X" ∷ []; comes = 1; ended = tr
 ended_before_unguarded : step (known both 0) (Is Continue) (x ∷ []) (Rest ended_place ∷ []) ≡ Wrong AfterContinue
 ended_before_unguarded = refl
 
-par_behind_continue : refusal (text (rec_x (message (again_x (Is Par ∷ []))))) ≡ Some (16, Is Par ∷ [])
-par_behind_continue = refl
+-- ---- what is taken
 
-do_behind_continue : refusal (text (rec_x (message (again_x (Is Do ∷ []))))) ≡ Some (16, Is Do ∷ [])
-do_behind_continue = refl
+one_message : reading (text (message (Is Close ∷ []))) ≡ Taken (known both 1)
+one_message = refl
 
--- where no point is left: a name of no role, one that stands before, the sender
-no_role_first : shown (answer (known both 256) (Receiver 0 [] ∷ []) (c ∷ [])) ≡ Some (13, c ∷ [])
-no_role_first = refl
+-- behind 255 points there is one more
+last_point : answer (known both 255) (Receiver 0 [] ∷ []) (b ∷ Is Semicolon ∷ []) ≡ Taken (known both 256)
+last_point = refl
 
-twice_before_many : shown (answer (known both 256) (Receiver 0 (1 ∷ []) ∷ []) (b ∷ [])) ≡ Some (14, b ∷ [])
-twice_before_many = refl
-
-itself_before_many : shown (answer (known both 256) (Receiver 0 [] ∷ []) (a ∷ [])) ≡ Some (15, a ∷ [])
-itself_before_many = refl
-
-twice_before_nine : shown (answer (known (both ++ more_roles) 0) (RoleName ∷ []) (a ∷ [])) ≡ Some (14, a ∷ [])
-twice_before_nine = refl
-
--- ---- a body that is never left
-
--- rec X { rec Y { X() from A to B; continue X; } and what follows
+-- a body that is never left: rec X { rec Y { X() from A to B; continue X; } and what follows
 abbrev never_left : List Symbol → List Symbol
 never_left next = rec_x (Is Rec ∷ y ∷ Is Open ∷ message (again_x (Is Close ∷ next)))
 

@@ -1,14 +1,14 @@
 -- A text that was read has full blocks only.
-use Rattle.std.proofs.Common.{◌≡◌, ℕ, ◌+◌, Bool, true, false, List, [], ◌∷◌, ◌++◌, length, refl, sym, subst, inl, inr}
-use Rattle.std.specs.Prelude.{◌⊎◌, not, IsTrue}
-use Rattle.std.specs.Str.{bytes_eq}
+use Rattle.std.proofs.Common.{◌≡◌, ℕ, ◌+◌, Bool, true, false, List, [], ◌∷◌, length, refl, inl, inr}
+use Rattle.std.proofs.Math.Logic.{⊎_elim}
+use Rattle.std.proofs.lemmas.Bool.{not-false}
 use Rattle.rcv_tree.specs.declared.protocol.Protocol.{Protocol}
 use Rattle.rcv_model.specs.Text as trees
 use Rattle.rcv_model.specs.Places.{IsNothing, IsNamed, IsFull, OthersFull}
 use Rattle.rcv_syntax.specs.Symbols.{Symbol}
-use Rattle.rcv_syntax.specs.Grammar.{Written, NoStmt, AMessage, AChoice, ARec, AContinue, APar, ADo, Blocks, NoBlock, ABlock, IsBegun, IsProper, AreProper, spelling}
+use Rattle.rcv_syntax.specs.Grammar.{Written, NoStmt, AMessage, AChoice, ARec, AContinue, APar, ADo, Blocks, NoBlock, ABlock, IsBegun, IsProper, AreProper}
 use Rattle.rcv_syntax.specs.Codes.{is_among}
-use Rattle.rcv_machine.specs.Machine.{Place, behind, inside, inside_rec, outermost, Taken, reading}
+use Rattle.rcv_machine.specs.Machine.{Place, behind, inside, inside_rec, outermost}
 use Rattle.rcv_syntax.specs.Trees.{role_at, roles_at, points, points_of, singles, tree_of, trees_of}
 use Rattle.rcv_machine.proofs.Knowing.{recent}
 use Rattle.rcv_machine.proofs.Among.{bytes_swap, among_either, among_old, among_new, recent_more}
@@ -23,21 +23,10 @@ record Knows (p : Place) (recs bare : List (List ℕ)) : Type 0 where
   pub open_ones : (name : List ℕ) → IsNamed name bare → is_among name (recent p) ≡ true
 
 knows_rec : (p : Place) (n : List ℕ) (recs bare : List (List ℕ)) → Knows p recs bare → Knows (inside (inside_rec p n)) (n ∷ recs) (n ∷ bare)
-knows_rec p n recs bare h = record { all = more; open_ones = reaches }
-  where
-    all_of : (name : List ℕ) → (is_among name p.recs ≡ true) ⊎ (bytes_eq name n ≡ true) → IsNamed name (n ∷ recs)
-    all_of name (inl e) = inr (h.all name e)
-    all_of name (inr e) = inl (bytes_swap name n e)
-
-    more : (name : List ℕ) → is_among name (p.recs ++ n ∷ []) ≡ true → IsNamed name (n ∷ recs)
-    more name e = all_of name (among_either name n p.recs e)
-
-    reaches_of : (name : List ℕ) → IsTrue (bytes_eq n name) ⊎ IsNamed name bare → is_among name (recent p ++ n ∷ []) ≡ true
-    reaches_of name (inl e) = among_new name n (recent p) (bytes_swap n name e)
-    reaches_of name (inr e) = among_old name n (recent p) (h.open_ones name e)
-
-    reaches : (name : List ℕ) → IsNamed name (n ∷ bare) → is_among name (recent (inside (inside_rec p n))) ≡ true
-    reaches name e = subst (λ (x : List (List ℕ)). is_among name x ≡ true) (sym (recent_more p n)) (reaches_of name e)
+knows_rec p n recs bare h = record {
+  all = λ name e. ⊎_elim (λ old. inr (h.all name old)) (λ new. inl (bytes_swap name n new)) (among_either name n p.recs e);
+  open_ones = λ name e. rw (recent_more p n) (⊎_elim (λ new. among_new name n (recent p) (bytes_swap n name new)) (λ old. among_old name n (recent p) (h.open_ones name old)) e);
+}
 
 -- in a branch, and behind a statement
 knows_branch : (p : Place) (recs bare : List (List ℕ)) → Knows p recs bare → Knows (inside p) recs bare
@@ -50,25 +39,13 @@ knows_behind p b recs bare h = record { all = h.all; open_ones = λ name e. absu
 
 something : (roles : List (List ℕ)) (n : ℕ) (w : Written) → IsBegun w → IsNothing (tree_of roles n w) → ⊥
 something roles n NoStmt begun h = begun
-something roles n (AMessage label ss s r rs rest) begun h = h
-something roles n (AChoice s f os rest) begun h = h
-something roles n (ARec name body rest) begun h = h
-something roles n (AContinue name rest) begun h = h
-something roles n (APar f g os rest) begun h = h
-something roles n (ADo name r rs rest) begun h = h
+something roles n _ begun h = h
 
 nothing_behind : (roles : List (List ℕ)) (n m : ℕ) (p : Place) (w : Written) → p.ended ≡ true → Passes roles m p w → IsNothing (tree_of roles n w)
 nothing_behind roles n m p NoStmt e h = tt
-nothing_behind roles n m p (AMessage label ss s r rs rest) e h = let still = h.0 in absurd cc
-nothing_behind roles n m p (AChoice s f os rest) e h = let still = h.0 in absurd cc
-nothing_behind roles n m p (ARec name body rest) e h = let still = h.0 in absurd cc
-nothing_behind roles n m p (AContinue name rest) e h = let still = h.0 in absurd cc
-nothing_behind roles n m p (APar f g os rest) e h = absurd h
-nothing_behind roles n m p (ADo name r rs rest) e h = absurd h
-
-not_false : (b : Bool) → not b ≡ false → b ≡ true
-not_false true e = refl
-not_false false e = absurd cc
+nothing_behind roles n m p (APar f g os rest) e h = h
+nothing_behind roles n m p (ADo name r rs rest) e h = h
+nothing_behind roles n m p _ e h = let still = h.0 in absurd cc
 
 singles_full : (recs : List (List ℕ)) (label : List ℕ) (ss : List (List ℕ)) (s : ℕ) (rs : List ℕ) (n : ℕ) (rest : trees.Body) → IsFull recs [] rest → IsFull recs [] (singles label ss s rs n rest)
 singles_full recs label ss s [] n rest h = h
@@ -94,7 +71,7 @@ mutual
     full roles (n + points body) (m + points body) (behind p false) recs [] rest proper.2 h.3 (knows_behind p false recs bare knows),
   )
   full roles n m p recs bare (AContinue name rest) proper h knows = (
-    knows.all name (not_false (is_among name p.recs) h.2),
+    knows.all name (not-false (is_among name p.recs) h.2),
     λ is. let there = knows.open_ones name is in let guarded = h.1 in cc,
     nothing_behind roles n m (behind p true) rest refl h.3,
   )
@@ -110,19 +87,13 @@ mutual
   )
 
 knows_nothing : Knows outermost [] []
-knows_nothing = record { all = λ name e. absurd (no_name name e); open_ones = λ name e. absurd e }
-  where
-    no_name : (name : List ℕ) → is_among name [] ≡ true → ⊥
-    no_name name e = cc
+knows_nothing = record { all = λ name e. absurd cc; open_ones = λ name e. absurd e }
 
 full_body : (symbols : List Symbol) (p : Protocol) → IsTakenAs symbols p → IsFull [] [] (trees.body_of p.body)
 full_body symbols p (state, taken, r) =
     let s = r.source in
-    let is_taken : reading (spelling s) ≡ Taken state = subst (λ (x : List Symbol). reading x ≡ Taken state) r.spelled.2 taken in
-    let passes = body_passes s state r.spelled.1 is_taken in
-    let roles = r.role_names in
-    let tree = r.tree in
-    rw (tree, roles) (full (s.role ∷ s.other_roles) 0 0 outermost [] [] s.body r.spelled.1 passes knows_nothing)
+    let passes = body_passes s state r.spelled.1 (rw r.spelled.2 at taken) in
+    rw (r.tree, r.role_names) (full (s.role ∷ s.other_roles) 0 0 outermost [] [] s.body r.spelled.1 passes knows_nothing)
 
 pub read_texts_are_full : ReadTextsAreFull
 read_texts_are_full symbols p read = full_body symbols p (taken_of symbols p read)

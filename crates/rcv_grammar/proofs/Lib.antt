@@ -1,10 +1,8 @@
 pub mod Passing
 pub mod Headings
-pub mod Cutting
 pub mod Canonizing
 pub mod Filling
 pub mod Once
-pub mod Fine
 pub mod Printables
 pub mod Named
 pub mod Answered

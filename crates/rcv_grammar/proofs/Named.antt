@@ -1,5 +1,5 @@
 -- Roles and messages of a protocol that was read have words for names, and roles differ.
-use Rattle.std.proofs.Common.{◌≡◌, ℕ, List, [], ◌∷◌, ◌++◌, subst, sym}
+use Rattle.std.proofs.Common.{ℕ, List, [], ◌∷◌, ◌++◌}
 use Rattle.std.specs.List.{All}
 use Rattle.std.proofs.lemmas.List.Elements.{All-append, All-cons, All-nil}
 use Rattle.rcv_tree.specs.Words.{IsWord}
@@ -10,11 +10,10 @@ use Rattle.rcv_model.specs.Names.{AreDifferent}
 use Rattle.rcv_syntax.specs.declared.sign.Sign.TheVariants.{Close}
 use Rattle.rcv_syntax.specs.Symbols.{Symbol, Is, symbols_of}
 use Rattle.rcv_syntax.specs.Grammar.{stmts}
-use Rattle.rcv_machine.specs.Machine.{Taken, reading}
 use Rattle.rcv_reader.proofs.Answering.{IsTakenAs, taken_of}
 use Rattle.rcv_grammar.specs.Printable.{AreNames, IsPrintableBody, ArePrintableBlocks, SomeBlocks, TwoBlocks}
 use Rattle.rcv_grammar.specs.Laws.{ReadTextsHaveNames}
-use Rattle.rcv_grammar.proofs.Headings.{roles_differ}
+use Rattle.rcv_grammar.proofs.Headings.{head_follows}
 use Rattle.rcv_grammar.proofs.Printables.{are_names, read_is_printable}
 
 names_are_words : (names : List (List ℕ)) → AreNames names → All IsWord names
@@ -57,16 +56,14 @@ mutual
   two_labels roles (Or b bs) h = both_labels (singles b) (singles_of bs) (labels roles b h.0) (some_labels roles bs h.1)
 
 differ : (symbols : List Symbol) (p : Protocol) → IsTakenAs symbols p → AreDifferent p.roles
-differ symbols p (state, taken, r) =
-    let s = r.source in
-    subst AreDifferent (sym r.role_names)
-    (roles_differ s (stmts s.body (Is Close ∷ [])) state (subst (λ (x : List Symbol). reading x ≡ Taken state) r.spelled.2 taken))
+differ symbols p (state, taken, r) = rw r.role_names (head_follows r.source (stmts r.source.body (Is Close ∷ [])) state (rw r.spelled.2 at taken)).0
 
 pub read_texts_have_names : ReadTextsHaveNames
 read_texts_have_names bundle part tokens p are read =
+    let symbols = symbols_of bundle tokens in
     let printable = read_is_printable bundle part tokens p are read in
     record {
       role_words = names_are_words p.roles (are_names p.roles printable.role_names);
-      differ = differ (symbols_of bundle tokens) p (taken_of (symbols_of bundle tokens) p read);
+      differ = differ symbols p (taken_of symbols p read);
       label_words = labels p.roles (body_of p.body) printable.body;
     }

@@ -81,8 +81,8 @@ impl Ledger {
     }
 
     /// Adds a Send to this receiver, of a role with a log, behind which the role has these variables: they differ from
-    /// those before it as `change` says. Within the ledger's
-    /// room it takes no memory and succeeds. Else it fails where memory runs out; then the ledger is as before.
+    /// those before it as `change` says. Within the ledger's room it takes no memory and succeeds. Else it fails where
+    /// memory runs out; then the ledger is as before.
     #[inline(always)]
     pub fn add_send(
         &mut self,
@@ -122,9 +122,8 @@ impl Ledger {
     }
 
     /// Adds a Recv of the front message from this sender, of a role with a log, behind which the role has these
-    /// variables: they differ from those before it as `change` says.
-    /// Within the ledger's room it takes no memory and succeeds. Else it fails where memory runs out; then the ledger
-    /// is as before.
+    /// variables: they differ from those before it as `change` says. Within the ledger's room it takes no memory and
+    /// succeeds. Else it fails where memory runs out; then the ledger is as before.
     #[inline(always)]
     pub fn add_recv(
         &mut self,

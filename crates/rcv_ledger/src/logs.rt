@@ -18,8 +18,9 @@ pub struct Mark {
     pub dir: Dir,
 }
 
-/// The entries of a journal, and for each role its kept events among them, in order. An event is stored once: in its
-/// entry. For so many entries, and events of each role, room is reserved at its start.
+/// The entries of a journal, and for each role its kept events among them, in order. An event is stored whole in its
+/// entry alone; a role's mark of it has its point and direction beside its place, so that a cut reads no entry. For so
+/// many entries, and so many events of each role, room is reserved at its start.
 #[derive(Drop)]
 pub struct Logs {
     entries: Vec<Entry>,

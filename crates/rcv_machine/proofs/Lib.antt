@@ -1,14 +1,13 @@
-pub mod Steps
+pub mod Parts
+pub mod Agreeing
 pub mod Heads
-pub mod Bodies
 pub mod Fair
-pub mod Telling
 pub mod Knowing
 pub mod Judging
 pub mod Among
 pub mod Naming
-pub mod Stepping
 pub mod Receiving
 pub mod Standing
 pub mod Refusing
+pub mod Answering
 pub mod Exactly

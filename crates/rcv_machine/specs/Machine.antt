@@ -1,13 +1,12 @@
 -- Reading one symbol after another, with a stack of what is awaited. Each item that needs it knows its place in the text.
-use Rattle.std.specs.Prelude.{◌≡◌, ℕ, ◌+◌, ◌-◌, ◌==◌, nat_le, Bool, true, false, not, cond, codes, List, [], ◌∷◌, ◌++◌, length, drop, Option, Some, None}
+use Rattle.std.specs.Prelude.{ℕ, ◌+◌, ◌-◌, ◌==◌, nat_le, Bool, true, false, not, cond, codes, List, [], ◌∷◌, ◌++◌, length, drop, Option, Some, None}
 use Rattle.std.specs.Str.{bytes_eq}
-use Rattle.rcv_tree.specs.declared.protocol.Decl.{Decl}
 use Rattle.rcv_syntax.specs.declared.sign.Sign.{Sign}
 use Rattle.rcv_syntax.specs.declared.sign.Sign.TheVariants.{Module, Global, Protocol, Role, From, To, Choice, At, Or, Rec, Continue, Par, And, Do, Open, Close, Left, Right, Comma, Semicolon, Dot, Less, Greater, Foreign}
 use Rattle.rcv_syntax.specs.declared.fault.Fault.{Fault}
 use Rattle.rcv_syntax.specs.declared.fault.Fault.TheVariants.{Token, Deep, NoName, Twice, SelfMessage, AfterContinue, Unguarded, TooMany, NotYet}
 use Rattle.rcv_syntax.specs.Symbols.{Symbol, Is, Word, Text, Number}
-use Rattle.rcv_syntax.specs.Grammar.{Written, Blocks, is_decl_word, dotted, names_behind, sort_list, roles_behind, decls, stmts, blocks_behind, IsBegun, IsProper, AreProper, AreDecls}
+use Rattle.rcv_syntax.specs.Grammar.{is_decl_word}
 use Rattle.rcv_syntax.specs.Codes.{is_among}
 use Rattle.rcv_syntax.specs.Trees.{place_of, is_listed}
 
@@ -259,31 +258,3 @@ awaited = in_head (Rest outermost ∷ [])
 
 abbrev pub reading : List Symbol → Answer
 reading symbols = answer begin awaited symbols
-
--- In the grammar's words: what an item derives, in front of what follows.
-abbrev pub Front : Item → List Symbol → List Symbol → Type 0
-Front (This m) ts us = ts ≡ m ∷ us
-Front AnyName ts us = (n : List ℕ) × (ts ≡ Word n ∷ us)
-Front AnyQuoted ts us = (q : List ℕ) × (ts ≡ Text q ∷ us)
-Front MoreModules ts us = (ns : List (List ℕ)) × (ts ≡ dotted ns (Is Semicolon ∷ us))
-Front (Decls aliases) ts us = (ds : List Decl) × AreDecls ds × (ts ≡ decls ds (Is Global ∷ us))
-Front (Alias aliases) ts us = (n : List ℕ) × (ds : List Decl) × AreDecls ds × (ts ≡ Word n ∷ Is Semicolon ∷ decls ds (Is Global ∷ us))
-Front RoleName ts us = (n : List ℕ) × (ns : List (List ℕ)) × (ts ≡ Word n ∷ roles_behind ns (Is Right ∷ us))
-Front MoreRoles ts us = (ns : List (List ℕ)) × (ts ≡ roles_behind ns (Is Right ∷ us))
-Front Sorts ts us = (ns : List (List ℕ)) × (ts ≡ sort_list ns (Is Right ∷ us))
-Front MoreSorts ts us = (ns : List (List ℕ)) × (ts ≡ names_behind ns (Is Right ∷ us))
-Front Subject ts us = (n : List ℕ) × (ts ≡ Word n ∷ us)
-Front Sender ts us = (n r : List ℕ) × (rs : List (List ℕ)) × (ts ≡ Word n ∷ Is To ∷ Word r ∷ names_behind rs (Is Semicolon ∷ us))
-Front (Receiver sender before) ts us = (r : List ℕ) × (rs : List (List ℕ)) × (ts ≡ Word r ∷ names_behind rs (Is Semicolon ∷ us))
-Front (MoreReceivers sender before) ts us = (rs : List (List ℕ)) × (ts ≡ names_behind rs (Is Semicolon ∷ us))
-Front (RecName p) ts us = (n : List ℕ) × (b : Written) × IsBegun b × IsProper b × (ts ≡ Word n ∷ Is Open ∷ stmts b (Is Close ∷ us))
-Front (AgainName p) ts us = (n : List ℕ) × (ts ≡ Word n ∷ Is Semicolon ∷ us)
-Front (Opening p) ts us = (b : Written) × IsBegun b × IsProper b × (ts ≡ Is Open ∷ stmts b (Is Close ∷ us))
-Front (First p) ts us = (b : Written) × IsBegun b × IsProper b × (ts ≡ stmts b (Is Close ∷ us))
-Front (Rest p) ts us = (b : Written) × IsProper b × (ts ≡ stmts b (Is Close ∷ us))
-Front (More p) ts us = (bs : Blocks) × (b : Written) × AreProper bs × IsProper b × (ts ≡ blocks_behind Or bs (stmts b (Is Close ∷ us)))
-
--- what the awaited items, one after another, derive
-abbrev pub Derives : List Item → List Symbol → Type 0
-Derives [] ts = ts ≡ []
-Derives (i ∷ k) ts = (us : List Symbol) × Front i ts us × Derives k us

@@ -13,23 +13,30 @@ use Rattle.rcv_syntax.specs.Trees.{or_first, role_at, roles_at, points, points_o
 abbrev Messages : Type 0
 Messages = List (ℕ × places.SingleMessage)
 
-numbered_append : (n m : ℕ) (xs ys : Messages) → IsNumberedFrom n xs → m ≡ n + length xs → IsNumberedFrom m ys → IsNumberedFrom n (xs ++ ys)
-numbered_append n m [] ys a e b = let same : m ≡ n = omega (arith, e) in subst (λ (k : ℕ). IsNumberedFrom k ys) same b
-numbered_append n m (x ∷ xs) ys a e b = (a.0, numbered_append (n + 1) m xs ys a.1 (omega (arith, e)) b)
+-- These are the points behind n, up to m, and their ends are roles.
+record AreBehind (roles n m : ℕ) (xs : Messages) : Type 0 where
+  pub long : m ≡ n + length xs
+  pub numbered : IsNumberedFrom (n + 1) xs
+  pub ends : HaveEnds roles xs
 
-ends_append : (roles : ℕ) (xs ys : Messages) → HaveEnds roles xs → HaveEnds roles ys → HaveEnds roles (xs ++ ys)
-ends_append roles [] ys a b = b
-ends_append roles (x ∷ xs) ys a b = (a.0, a.1, a.2, ends_append roles xs ys a.3 b)
+moved : (roles n n' m m' : ℕ) (xs : Messages) → n ≡ n' → m ≡ m' → AreBehind roles n m xs → AreBehind roles n' m' xs
+moved roles n n' m m' xs e f a = subst (λ (k : ℕ). AreBehind roles k m' xs) e (subst (λ (k : ℕ). AreBehind roles n k xs) f a)
 
--- ---- one message for each receiver
+none_behind : (roles n : ℕ) → AreBehind roles n n []
+none_behind roles n = record { long = omega arith; numbered = tt; ends = tt }
 
-single_count : (label : List ℕ) (sorts : List (List ℕ)) (sender : ℕ) (rs : List ℕ) (n : ℕ) (rest : trees.Body) → length (places.singles (singles label sorts sender rs n rest)) ≡ length rs + length (places.singles rest)
-single_count label sorts sender [] n rest = omega arith
-single_count label sorts sender (r ∷ rs) n rest = let h = single_count label sorts sender rs (n + 1) rest in omega (arith, h)
+one_more : (roles n m : ℕ) (x : places.SingleMessage) (xs : Messages) → (x.sender < roles) × (x.receiver < roles) × (x.sender ≡ x.receiver → ⊥)
+    → AreBehind roles (n + 1) m xs → AreBehind roles n m ((n + 1, x) ∷ xs)
+one_more roles n m x xs h a =
+    let l = a.long in record { long = omega (arith, l); numbered = (refl, a.numbered); ends = (h.0, h.1, h.2, a.ends) }
 
-single_numbers : (label : List ℕ) (sorts : List (List ℕ)) (sender : ℕ) (rs : List ℕ) (n m : ℕ) (rest : trees.Body) → m ≡ n + length rs → IsNumberedFrom (m + 1) (places.singles rest) → IsNumberedFrom (n + 1) (places.singles (singles label sorts sender rs n rest))
-single_numbers label sorts sender [] n m rest e h = let same : m ≡ n = omega (arith, e) in subst (λ (k : ℕ). IsNumberedFrom (k + 1) (places.singles rest)) same h
-single_numbers label sorts sender (r ∷ rs) n m rest e h = (refl, single_numbers label sorts sender rs (n + 1) m rest (omega (arith, e)) h)
+both : (roles n m l : ℕ) (xs ys : Messages) → AreBehind roles n m xs → AreBehind roles m l ys → AreBehind roles n l (xs ++ ys)
+both roles n m l [] ys a b = let e = a.long in moved roles m n l l ys (omega (arith, e)) refl b
+both roles n m l (x ∷ xs) ys a b =
+    let e = a.long in
+    let more = both roles (n + 1) m l xs ys (record { long = omega (arith, e); numbered = a.numbered.1; ends = a.ends.3 }) b in
+    let f = more.long in
+    record { long = omega (arith, f); numbered = (a.numbered.0, more.numbered); ends = (a.ends.0, a.ends.1, a.ends.2, more.ends) }
 
 place_below : (roles : List (List ℕ)) (name : List ℕ) (b : Bool) (n r : ℕ) → nat_lt n (length roles) ≡ b → cond b (Some n) None ≡ Some r → r < length roles
 place_below roles name true n r t e = let same : n ≡ r = cc in let below : n < length roles = grind (arith, nat_tests) in subst (λ (k : ℕ). k < length roles) same below
@@ -40,149 +47,105 @@ role_below roles name d =
     let at : role_at roles name ≡ d.0 = ap or_first d.1 in
     subst (λ (k : ℕ). k < length roles) (sym at) (place_below roles name (nat_lt (position_or_len (λ role. bytes_eq role name) roles) (length roles)) (position_or_len (λ role. bytes_eq role name) roles) d.0 refl d.1)
 
-single_ends : (roles : List (List ℕ)) (label : List ℕ) (sorts : List (List ℕ)) (sender : ℕ) (before : List ℕ) (names : List (List ℕ)) (n : ℕ) (rest : trees.Body) → sender < length roles → MayReceive roles sender before names
-    → HaveEnds (length roles) (places.singles rest) → HaveEnds (length roles) (places.singles (singles label sorts sender (roles_at roles names) n rest))
-single_ends roles label sorts sender before [] n rest below may h = h
-single_ends roles label sorts sender before (r ∷ rs) n rest below may h =
-    let apart = may.2 in
-    (below, role_below roles r may.0, λ e. let yes : (role_at roles r == sender) ≡ true = grind (arith, nat_tests) in cc, single_ends roles label sorts sender (before ++ role_at roles r ∷ []) rs (n + 1) rest below may.3 h)
+-- The points of a body are those behind n, up to m, and its subjects are roles.
+record IsPart (roles n m : ℕ) (body : trees.Body) : Type 0 where
+  pub points : AreBehind roles n m (places.singles body)
+  pub subjects : HaveSubjects roles body
 
-mapped : (roles : List (List ℕ)) (xs : List (List ℕ)) → length (roles_at roles xs) ≡ length xs
-mapped roles [] = refl
-mapped roles (x ∷ xs) = let h = mapped roles xs in omega arith
+record ArePart (roles n m : ℕ) (bodies : trees.Bodies) : Type 0 where
+  pub points : AreBehind roles n m (places.singles_of bodies)
+  pub subjects : HaveSubjectsIn roles bodies
+
+-- one message for each receiver
+singles_part : (roles : List (List ℕ)) (label : List ℕ) (sorts : List (List ℕ)) (sender : ℕ) (before : List ℕ) (names : List (List ℕ)) (n m : ℕ) (rest : trees.Body)
+    → sender < length roles → MayReceive roles sender before names → IsPart (length roles) (n + length names) m rest
+    → IsPart (length roles) n m (singles label sorts sender (roles_at roles names) n rest)
+singles_part roles label sorts sender before [] n m rest below may h =
+    record { points = moved (length roles) (n + 0) n m m (places.singles rest) (omega arith) refl h.points; subjects = h.subjects }
+singles_part roles label sorts sender before (r ∷ rs) n m rest below may h =
+    let apart = may.2 in
+    let behind : IsPart (length roles) (n + 1 + length rs) m rest = record {
+      points = moved (length roles) (n + length (r ∷ rs)) (n + 1 + length rs) m m (places.singles rest) (omega arith) refl h.points;
+      subjects = h.subjects;
+    } in
+    let more = singles_part roles label sorts sender (before ++ role_at roles r ∷ []) rs (n + 1) m rest below may.3 behind in
+    record {
+      points = one_more (length roles) n m (record { label = label; sorts = sorts; sender = sender; receiver = role_at roles r })
+          (places.singles (singles label sorts sender (roles_at roles rs) (n + 1) rest))
+          (below, role_below roles r may.0, λ e. let yes : (role_at roles r == sender) ≡ true = grind (arith, nat_tests) in cc) more.points;
+      subjects = more.subjects;
+    }
 
 -- ---- all that is written
 
-mutual
-  counts : (roles : List (List ℕ)) (n : ℕ) (w : Written) → length (places.singles (tree_of roles n w)) ≡ points w
-  counts roles n NoStmt = refl
-  counts roles n (AMessage label ss s r rs rest) =
-      let a = single_count label ss (role_at roles s) (roles_at roles (r ∷ rs)) n (tree_of roles (n + (1 + length rs)) rest) in
-      let b = counts roles (n + (1 + length rs)) rest in
-      let m = mapped roles rs in
-      omega (arith, a, b, m)
-  counts roles n (AChoice s f os rest) =
-      let a = counts roles n f in
-      let b = counts_of roles (n + points f) os in
-      let c = counts roles (n + (points f + points_of os)) rest in
-      let l = length-append (places.singles (tree_of roles n f)) (places.singles_of (trees_of roles (n + points f) os)) in
-      let k = length-append (places.singles (tree_of roles n f) ++ places.singles_of (trees_of roles (n + points f) os)) (places.singles (tree_of roles (n + (points f + points_of os)) rest)) in
-      omega (arith, a, b, c, l, k)
-  counts roles n (ARec m body rest) =
-      let a = counts roles n body in
-      let c = counts roles (n + points body) rest in
-      let l = length-append (places.singles (tree_of roles n body)) (places.singles (tree_of roles (n + points body) rest)) in
-      omega (arith, a, c, l)
-  counts roles n (AContinue m rest) = counts roles n rest
-  counts roles n (APar f g os rest) =
-      let a = counts roles n f in
-      let d = counts roles (n + points f) g in
-      let b = counts_of roles (n + points f + points g) os in
-      let c = counts roles (n + (points f + (points g + points_of os))) rest in
-      let i = length-append (places.singles (tree_of roles (n + points f) g)) (places.singles_of (trees_of roles (n + points f + points g) os)) in
-      let l = length-append (places.singles (tree_of roles n f)) (places.singles (tree_of roles (n + points f) g) ++ places.singles_of (trees_of roles (n + points f + points g) os)) in
-      let k = length-append (places.singles (tree_of roles n f) ++ (places.singles (tree_of roles (n + points f) g) ++ places.singles_of (trees_of roles (n + points f + points g) os))) (places.singles (tree_of roles (n + (points f + (points g + points_of os))) rest)) in
-      omega (arith, a, b, c, d, i, l, k)
-  counts roles n (ADo m r rs rest) = counts roles n rest
-
-  counts_of : (roles : List (List ℕ)) (n : ℕ) (os : Blocks) → length (places.singles_of (trees_of roles n os)) ≡ points_of os
-  counts_of roles n NoBlock = refl
-  counts_of roles n (ABlock f os) =
-      let a = counts roles n f in
-      let b = counts_of roles (n + points f) os in
-      let l = length-append (places.singles (tree_of roles n f)) (places.singles_of (trees_of roles (n + points f) os)) in
-      omega (arith, a, b, l)
+-- points, and those behind them
+joined : (roles n a b : ℕ) (xs ys : Messages) → AreBehind roles n (n + a) xs → AreBehind roles (n + a) (n + a + b) ys
+    → AreBehind roles n (n + (a + b)) (xs ++ ys)
+joined roles n a b xs ys h g =
+    moved roles n n (n + a + b) (n + (a + b)) (xs ++ ys) refl (omega arith) (both roles n (n + a) (n + a + b) xs ys h g)
 
 mutual
-  numbers : (roles : List (List ℕ)) (n : ℕ) (w : Written) → IsNumberedFrom (n + 1) (places.singles (tree_of roles n w))
-  numbers roles n NoStmt = tt
-  numbers roles n (AMessage label ss s r rs rest) =
-      let m = mapped roles rs in
-      single_numbers label ss (role_at roles s) (roles_at roles (r ∷ rs)) n (n + (1 + length rs)) (tree_of roles (n + (1 + length rs)) rest) (omega (arith, m)) (numbers roles (n + (1 + length rs)) rest)
-  numbers roles n (AChoice s f os rest) =
-      let a = counts roles n f in
-      let b = counts_of roles (n + points f) os in
-      let l = length-append (places.singles (tree_of roles n f)) (places.singles_of (trees_of roles (n + points f) os)) in
-      numbered_append (n + 1) (n + (points f + points_of os) + 1) (places.singles (tree_of roles n f) ++ places.singles_of (trees_of roles (n + points f) os)) (places.singles (tree_of roles (n + (points f + points_of os)) rest))
-      (numbered_append (n + 1) (n + points f + 1) (places.singles (tree_of roles n f)) (places.singles_of (trees_of roles (n + points f) os)) (numbers roles n f) (omega (arith, a)) (numbers_of roles (n + points f) os))
-      (omega (arith, a, b, l)) (numbers roles (n + (points f + points_of os)) rest)
-  numbers roles n (ARec m body rest) =
-      let a = counts roles n body in
-      numbered_append (n + 1) (n + points body + 1) (places.singles (tree_of roles n body)) (places.singles (tree_of roles (n + points body) rest)) (numbers roles n body) (omega (arith, a)) (numbers roles (n + points body) rest)
-  numbers roles n (AContinue m rest) = numbers roles n rest
-  numbers roles n (APar f g os rest) =
-      let a = counts roles n f in
-      let d = counts roles (n + points f) g in
-      let b = counts_of roles (n + points f + points g) os in
-      let i = length-append (places.singles (tree_of roles (n + points f) g)) (places.singles_of (trees_of roles (n + points f + points g) os)) in
-      let l = length-append (places.singles (tree_of roles n f)) (places.singles (tree_of roles (n + points f) g) ++ places.singles_of (trees_of roles (n + points f + points g) os)) in
-      numbered_append (n + 1) (n + (points f + (points g + points_of os)) + 1)
-      (places.singles (tree_of roles n f) ++ (places.singles (tree_of roles (n + points f) g) ++ places.singles_of (trees_of roles (n + points f + points g) os))) (places.singles (tree_of roles (n + (points f + (points g + points_of os))) rest))
-      (numbered_append (n + 1) (n + points f + 1) (places.singles (tree_of roles n f)) (places.singles (tree_of roles (n + points f) g) ++ places.singles_of (trees_of roles (n + points f + points g) os)) (numbers roles n f) (omega (arith, a))
-      (numbered_append (n + points f + 1) (n + points f + points g + 1) (places.singles (tree_of roles (n + points f) g)) (places.singles_of (trees_of roles (n + points f + points g) os)) (numbers roles (n + points f) g) (omega (arith, d)) (numbers_of roles (n + points f + points g) os)))
-      (omega (arith, a, b, d, i, l)) (numbers roles (n + (points f + (points g + points_of os))) rest)
-  numbers roles n (ADo m r rs rest) = numbers roles n rest
+  part_of : (roles : List (List ℕ)) (n : ℕ) (w : Written) → IsFit roles w → IsPart (length roles) n (n + points w) (tree_of roles n w)
+  part_of roles n NoStmt h =
+      record { points = moved (length roles) n n n (n + 0) [] refl (omega arith) (none_behind (length roles) n); subjects = tt }
+  part_of roles n (AMessage label ss s r rs rest) h =
+      let behind = part_of roles (n + (1 + length rs)) rest h.2 in
+      let all : IsPart (length roles) (n + length (r ∷ rs)) (n + (1 + length rs + points rest)) (tree_of roles (n + (1 + length rs)) rest) = record {
+        points = moved (length roles) (n + (1 + length rs)) (n + length (r ∷ rs)) (n + (1 + length rs) + points rest) (n + (1 + length rs + points rest))
+            (places.singles (tree_of roles (n + (1 + length rs)) rest)) (omega arith) (omega arith) behind.points;
+        subjects = behind.subjects;
+      } in
+      singles_part roles label ss (role_at roles s) [] (r ∷ rs) n (n + (1 + length rs + points rest)) (tree_of roles (n + (1 + length rs)) rest)
+      (role_below roles s h.0) h.1 all
+  part_of roles n (AChoice s f os rest) h =
+      let first = part_of roles n f h.1 in
+      let others = parts_of roles (n + points f) os h.2 in
+      let behind = part_of roles (n + (points f + points_of os)) rest h.3 in
+      let inside = joined (length roles) n (points f) (points_of os) _ _ first.points others.points in
+      record {
+        points = joined (length roles) n (points f + points_of os) (points rest) _ _ inside behind.points;
+        subjects = (role_below roles s h.0, (first.subjects, others.subjects), behind.subjects);
+      }
+  part_of roles n (ARec m body rest) h =
+      let inside = part_of roles n body h.0 in
+      let behind = part_of roles (n + points body) rest h.1 in
+      record {
+        points = joined (length roles) n (points body) (points rest) _ _ inside.points behind.points;
+        subjects = (inside.subjects, behind.subjects);
+      }
+  part_of roles n (AContinue m rest) h = let behind = part_of roles n rest h in record { points = behind.points; subjects = behind.subjects }
+  part_of roles n (APar f g os rest) h =
+      let first = part_of roles n f h.0 in
+      let second = part_of roles (n + points f) g h.1 in
+      let others = parts_of roles (n + points f + points g) os h.2 in
+      let behind = part_of roles (n + (points f + (points g + points_of os))) rest h.3 in
+      let more = joined (length roles) (n + points f) (points g) (points_of os) _ _ second.points others.points in
+      let inside = joined (length roles) n (points f) (points g + points_of os) _ _ first.points more in
+      record {
+        points = joined (length roles) n (points f + (points g + points_of os)) (points rest) _ _ inside behind.points;
+        subjects = ((first.subjects, (second.subjects, others.subjects)), behind.subjects);
+      }
+  part_of roles n (ADo m r rs rest) h = let behind = part_of roles n rest h in record { points = behind.points; subjects = behind.subjects }
 
-  numbers_of : (roles : List (List ℕ)) (n : ℕ) (os : Blocks) → IsNumberedFrom (n + 1) (places.singles_of (trees_of roles n os))
-  numbers_of roles n NoBlock = tt
-  numbers_of roles n (ABlock f os) =
-      let a = counts roles n f in
-      numbered_append (n + 1) (n + points f + 1) (places.singles (tree_of roles n f)) (places.singles_of (trees_of roles (n + points f) os)) (numbers roles n f) (omega (arith, a)) (numbers_of roles (n + points f) os)
-
-mutual
-  ends : (roles : List (List ℕ)) (n : ℕ) (w : Written) → IsFit roles w → HaveEnds (length roles) (places.singles (tree_of roles n w))
-  ends roles n NoStmt h = tt
-  ends roles n (AMessage label ss s r rs rest) h =
-      single_ends roles label ss (role_at roles s) [] (r ∷ rs) n (tree_of roles (n + (1 + length rs)) rest) (role_below roles s h.0) h.1 (ends roles (n + (1 + length rs)) rest h.2)
-  ends roles n (AChoice s f os rest) h =
-      ends_append (length roles) (places.singles (tree_of roles n f) ++ places.singles_of (trees_of roles (n + points f) os)) (places.singles (tree_of roles (n + (points f + points_of os)) rest))
-      (ends_append (length roles) (places.singles (tree_of roles n f)) (places.singles_of (trees_of roles (n + points f) os)) (ends roles n f h.1) (ends_of roles (n + points f) os h.2)) (ends roles (n + (points f + points_of os)) rest h.3)
-  ends roles n (ARec m body rest) h = ends_append (length roles) (places.singles (tree_of roles n body)) (places.singles (tree_of roles (n + points body) rest)) (ends roles n body h.0) (ends roles (n + points body) rest h.1)
-  ends roles n (AContinue m rest) h = ends roles n rest h
-  ends roles n (APar f g os rest) h =
-      ends_append (length roles) (places.singles (tree_of roles n f) ++ (places.singles (tree_of roles (n + points f) g) ++ places.singles_of (trees_of roles (n + points f + points g) os))) (places.singles (tree_of roles (n + (points f + (points g + points_of os))) rest))
-      (ends_append (length roles) (places.singles (tree_of roles n f)) (places.singles (tree_of roles (n + points f) g) ++ places.singles_of (trees_of roles (n + points f + points g) os)) (ends roles n f h.0)
-      (ends_append (length roles) (places.singles (tree_of roles (n + points f) g)) (places.singles_of (trees_of roles (n + points f + points g) os)) (ends roles (n + points f) g h.1) (ends_of roles (n + points f + points g) os h.2)))
-      (ends roles (n + (points f + (points g + points_of os))) rest h.3)
-  ends roles n (ADo m r rs rest) h = ends roles n rest h
-
-  ends_of : (roles : List (List ℕ)) (n : ℕ) (os : Blocks) → AreFit roles os → HaveEnds (length roles) (places.singles_of (trees_of roles n os))
-  ends_of roles n NoBlock h = tt
-  ends_of roles n (ABlock f os) h = ends_append (length roles) (places.singles (tree_of roles n f)) (places.singles_of (trees_of roles (n + points f) os)) (ends roles n f h.0) (ends_of roles (n + points f) os h.1)
-
-single_subjects : (roles : ℕ) (label : List ℕ) (sorts : List (List ℕ)) (sender : ℕ) (rs : List ℕ) (n : ℕ) (rest : trees.Body)
-    → HaveSubjects roles rest → HaveSubjects roles (singles label sorts sender rs n rest)
-single_subjects roles label sorts sender [] n rest h = h
-single_subjects roles label sorts sender (r ∷ rs) n rest h = single_subjects roles label sorts sender rs (n + 1) rest h
-
-mutual
-  subjects : (roles : List (List ℕ)) (n : ℕ) (w : Written) → IsFit roles w → HaveSubjects (length roles) (tree_of roles n w)
-  subjects roles n NoStmt h = tt
-  subjects roles n (AMessage label ss s r rs rest) h =
-      let behind = n + (1 + length rs) in
-      single_subjects (length roles) label ss (role_at roles s) (roles_at roles (r ∷ rs)) n (tree_of roles behind rest) (subjects roles behind rest h.2)
-  subjects roles n (AChoice s f os rest) h = (
-    role_below roles s h.0,
-    (subjects roles n f h.1, subjects_in roles (n + points f) os h.2),
-    subjects roles (n + (points f + points_of os)) rest h.3,
-  )
-  subjects roles n (ARec m body rest) h = (subjects roles n body h.0, subjects roles (n + points body) rest h.1)
-  subjects roles n (AContinue m rest) h = subjects roles n rest h
-  subjects roles n (APar f g os rest) h = (
-    (subjects roles n f h.0, (subjects roles (n + points f) g h.1, subjects_in roles (n + points f + points g) os h.2)),
-    subjects roles (n + (points f + (points g + points_of os))) rest h.3,
-  )
-  subjects roles n (ADo m r rs rest) h = subjects roles n rest h
-
-  subjects_in : (roles : List (List ℕ)) (n : ℕ) (os : Blocks) → AreFit roles os → HaveSubjectsIn (length roles) (trees_of roles n os)
-  subjects_in roles n NoBlock h = tt
-  subjects_in roles n (ABlock f os) h = (subjects roles n f h.0, subjects_in roles (n + points f) os h.1)
+  parts_of : (roles : List (List ℕ)) (n : ℕ) (os : Blocks) → AreFit roles os → ArePart (length roles) n (n + points_of os) (trees_of roles n os)
+  parts_of roles n NoBlock h =
+      record { points = moved (length roles) n n n (n + 0) [] refl (omega arith) (none_behind (length roles) n); subjects = tt }
+  parts_of roles n (ABlock f os) h =
+      let first = part_of roles n f h.0 in
+      let others = parts_of roles (n + points f) os h.1 in
+      record {
+        points = joined (length roles) n (points f) (points_of os) _ _ first.points others.points;
+        subjects = (first.subjects, others.subjects);
+      }
 
 pub tree_has_form : (roles : List (List ℕ)) (w : Written) → IsFit roles w → length roles ≤ 8 → points w ≤ 256 → HasForm (tree_of roles 0 w) (length roles)
-tree_has_form roles w fit few short = record {
-  numbered = numbers roles 0 w;
-  ends = ends roles 0 w fit;
-  subjects = subjects roles 0 w fit;
-  few_roles = few;
-  few_points = let a = counts roles 0 w in omega (arith, a, short);
-}
+tree_has_form roles w fit few short =
+    let all = part_of roles 0 w fit in
+    let long = all.points.long in
+    record {
+      numbered = all.points.numbered;
+      ends = all.points.ends;
+      subjects = all.subjects;
+      few_roles = few;
+      few_points = omega (arith, long, short);
+    }

@@ -1,4 +1,5 @@
-// Which lines of a script are for a point's label, found once, so that no event compares labels.
+// Which `send` and `on` lines of a script are for a point's label, found once, so that no event looks for them by
+// its label. (A choice looks for its `pick` line's label once a choice.)
 
 ghost use Rattle.std.specs.Prelude.{◌≡◌, ◌≤◌, ◌-◌, Some, length, map, slice_get, IfOk};
 ghost use Rattle.rcv_script.specs.Lines.{line_of};

@@ -1,6 +1,6 @@
 // A text that grows word by word.
 
-ghost use Rattle.std.specs.Prelude.{◌≡◌, [], ◌∷◌, ◌++◌, IfOk, OnOk, decimal};
+ghost use Rattle.std.specs.Prelude.{◌≡◌, [], ◌∷◌, ◌++◌, IfOk, OnErr, OnOk, decimal};
 ghost use Rattle.std.specs.Fmt.{signed_decimal};
 
 use itoa::Buffer;
@@ -41,53 +41,58 @@ impl Writer {
         })
     }
 
-    /// The text goes on with these bytes. Fails where memory runs out.
+    /// The text goes on with these bytes. Fails where memory runs out; then the text is as before.
     #[inline(always)]
     pub fn word(&mut self, word: &[u8]) -> Result<(), AllocError>
-        ensures { OnOk result (self.new ≡ self.old ++ word.now) }
+        ensures ok { OnOk result (self.new ≡ self.old ++ word.now) }
+        ensures err { OnErr result (self.new ≡ self.old) }
     {
         self.text.extend_from_slice(word)
     }
 
-    /// The text goes on with this byte. Fails where memory runs out.
+    /// The text goes on with this byte. Fails where memory runs out; then the text is as before.
     #[inline(always)]
     pub fn byte(&mut self, byte: u8) -> Result<(), AllocError>
-        ensures { OnOk result (self.new ≡ self.old ++ byte ∷ []) }
+        ensures ok { OnOk result (self.new ≡ self.old ++ byte ∷ []) }
+        ensures err { OnErr result (self.new ≡ self.old) }
     {
         self.text.push(byte)?;
         Ok(())
     }
 
-    /// The text goes on with a number in decimal. Fails where memory runs out.
+    /// The text goes on with a number in decimal. Fails where memory runs out; then the text is as before.
     #[inline(always)]
     pub fn number(&mut self, number: u16) -> Result<(), AllocError>
-        ensures { OnOk result (self.new ≡ self.old ++ decimal number) }
+        ensures ok { OnOk result (self.new ≡ self.old ++ decimal number) }
+        ensures err { OnErr result (self.new ≡ self.old) }
     {
         let mut digits = Buffer::new();
         self.word(digits.format(number).as_bytes())
     }
 
-    /// The text goes on with a large number in decimal. Fails where memory runs out.
+    /// The text goes on with a large number in decimal. Fails where memory runs out; then the text is as before.
     #[inline(always)]
     pub fn large_number(&mut self, number: u64) -> Result<(), AllocError>
-        ensures { OnOk result (self.new ≡ self.old ++ decimal number) }
+        ensures ok { OnOk result (self.new ≡ self.old ++ decimal number) }
+        ensures err { OnErr result (self.new ≡ self.old) }
     {
         // One or two digits, as many numbers have, need no buffer.
         if number < 10 {
             return self.byte(b'0' + number as u8);
         }
         if number < 100 {
-            self.byte(b'0' + (number / 10) as u8)?;
-            return self.byte(b'0' + (number % 10) as u8);
+            return self.word(&[b'0' + (number / 10) as u8, b'0' + (number % 10) as u8]);
         }
         let mut digits = Buffer::new();
         self.word(digits.format(number).as_bytes())
     }
 
-    /// The text goes on with a number in decimal, with a minus in front where it is below 0. Fails where memory runs out.
+    /// The text goes on with a number in decimal, with a minus in front where it is below 0. Fails where memory runs out;
+    /// then the text is as before.
     #[inline(always)]
     pub fn signed_number(&mut self, number: i64) -> Result<(), AllocError>
-        ensures { OnOk result (self.new ≡ self.old ++ signed_decimal number) }
+        ensures ok { OnOk result (self.new ≡ self.old ++ signed_decimal number) }
+        ensures err { OnErr result (self.new ≡ self.old) }
     {
         if number >= 0 {
             return self.large_number(number as u64);

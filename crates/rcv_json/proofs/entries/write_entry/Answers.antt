@@ -19,13 +19,13 @@ returns-in_ok-write_send-in-Send c =
     ap (λ (t : List ℕ). t ++ 93 ∷ []) c.in_ok-write_send-in-Send.ensures
     ∙ send_said c.args.setup.now c.args.text.now c.in-Send.event
     ∙ ap (λ (e : Entry). c.args.text.now ++ entry_json c.args.setup.now e) (sym c.in-Send.is) in
-    subst (λ (t : List ℕ). OnOk c.byte.result (c.byte.new.self ≡ t)) said c.byte.ensures
+    subst (λ (t : List ℕ). OnOk c.byte.result (c.byte.new.self ≡ t)) said c.byte.ensures.ok
 
 pub returns-in_ok-large_number-in-Recv : goal.returns-in_ok-large_number-in-Recv
 returns-in_ok-large_number-in-Recv c =
     let digits = decimal c.in-Recv.event.sent in
     let said =
-    ap (λ (t : List ℕ). t ++ 93 ∷ []) (c.in_ok-large_number-in-Recv.ensures ∙ ap (λ (t : List ℕ). t ++ digits) (c.in_ok-byte-in-Recv.ensures ∙ ap (λ (t : List ℕ). t ++ 44 ∷ []) c.in_ok-write_recv-in-Recv.ensures))
+    ap (λ (t : List ℕ). t ++ 93 ∷ []) (c.in_ok-large_number-in-Recv.ensures.ok ∙ ap (λ (t : List ℕ). t ++ digits) (c.in_ok-byte-in-Recv.ensures.ok ∙ ap (λ (t : List ℕ). t ++ 44 ∷ []) c.in_ok-write_recv-in-Recv.ensures))
     ∙ recv_said c.args.setup.now c.args.text.now c.in-Recv.event
     ∙ ap (λ (e : Entry). c.args.text.now ++ entry_json c.args.setup.now e) (sym c.in-Recv.is) in
-    subst (λ (t : List ℕ). OnOk c.byte-in-Recv-2.result (c.byte-in-Recv-2.new.self ≡ t)) said c.byte-in-Recv-2.ensures
+    subst (λ (t : List ℕ). OnOk c.byte-in-Recv-2.result (c.byte-in-Recv-2.new.self ≡ t)) said c.byte-in-Recv-2.ensures.ok

@@ -23,5 +23,5 @@ returns c =
     let at = head_at setup c.args.heads.now event.point c.index-heads-event.result c.requires.heads named.0.first named.0.last in
     let place = ap (λ (e : Event). get_or c.args.heads.now (e.point - 1) c.index-heads-event.result) c.event.view_is in
     let head = c.as_slice.ensures.value ∙ ap (λ (h : HeadView). h.recv) (c.head.view_is ∙ c.index-heads-event.is ∙ place ∙ at) in
-    let said = ap (λ (t : List ℕ). t ++ rest_json event) (c.in_ok-word.ensures ∙ ap (λ (h : List ℕ). text ++ h) head) ∙ begun setup text (codes "recv") event ((net_for setup).receiver event.point) named.1 in
+    let said = ap (λ (t : List ℕ). t ++ rest_json event) (c.in_ok-word.ensures.ok ∙ ap (λ (h : List ℕ). text ++ h) head) ∙ begun setup text (codes "recv") event ((net_for setup).receiver event.point) named.1 in
     subst (λ (t : List ℕ). OnOk c.write_rest.result (c.write_rest.new.text ≡ t)) said c.write_rest.ensures

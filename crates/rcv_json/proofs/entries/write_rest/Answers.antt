@@ -13,9 +13,9 @@ returns c =
     let stamp = decimal event.stamp in
     let fits : SFits w64 event.value = search rules in
     let before =
-    c.in_ok-word.ensures
-    ∙ ap (λ (t : List ℕ). t ++ codes ",") c.in_ok-signed_number.ensures
+    c.in_ok-word.ensures.ok
+    ∙ ap (λ (t : List ℕ). t ++ codes ",") c.in_ok-signed_number.ensures.ok
     ∙ ap (λ (v : ℤ). text ++ signed_decimal v ++ codes ",") (to_z-of_z w64 event.value fits)
     ∙ append_assoc text value (codes ",") in
     let said = ap (λ (t : List ℕ). t ++ stamp) before ∙ append_assoc text (value ++ codes ",") stamp in
-    subst (λ (t : List ℕ). OnOk c.large_number.result (c.large_number.new.self ≡ t)) said c.large_number.ensures
+    subst (λ (t : List ℕ). OnOk c.large_number.result (c.large_number.new.self ≡ t)) said c.large_number.ensures.ok

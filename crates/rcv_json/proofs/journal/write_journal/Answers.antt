@@ -22,5 +22,5 @@ returns c =
     c.finish.ensures
     ∙ in_order c.args.setup.now c.args.entries.now c.args.lines.now (view c.in_ok-limited_value.field-0) (view c.in_ok-lines_value.field-0)
     c.in_ok-text.text c.word.new.self c.write_entries.new.text c.word-2.new.self c.write_value.new.text c.word-3.new.self c.write_value-2.new.text c.word-4.new.self
-    c.in_ok-text.ensures c.in_ok-word.ensures c.in_ok-write_entries.ensures c.in_ok-word-2.ensures c.in_ok-limited_value.ensures
-    c.in_ok-write_value.ensures c.in_ok-word-3.ensures c.in_ok-lines_value.ensures c.in_ok-write_value-2.ensures c.in_ok-word-4.ensures
+    c.in_ok-text.ensures c.in_ok-word.ensures.ok c.in_ok-write_entries.ensures c.in_ok-word-2.ensures.ok c.in_ok-limited_value.ensures
+    c.in_ok-write_value.ensures c.in_ok-word-3.ensures.ok c.in_ok-lines_value.ensures c.in_ok-write_value-2.ensures c.in_ok-word-4.ensures.ok
