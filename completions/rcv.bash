@@ -1,0 +1,30 @@
+# Completions of rcv and rcv-show for bash: source this file.
+
+# The words that an option of the program may stand with, the option's values, and what may come next.
+_rcv_complete() {
+    local current=${COMP_WORDS[COMP_CWORD]} before=${COMP_WORDS[COMP_CWORD - 1]} command= word
+    for word in "${COMP_WORDS[@]:1:COMP_CWORD-1}"; do
+        case " $1 " in *" $word "*) command=$word ;; esac
+    done
+    case $before in
+    --workers) COMPREPLY=($(compgen -W "1 2 3 4 5 6 7 8" -- "$current")) && return ;;
+    --code)
+        COMPREPLY=($(compgen -W "$(echo {10..27} {30..36} {40..43} 50)" -- "$current")) && return
+        ;;
+    --role | --number) COMPREPLY=() && return ;;
+    esac
+    case $command in
+    "") COMPREPLY=($(compgen -W "$1" -- "$current")) ;;
+    run) COMPREPLY=($(compgen -W "--workers --json" -- "$current")) ;;
+    project | role) COMPREPLY=($(compgen -W "--role" -- "$current")) ;;
+    gen) COMPREPLY=($(compgen -W "--number" -- "$current")) ;;
+    explain) COMPREPLY=($(compgen -W "--code" -- "$current")) ;;
+    *) COMPREPLY=() ;;
+    esac
+}
+
+_rcv() { _rcv_complete "run check project table gen"; }
+_rcv_show() { _rcv_complete "journal table role protocol points explain"; }
+
+complete -F _rcv rcv ./rcv
+complete -F _rcv_show rcv-show ./rcv-show

@@ -1,0 +1,22 @@
+# Completions of rcv and rcv-show for fish: put this file into ~/.config/fish/completions, and source it from there too.
+
+complete -c rcv -f
+complete -c rcv -n __fish_use_subcommand -a run -d 'run the session and write its journal'
+complete -c rcv -n __fish_use_subcommand -a check -d 'write the protocol in one layout'
+complete -c rcv -n __fish_use_subcommand -a project -d 'write what a role does at each of its places'
+complete -c rcv -n __fish_use_subcommand -a table -d 'write whom the failure of each role concerns'
+complete -c rcv -n __fish_use_subcommand -a gen -d 'run the generated input and write a summary'
+complete -c rcv -n '__fish_seen_subcommand_from run' -l workers -x -a '1 2 3 4 5 6 7 8' -d 'how many threads'
+complete -c rcv -n '__fish_seen_subcommand_from run' -l json -d 'one line of JSON'
+complete -c rcv -n '__fish_seen_subcommand_from project' -l role -x -d 'the role'
+complete -c rcv -n '__fish_seen_subcommand_from gen' -l number -x -d 'from 0 to 4000'
+
+complete -c rcv-show -f
+complete -c rcv-show -n __fish_use_subcommand -a journal -d 'draw a journal, behind the input and a line %% journal'
+complete -c rcv-show -n __fish_use_subcommand -a table -d 'draw whom the failure of each role concerns'
+complete -c rcv-show -n __fish_use_subcommand -a role -d 'draw what a role does at each of its places'
+complete -c rcv-show -n __fish_use_subcommand -a protocol -d 'draw the protocol as a sequence chart'
+complete -c rcv-show -n __fish_use_subcommand -a points -d 'list the points with their lines, and say what a refusal says'
+complete -c rcv-show -n __fish_use_subcommand -a explain -d 'write the rule of a code, an example and its repair'
+complete -c rcv-show -n '__fish_seen_subcommand_from role' -l role -x -d 'the role'
+complete -c rcv-show -n '__fish_seen_subcommand_from explain' -l code -x -a '(seq 10 27; seq 30 36; seq 40 43; echo 50)' -d 'the code of a refusal'

@@ -1,0 +1,5 @@
+mod Counted
+mod Examples
+mod Growing
+mod Lines
+mod Ranges

@@ -1,0 +1,100 @@
+// A column for each role, with its name as the heading.
+
+use crate::letters::{HEAD, lines, pixels, widest};
+use crate::shapes::middle_text;
+use rcv_picture::look::Look;
+use rcv_picture::pixels::Pixels;
+use rcv_picture::shape::Shape;
+use rcv_tree::name::Names;
+use rcv_tree::role::RoleId;
+use std::alloc::{AllocError, Global};
+
+/// A name in lines.
+#[derive(Drop)]
+pub struct Heading {
+    pub lines: Vec<Vec<u8>>,
+}
+
+/// The headings of the roles, in order.
+#[derive(Drop)]
+pub struct Headings {
+    items: Vec<Heading>,
+}
+
+/// Columns beside each other: where the first starts, and how wide each is.
+#[derive(Clone, Copy, Drop)]
+pub struct Columns {
+    pub left: Pixels,
+    pub width: Pixels,
+}
+
+impl Columns {
+    /// Where the column of a role starts.
+    pub fn start(self, role: RoleId) -> Pixels {
+        self.left + self.width * u32::from(role.0)
+    }
+
+    /// The middle of the column of a role.
+    pub fn middle(self, role: RoleId) -> Pixels {
+        self.start(role) + self.width.half()
+    }
+}
+
+impl Headings {
+    /// The headings of these roles. Fails where memory runs out.
+    pub fn of(alloc: Global, roles: &Names) -> Result<Headings, AllocError> {
+        let mut items = Vec::new(alloc);
+        for name in roles.as_slice() {
+            items.push(Heading {
+                lines: lines(alloc, name.as_slice())?,
+            })?;
+        }
+        Ok(Headings { items })
+    }
+
+    /// The width of the widest.
+    pub fn width(&self) -> Pixels {
+        let mut most = Pixels(0);
+        for heading in self.items.as_slice() {
+            most = most.max(widest(heading.lines.as_slice(), HEAD));
+        }
+        most
+    }
+
+    /// How high they are.
+    pub fn height(&self) -> Pixels {
+        let mut most = 0;
+        for heading in self.items.as_slice() {
+            most = heading.lines.len().max(most);
+        }
+        pixels(most) * 15 + Pixels(8)
+    }
+
+    /// The lines of the heading of a role.
+    pub fn lines(&self, role: RoleId) -> &[Vec<u8>] {
+        match self.items.get(role.0 as usize) {
+            Some(heading) => heading.lines.as_slice(),
+            None => &[],
+        }
+    }
+
+    /// Adds the shapes of the heading of a role, below this line. Fails where memory runs out.
+    pub fn draw(
+        &self,
+        alloc: Global,
+        shapes: &mut Vec<Shape>,
+        columns: Columns,
+        role: RoleId,
+        top: Pixels,
+        look: Look,
+    ) -> Result<(), AllocError> {
+        let x = columns.middle(role);
+        let mut y = top;
+        for line in self.lines(role) {
+            y = y + Pixels(15);
+            let words = Vec::from_slice(alloc, line.as_slice())?;
+            shapes.push(middle_text(x, y, look, words))?;
+        }
+        Ok(())
+    }
+}

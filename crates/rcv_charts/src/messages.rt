@@ -1,0 +1,166 @@
+// The messages of a protocol's picture: their words, and how they are drawn.
+
+ghost use Rattle.std.specs.Prelude.{◌≡◌, [], ◌∷◌, ◌++◌, IfOk, OnOk, IsTrue};
+ghost use Rattle.rcv_tables.specs.TableText.{name_of};
+ghost use Rattle.rcv_charts.specs.MessageTitles.{names_text, message_title};
+ghost use Rattle.rcv_charts.specs.Titles.{is_titled};
+
+use crate::columns::Columns;
+use crate::drawing::Drawing;
+use crate::letters::{cut, is_cut};
+use crate::shapes::{circle, end_text, line, middle_text, text};
+use rcv_picture::look::Look;
+use rcv_picture::pixels::{Pixels, place};
+use rcv_text::writer::Writer;
+use rcv_tree::name::{Name, Names};
+use rcv_tree::point::Point;
+use rcv_tree::role::RoleId;
+use std::alloc::{AllocError, Global};
+
+/// A message of a text.
+#[derive(Drop)]
+pub struct Message<'a> {
+    pub label: &'a Name,
+    pub sorts: &'a Names,
+    pub sender: RoleId,
+    pub receiver: RoleId,
+    pub point: Point,
+}
+
+/// The name of a role; none where it isn't declared.
+pub fn name_of(roles: &Names, role: RoleId) -> &[u8]
+    ensures { result.now ≡ name_of roles.now role }
+{
+    match roles.as_slice().get(role.0 as usize) {
+        Some(name) => name.as_slice(),
+        None => &[],
+    }
+}
+
+// Names, with commas between.
+fn write_names(text: &mut Writer, names: &[Name]) -> Result<(), AllocError>
+    ensures { OnOk result (text.new ≡ text.old ++ names_text names.now) }
+{
+    let Some((first, others)) = names.split_first() else {
+        return Ok(());
+    };
+    text.word(first.as_slice())?;
+    for name in others {
+        text.word(b", ")?;
+        text.word(name.as_slice())?;
+    }
+    Ok(())
+}
+
+// The title of a message. Fails where memory runs out.
+fn title_of(alloc: Global, roles: &Names, message: &Message<'_>) -> Result<Vec<u8>, AllocError>
+    ensures value { IfOk result (λ title. title.items ≡ message_title roles.now (
+      message.now.point,
+      record {
+        label = message.now.label.now;
+        sorts = message.now.sorts.now;
+        sender = message.now.sender;
+        receiver = message.now.receiver;
+      },
+    )) }
+    ensures titled { IfOk result (λ title. IsTrue (is_titled title.items)) }
+{
+    let mut text = Writer::new(alloc);
+    text.word(b"point ")?;
+    text.number(message.point.0)?;
+    text.word(b": ")?;
+    text.word(message.label.as_slice())?;
+    text.word(b"(")?;
+    write_names(&mut text, message.sorts.as_slice())?;
+    text.word(b") from ")?;
+    text.word(name_of(roles, message.sender))?;
+    text.word(b" to ")?;
+    text.word(name_of(roles, message.receiver))?;
+    Ok(text.finish())
+}
+
+impl Message<'_> {
+    // Its sorts.
+    fn sorts(&self, alloc: Global) -> Result<Vec<u8>, AllocError> {
+        let mut text = Writer::new(alloc);
+        write_names(&mut text, self.sorts.as_slice())?;
+        Ok(text.finish())
+    }
+
+    /// Its label and its sorts, cut where they are long. Fails where memory runs out.
+    pub fn shown(&self, alloc: Global) -> Result<Vec<u8>, AllocError> {
+        let label = cut(alloc, self.label.as_slice())?;
+        let sorts = cut(alloc, self.sorts(alloc)?.as_slice())?;
+        with_sorts(alloc, label.as_slice(), sorts.as_slice())
+    }
+
+    /// Its label and its sorts in full, if they are cut. Fails where memory runs out.
+    pub fn whole_if_cut(&self, alloc: Global) -> Result<Option<Vec<u8>>, AllocError> {
+        let sorts = self.sorts(alloc)?;
+        if is_cut(self.label.as_slice()) || is_cut(sorts.as_slice()) {
+            let whole = with_sorts(alloc, self.label.as_slice(), sorts.as_slice())?;
+            Ok(Some(whole))
+        } else {
+            Ok(None)
+        }
+    }
+}
+
+// A label, and behind it the sorts in brackets, if there are any.
+fn with_sorts(alloc: Global, label: &[u8], sorts: &[u8]) -> Result<Vec<u8>, AllocError> {
+    let mut text = Writer::new(alloc);
+    text.word(label)?;
+    if !sorts.is_empty() {
+        text.word(b"(")?;
+        text.word(sorts)?;
+        text.word(b")")?;
+    }
+    Ok(text.finish())
+}
+
+// The number of a point.
+fn number_of(alloc: Global, point: Point) -> Result<Vec<u8>, AllocError> {
+    let mut number = Writer::new(alloc);
+    number.number(point.0)?;
+    Ok(number.finish())
+}
+
+/// Draws a message: an arrow, with its point at the sender and its label above. Fails where memory runs out.
+pub fn draw_message(
+    alloc: Global,
+    drawing: &mut Drawing,
+    roles: &Names,
+    columns: Columns,
+    message: &Message<'_>,
+) -> Result<(), AllocError>
+    ensures { OnOk result (drawing.new ≡ drawing.old ++ message_title roles.now (
+      message.now.point,
+      record {
+        label = message.now.label.now;
+        sorts = message.now.sorts.now;
+        sender = message.now.sender;
+        receiver = message.now.receiver;
+      },
+    ) ∷ []) }
+{
+    drawing.skip(Pixels(30));
+    let y = drawing.down();
+    let from = columns.middle(message.sender);
+    let to = columns.middle(message.receiver);
+    let words = message.shown(alloc)?;
+    let above = y - Pixels(4);
+    let mut shapes = Vec::new(alloc);
+    if from < to {
+        let end = place(to - Pixels(1), y);
+        shapes.push(line(place(from + Pixels(9), y), end, Look::Wire))?;
+        shapes.push(text(from + Pixels(14), above, Look::Label, words))?;
+    } else {
+        let end = place(to + Pixels(1), y);
+        shapes.push(line(place(from - Pixels(9), y), end, Look::Wire))?;
+        shapes.push(end_text(from - Pixels(14), above, Look::Label, words))?;
+    }
+    shapes.push(circle(place(from, y), 8, Look::Send))?;
+    let number = number_of(alloc, message.point)?;
+    shapes.push(middle_text(from, y + Pixels(3), Look::PointOnSend, number))?;
+    drawing.put_group(title_of(alloc, roles, message)?, shapes)
+}

@@ -1,0 +1,139 @@
+// The picture of a protocol.
+
+ghost use Rattle.std.specs.Prelude.{◌≡◌, IfOk};
+ghost use Rattle.rcv_model.specs.Text.{body_of};
+ghost use Rattle.rcv_charts.specs.MessageTitles.{message_titles};
+ghost use Rattle.rcv_charts.specs.Titles.{titles_of};
+
+use crate::columns::{Columns, Headings};
+use crate::drawing::Drawing;
+use crate::extent::Extent;
+use crate::letters::{BIG, width};
+use crate::sequence::{Chart, draw_block};
+use crate::shapes::{line, rect, text};
+use crate::words::{Notes, joined};
+use rcv_picture::look::Look;
+use rcv_picture::picture::Picture;
+use rcv_picture::pixels::{Pixels, place};
+use rcv_picture::shape::Shape;
+use rcv_tree::protocol::Protocol;
+use rcv_tree::role::RoleId;
+use std::alloc::{AllocError, Global};
+
+// How far from the edges everything stands.
+const MARGIN: Pixels = Pixels(16);
+
+const DESCRIPTION: &[u8] = b"The messages in order, with choices and loops in frames.";
+
+// How far down the boxes of the roles are.
+const TOP: Pixels = Pixels(42);
+
+// Where the columns stand: right of each frame and each way back, and so wide that each label has room.
+fn columns_of(headings: &Headings, extent: &Extent) -> Columns {
+    let width = (headings.width() + Pixels(20))
+        .max(extent.label + Pixels(44))
+        .max(Pixels(120));
+    let back = extent.deepest + extent.again + Pixels(30) - width.half();
+    Columns {
+        left: (extent.deepest + Pixels(40)).max(back),
+        width,
+    }
+}
+
+// Adds the line of life and the box of each role. Fails where memory runs out.
+fn draw_roles(
+    alloc: Global,
+    shapes: &mut Vec<Shape>,
+    headings: &Headings,
+    columns: Columns,
+    roles: u8,
+    end: Pixels,
+) -> Result<(), AllocError> {
+    let height = headings.height() + Pixels(2);
+    for number in 0..roles {
+        let role = RoleId(number);
+        let x = columns.middle(role);
+        shapes.push(line(place(x, TOP + height), place(x, end), Look::Life))?;
+        let corner = place(columns.start(role) + Pixels(6), TOP);
+        shapes.push(rect(corner, columns.width - Pixels(12), height, 6, Look::Box))?;
+        headings.draw(alloc, shapes, columns, role, TOP + Pixels(2), Look::Head)?;
+    }
+    Ok(())
+}
+
+// The messages and frames, drawn below the roles. Fails where memory runs out.
+fn drawn(chart: &Chart<'_>, protocol: &Protocol, top: Pixels) -> Result<Drawing, AllocError>
+    ensures { IfOk result (λ drawing. drawing ≡ message_titles chart.now.roles.now (body_of protocol.now.body)) }
+{
+    let mut drawing = Drawing::new(chart.alloc);
+    drawing.skip(top);
+    let mut loops = Vec::new(chart.alloc);
+    draw_block(chart, &mut drawing, &mut loops, MARGIN, &protocol.body)?;
+    drawing.skip(Pixels(26));
+    Ok(drawing)
+}
+
+// How wide the picture is.
+fn wide_of(roles: u8, columns: Columns, extent: &Extent, title: &[u8]) -> Pixels {
+    let end = columns.start(RoleId(roles)) + Pixels(24) + extent.deepest;
+    end.max(extent.tags)
+        .max(MARGIN * 2 + width(title, BIG))
+        .max(MARGIN * 2 + extent.notes.width())
+}
+
+// Adds the title, the notes and the name to a drawing on its ground. Fails where memory runs out.
+fn finished(
+    alloc: Global,
+    mut drawing: Drawing,
+    mut ground: Vec<Shape>,
+    name: &[u8],
+    notes: &Notes,
+    wide: Pixels,
+) -> Result<Picture, AllocError>
+    ensures { IfOk result (λ picture. titles_of picture ≡ drawing) }
+{
+    let title = joined(alloc, b"protocol ", name)?;
+    ground.push(text(MARGIN, Pixels(26), Look::Big, title))?;
+    notes.draw(alloc, &mut ground, MARGIN, drawing.down())?;
+    drawing.skip(notes.height() + Pixels(10));
+    let called = joined(alloc, b"Protocol ", name)?;
+    let description = Vec::from_slice(alloc, DESCRIPTION)?;
+    drawing.picture(alloc, wide, called, description, ground)
+}
+
+/// The picture of a protocol: a column for each role, an arrow for each message, and a frame for each choice and each
+/// loop, with a way back to it from each `continue`. The titles of its messages say their points, in order. Calls aren't
+/// drawn. Fails where memory runs out.
+pub fn protocol_picture(alloc: Global, protocol: &Protocol) -> Result<Picture, AllocError>
+    ensures { IfOk result (λ picture. titles_of picture ≡ message_titles protocol.now.roles (body_of protocol.now.body)) }
+{
+    let headings = Headings::of(alloc, &protocol.roles)?;
+    let extent = Extent::of(alloc, &protocol.roles, MARGIN, &protocol.body)?;
+    let columns = columns_of(&headings, &extent);
+    let roles = u8::try_from(protocol.roles.as_slice().len()).unwrap_or(u8::MAX);
+    let name = protocol.name.as_slice();
+    let wide = wide_of(
+        roles,
+        columns,
+        &extent,
+        joined(alloc, b"protocol ", name)?.as_slice(),
+    );
+    let chart = Chart {
+        alloc,
+        roles: &protocol.roles,
+        columns,
+        wide,
+    };
+    let drawing = drawn(&chart, protocol, TOP + headings.height() + Pixels(4))?;
+    let mut ground = Vec::new(alloc);
+    draw_roles(
+        alloc,
+        &mut ground,
+        &headings,
+        columns,
+        roles,
+        drawing.down(),
+    )?;
+    let picture = finished(alloc, drawing, ground, name, &extent.notes, wide)?;
+    Ok(picture)
+}

@@ -1,0 +1,223 @@
+// A protocol from above to below: its messages, and frames around its choices and loops.
+
+ghost use Rattle.std.specs.Prelude.{◌≡◌, ◌++◌, OnOk};
+ghost use Rattle.rcv_model.specs.Text.{Body, body_of, bodies_of, stmt_body};
+ghost use Rattle.rcv_charts.specs.MessageTitles.{message_titles, titles_beside};
+
+use crate::columns::Columns;
+use crate::drawing::Drawing;
+use crate::extent::{INSET, tag_width};
+use crate::messages::{Message, draw_message, name_of};
+use crate::shapes::{line, path, rect, text};
+use crate::words::joined;
+use rcv_picture::look::Look;
+use rcv_picture::pixels::{Pixels, place};
+use rcv_tree::name::{Name, Names};
+use rcv_tree::statement::{Block, Blocks, Stmt};
+use std::alloc::{AllocError, Global};
+
+/// What is the same for the whole picture: the roles, their columns, and how wide it is.
+#[derive(Clone, Copy, Drop)]
+pub struct Chart<'a> {
+    pub alloc: Global,
+    pub roles: &'a Names,
+    pub columns: Columns,
+    pub wide: Pixels,
+}
+
+/// A loop that encloses the place that is drawn: where a way back to it goes up, and where it ends.
+#[derive(Clone, Copy, Drop)]
+pub struct Loop<'t> {
+    name: &'t Name,
+    x: Pixels,
+    end: Pixels,
+}
+
+// How high a tag is.
+const TAG: Pixels = Pixels(20);
+
+// Begins a frame: how far down its upper edge is.
+fn open_frame(drawing: &mut Drawing) -> Pixels
+    ensures { drawing.new ≡ drawing.old }
+{
+    drawing.skip(Pixels(12));
+    drawing.down()
+}
+
+// Ends a frame that began here, and draws it with its tag. Fails where memory runs out.
+fn close_frame(
+    chart: &Chart<'_>,
+    drawing: &mut Drawing,
+    inset: Pixels,
+    top: Pixels,
+    tag: Vec<u8>,
+) -> Result<(), AllocError>
+    ensures { OnOk result (drawing.new ≡ drawing.old) }
+{
+    drawing.skip(Pixels(16));
+    let height = drawing.down() - top;
+    let width = chart.wide - inset * 2;
+    drawing.put_below(rect(place(inset, top), width, height, 4, Look::Grid))?;
+    let right = inset + tag_width(tag.as_slice());
+    let corners = [
+        place(inset, top),
+        place(right, top),
+        place(right, top + Pixels(12)),
+        place(right - Pixels(8), top + TAG),
+        place(inset, top + TAG),
+        place(inset, top),
+    ];
+    drawing.put_above(path(chart.alloc, &corners, Look::Tag)?)?;
+    drawing.put_above(text(inset + Pixels(7), top + Pixels(14), Look::Bold, tag))
+}
+
+// Draws the line between two blocks of a frame. Fails where memory runs out.
+fn draw_divider(
+    chart: &Chart<'_>,
+    drawing: &mut Drawing,
+    inset: Pixels,
+    word: &[u8],
+) -> Result<(), AllocError>
+    ensures { OnOk result (drawing.new ≡ drawing.old) }
+{
+    drawing.skip(Pixels(10));
+    let y = drawing.down();
+    let from = place(inset, y);
+    let to = place(chart.wide - inset, y);
+    drawing.put_below(line(from, to, Look::Divider))?;
+    let word = Vec::from_slice(chart.alloc, word)?;
+    drawing.put_above(text(inset + Pixels(8), y + Pixels(13), Look::Note, word))?;
+    drawing.skip(Pixels(8));
+    Ok(())
+}
+
+// Draws the way back to the innermost of these loops that has the name. Fails where memory runs out.
+fn draw_continue(
+    chart: &Chart<'_>,
+    drawing: &mut Drawing,
+    loops: &[Loop<'_>],
+    inset: Pixels,
+    name: &Name,
+) -> Result<(), AllocError>
+    ensures { OnOk result (drawing.new ≡ drawing.old) }
+{
+    drawing.skip(Pixels(26));
+    let y = drawing.down();
+    let words = joined(chart.alloc, b"again ", name.as_slice())?;
+    drawing.put_above(text(inset + Pixels(14), y + Pixels(4), Look::Again, words))?;
+    let enclosing = loops
+        .iter()
+        .rev()
+        .find(|enclosing| enclosing.name.as_slice() == name.as_slice());
+    if let Some(enclosing) = enclosing {
+        let places = [
+            place(inset + Pixels(10), y),
+            place(enclosing.x, y),
+            place(enclosing.x, enclosing.end),
+        ];
+        drawing.put_below(path(chart.alloc, &places, Look::WireAgain)?)?;
+    }
+    drawing.skip(Pixels(4));
+    Ok(())
+}
+
+/// Draws the statements of a block, inside these loops and so far in. Fails where memory runs out.
+#[cycle(draw)]
+pub fn draw_block<'t>(
+    chart: &Chart<'_>,
+    drawing: &mut Drawing,
+    loops: &mut Vec<Loop<'t>>,
+    inset: Pixels,
+    block: &'t Block,
+) -> Result<(), AllocError>
+    ensures { OnOk result (drawing.new ≡ drawing.old ++ message_titles chart.now.roles.now (body_of block.now)) }
+{
+    for stmt in block.as_slice() {
+        draw_stmt(chart, drawing, loops, inset, stmt)?;
+    }
+    Ok(())
+}
+
+// Draws blocks in a frame, with a line and a word between them. Fails where memory runs out.
+#[cycle(draw)]
+fn draw_blocks<'t>(
+    chart: &Chart<'_>,
+    drawing: &mut Drawing,
+    loops: &mut Vec<Loop<'t>>,
+    inset: Pixels,
+    word: &[u8],
+    blocks: &'t Blocks,
+) -> Result<(), AllocError>
+    ensures { OnOk result (drawing.new ≡ drawing.old ++ titles_beside chart.now.roles.now (bodies_of blocks.now)) }
+{
+    let mut is_first = true;
+    for block in blocks.as_slice() {
+        if is_first {
+            drawing.skip(Pixels(14));
+        } else {
+            draw_divider(chart, drawing, inset, word)?;
+        }
+        is_first = false;
+        draw_block(chart, drawing, loops, inset + INSET, block)?;
+    }
+    Ok(())
+}
+
+// Draws a statement. Fails where memory runs out.
+#[cycle(draw)]
+fn draw_stmt<'t>(
+    chart: &Chart<'_>,
+    drawing: &mut Drawing,
+    loops: &mut Vec<Loop<'t>>,
+    inset: Pixels,
+    stmt: &'t Stmt,
+) -> Result<(), AllocError>
+    ensures { OnOk result ((rest : Body) → drawing.new ++ message_titles chart.now.roles.now rest ≡ drawing.old ++ message_titles chart.now.roles.now (stmt_body stmt.now rest)) }
+{
+    match stmt {
+        Stmt::Message {
+            label,
+            sorts,
+            sender,
+            receiver,
+            point,
+        } => {
+            let message = Message {
+                label,
+                sorts,
+                sender: *sender,
+                receiver: *receiver,
+                point: *point,
+            };
+            draw_message(chart.alloc, drawing, chart.roles, chart.columns, &message)
+        }
+        Stmt::Choice { subject, branches } => {
+            let tag = joined(chart.alloc, name_of(chart.roles, *subject), b" chooses")?;
+            let top = open_frame(drawing);
+            draw_blocks(chart, drawing, loops, inset, b"or", branches)?;
+            close_frame(chart, drawing, inset, top, tag)
+        }
+        Stmt::Rec { name, body } => {
+            let tag = joined(chart.alloc, b"loop ", name.as_slice())?;
+            let top = open_frame(drawing);
+            loops.push(Loop {
+                name,
+                x: inset + INSET.half(),
+                end: top + TAG,
+            })?;
+            drawing.skip(Pixels(14));
+            draw_block(chart, drawing, loops, inset + INSET, body)?;
+            loops.pop();
+            close_frame(chart, drawing, inset, top, tag)
+        }
+        Stmt::Continue { name } => { draw_continue(chart, drawing, loops.as_slice(), inset, name) }
+        Stmt::Par { blocks } => {
+            let tag = Vec::from_slice(chart.alloc, b"in parallel")?;
+            let top = open_frame(drawing);
+            draw_blocks(chart, drawing, loops, inset, b"and", blocks)?;
+            close_frame(chart, drawing, inset, top, tag)
+        }
+        // Acceptance refuses a call: it has no messages of its own here.
+        Stmt::Do { .. } => Ok(()),
+    }
+}

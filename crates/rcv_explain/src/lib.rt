@@ -1,0 +1,16 @@
+// What each code of a refusal says: the rule, an example that breaks it, and its repair.
+#![tactic(auto)]
+
+mod codes;
+mod explanation;
+mod plans;
+mod rules;
+mod scripts;
+mod texts;
+
+pub use codes::{explain, explanation_text};
+pub use explanation::Explanation;
+pub use std::alloc::AllocError as Memory;
+
+#[cfg(test)]
+mod tests;

@@ -1,0 +1,232 @@
+// What the codes of a protocol that was read say, 20 to 26, and that of a role which isn't declared, 27.
+
+use crate::explanation::Explanation;
+
+/// Code 20.
+pub const SUBJECT: Explanation = Explanation {
+    name: b"Subject",
+    rule: b"The role that a choice is at sends the first message of each of its blocks; else another role would decide.",
+    example: b"    module m;
+    global protocol P(role A, role B) {
+      choice at A {
+        m() from B to A;
+      } or {
+        n() from A to B;
+      }
+    }
+",
+    refusal: b"refused 20 Subject A 1",
+    repair: b"that role speaks first in each block.",
+    repaired: b"    module m;
+    global protocol P(role A, role B) {
+      choice at A {
+        ask() from A to B;
+        m() from B to A;
+      } or {
+        n() from A to B;
+      }
+    }
+",
+};
+
+/// Code 21.
+pub const MIXED: Explanation = Explanation {
+    name: b"Mixed",
+    rule: b"A role's next points, which are the first of its messages on each way that goes on, are all to send or all to receive;
+else it couldn't tell whether to wait.",
+    example: b"    module m;
+    global protocol P(role A, role B, role C) {
+      choice at A {
+        x() from A to B;
+        y() from B to C;
+      } or {
+        z() from A to B;
+        w() from C to B;
+      }
+    }
+",
+    refusal: b"refused 21 Mixed C 0",
+    repair: b"the role hears first on each way.",
+    repaired: b"    module m;
+    global protocol P(role A, role B, role C) {
+      choice at A {
+        x() from A to B;
+        y() from B to C;
+      } or {
+        z() from A to B;
+        go() from B to C;
+        w() from C to B;
+      }
+    }
+",
+};
+
+/// Code 22.
+pub const SENDERS: Explanation = Explanation {
+    name: b"Senders",
+    rule: b"The next points that a role receives are all from one role; else it couldn't tell whom to wait for.",
+    example: b"    module m;
+    global protocol P(role A, role B, role C) {
+      choice at A {
+        x() from A to B;
+        y() from A to C;
+      } or {
+        z() from A to B;
+        w() from B to C;
+      }
+    }
+",
+    refusal: b"refused 22 Senders C 0",
+    repair: b"one and the same role tells it in each block: the one that decides, or one that was told itself.",
+    repaired: b"    module m;
+    global protocol P(role A, role B, role C) {
+      choice at A {
+        x() from A to B;
+        y() from A to C;
+      } or {
+        z() from A to B;
+        tell() from A to C;
+        w() from B to C;
+      }
+    }
+",
+};
+
+/// Code 23.
+pub const LABELS: Explanation = Explanation {
+    name: b"Labels",
+    rule: b"The next points that a role receives have different labels, and so have those that it sends to one role; else it
+couldn't tell which way was taken. One label in two blocks is refused where both go on alike, too.",
+    example: b"    module m;
+    global protocol P(role A, role B, role C) {
+      choice at A {
+        x() from A to B;
+        done() from B to C;
+      } or {
+        y() from A to B;
+        done() from B to C;
+      }
+    }
+",
+    refusal: b"refused 23 Labels C 0",
+    repair: b"put the common message behind the choice, as here; or give it a label of its own in each block.",
+    repaired: b"    module m;
+    global protocol P(role A, role B, role C) {
+      choice at A {
+        x() from A to B;
+      } or {
+        y() from A to B;
+      }
+      done() from B to C;
+    }
+",
+};
+
+/// Code 24.
+pub const NOT_ENABLED: Explanation = Explanation {
+    name: b"NotEnabled",
+    rule: b"Between a role's last message, or the start, and its next send there is no choice of others; else it would send into a
+way that isn't decided, also where it sends the same either way.",
+    example: b"    module m;
+    global protocol P(role A, role B, role C) {
+      choice at A {
+        x() from A to B;
+      } or {
+        y() from A to B;
+      }
+      z() from C to B;
+    }
+",
+    refusal: b"refused 24 NotEnabled C 0",
+    repair: b"tell the role, as here: the one that decides sends it a message in each block, with a label of its own in each.
+Or let one message with a number stand in the place of the choice; or let the role hear from somebody behind the choice
+before it sends; or put its message in front of the choice.",
+    repaired: b"    module m;
+    global protocol P(role A, role B, role C) {
+      choice at A {
+        x() from A to B, C;
+      } or {
+        y() from A to B, C;
+      }
+      z() from C to B;
+    }
+",
+};
+
+/// Code 25.
+pub const MAYBE_DONE: Explanation = Explanation {
+    name: b"MaybeDone",
+    rule: b"A role that has a next point comes to one on each way to the end; else it would wait for a message that may never come.",
+    example: b"    module m;
+    global protocol P(role A, role B, role C) {
+      choice at A {
+        x() from A to B;
+        t() from B to C;
+      } or {
+        y() from A to B;
+      }
+    }
+",
+    refusal: b"refused 25 MaybeDone C 0",
+    repair: b"tell the role of the other way, too.",
+    repaired: b"    module m;
+    global protocol P(role A, role B, role C) {
+      choice at A {
+        x() from A to B;
+        t() from B to C;
+      } or {
+        y() from A to B;
+        end() from B to C;
+      }
+    }
+",
+};
+
+/// Code 26.
+pub const UNREACHABLE: Explanation = Explanation {
+    name: b"Unreachable",
+    rule: b"A way from the start comes to each point; else its message could never be sent.",
+    example: b"    module m;
+    global protocol P(role A, role B) {
+      rec X {
+        m() from A to B;
+        continue X;
+      }
+      n() from A to B;
+    }
+",
+    refusal: b"refused 26 Unreachable A 2",
+    repair: b"give the loop a block that leaves it. What stands behind a loop comes only on a way without its `continue`.",
+    repaired: b"    module m;
+    global protocol P(role A, role B) {
+      rec X {
+        choice at A {
+          m() from A to B;
+          continue X;
+        } or {
+          n() from A to B;
+        }
+      }
+    }
+",
+};
+
+/// Code 27.
+pub const NO_ROLE: Explanation = Explanation {
+    name: b"NoRole",
+    rule: b"The role that the words name is declared in the protocol.",
+    example: b"    $ rcv project --role C
+    module m;
+    global protocol P(role A, role B) {
+      m() from A to B;
+    }
+",
+    refusal: b"refused 27 NoRole",
+    repair: b"name a declared role.",
+    repaired: b"    $ rcv project --role A
+    module m;
+    global protocol P(role A, role B) {
+      m() from A to B;
+    }
+",
+};

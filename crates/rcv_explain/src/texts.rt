@@ -1,0 +1,199 @@
+// What the codes of a protocol's text say: 10 to 19.
+
+use crate::explanation::Explanation;
+
+/// Code 10.
+pub const LETTER: Explanation = Explanation {
+    name: b"Letter",
+    rule: b"Each word, number, text, mark and comment is whole, and no other letter stands among them. A word, and a text between
+its quotes, has at most 64 bytes; a text ends on its line, and a comment at its `*/`. A bad letter in the scripts or in
+the plan has this code, too: only the line tells.",
+    example: b"    module m;
+    global protocol P(role A, role B) {
+      m(x: Int) from A to B;
+    }
+",
+    refusal: b"refused 10 Letter line 3",
+    repair: b"take the letter out, end the comment by `*/` or the text by `\"` on its line, and shorten a word or a text that
+is too long. Payloads have no names, and there is no `/`, no `&&` and no `||`. The lines that begin scripts and plan are
+exactly `%% scripts` and `%% plan`.",
+    repaired: b"    module m;
+    global protocol P(role A, role B) {
+      m(Int) from A to B;
+    }
+",
+};
+
+/// Code 11.
+pub const TOKEN: Explanation = Explanation {
+    name: b"Token",
+    rule: b"Words and marks of a protocol stand as the grammar has them, up to its last `}`.",
+    example: b"    module m;
+    global protocol P(role A, role B) {
+      m() of A to B;
+    }
+",
+    refusal: b"refused 11 Token line 3",
+    repair: b"compare the line with the grammar (docs/FORMATS.md). Where a `;` is missing, the line is that of the next word,
+maybe lines below. Where the end is refused, something is missing, mostly a `}`; the line is then that behind the last
+line end, where nothing stands.",
+    repaired: b"    module m;
+    global protocol P(role A, role B) {
+      m() from A to B;
+    }
+",
+};
+
+/// Code 12.
+pub const DEEP: Explanation = Explanation {
+    name: b"Deep",
+    rule: b"Blocks stand in each other at most 32 deep, the protocol's own included.",
+    example: b"    module m;
+    global protocol P(role A, role B) {
+      rec X { rec X { rec X { rec X { rec X { rec X { rec X { rec X {
+      rec X { rec X { rec X { rec X { rec X { rec X { rec X { rec X {
+      rec X { rec X { rec X { rec X { rec X { rec X { rec X { rec X {
+      rec X { rec X { rec X { rec X { rec X { rec X { rec X { rec X { m() from A to B;
+      } } } } } } } } } } } } } } } } } } } } } } } } } } } } } } } }
+    }
+",
+    refusal: b"refused 12 Deep line 6",
+    repair: b"take blocks out of each other.",
+    repaired: b"    module m;
+    global protocol P(role A, role B) {
+      rec X { rec X { rec X { rec X { rec X { rec X { rec X { rec X {
+      rec X { rec X { rec X { rec X { rec X { rec X { rec X { rec X {
+      rec X { rec X { rec X { rec X { rec X { rec X { rec X { rec X {
+      rec X { rec X { rec X { rec X { rec X { rec X { rec X { m() from A to B;
+      } } } } } } } } } } } } } } } } } } } } } } } } } } } } } } }
+    }
+",
+};
+
+/// Code 13.
+pub const NAME: Explanation = Explanation {
+    name: b"Name",
+    rule: b"A role that a statement names is declared in the head, and a `continue` names a `rec` that encloses it.",
+    example: b"    module m;
+    global protocol P(role A, role B) {
+      m() from A to C;
+    }
+",
+    refusal: b"refused 13 Name line 3",
+    repair: b"declare the role, or name an enclosing `rec`.",
+    repaired: b"    module m;
+    global protocol P(role A, role B, role C) {
+      m() from A to C;
+    }
+",
+};
+
+/// Code 14.
+pub const TWICE: Explanation = Explanation {
+    name: b"Twice",
+    rule: b"No role and no alias is declared twice, and a list of receivers names each of them once.",
+    example: b"    module m;
+    global protocol P(role A, role B) {
+      m() from A to B, B;
+    }
+",
+    refusal: b"refused 14 Twice line 3",
+    repair: b"use each name once. Two messages to one role are two statements.",
+    repaired: b"    module m;
+    global protocol P(role A, role B) {
+      m() from A to B; m() from A to B;
+    }
+",
+};
+
+/// Code 15.
+pub const SELF_MESSAGE: Explanation = Explanation {
+    name: b"SelfMessage",
+    rule: b"A message goes to another role than its sender.",
+    example: b"    module m;
+    global protocol P(role A, role B) {
+      m() from A to A;
+    }
+",
+    refusal: b"refused 15 SelfMessage line 3",
+    repair: b"name another role, or leave the message out: what a role does alone is no message.",
+    repaired: b"    module m;
+    global protocol P(role A, role B) {
+      m() from A to B;
+    }
+",
+};
+
+/// Code 16.
+pub const AFTER_CONTINUE: Explanation = Explanation {
+    name: b"AfterContinue",
+    rule: b"Nothing stands behind a `continue` in its block: no way would come to it.",
+    example: b"    module m;
+    global protocol P(role A, role B) {
+      rec X { m() from A to B; continue X; n() from A to B; }
+    }
+",
+    refusal: b"refused 16 AfterContinue line 3",
+    repair: b"take it out, put it in front of the `continue`, or into a block that leaves the `rec`.",
+    repaired: b"    module m;
+    global protocol P(role A, role B) {
+      rec X { choice at A { m() from A to B; continue X; } or { n() from A to B; } }
+    }
+",
+};
+
+/// Code 17.
+pub const UNGUARDED: Explanation = Explanation {
+    name: b"Unguarded",
+    rule: b"On each way from the `{` of a `rec` to a `continue` of it there is a message; else the session would go round for ever
+and do nothing.",
+    example: b"    module m;
+    global protocol P(role A, role B) {
+      rec X { choice at A { m() from A to B; } or { continue X; } }
+    }
+",
+    refusal: b"refused 17 Unguarded line 3",
+    repair: b"put a message between the `{` of the `rec` and the `continue`, on each way.",
+    repaired: b"    module m;
+    global protocol P(role A, role B) {
+      rec X { choice at A { m() from A to B; } or { n() from A to B; continue X; } }
+    }
+",
+};
+
+/// Code 18.
+pub const TOO_MANY: Explanation = Explanation {
+    name: b"TooMany",
+    rule: b"A protocol has at most 8 roles and 256 points, which are its messages, counted for each receiver.",
+    example: b"    module m;
+    global protocol P(role A, role B, role C, role D, role E, role F, role G, role H, role I) {
+      m() from A to B;
+    }
+",
+    refusal: b"refused 18 TooMany line 2",
+    repair: b"write a smaller protocol.",
+    repaired: b"    module m;
+    global protocol P(role A, role B, role C, role D, role E, role F, role G, role H) {
+      m() from A to B;
+    }
+",
+};
+
+/// Code 19.
+pub const NOT_YET: Explanation = Explanation {
+    name: b"NotYet",
+    rule: b"`par`, `do` and a second `global protocol` aren't built yet.",
+    example: b"    module m;
+    global protocol P(role A, role B) {
+      par { m() from A to B; } and { n() from A to B; }
+    }
+",
+    refusal: b"refused 19 NotYet line 3",
+    repair: b"write the messages out in one order; each role waits for its own messages alone. In the place of a `do` write
+the statements that it stands for.",
+    repaired: b"    module m;
+    global protocol P(role A, role B) {
+      m() from A to B; n() from A to B;
+    }
+",
+};

@@ -1,0 +1,7 @@
+pub mod Clocks
+pub mod Keeping
+pub mod Messages
+pub mod Rising
+pub mod Searching
+pub mod Joining
+mod Examples

@@ -1,0 +1,28 @@
+-- What the code keeps and finds on its way: the Sends of each role, and events by their stamps.
+use Rattle.std.specs.Prelude.{◌≡◌, ℕ, List, [], ◌∷◌, ◌++◌, map, Some, slice_get, slice_index_or, slice_set}
+use Rattle.std.specs.declared.alloc.Global.{Global}
+use Rattle.std.specs.declared.vec.Vec.{Vec}
+use Rattle.rcv_tree.specs.declared.event.Event.{Event}
+use Rattle.rcv_fates.specs.declared.sends.Sent.{Sent}
+
+-- The lists that the code holds, and that of a role; a role without one has sent nothing.
+abbrev pub lists_in : List (Vec Sent Global) → List (List Sent)
+lists_in lists = map (λ l. l.items) lists
+
+abbrev pub sends_at : List (List Sent) → ℕ → List Sent
+sends_at lists r = slice_index_or lists r []
+
+-- One Send more of a role.
+abbrev pub with_sent : List (List Sent) → ℕ → Sent → List (List Sent)
+with_sent lists r sent = slice_set lists r (sends_at lists r ++ sent ∷ [])
+
+-- None of the Sends has this stamp; one of them has it, and stands at this place.
+abbrev pub HasNoStamp : List Sent → ℕ → Type 0
+HasNoStamp sends stamp = (i : ℕ) (x : Sent) → slice_get sends i ≡ Some x → x.stamp ≡ stamp → ⊥
+
+abbrev pub HasSent : List Sent → ℕ → ℕ → Type 0
+HasSent sends stamp place = (i : ℕ) × (slice_get sends i ≡ Some (record { stamp = stamp; place = place }))
+
+-- The event with this stamp, where there is one, has this number.
+abbrev pub IsNumberOf : List Event → ℕ → ℕ → Type 0
+IsNumberOf events stamp n = (i : ℕ) (e : Event) → slice_get events i ≡ Some e → e.stamp ≡ stamp → i ≡ n

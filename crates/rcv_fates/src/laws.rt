@@ -1,0 +1,23 @@
+// Laws of the definitions on what became of the events of a journal.
+
+ghost use Rattle.rcv_fates.specs.Laws.{StampsGrow, EventsStandOnce, KeptEventsStand, EachRecvHasOneSend};
+
+/// The stamps of one role's events grow along a legal journal, those of undone ones too.
+pub fn stamps_grow()
+    ensures { StampsGrow }
+{}
+
+/// So an event stands at one place.
+pub fn events_stand_once()
+    ensures { EventsStandOnce }
+{}
+
+/// Each kept event is the event of an entry.
+pub fn kept_events_stand()
+    ensures { KeptEventsStand }
+{}
+
+/// In a legal journal each Recv has one Send, those that receive a message again too.
+pub fn each_recv_has_one_send()
+    ensures { EachRecvHasOneSend }
+{}

@@ -1,0 +1,12 @@
+// What became of the events of a journal: which are kept at its end, and which messages were received.
+#![tactic(auto)]
+
+mod arrow;
+mod kept;
+pub mod laws;
+mod sends;
+
+pub use arrow::{Arrow, arrows};
+pub use kept::is_kept;
+/// Want of memory, which is the one error of this crate.
+pub use std::alloc::AllocError as Memory;

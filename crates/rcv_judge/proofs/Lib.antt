@@ -1,0 +1,6 @@
+pub mod Taking
+pub mod Unique
+pub mod FirstWrong
+pub mod Closings
+pub mod Sends
+pub mod Knowing

@@ -1,0 +1,13 @@
+-- The point of the last event.
+use Rattle.std.proofs.Common.{◌≡◌, ◌+◌, ◌-◌, length, sym, ◌∙◌, ap, arith}
+use Rattle.rcv_tree.specs.declared.event.Event.{Event}
+use Rattle.rcv_model.specs.Run.{acts}
+use Rattle.rcv_core.specs.Book.{state_of}
+use Rattle.rcv_judge.proofs.Sends.{place_there}
+use Rattle.rcv_judge.proofs.sending.place.Goals as goal
+
+pub returns : goal.returns
+returns c =
+    let some = c.if-count-eq0.false in
+    let size : c.kept-count.result - 1 + 1 ≡ length (acts c.args.role (state_of c.args.book.now).kept) = omega (arith, some, c.kept-count.ensures) in
+    ap (λ (e : Event). e.point) c.last.view_is ∙ sym (place_there (state_of c.args.book.now) c.args.role (c.kept-count.result - 1) c.event-last.result.now size c.event-last.ensures)

@@ -1,0 +1,4 @@
+pub mod Judged
+pub mod Closing
+pub mod Sending
+pub mod Laws

@@ -1,0 +1,37 @@
+// Entries, lines of roles, lists of roles and numbers compared.
+
+ghost use Rattle.std.specs.Prelude.{◌≡◌, ◌↔◌, IsTrue};
+
+use rcv_journal::line::RoleLine;
+use rcv_tree::entry::Entry;
+use rcv_tree::role::RoleId;
+
+/// Whether two entries are the same.
+#[inline(always)]
+pub fn is_same(one: &Entry, other: &Entry) -> bool
+    ensures { IsTrue result ↔ one.now ≡ other.now }
+{
+    one == other
+}
+
+/// Whether two lines of roles are the same.
+pub fn is_same_line(one: &RoleLine, other: &RoleLine) -> bool
+    ensures { IsTrue result ↔ one.now ≡ other.now }
+{
+    one == other
+}
+
+/// Whether two lists of roles are the same.
+pub fn are_same_roles(one: &[RoleId], other: &[RoleId]) -> bool
+    ensures { IsTrue result ↔ one.now ≡ other.now }
+{
+    one == other
+}
+
+/// Whether two numbers are the same.
+#[inline(always)]
+pub fn are_same_numbers(one: &i64, other: &i64) -> bool
+    ensures { IsTrue result ↔ one.now ≡ other.now }
+{
+    one == other
+}

@@ -1,0 +1,231 @@
+-- The tokens that are receivers name the receivers of the points, and the lines are theirs.
+use Rattle.std.proofs.Common.{◌≡◌, ℕ, ◌+◌, Bool, true, false, List, [], ◌∷◌, ◌++◌, map, slice_index_or, length, append_assoc, append-nil, refl, sym, ◌∙◌, ap, subst}
+use Rattle.std.specs.Prelude.{Option, Some, None, if◌then◌else◌}
+use Rattle.std.specs.Str.{bytes_eq}
+use Rattle.std.proofs.lemmas.List.{map-append}
+use Rattle.std.proofs.lemmas.List.Quantifiers.{position-Some}
+use Rattle.std.proofs.lemmas.Slice.Eq.{bytes_eq-Decides}
+use Rattle.rcv_tree.specs.declared.protocol.Decl.{Decl}
+use Rattle.rcv_model.specs.Text.{Body}
+use Rattle.rcv_model.specs.Places as model
+use Rattle.rcv_model.specs.Places.{SingleMessage}
+use Rattle.rcv_lexer.specs.declared.piece.Piece.{Piece}
+use Rattle.rcv_lexer.specs.declared.token.Kind.{Kind}
+use Rattle.rcv_lexer.specs.declared.token.Kind.TheVariants as kinds
+use Rattle.rcv_lexer.specs.declared.token.Token.{Token}
+use Rattle.rcv_lexer.specs.Parts.{parts_of}
+use Rattle.rcv_lexer.specs.Tokens.{bytes_of, line_at, token_at, tokens_of}
+use Rattle.rcv_syntax.specs.declared.sign.Sign.{Sign}
+use Rattle.rcv_syntax.specs.declared.sign.Sign.TheVariants.{From, To, Or, And, Open, Close, Left, Right, Semicolon, Global, Role}
+use Rattle.rcv_syntax.specs.declared.sign.Sign.TheVariants as signs
+use Rattle.rcv_syntax.specs.Symbols.{Symbol, Is, Word, reserved, sign_or, symbol_by, symbols_of}
+use Rattle.rcv_syntax.specs.Grammar.{Written, NoStmt, AMessage, AChoice, ARec, AContinue, APar, ADo, Blocks, NoBlock, ABlock, Source, dotted, names_behind, sort_list, roles_behind, decls, stmts, blocks_behind, spelling}
+use Rattle.rcv_syntax.specs.Trees.{place_of, role_at, roles_at, singles, points, points_of, tree_of, trees_of, IsDeclared, MayReceive, IsFit, AreFit}
+use Rattle.rcv_listing.specs.Receivers.{listed_behind, goes_on, is_receiver, said_by, receivers_of, lines_of, receiver_lines}
+use Rattle.rcv_listing.specs.Lines.{name_of}
+use Rattle.rcv_listing.specs.Laws.{receivers_in, written_at, first_lines, LinesAreThoseOfReceivers}
+
+-- ---- what symbols name as receivers
+
+abbrev name_if : Bool → Symbol → List (List ℕ) → List (List ℕ)
+name_if listed (Word n) rest = if listed then n ∷ rest else rest
+name_if listed other rest = rest
+
+abbrev named : Bool → List Symbol → List (List ℕ)
+named listed [] = []
+named listed (s ∷ ss) = name_if listed s (named (goes_on listed s) ss)
+
+kept_word : (input : List ℕ) (t : Token) (r : List Token) (listed : Bool) (o : Option Sign) → written_at input (if is_receiver listed (sign_or o (Word (bytes_of input t))) then t ∷ r else r) ≡ name_if listed (sign_or o (Word (bytes_of input t))) (written_at input r)
+kept_word input t r true None = refl
+kept_word input t r false None = refl
+kept_word input t r listed (Some s) = refl
+
+kept : (input : List ℕ) (t : Token) (r : List Token) (listed : Bool) (kind : Kind) → written_at input (if is_receiver listed (symbol_by kind (bytes_of input t)) then t ∷ r else r) ≡ name_if listed (symbol_by kind (bytes_of input t)) (written_at input r)
+kept input t r listed kinds.Word = kept_word input t r listed (reserved (bytes_of input t))
+kept input t r listed kinds.Number = refl
+kept input t r listed kinds.Text = refl
+kept input t r listed kinds.Mark = refl
+
+tokens_named : (input : List ℕ) (listed : Bool) (ts : List Token) → written_at input (receivers_of input listed ts) ≡ named listed (symbols_of input ts)
+tokens_named input listed [] = refl
+tokens_named input listed (t ∷ ts) =
+    kept input t (receivers_of input (goes_on listed (said_by input t)) ts) listed t.kind
+    ∙ ap (name_if listed (said_by input t)) (tokens_named input (goes_on listed (said_by input t)) ts)
+
+-- ---- what is written
+
+dotted_named : (ns : List (List ℕ)) (next : List Symbol) → named false (dotted ns next) ≡ named false next
+dotted_named [] next = refl
+dotted_named (n ∷ ns) next = dotted_named ns next
+
+behind_named : (ns : List (List ℕ)) (next : List Symbol) → named false (names_behind ns next) ≡ named false next
+behind_named [] next = refl
+behind_named (n ∷ ns) next = behind_named ns next
+
+sorts_named : (ns : List (List ℕ)) (next : List Symbol) → named false (sort_list ns next) ≡ named false next
+sorts_named [] next = refl
+sorts_named (n ∷ ns) next = behind_named ns next
+
+roles_named : (ns : List (List ℕ)) (next : List Symbol) → named false (roles_behind ns next) ≡ named false next
+roles_named [] next = refl
+roles_named (n ∷ ns) next = roles_named ns next
+
+decls_named : (ds : List Decl) (next : List Symbol) → named false (decls ds next) ≡ named false next
+decls_named [] next = refl
+decls_named (d ∷ ds) next = decls_named ds next
+
+listed_named : (ns : List (List ℕ)) (next : List Symbol) → named true (names_behind ns next) ≡ ns ++ named true next
+listed_named [] next = refl
+listed_named (n ∷ ns) next = ap (λ l. n ∷ l) (listed_named ns next)
+
+-- the receivers that are written
+abbrev mutual
+  written : Written → List (List ℕ)
+  written NoStmt = []
+  written (AMessage label sorts sender receiver others rest) = (receiver ∷ others) ++ written rest
+  written (AChoice subject first others rest) = (written first ++ written_of others) ++ written rest
+  written (ARec name body rest) = written body ++ written rest
+  written (AContinue name rest) = written rest
+  written (APar first second others rest) = (written first ++ (written second ++ written_of others)) ++ written rest
+  written (ADo name role others rest) = written rest
+
+  written_of : Blocks → List (List ℕ)
+  written_of NoBlock = []
+  written_of (ABlock first others) = written first ++ written_of others
+
+mutual
+  stmts_named : (w : Written) (next : List Symbol) → named false (stmts w next) ≡ written w ++ named false next
+  stmts_named NoStmt next = refl
+  stmts_named (AMessage label sorts sender receiver others rest) next =
+      sorts_named sorts (Is Right ∷ Is From ∷ Word sender ∷ Is To ∷ Word receiver ∷ names_behind others (Is Semicolon ∷ stmts rest next))
+      ∙ ap (λ l. receiver ∷ l) (listed_named others (Is Semicolon ∷ stmts rest next))
+      ∙ ap (λ l. receiver ∷ (others ++ l)) (stmts_named rest next)
+      ∙ sym (append_assoc (receiver ∷ others) (written rest) (named false next))
+  stmts_named (AChoice subject first others rest) next =
+      stmts_named first (Is Close ∷ blocks_behind Or others (stmts rest next))
+      ∙ ap (λ l. written first ++ l) (blocks_named Or others (stmts rest next) refl ∙ ap (λ l. written_of others ++ l) (stmts_named rest next))
+      ∙ sym (append_assoc (written first) (written_of others) (written rest ++ named false next))
+      ∙ sym (append_assoc (written first ++ written_of others) (written rest) (named false next))
+  stmts_named (ARec name body rest) next =
+      stmts_named body (Is Close ∷ stmts rest next) ∙ ap (λ l. written body ++ l) (stmts_named rest next)
+      ∙ sym (append_assoc (written body) (written rest) (named false next))
+  stmts_named (AContinue name rest) next = stmts_named rest next
+  stmts_named (APar first second others rest) next =
+      stmts_named first (Is Close ∷ Is And ∷ Is Open ∷ stmts second (Is Close ∷ blocks_behind And others (stmts rest next)))
+      ∙ ap (λ l. written first ++ l)
+      (stmts_named second (Is Close ∷ blocks_behind And others (stmts rest next))
+      ∙ ap (λ l. written second ++ l) (blocks_named And others (stmts rest next) refl ∙ ap (λ l. written_of others ++ l) (stmts_named rest next))
+      ∙ sym (append_assoc (written second) (written_of others) (written rest ++ named false next)))
+      ∙ sym (append_assoc (written first) (written second ++ written_of others) (written rest ++ named false next))
+      ∙ sym (append_assoc (written first ++ (written second ++ written_of others)) (written rest) (named false next))
+  stmts_named (ADo name role others rest) next = behind_named others (Is Right ∷ Is Semicolon ∷ stmts rest next) ∙ stmts_named rest next
+
+  blocks_named : (word : Sign) (bs : Blocks) (next : List Symbol) → listed_behind false word ≡ false → named false (blocks_behind word bs next) ≡ written_of bs ++ named false next
+  blocks_named word NoBlock next e = refl
+  blocks_named word (ABlock first others) next e =
+      ap (λ b. named b (Is Open ∷ stmts first (Is Close ∷ blocks_behind word others next))) e
+      ∙ stmts_named first (Is Close ∷ blocks_behind word others next) ∙ ap (λ l. written first ++ l) (blocks_named word others next e)
+      ∙ sym (append_assoc (written first) (written_of others) (named false next))
+
+spelling_named : (s : Source) → named false (spelling s) ≡ written s.body
+spelling_named s =
+    dotted_named s.module_more (Is Semicolon ∷ behind_module) ∙ decls_named s.declared behind_decls ∙ roles_named s.other_roles behind_roles
+    ∙ stmts_named s.body (Is Close ∷ []) ∙ append-nil (written s.body)
+  where
+    behind_roles : List Symbol
+    behind_roles = Is Right ∷ Is Open ∷ stmts s.body (Is Close ∷ [])
+
+    behind_decls : List Symbol
+    behind_decls = Is Global ∷ Is signs.Protocol ∷ Word s.name ∷ Is Left ∷ Is Role ∷ Word s.role ∷ roles_behind s.other_roles behind_roles
+
+    behind_module : List Symbol
+    behind_module = decls s.declared behind_decls
+
+-- ---- the tree
+
+place_named : (roles : List (List ℕ)) (n : List ℕ) (r : ℕ) → place_of roles n ≡ Some r → slice_index_or roles r [] ≡ n
+place_named roles n r e = let a = position-Some (λ role. bytes_eq role n) roles r [] e in (bytes_eq-Decides (slice_index_or roles r []) n).0 a.1
+
+declared_named : (roles : List (List ℕ)) (n : List ℕ) → IsDeclared roles n → name_of roles (role_at roles n) ≡ n
+declared_named roles n d = go (place_of roles n) refl d.1
+  where
+    go : (o : Option ℕ) → place_of roles n ≡ o → o ≡ Some d.0 → name_of roles (role_at roles n) ≡ n
+    go None e f = absurd (cc)
+    go (Some r) e f = rw e (place_named roles n r e)
+
+receivers_named : (roles : List (List ℕ)) (sender : ℕ) (before : List ℕ) (ns : List (List ℕ)) → MayReceive roles sender before ns → map (name_of roles) (roles_at roles ns) ≡ ns
+receivers_named roles sender before [] h = refl
+receivers_named roles sender before (n ∷ ns) h =
+    ap (λ x. x ∷ map (name_of roles) (roles_at roles ns)) (declared_named roles n h.0)
+    ∙ ap (λ l. n ∷ l) (receivers_named roles sender (before ++ role_at roles n ∷ []) ns h.3)
+
+singles_named : (roles : List (List ℕ)) (label : List ℕ) (sorts : List (List ℕ)) (sender : ℕ) (rs : List ℕ) (n : ℕ) (rest : Body) → receivers_in roles (model.singles (singles label sorts sender rs n rest)) ≡ map (name_of roles) rs ++ receivers_in roles (model.singles rest)
+singles_named roles label sorts sender [] n rest = refl
+singles_named roles label sorts sender (r ∷ rs) n rest = ap (λ l. name_of roles r ∷ l) (singles_named roles label sorts sender rs (n + 1) rest)
+
+both_named : (roles : List (List ℕ)) (xs ys : List (ℕ × SingleMessage)) (a b : List (List ℕ)) → receivers_in roles xs ≡ a → receivers_in roles ys ≡ b → receivers_in roles (xs ++ ys) ≡ a ++ b
+both_named roles xs ys a b e f = map-append (λ (m : ℕ × SingleMessage). name_of roles m.1.receiver) xs ys ∙ ap (λ l. l ++ receivers_in roles ys) e ∙ ap (λ l. a ++ l) f
+
+mutual
+  tree_named : (roles : List (List ℕ)) (n : ℕ) (w : Written) → IsFit roles w → receivers_in roles (model.singles (tree_of roles n w)) ≡ written w
+  tree_named roles n NoStmt fit = refl
+  tree_named roles n (AMessage label sorts sender receiver others rest) fit =
+      singles_named roles label sorts (role_at roles sender) (roles_at roles (receiver ∷ others)) n (tree_of roles (n + (1 + length others)) rest)
+      ∙ ap (λ l. l ++ receivers_in roles (model.singles (tree_of roles (n + (1 + length others)) rest))) (receivers_named roles (role_at roles sender) [] (receiver ∷ others) fit.1)
+      ∙ ap (λ l. (receiver ∷ others) ++ l) (tree_named roles (n + (1 + length others)) rest fit.2)
+  tree_named roles n (AChoice subject first others rest) fit =
+      both_named roles (model.singles (tree_of roles n first) ++ model.singles_of (trees_of roles (n + points first) others)) (model.singles (tree_of roles (n + (points first + points_of others)) rest)) (written first ++ written_of others) (written rest)
+      (both_named roles (model.singles (tree_of roles n first)) (model.singles_of (trees_of roles (n + points first) others)) (written first) (written_of others) (tree_named roles n first fit.1) (trees_named roles (n + points first) others fit.2))
+      (tree_named roles (n + (points first + points_of others)) rest fit.3)
+  tree_named roles n (ARec name body rest) fit =
+      both_named roles (model.singles (tree_of roles n body)) (model.singles (tree_of roles (n + points body) rest)) (written body) (written rest) (tree_named roles n body fit.0) (tree_named roles (n + points body) rest fit.1)
+  tree_named roles n (AContinue name rest) fit = tree_named roles n rest fit
+  tree_named roles n (APar first second others rest) fit =
+      both_named roles (model.singles (tree_of roles n first) ++ (model.singles (tree_of roles (n + points first) second) ++ model.singles_of (trees_of roles (n + points first + points second) others))) (model.singles (tree_of roles (n + (points first + (points second + points_of others))) rest)) (written first ++ (written second ++ written_of others)) (written rest)
+      (both_named roles (model.singles (tree_of roles n first)) (model.singles (tree_of roles (n + points first) second) ++ model.singles_of (trees_of roles (n + points first + points second) others)) (written first) (written second ++ written_of others) (tree_named roles n first fit.0)
+      (both_named roles (model.singles (tree_of roles (n + points first) second)) (model.singles_of (trees_of roles (n + points first + points second) others)) (written second) (written_of others) (tree_named roles (n + points first) second fit.1) (trees_named roles (n + points first + points second) others fit.2)))
+      (tree_named roles (n + (points first + (points second + points_of others))) rest fit.3)
+  tree_named roles n (ADo name role others rest) fit = tree_named roles n rest fit
+
+  trees_named : (roles : List (List ℕ)) (n : ℕ) (bs : Blocks) → AreFit roles bs → receivers_in roles (model.singles_of (trees_of roles n bs)) ≡ written_of bs
+  trees_named roles n NoBlock fit = refl
+  trees_named roles n (ABlock first others) fit =
+      both_named roles (model.singles (tree_of roles n first)) (model.singles_of (trees_of roles (n + points first) others)) (written first) (written_of others) (tree_named roles n first fit.0) (trees_named roles (n + points first) others fit.1)
+
+-- ---- the lines
+
+-- each token has the line of its first byte
+abbrev AreLined : List ℕ → List Token → Type 0
+AreLined input [] = Unit {0}
+AreLined input (t ∷ ts) = (t.line ≡ line_at input t.span.start) × AreLined input ts
+
+one_lined : (input : List ℕ) (place len : ℕ) (o : Option Kind) (ts : List Token) → AreLined input ts → AreLined input (token_at place (line_at input place) len o ++ ts)
+one_lined input place len None ts h = h
+one_lined input place len (Some kind) ts h = (refl, h)
+
+all_lined : (input : List ℕ) (place : ℕ) (ps : List Piece) → AreLined input (tokens_of input place ps)
+all_lined input place [] = tt
+all_lined input place (p ∷ ps) = one_lined input place p.len p.token (tokens_of input (place + p.len) ps) (all_lined input (place + p.len) ps)
+
+receivers_lined : (input : List ℕ) (listed : Bool) (ts : List Token) → AreLined input ts → AreLined input (receivers_of input listed ts)
+receivers_lined input listed [] h = tt
+receivers_lined input listed (t ∷ ts) h = go (is_receiver listed (said_by input t)) (receivers_lined input (goes_on listed (said_by input t)) ts h.1)
+  where
+    go : (b : Bool) → AreLined input (receivers_of input (goes_on listed (said_by input t)) ts) → AreLined input (if b then t ∷ receivers_of input (goes_on listed (said_by input t)) ts else receivers_of input (goes_on listed (said_by input t)) ts)
+    go true more = (h.0, more)
+    go false more = more
+
+lined : (input : List ℕ) (ts : List Token) → AreLined input ts → lines_of ts ≡ first_lines input ts
+lined input [] h = refl
+lined input (t ∷ ts) h = ap (λ n. n ∷ lines_of ts) h.0 ∙ ap (λ l. line_at input t.span.start ∷ l) (lined input ts h.1)
+
+pub lines_are_those_of_receivers : LinesAreThoseOfReceivers
+lines_are_those_of_receivers = record {
+  named = λ input tokens p read.
+      let s = read.1.source in
+      tokens_named input false tokens ∙ ap (named false) read.1.spelled.2 ∙ spelling_named s
+      ∙ sym (tree_named p.roles 0 s.body read.1.fit) ∙ sym (ap (λ (b : Body). receivers_in p.roles (model.singles b)) read.1.tree);
+  lines = λ input tokens cut.
+      subst (λ (ts : List Token). receiver_lines input ts ≡ first_lines input (receivers_of input false ts)) (sym cut.2)
+      (lined input (receivers_of input false (tokens_of input (parts_of input).protocol.start cut.0)) (receivers_lined input false (tokens_of input (parts_of input).protocol.start cut.0) (all_lined input (parts_of input).protocol.start cut.0)));
+}

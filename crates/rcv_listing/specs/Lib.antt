@@ -1,0 +1,4 @@
+pub mod Receivers
+pub mod Lines
+pub mod Listing
+pub mod Laws

@@ -1,0 +1,40 @@
+-- Where the receivers of messages stand among the tokens of a protocol.
+use Rattle.std.specs.Prelude.{ℕ, Bool, true, false, if◌then◌else◌, List, [], ◌∷◌, map}
+use Rattle.rcv_lexer.specs.declared.token.Token.{Token}
+use Rattle.rcv_scan.specs.Symbols.{symbol_of}
+use Rattle.rcv_syntax.specs.declared.sign.Sign.{Sign}
+use Rattle.rcv_syntax.specs.declared.sign.Sign.TheVariants.{To, Semicolon}
+use Rattle.rcv_syntax.specs.Symbols.{Symbol, Is, Word, symbol_by}
+
+-- Whether a list of receivers goes on behind this sign: it begins behind `to`, and ends at a semicolon.
+abbrev pub listed_behind : Bool → Sign → Bool
+listed_behind listed To = true
+listed_behind listed Semicolon = false
+listed_behind listed other = listed
+
+abbrev pub goes_on : Bool → Symbol → Bool
+goes_on listed (Is sign) = listed_behind listed sign
+goes_on listed other = listed
+
+-- Whether a symbol is a receiver, which is a name in such a list.
+abbrev pub is_receiver : Bool → Symbol → Bool
+is_receiver listed (Word name) = listed
+is_receiver listed other = false
+
+-- what a token says to the grammar
+abbrev pub said_by : List ℕ → Token → Symbol
+said_by input token = symbol_of symbol_by input token
+
+-- The tokens that are receivers, in order, behind the beginning of a list or not.
+abbrev pub receivers_of : List ℕ → Bool → List Token → List Token
+receivers_of input listed [] = []
+receivers_of input listed (t ∷ ts) =
+    if is_receiver listed (said_by input t) then t ∷ receivers_of input (goes_on listed (said_by input t)) ts
+    else receivers_of input (goes_on listed (said_by input t)) ts
+
+-- The lines of the receivers of a protocol with these tokens.
+abbrev pub lines_of : List Token → List ℕ
+lines_of tokens = map (λ (t : Token). t.line) tokens
+
+abbrev pub receiver_lines : List ℕ → List Token → List ℕ
+receiver_lines input tokens = lines_of (receivers_of input false tokens)

@@ -1,0 +1,77 @@
+// Reads the protocol part of an input, with the lines of its receivers.
+
+ghost use Rattle.std.specs.Prelude.{◌≡◌, ℕ, List, ◌+◌, ◌^◌, ◌<◌, ◌≤◌, length, IfOk, MatchResult};
+ghost use Rattle.rcv_model.specs.Form.{HasForm};
+ghost use Rattle.rcv_model.specs.Text.{body_of};
+ghost use Rattle.rcv_lexer.specs.Parts.{LiesIn, parts_of};
+ghost use Rattle.rcv_lexer.specs.Tokens.{line_at};
+ghost use Rattle.rcv_input.specs.Refusals.{IsUnread};
+ghost use Rattle.rcv_listing.specs.Listing.{IsSourceOf, IsUnreadable};
+
+use crate::receivers::receiver_lines;
+use rcv_input::{InputError, Refused};
+use rcv_lexer::token::{Span, TextError};
+use rcv_lexer::{line_feeds, split, tokens};
+use rcv_reader::read_protocol;
+use rcv_tree::protocol::Protocol;
+use rcv_tree::refusal::Refusal;
+use std::alloc::Global;
+
+/// A protocol, and the line of the receiver of each of its points.
+#[derive(Drop)]
+pub struct Source {
+    pub protocol: Protocol,
+    pub lines: Vec<u32>,
+}
+
+// The line of a place in the input, counted from 1.
+fn line_at(input: &[u8], place: usize) -> u32
+    requires short { length input.now + 1 < 2 ^ 32 }
+    requires inside { place ≤ length input.now }
+    ensures { result ≡ line_at input.now place }
+{
+    1 + line_feeds(&input[..place])
+}
+
+// The protocol of the input's protocol part.
+fn read_part(alloc: Global, input: &[u8], part: Span) -> Result<Source, TextError>
+    requires short { length input.now + 1 < 2 ^ 32 }
+    requires inside { LiesIn input.now part }
+    requires part { part ≡ (parts_of input.now).protocol }
+    ensures read { MatchResult result (λ s. IsSourceOf input.now s.protocol s.lines.items) (IsUnread input.now) }
+    ensures form { IfOk result (λ s. HasForm (body_of s.protocol.body) (length s.protocol.roles)) }
+{
+    let list = tokens(alloc, input, part)?;
+    let last = line_at(input, part.end);
+    let lines = receiver_lines(alloc, input, list.as_slice())?;
+    match read_protocol(alloc, input, list.as_slice(), last) {
+        Ok(protocol) => Ok(Source { protocol, lines }),
+        Err(error) => Err(error),
+    }
+}
+
+// The same refusal, as that of an input.
+fn at_line(error: TextError) -> InputError
+    requires { (input : List ℕ) × IsUnread input error }
+    ensures { (input : List ℕ) → IsUnread input error → IsUnreadable input result }
+{
+    match error {
+        TextError::Refused(Refusal::Text { code, line }) => {
+            InputError::Refused(Refused::Line { code, line })
+        }
+        TextError::Refused(_) => unreachable!(),
+        TextError::Memory => InputError::Memory,
+    }
+}
+
+/// The protocol of the input's protocol part, with the lines of its receivers.
+pub fn read_source(alloc: Global, input: &[u8]) -> Result<Source, InputError>
+    requires { length input.now + 1 < 2 ^ 32 }
+    ensures read { MatchResult result (λ s. IsSourceOf input.now s.protocol s.lines.items) (IsUnreadable input.now) }
+    ensures form { IfOk result (λ s. HasForm (body_of s.protocol.body) (length s.protocol.roles)) }
+{
+    match read_part(alloc, input, split(input).protocol) {
+        Ok(source) => Ok(source),
+        Err(error) => Err(at_line(error)),
+    }
+}

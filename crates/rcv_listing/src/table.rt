@@ -1,0 +1,82 @@
+// The points of a text by line.
+
+ghost use Rattle.std.specs.Prelude.{◌≡◌, ◌≤◌, ◌++◌, length, OnOk};
+ghost use Rattle.rcv_points.specs.Follow.{net_in};
+ghost use Rattle.rcv_accept.specs.Lists.{AreInText};
+ghost use Rattle.rcv_listing.specs.Lines.{name_of, line_of, point_text, points_text, all_text};
+
+use rcv_points::points::Points;
+use rcv_text::writer::Writer;
+use rcv_tree::name::Names;
+use rcv_tree::point::Point;
+use rcv_tree::role::RoleId;
+use std::alloc::AllocError;
+
+/// The points of a text, the names of its roles, and the line of each point.
+#[derive(Drop)]
+pub struct Table<'a> {
+    pub points: &'a Points,
+    pub roles: &'a Names,
+    pub lines: &'a [u32],
+}
+
+impl Table<'_> {
+    /// The name of a role; the empty one where there is no such role.
+    pub fn name(&self, role: RoleId) -> &[u8]
+        ensures { result.now ≡ name_of self.now.roles.now role }
+    {
+        match self.roles.as_slice().get(role.0 as usize) {
+            Some(name) => name.as_slice(),
+            None => &[],
+        }
+    }
+
+    /// The line of a point; 0 where there is no such point.
+    pub fn line(&self, point: Point) -> u32
+        ensures { result ≡ line_of self.now.lines.now point }
+    {
+        match self.lines.get((point.0 as usize).saturating_sub(1)) {
+            Some(line) => *line,
+            None => 0,
+        }
+    }
+
+    /// Writes the line of a point. Fails where memory runs out.
+    pub fn write_point(&self, text: &mut Writer, point: Point) -> Result<(), AllocError>
+        requires first { 1 ≤ point }
+        requires last { point ≤ length self.now.points.now.messages }
+        ensures { OnOk result (text.new ≡ text.old ++ point_text self.now.roles.now (net_in self.now.points.now) self.now.lines.now point) }
+    {
+        text.number(point.0)?;
+        text.word(b" line ")?;
+        text.large_number(self.line(point) as u64)?;
+        text.word(b" ")?;
+        text.word(self.points.label(point))?;
+        text.word(b" from ")?;
+        text.word(self.name(self.points.sender(point)))?;
+        text.word(b" to ")?;
+        text.word(self.name(self.points.receiver(point)))?;
+        text.word(b"\n")
+    }
+
+    /// Writes the lines of these points. Fails where memory runs out.
+    pub fn write_points(&self, text: &mut Writer, points: &[Point]) -> Result<(), AllocError>
+        requires { AreInText (net_in self.now.points.now) points.now }
+        ensures { OnOk result (text.new ≡ text.old ++ points_text self.now.roles.now (net_in self.now.points.now) self.now.lines.now points.now) }
+    {
+        for point in points {
+            self.write_point(text, *point)?;
+        }
+        Ok(())
+    }
+
+    /// Writes the lines of all points. Fails where memory runs out.
+    pub fn write_all(&self, text: &mut Writer) -> Result<(), AllocError>
+        ensures { OnOk result (text.new ≡ text.old ++ all_text self.now.roles.now (net_in self.now.points.now) self.now.lines.now) }
+    {
+        for before in 0..self.points.count() {
+            self.write_point(text, Point(before + 1))?;
+        }
+        Ok(())
+    }
+}

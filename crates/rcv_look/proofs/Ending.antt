@@ -1,0 +1,80 @@
+-- With which statuses answers end.
+use Rattle.std.proofs.Common.{◌≡◌, ℕ, List, [], refl, sym, subst, inl, inr}
+use Rattle.rcv_session.specs.Session.{SessionView}
+use Rattle.rcv_form.specs.Journal.{JournalView}
+use Rattle.rcv_listing.specs.declared.listing.Listing.{Listing}
+use Rattle.rcv_listing.specs.declared.listing.Listing.TheVariants.{Accepted, RuledOut}
+use Rattle.rcv_look.specs.declared.status.Status.{Status}
+use Rattle.rcv_look.specs.declared.status.Status.TheVariants as statuses
+use Rattle.rcv_look.specs.Commands.{CommandView, DrawJournal, DrawTable, DrawRole, DrawProtocol, ListPoints, Explain}
+use Rattle.rcv_look.specs.Drawing.{ArePoints, ListsAs, listed, unread, IsExplanation, explained, unknown}
+use Rattle.rcv_look.specs.Outcome.{IsVerdict, illegal, misclosed, drawn, IsTextAnswer, malformed, formed, IsBundleAnswer, IsJournalAnswer, uncut, long, parted, IsChartAnswer, Draws, IsAnswer}
+use Rattle.rcv_look.specs.Outcome as outcomes
+
+-- An answer may end so: written whole, or too long, and then nothing is written.
+abbrev pub EndsSo : Status → List ℕ → Type 0
+EndsSo statuses.Drawn bytes = Unit {0}
+EndsSo statuses.Usage bytes = Unit {0}
+EndsSo statuses.Refused bytes = Unit {0}
+EndsSo statuses.Illegal bytes = Unit {0}
+EndsSo statuses.TooLong bytes = bytes ≡ []
+EndsSo statuses.ReadFault bytes = ⊥
+EndsSo statuses.WriteFault bytes = ⊥
+EndsSo statuses.Memory bytes = ⊥
+
+with_drawn : (s : Status) (b : List ℕ) → s ≡ statuses.Drawn → EndsSo s b
+with_drawn s b e = subst (λ (x : Status). EndsSo x b) (sym e) tt
+
+with_refused : (s : Status) (b : List ℕ) → s ≡ statuses.Refused → EndsSo s b
+with_refused s b e = subst (λ (x : Status). EndsSo x b) (sym e) tt
+
+verdict_ends : (session : SessionView) (j : JournalView) (line : ℕ) (s : Status) (b : List ℕ) → IsVerdict session j line s b → EndsSo s b
+verdict_ends session j line s b (illegal k wrong) = tt
+verdict_ends session j line s b (misclosed k legal wrong) = tt
+verdict_ends session j line s b (drawn legal closes drawing) = tt
+
+text_ends : (session : SessionView) (text : List ℕ) (line : ℕ) (s : Status) (b : List ℕ) → IsTextAnswer session text line s b → EndsSo s b
+text_ends session text line s b (malformed k wrong) = tt
+text_ends session text line s b (formed j spells verdict) = verdict_ends session j line s b verdict
+
+bundle_ends : (bundle text : List ℕ) (s : Status) (b : List ℕ) → IsBundleAnswer bundle text s b → EndsSo s b
+bundle_ends bundle text s b (outcomes.refused refusal first) = tt
+bundle_ends bundle text s b (outcomes.taken session taken answer) = text_ends session text _ s b answer
+
+journal_ends : (input : List ℕ) (s : Status) (b : List ℕ) → IsJournalAnswer input s b → EndsSo s b
+journal_ends input s b (uncut none) = tt
+journal_ends input s b (long cut is more) = refl
+journal_ends input s b (parted cut is few answer) = bundle_ends _ _ s b answer
+
+draws_end : (session : SessionView) (command : CommandView) (s : Status) (b : List ℕ) → Draws session command s b → EndsSo s b
+draws_end session DrawTable s b draws = with_drawn s b draws.0
+draws_end session (DrawRole name) s b (inl draws) = with_drawn s b draws.2
+draws_end session (DrawRole name) s b (inr draws) = with_refused s b draws.1
+draws_end session DrawProtocol s b draws = with_drawn s b draws.0
+draws_end session DrawJournal s b draws = absurd draws
+draws_end session ListPoints s b draws = absurd draws
+draws_end session (Explain code) s b draws = absurd draws
+
+chart_ends : (command : CommandView) (input : List ℕ) (s : Status) (b : List ℕ) → IsChartAnswer command input s b → EndsSo s b
+chart_ends command input s b (outcomes.refused refusal first) = tt
+chart_ends command input s b (outcomes.drawn session taken draws) = draws_end session command s b draws
+
+lists_end : (listing : Listing) (s : Status) (b : List ℕ) → ListsAs listing s b → EndsSo s b
+lists_end (Accepted text) s b lists = with_drawn s b lists.0
+lists_end (RuledOut text) s b lists = with_refused s b lists.0
+
+points_end : (input : List ℕ) (s : Status) (b : List ℕ) → ArePoints input s b → EndsSo s b
+points_end input s b (listed listing is lists) = lists_end listing s b lists
+points_end input s b (unread refusal is) = tt
+
+explanation_ends : (code : ℕ) (s : Status) (b : List ℕ) → IsExplanation code s b → EndsSo s b
+explanation_ends code s b (explained e named) = tt
+explanation_ends code s b (unknown none) = tt
+
+pub answer_ends : (command : CommandView) (input : List ℕ) (s : Status) (b : List ℕ) → IsAnswer command input s b → EndsSo s b
+answer_ends DrawJournal input s b answer = journal_ends input s b answer
+answer_ends DrawTable input s b answer = chart_ends DrawTable input s b answer
+answer_ends (DrawRole name) input s b answer = chart_ends (DrawRole name) input s b answer
+answer_ends DrawProtocol input s b answer = chart_ends DrawProtocol input s b answer
+answer_ends ListPoints input s b answer = points_end input s b answer
+answer_ends (Explain code) input s b answer = explanation_ends code s b answer

@@ -1,0 +1,117 @@
+-- What is answered to a journal, from what its parts are.
+use Rattle.std.proofs.Common.{◌≡◌, ℕ, ◌+◌, ◌<◌, ◌≤◌, List, [], ◌∷◌, ◌++◌, length, map, Some, None, sym, ◌∙◌, ap, subst, arith, length-append}
+use Rattle.std.specs.Prelude.{Result, Option, IfOk, IfSome, IfNone}
+use Rattle.std.proofs.lemmas.List.{length-map}
+use Rattle.rcv_tree.specs.declared.entry.Entry.{Entry}
+use Rattle.rcv_tree.specs.declared.protocol.Protocol.{Protocol}
+use Rattle.rcv_model.specs.Journal.{reading, IsLegal}
+use Rattle.rcv_session.specs.Session.{SessionView, rules_of}
+use Rattle.rcv_input.specs.declared.refused.Refused as refusals
+use Rattle.rcv_input.specs.declared.refused.InputError.{InputError}
+use Rattle.rcv_input.specs.declared.refused.InputError.TheVariants as causes
+use Rattle.rcv_input.specs.Input.{IsTaken}
+use Rattle.rcv_input.specs.Refusals.{IsRefused}
+use Rattle.rcv_input.specs.Line.{refusal_line}
+use Rattle.rcv_journal.specs.JournalText.{entry_line, role_line}
+use Rattle.rcv_form.specs.Form.{IsFirstWrong, Spells, journal_lines, lines_of, end_line}
+use Rattle.rcv_form.specs.Journal.{JournalView, bare}
+use Rattle.rcv_judge.specs.Closing.{ClosesRight, IsFirstWrongClosing}
+use Rattle.rcv_judge.specs.Judged.{IsFirstWrong as IsFirstIllegal}
+use Rattle.rcv_look.specs.declared.cut.Cut.{Cut}
+use Rattle.rcv_look.specs.declared.output.Output.{Output}
+use Rattle.rcv_look.specs.declared.status.Status.TheVariants as statuses
+use Rattle.rcv_look.specs.Cutting.{cut_of, bundle_of, journal_of, line_after, line_behind}
+use Rattle.rcv_look.specs.Drawing.{IsJournalDrawing}
+use Rattle.rcv_look.specs.Outcome.{IsVerdict, IsTextAnswer, IsBundleAnswer, IsJournalAnswer, malformed_line, illegal_line, illegal, misclosed, drawn, malformed, formed, uncut, long, parted}
+use Rattle.rcv_look.specs.Outcome as outcomes
+use Rattle.rcv_look.proofs.LineCount.{few_lines}
+use Rattle.rcv_look.proofs.Making.{Makes, made, widen, refused}
+
+-- A text has at least as many bytes as its journal has entries.
+pub few_entries : (setup : SessionView) (text : List ℕ) (j : JournalView) → Spells setup text j → length j.entries ≤ length text
+few_entries setup text j spells =
+    let lines : length (lines_of text) ≤ length text = few_lines text in
+    let same : length (lines_of text) ≡ length (journal_lines setup j) = ap length spells.1 in
+    let entries = length-map j.entries (entry_line setup) in
+    let all : length (journal_lines setup j) ≡ length (map (entry_line setup) j.entries ++ map (role_line setup) j.roles) + 1
+    = length-append (map (entry_line setup) j.entries ++ map (role_line setup) j.roles) (end_line setup j.limited ∷ []) in
+    let front = length-append (map (entry_line setup) j.entries) (map (role_line setup) j.roles) in
+    omega (arith, lines, same, entries, all, front)
+
+module _ {E : Type 0} (result : Result Output E) where
+  -- no separator
+  pub uncut_said : (input : List ℕ) (line : ℕ) → cut_of input ≡ None → line ≡ line_behind input
+      → IfOk result (λ output. output.status ≡ statuses.Refused) → IfOk result (λ output. output.bytes.items ≡ malformed_line line) → Makes (IsJournalAnswer input) result
+  uncut_said input line none is status bytes =
+      made (IsJournalAnswer input) result statuses.Refused (malformed_line line) status bytes
+      (subst (λ (n : ℕ). IsJournalAnswer input statuses.Refused (malformed_line n)) (sym is) (uncut none))
+
+  -- a bundle with its text
+  pub parted_said : (input : List ℕ) (cut : Cut) (bundle text : List ℕ) → cut_of input ≡ Some cut → cut.end ≤ 1048576 → bundle ≡ bundle_of input cut → text ≡ journal_of input cut
+      → Makes (IsBundleAnswer bundle text) result → Makes (IsJournalAnswer input) result
+  parted_said input cut bundle text is few same_bundle same_text makes =
+      widen (IsBundleAnswer bundle text) (IsJournalAnswer input) result
+      (λ s b answer. parted cut is few (subst (λ (t : List ℕ). IsBundleAnswer (bundle_of input cut) t s b) same_text (subst (λ (u : List ℕ). IsBundleAnswer u text s b) same_bundle answer))) makes
+
+  -- a bundle that is taken, or refused
+  pub taken_said : (bundle text : List ℕ) (session : SessionView) (line : ℕ) → IsTaken bundle session → line ≡ line_after bundle
+      → Makes (IsTextAnswer session text line) result → Makes (IsBundleAnswer bundle text) result
+  taken_said bundle text session line is_taken is makes =
+      widen (IsTextAnswer session text line) (IsBundleAnswer bundle text) result
+      (λ s b answer. outcomes.taken session is_taken (subst (λ (n : ℕ). IsTextAnswer session text n s b) is answer)) makes
+
+  pub refused_said : (bundle text : List ℕ) (error : InputError) → IsRefused bundle error
+      → IfOk result (λ output. (refusal : refusals.Refused) × (error ≡ causes.Refused refusal) × (output.status ≡ statuses.Refused) × (output.bytes.items ≡ refusal_line refusal))
+      → Makes (IsBundleAnswer bundle text) result
+  refused_said bundle text error is said = refused (IsBundleAnswer bundle text) error result said (λ refusal same. outcomes.refused refusal (subst (IsRefused bundle) same is))
+
+  -- a text of the form, or one with a wrong line
+  pub formed_said : (session setup : SessionView) (protocol : Protocol) (text : List ℕ) (line : ℕ) (j : JournalView) → setup ≡ session → protocol ≡ setup.protocol
+      → Spells (bare protocol) text j → Makes (IsVerdict setup j line) result → Makes (IsTextAnswer session text line) result
+  formed_said session setup protocol text line j same_setup same spells makes =
+      widen (IsVerdict setup j line) (IsTextAnswer session text line) result
+      (λ s b verdict. formed j (subst (λ (p : Protocol). Spells (bare p) text j) (same ∙ ap (λ (v : SessionView). v.protocol) same_setup) spells)
+      (subst (λ (v : SessionView). IsVerdict v j line s b) same_setup verdict)) makes
+
+  pub malformed_said : (session setup : SessionView) (protocol : Protocol) (text : List ℕ) (line number sum : ℕ) → setup ≡ session → protocol ≡ setup.protocol
+      → IsFirstWrong (bare protocol) text number → sum ≡ line + number
+      → IfOk result (λ output. output.status ≡ statuses.Refused) → IfOk result (λ output. output.bytes.items ≡ malformed_line sum) → Makes (IsTextAnswer session text line) result
+  malformed_said session setup protocol text line number sum same_setup same wrong is status bytes =
+      made (IsTextAnswer session text line) result statuses.Refused (malformed_line sum) status bytes
+      (subst (λ (n : ℕ). IsTextAnswer session text line statuses.Refused (malformed_line n)) (sym is)
+      (malformed number (subst (λ (p : Protocol). IsFirstWrong (bare p) text number) (same ∙ ap (λ (v : SessionView). v.protocol) same_setup) wrong)))
+
+  -- an entry that can't come
+  pub illegal_said : (session : SessionView) (j : JournalView) (entries : List Entry) (line k sum : ℕ) → entries ≡ j.entries → IsFirstIllegal (rules_of session) entries k → sum ≡ line + 1 + k
+      → IfOk result (λ output. output.status ≡ statuses.Illegal) → IfOk result (λ output. output.bytes.items ≡ illegal_line sum) → Makes (IsVerdict session j line) result
+  illegal_said session j entries line k sum same wrong is status bytes =
+      made (IsVerdict session j line) result statuses.Illegal (illegal_line sum) status bytes
+      (subst (λ (n : ℕ). IsVerdict session j line statuses.Illegal (illegal_line n)) (sym is) (illegal k (subst (λ (es : List Entry). IsFirstIllegal (rules_of session) es k) same wrong)))
+
+  -- a closing line that isn't what the entries leave
+  pub misclosed_said : (session : SessionView) (j : JournalView) (entries : List Entry) (line k sum : ℕ) → entries ≡ j.entries → IsLegal (rules_of session) entries
+      → IsFirstWrongClosing (rules_of session) (reading (rules_of session) entries) j.roles j.limited k → sum ≡ line + 1 + length entries + k
+      → IfOk result (λ output. output.status ≡ statuses.Illegal) → IfOk result (λ output. output.bytes.items ≡ illegal_line sum) → Makes (IsVerdict session j line) result
+  misclosed_said session j entries line k sum same legal wrong is status bytes =
+      made (IsVerdict session j line) result statuses.Illegal (illegal_line sum) status bytes
+      (subst (λ (n : ℕ). IsVerdict session j line statuses.Illegal (illegal_line n)) (sym (is ∙ ap (λ (es : List Entry). line + 1 + length es + k) same))
+      (misclosed k (subst (IsLegal (rules_of session)) same legal)
+      (subst (λ (es : List Entry). IsFirstWrongClosing (rules_of session) (reading (rules_of session) es) j.roles j.limited k) same wrong)))
+
+-- a bundle that is too long
+pub long_said : (input : List ℕ) (cut : Cut) (bytes : List ℕ) → cut_of input ≡ Some cut → 1048576 < cut.end → bytes ≡ [] → IsJournalAnswer input statuses.TooLong bytes
+long_said input cut bytes is more empty = subst (IsJournalAnswer input statuses.TooLong) (sym empty) (long cut is more)
+
+-- a journal that is drawn
+pub drawn_said : (session : SessionView) (j : JournalView) (entries : List Entry) (line : ℕ) (bytes : List ℕ) → entries ≡ j.entries → IsLegal (rules_of session) entries
+    → ClosesRight session entries j.roles j.limited → IsJournalDrawing session entries bytes → IsVerdict session j line statuses.Drawn bytes
+drawn_said session j entries line bytes same legal closes drawing =
+    drawn (subst (IsLegal (rules_of session)) same legal) (subst (λ (es : List Entry). ClosesRight session es j.roles j.limited) same closes)
+    (subst (λ (es : List Entry). IsJournalDrawing session es bytes) same drawing)
+
+-- a closing line was found, or none
+pub at_some : {A : Type 0} (P : A → Type 0) (found : Option A) (a : A) → found ≡ Some a → IfSome found P → P a
+at_some {A = A} P found a some holds = subst (λ (o : Option A). IfSome o P) some holds
+
+pub at_none : {A P : Type 0} (found : Option A) → found ≡ None → IfNone found P → P
+at_none {A = A} {P = P} found none holds = subst (λ (o : Option A). IfNone o P) none holds

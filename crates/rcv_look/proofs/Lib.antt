@@ -1,0 +1,14 @@
+pub mod Passing
+pub mod Reading
+pub mod Taking
+pub mod OneCommand
+pub mod Deciding
+pub mod LineCount
+pub mod Making
+pub mod Asking
+pub mod Ending
+pub mod Answering
+pub mod Telling
+pub mod Journals
+pub mod Pictures
+mod Examples

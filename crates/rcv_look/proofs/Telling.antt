@@ -1,0 +1,51 @@
+-- Rows and arrows say something each.
+use Rattle.std.proofs.Common.{◌≡◌, ◌≤◌, ℕ, List, [], ◌∷◌, ◌++◌, length, refl, ap, ap₂, ◌∙◌}
+use Rattle.std.specs.List.{All}
+use Rattle.std.proofs.lemmas.List.Elements.{All-head, All-tail, filter-append}
+use Rattle.rcv_tree.specs.declared.event.Event.{Event}
+use Rattle.rcv_tree.specs.declared.entry.Entry.{Entry}
+use Rattle.rcv_model.specs.Net.{Net}
+use Rattle.rcv_model.specs.Journal.{Rules}
+use Rattle.rcv_core.specs.Book.{BookView}
+use Rattle.rcv_session.specs.Session.{rules_of}
+use Rattle.rcv_picture.specs.declared.group.Says.{Says}
+use Rattle.rcv_picture.specs.declared.group.Says.TheVariants as says
+use Rattle.rcv_rows.specs.Told.{ArePieces, IsWireIn, Tells}
+use Rattle.rcv_picture.specs.declared.picture.Picture.{Picture}
+use Rattle.rcv_scene.specs.Told.{told, said, says_something, AreTitled}
+use Rattle.rcv_look.specs.Drawing.{IsJournalDrawing, IsTextOf, most_drawn}
+
+rows_say : (from to : ℕ) (rows : List Says) → ArePieces from to rows → said rows ≡ rows
+rows_say from to [] pieces = refl
+rows_say from to (says.Entry place undone ∷ rows) pieces = ap (λ (l : List Says). says.Entry place undone ∷ l) (rows_say _ to rows pieces.1)
+rows_say from to (says.Fold first end counts ∷ rows) pieces = ap (λ (l : List Says). says.Fold first end counts ∷ l) (rows_say end to rows pieces.3)
+rows_say from to (says.Nothing ∷ rows) pieces = absurd pieces
+rows_say from to (says.Arrow send receive undone ∷ rows) pieces = absurd pieces
+
+wires_say : (net : Net) (kept : List Event) (entries : List Entry) (shows : ℕ → Type 0) (wires : List Says) → All (IsWireIn net kept entries shows) wires → said wires ≡ wires
+wires_say net kept entries shows [] all = refl
+wires_say net kept entries shows (says.Arrow send receive undone ∷ wires) all = ap (λ (l : List Says). says.Arrow send receive undone ∷ l) (wires_say net kept entries shows wires (All-tail (IsWireIn net kept entries shows) (says.Arrow send receive undone) wires all))
+wires_say net kept entries shows (says.Entry place undone ∷ wires) all = absurd (All-head (IsWireIn net kept entries shows) (says.Entry place undone) wires all)
+wires_say net kept entries shows (says.Fold first end counts ∷ wires) all = absurd (All-head (IsWireIn net kept entries shows) (says.Fold first end counts) wires all)
+wires_say net kept entries shows (says.Nothing ∷ wires) all = absurd (All-head (IsWireIn net kept entries shows) says.Nothing wires all)
+
+-- So nothing of them is left out.
+pub all_say : (rules : Rules) (entries : List Entry) (rows wires : List Says) → Tells rules entries rows wires → said (wires ++ rows) ≡ wires ++ rows
+all_say rules entries rows wires tells =
+    filter-append says_something wires rows
+    ∙ ap₂ (λ (a b : List Says). a ++ b) (wires_say _ _ entries _ wires tells.in_wires.right) (rows_say 0 _ rows tells.in_rows.pieces)
+
+-- A picture that says these tells of the journal.
+pub drawn_so : (book : BookView) (picture : Picture) (rows wires said_rows said_wires : List Says) (bytes : List ℕ) → said_rows ≡ rows → said_wires ≡ wires
+    → Tells (rules_of book.setup) book.entries rows wires → told picture.groups.items ≡ said (said_wires ++ said_rows) → AreTitled book picture.groups.items
+    → IsTextOf picture bytes → length bytes ≤ most_drawn (length book.entries) → IsJournalDrawing book.setup book.entries bytes
+drawn_so book picture rows wires said_rows said_wires bytes same_rows same_wires tells says titled text few = record {
+  picture = picture;
+  rows = rows;
+  arrows = wires;
+  tells = tells;
+  told_so = says ∙ ap₂ (λ (a b : List Says). said (a ++ b)) same_wires same_rows ∙ all_say (rules_of book.setup) book.entries rows wires tells;
+  titled = titled;
+  is_text = text;
+  short = few;
+}

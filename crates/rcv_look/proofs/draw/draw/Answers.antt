@@ -1,0 +1,12 @@
+-- What was told is what the picture's groups say, and the text is short.
+use Rattle.std.proofs.Common.{◌≤◌, length, ◌∙◌, ap, subst}
+use Rattle.std.proofs.lemmas.Result.{IfOk-weaker}
+use Rattle.rcv_look.specs.Drawing.{most_drawn}
+use Rattle.rcv_look.proofs.Telling.{drawn_so}
+use Rattle.rcv_look.proofs.draw.draw.Goals as goal
+
+pub returns : goal.returns
+returns c = IfOk-weaker c.short.result _ _
+    (λ text is. drawn_so c.args.book.now c.in_ok-picture.picture c.in_ok-told.told.rows.items c.in_ok-told.told.wires.items c.as_slice-3.result.now c.as_slice-2.result.now text.items
+    c.as_slice-3.ensures.value c.as_slice-2.ensures.value c.in_ok-told.ensures.tells c.in_ok-picture.ensures.told c.in_ok-picture.ensures.titled
+    (is.0 ∙ c.in_ok-text.ensures) (subst (λ n. length text.items ≤ most_drawn n) (ap length c.entries-2.ensures.value) is.1)) c.short.ensures

@@ -1,0 +1,101 @@
+-- The commands, and the words that say them.
+use Rattle.std.specs.Prelude.{◌≡◌, ◌≤◌, ℕ, codes, List, [], ◌∷◌, ⊤, Option, Some, None, option_map, map}
+use Rattle.std.specs.String.{string_bytes}
+use Rattle.std.specs.Str.Parse.{digits_value, without_leading_plus}
+use Rattle.std.specs.declared.string.String.{String}
+use Rattle.std.specs.declared.alloc.Global.{Global}
+use Rattle.clap.specs.Words.{Row, Text, first_of, one_of, matches_of, fault_of}
+use Rattle.rcv_look.specs.declared.command.Command.{Command}
+use Rattle.rcv_look.specs.declared.command.Command.TheVariants as commands
+use Rattle.rcv_look.specs.declared.given.Given.{Given as Found}
+use Rattle.rcv_look.specs.Program.{rcv_show}
+
+-- What words may ask for.
+pub data CommandView : Type 0 where
+  DrawJournal : CommandView
+  DrawTable : CommandView
+  DrawRole : (name : Text) → CommandView
+  DrawProtocol : CommandView
+  ListPoints : CommandView
+  Explain : (code : ℕ) → CommandView
+
+-- What a command says.
+abbrev pub view_of : Command → CommandView
+view_of commands.Journal = DrawJournal
+view_of commands.Table = DrawTable
+view_of (commands.Role role) = DrawRole role
+view_of commands.Protocol = DrawProtocol
+view_of commands.Points = ListPoints
+view_of (commands.Explain code) = Explain code
+
+-- Words as their bytes.
+abbrev pub texts_of : List (String Global) → List Text
+texts_of words = map string_bytes words
+
+-- The crate is given the program's name before the words.
+abbrev pub line_of : List Text → List Text
+line_of words = codes "rcv-show" ∷ words
+
+-- The crate's definition of a simple command takes the words.
+abbrev pub AreTaken : List Text → Type 0
+AreTaken words = fault_of rcv_show (line_of words) ≡ []
+
+-- What the crate finds in them.
+abbrev pub found_in : List Text → List Row
+found_in words = matches_of rcv_show (line_of words)
+
+-- What is given of each option.
+pub record Given : Type 0 where
+  pub command : Option Text
+  pub role : Option Text
+  pub code : Option ℕ
+
+-- The number that is given for the option. `one_of` gives the text without a `-` in front, which only a 0 that passed
+-- has.
+abbrev pub number_in : Text → List Row → Option ℕ
+number_in name rows = option_map (λ text. digits_value 10 (without_leading_plus text)) (one_of name rows)
+
+abbrev pub given_in : List Row → Given
+given_in rows = record {
+  command = first_of (codes "command") rows;
+  role = first_of (codes "role") rows;
+  code = number_in (codes "code") rows;
+}
+
+abbrev pub given_of : Found → Given
+given_of found = record {
+  command = option_map (λ text. text.now) found.command;
+  role = option_map (λ text. text.now) found.role;
+  code = found.code;
+}
+
+abbrev pub given : List Text → Given
+given words = given_in (found_in words)
+
+-- The word is given, and these of the options.
+pub record IsGiven (g : Given) (word : Text) (role : Option Text) (code : Option ℕ) : Type 0 where
+  pub word_is : g.command ≡ Some word
+  pub role_is : g.role ≡ role
+  pub code_is : g.code ≡ code
+
+-- What is given says the command: its word and its option, and no option of another one.
+abbrev pub Says : Given → CommandView → Type 0
+Says g DrawJournal = IsGiven g (codes "journal") None None
+Says g DrawTable = IsGiven g (codes "table") None None
+Says g (DrawRole name) = IsGiven g (codes "role") (Some name) None
+Says g DrawProtocol = IsGiven g (codes "protocol") None None
+Says g ListPoints = IsGiven g (codes "points") None None
+Says g (Explain code) = IsGiven g (codes "explain") None (Some code)
+
+-- Its code is in range.
+abbrev pub IsWithin : CommandView → Type 0
+IsWithin (Explain code) = code ≤ 255
+IsWithin _ = ⊤
+
+-- The words are this command: the crate takes them, and what is given in them says it.
+abbrev pub IsCommand : List Text → CommandView → Type 0
+IsCommand words command = AreTaken words × Says (given words) command × IsWithin command
+
+-- They are none.
+abbrev pub IsNoCommand : List Text → Type 0
+IsNoCommand words = (command : CommandView) → IsCommand words command → ⊥

@@ -1,0 +1,110 @@
+-- What the pictures and texts of a session are.
+use Rattle.std.specs.Prelude.{◌≡◌, ◌≤◌, ◌+◌, ◌*◌, ℕ, ◌⊎◌, List, ◌++◌, length, nat_lt, if◌then◌else◌, position, codes, decimal, Option, Some, None}
+use Rattle.std.specs.Str.{bytes_eq}
+use Rattle.rcv_tree.specs.declared.entry.Entry.{Entry}
+use Rattle.rcv_tree.specs.declared.protocol.Protocol.{Protocol}
+use Rattle.rcv_model.specs.Text.{body_of}
+use Rattle.rcv_accept.specs.Accepted.{AcceptedView, net_for, roles_of}
+use Rattle.rcv_session.specs.Session.{SessionView, rules_of}
+use Rattle.rcv_tables.specs.Rows.{TableView, IsTable}
+use Rattle.rcv_input.specs.declared.refused.Refused.TheVariants.{NoRole}
+use Rattle.rcv_input.specs.declared.refused.InputError.TheVariants as errors
+use Rattle.rcv_input.specs.Line.{refusal_line}
+use Rattle.rcv_input.specs.declared.refused.Refused as refusals
+use Rattle.rcv_explain.specs.declared.explanation.Explanation.{Explanation}
+use Rattle.rcv_explain.specs.Explained.{HasRule, IsNamed, spelled}
+use Rattle.rcv_listing.specs.declared.listing.Listing.{Listing}
+use Rattle.rcv_listing.specs.declared.listing.Listing.TheVariants.{Accepted, RuledOut}
+use Rattle.rcv_listing.specs.Listing.{IsListing, IsUnreadable}
+use Rattle.rcv_picture.specs.declared.group.Says.{Says}
+use Rattle.rcv_picture.specs.declared.picture.Picture.{Picture}
+use Rattle.rcv_picture.specs.Drawn.{tree_of}
+use Rattle.rcv_picture.specs.Tree as trees
+use Rattle.rcv_rows.specs.Told.{Tells}
+use Rattle.rcv_scene.specs.Told.{told, AreTitled}
+use Rattle.rcv_charts.specs.Titles.{titles_of}
+use Rattle.rcv_charts.specs.RowTitles.{table_titles}
+use Rattle.rcv_charts.specs.StateTitles.{AreTitlesOf}
+use Rattle.rcv_charts.specs.MessageTitles.{message_titles}
+use Rattle.rcv_look.specs.declared.status.Status.{Status}
+use Rattle.rcv_look.specs.declared.status.Status.TheVariants.{Drawn, Refused}
+
+-- The bytes are the text of this picture.
+abbrev pub IsTextOf : Picture → List ℕ → Type 0
+IsTextOf picture bytes = bytes ≡ trees.spelled (tree_of picture)
+
+-- How many bytes a picture of so many entries may have: so many for each of the first 450 entries, and some for the rest.
+abbrev pub most_drawn : ℕ → ℕ
+most_drawn entries = 131072 + 4096 * (if nat_lt entries 450 then entries else 450)
+
+-- The bytes are a picture of a session's journal. Its arrows and its rows tell of the entries: each entry stands in one
+-- row or one fold, an event is undone there exactly where it isn't kept at the end, and each arrow is a message. The
+-- title of an entry's group is the entry's line. The bytes are as few as a picture of so many entries may have.
+pub record IsJournalDrawing (session : SessionView) (entries : List Entry) (bytes : List ℕ) : Type 0 where
+  pub picture : Picture
+  pub rows : List Says
+  pub arrows : List Says
+  pub tells : Tells (rules_of session) entries rows arrows
+  pub told_so : told picture.groups.items ≡ arrows ++ rows
+  pub titled : AreTitled (record { setup = session; entries = entries }) picture.groups.items
+  pub is_text : IsTextOf picture bytes
+  pub short : length bytes ≤ most_drawn (length entries)
+
+abbrev pub accepted_as : Protocol → AcceptedView
+accepted_as protocol = record { protocol = protocol }
+
+-- The bytes are a picture of the recovery table of a protocol: its rows have the lines of the table as their titles.
+pub record IsTableDrawing (protocol : Protocol) (bytes : List ℕ) : Type 0 where
+  pub picture : Picture
+  pub table : TableView
+  pub is_table : IsTable (net_for (accepted_as protocol)) (roles_of (accepted_as protocol)) table
+  pub titled : titles_of picture ≡ table_titles (net_for (accepted_as protocol)) protocol.roles table
+  pub is_text : IsTextOf picture bytes
+
+-- The bytes are a picture of the machine of a role: its states hold each place of the role once, and have these places
+-- as their titles.
+pub record IsRoleDrawing (protocol : Protocol) (role : ℕ) (bytes : List ℕ) : Type 0 where
+  pub picture : Picture
+  pub titled : AreTitlesOf (net_for (accepted_as protocol)) role (titles_of picture)
+  pub is_text : IsTextOf picture bytes
+
+-- The bytes are a picture of a protocol: its messages have their points, labels and ends as their titles, in text
+-- order.
+pub record IsProtocolDrawing (protocol : Protocol) (bytes : List ℕ) : Type 0 where
+  pub picture : Picture
+  pub titled : titles_of picture ≡ message_titles protocol.roles (body_of protocol.body)
+  pub is_text : IsTextOf picture bytes
+
+-- The place of a name among others, counted from 0.
+abbrev pub place_of : List (List ℕ) → List ℕ → Option ℕ
+place_of names name = position (λ other. bytes_eq other name) names
+
+-- A picture is drawn of the role with this name, or the protocol declares none, and that is written.
+abbrev pub IsRoleAnswer : Protocol → List ℕ → Status → List ℕ → Type 0
+IsRoleAnswer protocol name status bytes =
+    ((role : ℕ) × (place_of protocol.roles name ≡ Some role) × (status ≡ Drawn) × IsRoleDrawing protocol role bytes)
+    ⊎ ((place_of protocol.roles name ≡ None) × (status ≡ Refused) × (bytes ≡ refusal_line NoRole))
+
+-- A listing is written: as what was asked for, or, where a rule refuses the protocol, as a refusal.
+abbrev pub ListsAs : Listing → Status → List ℕ → Type 0
+ListsAs (Accepted text) status bytes = (status ≡ Drawn) × (bytes ≡ text.items)
+ListsAs (RuledOut text) status bytes = (status ≡ Refused) × (bytes ≡ text.items)
+
+-- What is answered to `points`: the listing of the input's protocol, in which what a refusal by a rule says stands
+-- behind the points; or the first refusal of a protocol that isn't read, at its line.
+pub data ArePoints (input : List ℕ) : Status → List ℕ → Type 0 where
+  listed :
+      {status : Status} {bytes : List ℕ} (listing : Listing) → IsListing input listing → ListsAs listing status bytes
+      → ArePoints input status bytes
+  unread :
+      (refusal : refusals.Refused) → IsUnreadable input (errors.Refused refusal)
+      → ArePoints input Refused (refusal_line refusal)
+
+-- `no rule N`
+abbrev pub no_rule_line : ℕ → List ℕ
+no_rule_line code = codes "no rule " ++ decimal code ++ codes "\n"
+
+-- What is answered to `explain`: the explanation of the rule with this code, or that there is none.
+pub data IsExplanation (code : ℕ) : Status → List ℕ → Type 0 where
+  explained : (e : Explanation) → IsNamed code e.name.now → IsExplanation code Drawn (spelled code e)
+  unknown : (HasRule code → ⊥) → IsExplanation code Refused (no_rule_line code)

@@ -1,0 +1,10 @@
+pub mod Program
+pub mod Commands
+pub mod Asking
+pub mod Inputs
+pub mod Cutting
+pub mod Drawing
+pub mod Outcome
+pub mod Writing
+pub mod Calls
+pub mod Laws

@@ -1,0 +1,126 @@
+-- What the program answers: a status and bytes, for words and an input.
+use Rattle.std.specs.Prelude.{◌≡◌, ℕ, ◌+◌, ◌<◌, ◌≤◌, codes, decimal, List, [], ◌++◌, length, Some, None}
+use Rattle.rcv_model.specs.Journal.{reading, IsLegal}
+use Rattle.rcv_session.specs.Session.{SessionView, rules_of}
+use Rattle.rcv_input.specs.declared.refused.Refused as refusals
+use Rattle.rcv_input.specs.Input.{IsTaken}
+use Rattle.rcv_input.specs.Refusals.{IsFirstRefusal}
+use Rattle.rcv_input.specs.Line.{refusal_line}
+use Rattle.rcv_form.specs.Form as form
+use Rattle.rcv_form.specs.Journal.{JournalView, bare}
+use Rattle.rcv_judge.specs.Closing.{ClosesRight, IsFirstWrongClosing}
+use Rattle.rcv_judge.specs.Judged.{IsFirstWrong as IsFirstIllegal}
+use Rattle.rcv_look.specs.declared.cut.Cut.{Cut}
+use Rattle.rcv_look.specs.declared.status.Status.{Status}
+use Rattle.rcv_look.specs.declared.status.Status.TheVariants.{Drawn, Usage, Refused, ReadFault, WriteFault, Memory, TooLong, Illegal}
+use Rattle.rcv_look.specs.Commands.{CommandView, DrawJournal, DrawTable, DrawRole, DrawProtocol, ListPoints, Explain, IsCommand, IsNoCommand}
+use Rattle.rcv_look.specs.Asking.{most_for, most_of_bundle, IsAskedOfSource}
+use Rattle.rcv_look.specs.Cutting.{cut_of, bundle_of, journal_of, line_after, line_behind}
+use Rattle.rcv_look.specs.Drawing.{IsJournalDrawing, IsTableDrawing, IsRoleAnswer, IsProtocolDrawing, ArePoints, IsExplanation}
+
+-- The number of a status, with which the process ends.
+abbrev pub number_of : Status → ℕ
+number_of Drawn = 0
+number_of Usage = 1
+number_of Refused = 2
+number_of ReadFault = 4
+number_of WriteFault = 5
+number_of Memory = 6
+number_of TooLong = 7
+number_of Illegal = 8
+
+-- What is written where the words are no command.
+abbrev pub usage_line : List ℕ
+usage_line = codes "usage: rcv-show journal|table|role|protocol|points|explain [--role R] [--code N]\n"
+
+-- `refused 50 Journal line L`: a journal isn't of the form at this line of the input.
+abbrev pub malformed_line : ℕ → List ℕ
+malformed_line line = codes "refused 50 Journal line " ++ decimal line ++ codes "\n"
+
+-- `illegal line L`: a journal of the form isn't legal at this line of the input.
+abbrev pub illegal_line : ℕ → List ℕ
+illegal_line line = codes "illegal line " ++ decimal line ++ codes "\n"
+
+-- What is answered to a journal of the form that stands behind this line of the input: its first entry that can't come;
+-- or its first closing line that isn't what the entries leave; or a picture of it.
+pub data IsVerdict (session : SessionView) (j : JournalView) (line : ℕ) : Status → List ℕ → Type 0 where
+  illegal :
+      (k : ℕ) → IsFirstIllegal (rules_of session) j.entries k
+      → IsVerdict session j line Illegal (illegal_line (line + 1 + k))
+  misclosed :
+      (k : ℕ) → IsLegal (rules_of session) j.entries
+      → IsFirstWrongClosing (rules_of session) (reading (rules_of session) j.entries) j.roles j.limited k
+      → IsVerdict session j line Illegal (illegal_line (line + 1 + length j.entries + k))
+  drawn :
+      {bytes : List ℕ} → IsLegal (rules_of session) j.entries → ClosesRight session j.entries j.roles j.limited
+      → IsJournalDrawing session j.entries bytes → IsVerdict session j line Drawn bytes
+
+-- What is answered to the text behind this line of the input: the first line at which it isn't a journal of the form,
+-- counted over the whole input, or what the journal's verdict is.
+pub data IsTextAnswer (session : SessionView) (text : List ℕ) (line : ℕ) : Status → List ℕ → Type 0 where
+  malformed :
+      (k : ℕ) → form.IsFirstWrong (bare session.protocol) text k
+      → IsTextAnswer session text line Refused (malformed_line (line + k))
+  formed :
+      {status : Status} {bytes : List ℕ} (j : JournalView) → form.Spells (bare session.protocol) text j
+      → IsVerdict session j line status bytes → IsTextAnswer session text line status bytes
+
+-- What is answered to a bundle with a text behind the line that separates them: the bundle's first refusal, or what the
+-- session's text is answered.
+pub data IsBundleAnswer (bundle text : List ℕ) : Status → List ℕ → Type 0 where
+  refused :
+      (refusal : refusals.Refused) → IsFirstRefusal bundle refusal → IsBundleAnswer bundle text Refused (refusal_line refusal)
+  taken :
+      {status : Status} {bytes : List ℕ} (session : SessionView) → IsTaken bundle session
+      → IsTextAnswer session text (line_after bundle) status bytes → IsBundleAnswer bundle text status bytes
+
+-- What is answered to `journal`: an input without the line `%% journal` isn't of the form behind its last line; the
+-- bundle before that line is too long; or what the bundle and the text behind the line are answered.
+pub data IsJournalAnswer (input : List ℕ) : Status → List ℕ → Type 0 where
+  uncut : cut_of input ≡ None → IsJournalAnswer input Refused (malformed_line (line_behind input))
+  long : (cut : Cut) → cut_of input ≡ Some cut → most_of_bundle < cut.end → IsJournalAnswer input TooLong []
+  parted :
+      {status : Status} {bytes : List ℕ} (cut : Cut) → cut_of input ≡ Some cut → cut.end ≤ most_of_bundle
+      → IsBundleAnswer (bundle_of input cut) (journal_of input cut) status bytes → IsJournalAnswer input status bytes
+
+-- What the commands that draw a protocol make of it.
+abbrev pub Draws : SessionView → CommandView → Status → List ℕ → Type 0
+Draws session DrawTable status bytes = (status ≡ Drawn) × IsTableDrawing session.protocol bytes
+Draws session (DrawRole name) status bytes = IsRoleAnswer session.protocol name status bytes
+Draws session DrawProtocol status bytes = (status ≡ Drawn) × IsProtocolDrawing session.protocol bytes
+Draws session DrawJournal status bytes = ⊥
+Draws session ListPoints status bytes = ⊥
+Draws session (Explain code) status bytes = ⊥
+
+-- What is answered to them: the first refusal of the input, or what they make of its session.
+pub data IsChartAnswer (command : CommandView) (input : List ℕ) : Status → List ℕ → Type 0 where
+  refused :
+      (refusal : refusals.Refused) → IsFirstRefusal input refusal → IsChartAnswer command input Refused (refusal_line refusal)
+  drawn :
+      {status : Status} {bytes : List ℕ} (session : SessionView) → IsTaken input session
+      → Draws session command status bytes → IsChartAnswer command input status bytes
+
+-- What a command answers to its input.
+abbrev pub IsAnswer : CommandView → List ℕ → Status → List ℕ → Type 0
+IsAnswer DrawJournal input status bytes = IsJournalAnswer input status bytes
+IsAnswer DrawTable input status bytes = IsChartAnswer DrawTable input status bytes
+IsAnswer (DrawRole name) input status bytes = IsChartAnswer (DrawRole name) input status bytes
+IsAnswer DrawProtocol input status bytes = IsChartAnswer DrawProtocol input status bytes
+IsAnswer ListPoints input status bytes = ArePoints input status bytes
+IsAnswer (Explain code) input status bytes = IsExplanation code status bytes
+
+-- The words are this command, and its input isn't too long.
+pub record IsAsked (words : List (List ℕ)) (command : CommandView) (input : List ℕ) : Type 0 where
+  pub words_are : IsCommand words command
+  pub short : length input ≤ most_for command
+
+-- The answer to these words and to this input, which the source gave: no command; too long; or what the command
+-- answers.
+pub data IsOutcome (words : List (List ℕ)) (input : List ℕ) : Status → List ℕ → Type 0 where
+  usage : IsNoCommand words → IsOutcome words input Usage usage_line
+  too_long :
+      (command : CommandView) → IsAskedOfSource words command → most_for command < length input
+      → IsOutcome words input TooLong []
+  answered :
+      {status : Status} {bytes : List ℕ} (command : CommandView) → IsAsked words command input
+      → IsAnswer command input status bytes → IsOutcome words input status bytes

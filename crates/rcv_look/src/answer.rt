@@ -1,0 +1,29 @@
+// What the commands answer, from the bytes of an input to those of an output.
+
+ghost use Rattle.std.specs.Prelude.{◌≤◌, length, IfOk};
+ghost use Rattle.rcv_look.specs.Asking.{most_for};
+ghost use Rattle.rcv_look.specs.Commands.{view_of, IsWithin};
+ghost use Rattle.rcv_look.specs.Outcome.{IsAnswer};
+
+use crate::charts::{protocol_answer, role_answer, table_answer};
+use crate::command::Command;
+use crate::journal::journal_answer;
+use crate::output::Output;
+use crate::texts::{explain_answer, points_answer};
+use std::alloc::{AllocError, Global};
+
+/// What a command answers to its input. Fails where memory runs out.
+pub fn answer(alloc: Global, command: &Command, input: &[u8]) -> Result<Output, AllocError>
+    requires within { IsWithin (view_of command.now) }
+    requires short { length input.now ≤ most_for (view_of command.now) }
+    ensures { IfOk result (λ output. IsAnswer (view_of command.now) input.now output.status output.bytes.items) }
+{
+    match command {
+        Command::Journal => journal_answer(alloc, input),
+        Command::Table => table_answer(alloc, input),
+        Command::Role { role } => role_answer(alloc, input, role.as_slice()),
+        Command::Protocol => protocol_answer(alloc, input),
+        Command::Points => points_answer(alloc, input),
+        Command::Explain { code } => explain_answer(alloc, *code),
+    }
+}

@@ -1,0 +1,20 @@
+// What the program may be asked to do.
+
+use rcv_tree::name::Name;
+
+/// A command.
+#[derive(Drop)]
+pub enum Command {
+    /// Draws the journal that stands behind the bundle.
+    Journal,
+    /// Draws who restarts where, for each role and each point at which it may fail.
+    Table,
+    /// Draws what the role with this name does at each of its places.
+    Role { role: Name },
+    /// Draws the protocol.
+    Protocol,
+    /// Lists the protocol's points with their lines, and explains the rule that refuses it.
+    Points,
+    /// Explains the rule with this code.
+    Explain { code: u32 },
+}

@@ -1,0 +1,63 @@
+// The picture of a journal.
+
+ghost use Rattle.std.specs.Prelude.{◌≡◌, ◌≤◌, length, IfOk};
+ghost use Rattle.rcv_look.specs.Drawing.{IsJournalDrawing, most_drawn};
+
+use rcv_core::book::Book;
+use rcv_journal::line::RoleLine;
+use rcv_picture::picture_text;
+use rcv_rows::tell;
+use rcv_scene::journal_picture::journal_picture;
+use rcv_story::shown::shown_entries;
+use rcv_story::story::{Story, story_of};
+use std::alloc::{AllocError, Global};
+
+// For each entry of the book whether it is shown.
+fn marks(alloc: Global, book: &Book<'_>, story: &Story) -> Result<Vec<bool>, AllocError>
+    ensures { IfOk result (λ marks. length marks.items ≡ length book.now.entries) }
+{
+    let shown = shown_entries(alloc, book.entries(), story)?;
+    let mut marks = Vec::new(alloc);
+    for place in 0..book.entries().len() {
+        marks.push(shown.get(place).copied().unwrap_or(true))?;
+    }
+    Ok(marks)
+}
+
+// How many bytes a picture of so many entries may have.
+fn most_drawn(entries: usize) -> usize
+    ensures { result ≡ most_drawn entries }
+{
+    let counted = if entries < 450 { entries } else { 450 };
+    131_072 + 4_096 * counted
+}
+
+// The text of a picture of so many entries, where it isn't longer than it may be. None is known that is, since what isn't
+// shown is folded; one that is counts as want of memory.
+fn short(text: Vec<u8>, entries: usize) -> Result<Vec<u8>, AllocError>
+    ensures { IfOk result (λ kept. (kept.items ≡ text.items) × (length kept.items ≤ most_drawn entries)) }
+{
+    if text.len() > most_drawn(entries) {
+        return Err(AllocError);
+    }
+    Ok(text)
+}
+
+/// The text of a picture of a book's journal, whose roles ended as these lines say. Fails where memory runs out.
+pub fn draw(alloc: Global, book: &Book<'_>, lines: &[RoleLine]) -> Result<Vec<u8>, AllocError>
+    ensures { IfOk result (λ text. IsJournalDrawing book.now.setup book.now.entries text.items) }
+{
+    let story = story_of(alloc, book.setup().points(), book.entries())?;
+    let marks = marks(alloc, book, &story)?;
+    let told = tell(alloc, book, marks.as_slice())?;
+    let picture = journal_picture(
+        alloc,
+        book,
+        lines,
+        &story,
+        told.wires.as_slice(),
+        told.rows.as_slice(),
+    )?;
+    let text = picture_text(alloc, &picture)?;
+    short(text, book.entries().len())
+}

@@ -1,0 +1,95 @@
+// What is given of each option.
+
+ghost use Rattle.std.specs.Prelude.{◌≡◌, ◌≤◌, ◌↔◌, ℕ, List, Some, None, codes, IfSome, IfNone, IfOk, IfErr};
+ghost use Rattle.clap.specs.Words.{found_of, one_text, rows_of};
+ghost use Rattle.rcv_look.specs.Commands.{CommandView, Says, number_in, given_in, given_of, view_of, IsWithin};
+ghost use Rattle.rcv_look.specs.Program.{IsOfProgram, IsNumberText};
+ghost use Rattle.rcv_words.specs.declared.error.WordsError.TheVariants.{Usage};
+
+use crate::command::Command;
+use clap::ArgMatches;
+use rcv_tree::name::Name;
+use rcv_words::error::WordsError;
+use std::alloc::Global;
+
+// The word and the options, as far as they are given.
+#[derive(Clone, Copy)]
+pub struct Given<'a> {
+    command: Option<&'a str>,
+    role: Option<&'a str>,
+    code: Option<u32>,
+}
+
+// The number that is given for the option.
+fn number_in(matches: &ArgMatches<'_>, name: &str, least: u32, most: u32) -> Option<u32>
+    requires { (text : List ℕ) → one_text (found_of matches.now) name.now ≡ Some text → IsNumberText least most text }
+    ensures value { result ≡ number_in name.now (rows_of (found_of matches.now)) }
+    ensures range { IfSome result (λ number. (least ≤ number) × (number ≤ most)) }
+{
+    matches.get_one::<u32>(name)
+}
+
+impl<'a> Given<'a> {
+    // What the crate found.
+    pub fn of(matches: &ArgMatches<'a>) -> Given<'a>
+        requires { IsOfProgram matches.now }
+        ensures value { given_of result ≡ given_in (rows_of (found_of matches.now)) }
+        ensures code { IfSome result.code (λ number. number ≤ 255) }
+    {
+        Given {
+            command: matches.get_str("command"),
+            role: matches.get_str("role"),
+            code: number_in(matches, "code", 0, 255),
+        }
+    }
+
+    // No option.
+    fn alone(&self, command: Command) -> Option<Command>
+        ensures some { IfSome result (λ given. (given ≡ command) × (self.now.role ≡ None) × (self.now.code ≡ None)) }
+        ensures none { IfNone result (self.now.role ≡ None → self.now.code ≡ None → ⊥) }
+    {
+        if self.role.is_none() && self.code.is_none() {
+            Some(command)
+        } else {
+            None
+        }
+    }
+
+    // A role, and no other option.
+    fn role(&self) -> Option<&'a str>
+        ensures some { IfSome result (λ role. ((given_of self.now).role ≡ Some role.now) × (self.now.code ≡ None)) }
+        ensures none { IfNone result ((role : List ℕ) → (given_of self.now).role ≡ Some role → self.now.code ≡ None → ⊥) }
+    {
+        if self.code.is_none() { self.role } else { None }
+    }
+
+    // A code, and no other option.
+    fn code(&self) -> Option<u32>
+        ensures some { IfSome result (λ code. (self.now.role ≡ None) × (self.now.code ≡ Some code)) }
+        ensures none { IfNone result ((code : ℕ) → self.now.role ≡ None → self.now.code ≡ Some code → ⊥) }
+    {
+        if self.role.is_none() { self.code } else { None }
+    }
+
+    // The command that has this word and these options, and no others.
+    pub fn command(&self, alloc: Global) -> Result<Command, WordsError>
+        requires { IfSome self.now.code (λ number. number ≤ 255) }
+        ensures command { IfOk result (λ command. Says (given_of self.now) (view_of command)) }
+        ensures within { IfOk result (λ command. IsWithin (view_of command)) }
+        ensures usage { IfErr result (λ error. error ≡ Usage → (command : CommandView) → Says (given_of self.now) command → ⊥) }
+    {
+        match self.command.ok_or(WordsError::Usage)? {
+            "journal" => self.alone(Command::Journal).ok_or(WordsError::Usage),
+            "table" => self.alone(Command::Table).ok_or(WordsError::Usage),
+            "role" => Ok(Command::Role {
+                role: Name::of(alloc, self.role().ok_or(WordsError::Usage)?.as_bytes())?,
+            }),
+            "protocol" => self.alone(Command::Protocol).ok_or(WordsError::Usage),
+            "points" => self.alone(Command::Points).ok_or(WordsError::Usage),
+            "explain" => Ok(Command::Explain {
+                code: self.code().ok_or(WordsError::Usage)?,
+            }),
+            _ => Err(WordsError::Usage),
+        }
+    }
+}

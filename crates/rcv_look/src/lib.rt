@@ -1,0 +1,30 @@
+// Pictures and explanations as one call: from words and an input to a status and bytes.
+#![tactic(auto)]
+
+ghost use Rattle.rcv_look.specs.Laws.{WordsAreOneCommand};
+
+mod answer;
+mod call;
+mod charts;
+mod command;
+mod cut;
+mod draw;
+mod given;
+mod input;
+mod journal;
+mod lines;
+mod output;
+mod program;
+mod role;
+mod status;
+mod texts;
+mod whole;
+mod words;
+
+pub use call::look;
+pub use status::Status;
+
+/// Words are one command at most.
+pub fn words_are_one_command()
+    ensures { WordsAreOneCommand }
+{}

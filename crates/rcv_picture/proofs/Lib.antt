@@ -1,0 +1,7 @@
+mod Examples
+pub mod Chains
+pub mod Escapes
+pub mod Lists
+pub mod Pictures
+pub mod Size
+pub mod Spelling

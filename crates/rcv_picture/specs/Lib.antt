@@ -1,0 +1,6 @@
+pub mod Drawn
+pub mod Laws
+pub mod Looks
+pub mod Size
+pub mod Tree
+pub mod WellFormed

@@ -1,0 +1,3 @@
+pub mod Told
+pub mod Adding
+pub mod Laws

@@ -1,0 +1,20 @@
+// What a picture of a journal tells, as lists of what its groups say: each entry in a row of its own or in a fold, and
+// the messages as arrows.
+#![tactic(auto)]
+
+mod counts;
+mod entries;
+pub mod laws;
+mod mark;
+mod row;
+#[cfg(test)]
+mod tests;
+mod told;
+mod undone;
+mod wire;
+
+pub use row::rows;
+pub use told::{Told, tell};
+pub use wire::wires;
+/// Want of memory, which is the one error of this crate.
+pub use std::alloc::AllocError as Memory;

@@ -1,0 +1,32 @@
+// What a picture tells: rows and wires together.
+
+ghost use Rattle.std.specs.Prelude.{◌≡◌, IfOk, length};
+ghost use Rattle.rcv_session.specs.Session.{rules_of};
+ghost use Rattle.rcv_rows.specs.Told.{ShowMarked, Tells};
+
+use crate::row::rows;
+use crate::wire::wires;
+use rcv_core::book::Book;
+use rcv_picture::group::Says;
+use std::alloc::{AllocError, Global};
+
+/// What a picture of a journal tells: its entries in rows, and its messages as arrows.
+#[derive(Drop)]
+pub struct Told {
+    pub rows: Vec<Says>,
+    pub wires: Vec<Says>,
+}
+
+/// What a picture of a book's journal tells. `shown` has a mark for each entry: those that it marks have rows of their
+/// own, and the others are folded. Fails where memory runs out.
+pub fn tell(alloc: Global, book: &Book<'_>, shown: &[bool]) -> Result<Told, AllocError>
+    requires { length shown.now ≡ length book.now.entries }
+    ensures tells { IfOk result (λ told.
+        Tells (rules_of book.now.setup) book.now.entries told.rows.items told.wires.items) }
+    ensures marked { IfOk result (λ told. ShowMarked shown.now told.rows.items) }
+{
+    Ok(Told {
+        rows: rows(alloc, book, shown)?,
+        wires: wires(alloc, book, shown)?,
+    })
+}

@@ -1,0 +1,97 @@
+// The groups of a picture, each of which says one thing.
+
+ghost use Rattle.std.specs.Prelude.{[], ◌∷◌, IfOk, OnOk};
+ghost use Rattle.rcv_core.specs.Book.{BookView};
+ghost use Rattle.rcv_scene.specs.Told.{Adds, IsTitle};
+
+use crate::folds::fold_shapes;
+use crate::layout::Layout;
+use crate::line::line_at;
+use crate::marks::mark_shapes;
+use crate::routes::Routes;
+use crate::wires::{wire_shapes, wire_title};
+use rcv_core::book::Book;
+use rcv_picture::group::{Group, Says};
+use rcv_picture::shape::Shape;
+use std::alloc::{AllocError, Global};
+
+// The shapes of what is said: those of a message take the way with this number.
+fn shapes_of(
+    layout: &Layout<'_>,
+    routes: &Routes,
+    number: usize,
+    says: &Says,
+) -> Result<Vec<Shape>, AllocError> {
+    match says {
+        Says::Entry { place, undone } => mark_shapes(layout, routes, *place, *undone),
+        Says::Fold { first, end, counts } => fold_shapes(layout, *first, *end, counts),
+        Says::Arrow { undone, .. } => wire_shapes(layout, routes.route(number), *undone),
+        Says::Nothing => Ok(Vec::new(layout.alloc)),
+    }
+}
+
+// The title of what is said.
+fn title_of(alloc: Global, book: &Book<'_>, says: &Says) -> Result<Vec<u8>, AllocError>
+    ensures { IfOk result (λ title. IsTitle book.now says.now title.items) }
+{
+    match says {
+        Says::Entry { place, .. } => line_at(alloc, book, *place),
+        Says::Arrow { send, receive, .. } => wire_title(alloc, *send, *receive),
+        Says::Fold { .. } | Says::Nothing => Ok(Vec::new(alloc)),
+    }
+}
+
+// Adds what says this.
+#[tactic(auto, using(crate::proofs::Telling::one_more))]
+fn add_one(
+    groups: &mut Vec<Group>,
+    alloc: Global,
+    book: &Book<'_>,
+    says: &Says,
+    shapes: Vec<Shape>,
+) -> Result<(), AllocError>
+    ensures { OnOk result (Adds book.now groups.old.items groups.new.items (says.now ∷ [])) }
+{
+    let title = title_of(alloc, book, says)?;
+    groups.push(Group {
+        says: *says,
+        title,
+        shapes,
+    })?;
+    Ok(())
+}
+
+/// Adds a group for each of these, in order: each says what it stands for. Fails where memory runs out.
+pub fn add_all(
+    groups: &mut Vec<Group>,
+    alloc: Global,
+    book: &Book<'_>,
+    layout: &Layout<'_>,
+    routes: &Routes,
+    all: &[Says],
+) -> Result<(), AllocError>
+    ensures { OnOk result (Adds book.now groups.old.items groups.new.items all.now) }
+{
+    for (number, says) in all.iter().enumerate() {
+        let shapes = shapes_of(layout, routes, number, says)?;
+        add_one(groups, alloc, book, says, shapes)?;
+    }
+    Ok(())
+}
+
+/// Adds a group that says nothing of its own. Fails where memory runs out.
+#[tactic(auto, using(crate::proofs::Telling::one_silent))]
+pub fn add_silent(
+    groups: &mut Vec<Group>,
+    title: Vec<u8>,
+    shapes: Vec<Shape>,
+) -> Result<(), AllocError>
+    ensures { OnOk result ((book : BookView) → Adds book groups.old.items groups.new.items []) }
+{
+    groups.push(Group {
+        says: Says::Nothing,
+        title,
+        shapes,
+    })?;
+    Ok(())
+}

@@ -1,0 +1,150 @@
+// The picture of a journal.
+
+ghost use Rattle.std.specs.Prelude.{◌≡◌, ◌++◌, [], IfOk, OnOk};
+ghost use Rattle.rcv_core.specs.Book.{BookView};
+ghost use Rattle.rcv_scene.specs.Told.{told, said, Adds, AreTitled};
+
+use crate::bar::bar;
+use crate::cast::Cast;
+use crate::feet::{feet, long_labels};
+use crate::groups::{add_all, add_silent};
+use crate::heads::heads;
+use crate::layout::{FOOT, Layout, lay_out};
+use crate::legend::legend;
+use crate::life::lives;
+use crate::line::line_at;
+use crate::recoveries::zones;
+use crate::routes::{Routes, find_routes};
+use crate::wires::{loose_shapes, loose_title};
+use crate::wording::{Piece, text_of};
+use rcv_core::book::Book;
+use rcv_journal::line::RoleLine;
+use rcv_picture::group::{Group, Says};
+use rcv_picture::picture::Picture;
+use rcv_picture::pixels::Pixels;
+use rcv_picture::shape::Shape;
+use rcv_story::story::Story;
+use std::alloc::{AllocError, Global};
+
+// What lies behind all: the undone parts, and the lines of life.
+fn add_background(groups: &mut Vec<Group>, layout: &Layout<'_>) -> Result<(), AllocError>
+    ensures { OnOk result ((book : BookView) → Adds book groups.old.items groups.new.items []) }
+{
+    add_silent(groups, Vec::new(layout.alloc), zones(layout)?)?;
+    add_silent(groups, Vec::new(layout.alloc), lives(layout)?)?;
+    Ok(())
+}
+
+// The messages that aren't received, which come behind so many wires.
+fn add_loose(
+    groups: &mut Vec<Group>,
+    layout: &Layout<'_>,
+    routes: &Routes,
+    wires: usize,
+) -> Result<(), AllocError>
+    ensures { OnOk result ((book : BookView) → Adds book groups.old.items groups.new.items []) }
+{
+    for route in routes.routes.iter().skip(wires) {
+        let title = loose_title(layout.alloc, route)?;
+        add_silent(groups, title, loose_shapes(layout, route)?)?;
+    }
+    Ok(())
+}
+
+// What stands above the columns: the title, the heads, and the bar.
+fn add_above(groups: &mut Vec<Group>, layout: &Layout<'_>) -> Result<(), AllocError>
+    ensures { OnOk result ((book : BookView) → Adds book groups.old.items groups.new.items []) }
+{
+    add_silent(groups, Vec::new(layout.alloc), heads(layout)?)?;
+    add_silent(groups, Vec::new(layout.alloc), bar(layout)?)?;
+    Ok(())
+}
+
+// What stands under them: the feet, and these shapes of the legend.
+fn add_below(
+    groups: &mut Vec<Group>,
+    layout: &Layout<'_>,
+    lines: &[RoleLine],
+    shapes: Vec<Shape>,
+) -> Result<(), AllocError>
+    ensures { OnOk result ((book : BookView) → Adds book groups.old.items groups.new.items []) }
+{
+    add_silent(groups, Vec::new(layout.alloc), feet(layout, lines)?)?;
+    add_silent(groups, Vec::new(layout.alloc), shapes)?;
+    Ok(())
+}
+
+// What the picture shows, in words: how many entries there are, and the recoveries that are shown.
+fn description_of(
+    alloc: Global,
+    book: &Book<'_>,
+    layout: &Layout<'_>,
+) -> Result<Vec<u8>, AllocError> {
+    let mut text = text_of(
+        alloc,
+        &[Piece::Number(layout.count()), Piece::Word(b" entries")],
+    )?;
+    for recovery in layout.story.recoveries.iter() {
+        if layout.is_shown(recovery.place) {
+            let line = line_at(alloc, book, recovery.place)?;
+            text.extend_from_slice(b"; ")?;
+            text.extend_from_slice(line.as_slice())?;
+        }
+    }
+    Ok(text)
+}
+
+// The groups of a picture, and where it ends.
+fn groups_of(
+    alloc: Global,
+    book: &Book<'_>,
+    layout: &Layout<'_>,
+    lines: &[RoleLine],
+    wires: &[Says],
+    rows: &[Says],
+) -> Result<(Vec<Group>, Pixels), AllocError>
+    ensures { IfOk result (λ made. Adds book.now [] made.0.items (wires.now ++ rows.now)) }
+{
+    let routes = find_routes(alloc, layout, wires)?;
+    let mut groups = Vec::new(alloc);
+    add_background(&mut groups, layout)?;
+    add_all(&mut groups, alloc, book, layout, &routes, wires)?;
+    add_loose(&mut groups, layout, &routes, wires.len())?;
+    add_all(&mut groups, alloc, book, layout, &routes, rows)?;
+    add_above(&mut groups, layout)?;
+    let (shapes, end) = legend(layout, layout.end + FOOT + Pixels(18))?;
+    add_below(&mut groups, layout, lines, shapes)?;
+    let (shapes, end) = long_labels(layout, end + Pixels(10))?;
+    add_silent(&mut groups, Vec::new(alloc), shapes)?;
+    Ok((groups, end))
+}
+
+/// The picture of a book's journal: what its roles did, from above to below, with an arrow for each of these wires and
+/// a row for each of these entries and folds. `lines` says how the roles ended, and `story` is that of the journal. Fails
+/// where memory runs out.
+#[tactic(auto, using(crate::proofs::Telling::from_none, crate::proofs::Telling::titled_from_none))]
+pub fn journal_picture(
+    alloc: Global,
+    book: &Book<'_>,
+    lines: &[RoleLine],
+    story: &Story,
+    wires: &[Says],
+    rows: &[Says],
+) -> Result<Picture, AllocError>
+    ensures told { IfOk result (λ picture. told picture.groups.items ≡ said (wires.now ++ rows.now)) }
+    ensures titled { IfOk result (λ picture. AreTitled book.now picture.groups.items) }
+{
+    let cast = Cast::of(alloc, book.setup())?;
+    let layout = lay_out(alloc, cast, book.entries(), story, lines, rows)?;
+    let (groups, end) = groups_of(alloc, book, &layout, lines, wires, rows)?;
+    Ok(Picture {
+        width: layout.width,
+        height: end + Pixels(14),
+        title: text_of(
+            alloc,
+            &[Piece::Word(b"Journal of "), Piece::Word(layout.cast.name)],
+        )?,
+        description: description_of(alloc, book, &layout)?,
+        groups,
+    })
+}

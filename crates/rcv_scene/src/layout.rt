@@ -1,0 +1,437 @@
+// Where the columns and the rows of a picture stand.
+
+use crate::cast::{Cast, Role};
+use crate::notes::width_of_notes;
+use crate::text_width::{Letters, wide, width_of};
+use crate::wording::{Piece, lines_of_name, shortened, text_of};
+use rcv_journal::line::{RoleLine, RoleWord};
+use rcv_picture::group::Says;
+use rcv_picture::pixels::Pixels;
+use rcv_story::story::Story;
+use rcv_tree::entry::Entry;
+use rcv_tree::event::Event;
+use std::alloc::{AllocError, Global};
+
+/// The heights of rows: of a Recover, of a fold, and of another entry.
+pub const RECOVER_ROW: Pixels = Pixels(54);
+
+pub const FOLD_ROW: Pixels = Pixels(46);
+
+pub const ENTRY_ROW: Pixels = Pixels(24);
+
+/// A label of more letters is shortened, and stands at the foot in full.
+pub const LABEL: usize = 16;
+
+/// The height of a role's foot.
+pub const FOOT: Pixels = Pixels(36);
+
+/// The height of a line of a head, and of what stands in a head beside its lines.
+pub const HEAD_LINE: Pixels = Pixels(15);
+
+const HEAD_REST: Pixels = Pixels(12);
+
+const HOST_LINE: Pixels = Pixels(13);
+
+/// Where the title ends, and how high the bar over a folded journal is.
+const TITLE: Pixels = Pixels(44);
+
+const BAR: Pixels = Pixels(78);
+
+/// A row: of one entry, or of a fold.
+#[derive(Clone, Copy)]
+pub struct Row {
+    pub top: Pixels,
+    pub bottom: Pixels,
+    pub shown: bool,
+}
+
+impl Row {
+    /// The height at which its mark stands.
+    pub fn middle(self) -> Pixels {
+        self.top + (self.bottom - self.top).half()
+    }
+}
+
+/// Where everything stands.
+#[derive(Drop)]
+pub struct Layout<'a> {
+    pub alloc: Global,
+    pub cast: Cast<'a>,
+    pub entries: &'a [Entry],
+    pub story: &'a Story,
+    /// The lines of the name of each role.
+    pub names: Vec<Vec<&'a [u8]>>,
+    /// What stands above all.
+    pub title: Vec<u8>,
+    /// Whether some entries are folded.
+    pub folded: bool,
+    /// Where the first column begins, and how wide each is.
+    pub left: Pixels,
+    pub column: Pixels,
+    /// Where notes beside the columns begin.
+    pub notes: Pixels,
+    pub width: Pixels,
+    /// Where the heads begin and end, and where the feet begin.
+    pub top: Pixels,
+    pub first: Pixels,
+    pub end: Pixels,
+    /// The rows, and for each entry the number of its row.
+    rows: Vec<Row>,
+    row_of: Vec<u32>,
+}
+
+/// A label with its value, as it stands beside a mark. Fails where memory runs out.
+pub fn label_of(alloc: Global, cast: &Cast<'_>, event: &Event) -> Result<Vec<u8>, AllocError> {
+    let message = cast.message(event.point);
+    let label = shortened(alloc, message.label, LABEL)?;
+    if !message.has_value {
+        return Ok(label);
+    }
+    text_of(
+        alloc,
+        &[
+            Piece::Word(label.as_slice()),
+            Piece::Word(b" "),
+            Piece::Value(event.value),
+        ],
+    )
+}
+
+// How many digits a number has.
+fn digits(number: u32) -> u32 {
+    let mut digits: u32 = 1;
+    let mut rest = number;
+    for _ in 0..9 {
+        if rest >= 10 {
+            rest /= 10;
+            digits = digits.saturating_add(1);
+        }
+    }
+    digits
+}
+
+// How many entries there are, as a u32.
+fn count_of(entries: &[Entry]) -> u32 {
+    entries.len().min(u32::MAX as usize) as u32
+}
+
+// Whether all roles are done.
+fn are_done(lines: &[RoleLine]) -> bool {
+    for line in lines {
+        if line.word != RoleWord::Done {
+            return false;
+        }
+    }
+    true
+}
+
+// What stands above all: the protocol, how many entries there are, and how the session ended.
+fn title_of(
+    alloc: Global,
+    cast: &Cast<'_>,
+    entries: &[Entry],
+    lines: &[RoleLine],
+) -> Result<Vec<u8>, AllocError> {
+    let start = [
+        Piece::Word(cast.name),
+        Piece::Word(b": "),
+        Piece::Number(count_of(entries)),
+        Piece::Word(if entries.len() == 1 {
+            b" entry, ".as_slice()
+        } else {
+            b" entries, ".as_slice()
+        }),
+    ];
+    let mut title = text_of(alloc, &start)?;
+    if are_done(lines) {
+        title.extend_from_slice(b"completed")?;
+        return Ok(title);
+    }
+    title.extend_from_slice(b"limited at")?;
+    for line in lines {
+        if line.word == RoleWord::Limit {
+            title.extend_from_slice(b" ")?;
+            title.extend_from_slice(shortened(
+                alloc,
+                cast.name_of(line.role.0),
+                LABEL,
+            )?.as_slice())?;
+        }
+    }
+    Ok(title)
+}
+
+// The lines of all names.
+fn names_of<'a>(alloc: Global, roles: &[Role<'a>]) -> Result<Vec<Vec<&'a [u8]>>, AllocError> {
+    let mut names = Vec::new(alloc);
+    for role in roles {
+        names.push(lines_of_name(alloc, role.name)?)?;
+    }
+    Ok(names)
+}
+
+// The width of the widest of these lines, and the number of lines of the longest name.
+fn sizes_of(names: &[Vec<&[u8]>]) -> (Pixels, u32) {
+    let mut widest = Pixels(0);
+    let mut most: u32 = 1;
+    for lines in names {
+        let mut count: u32 = 0;
+        for line in lines.iter() {
+            widest = widest.max(width_of(line, Letters::Head));
+            count = count.saturating_add(1);
+        }
+        most = most.max(count);
+    }
+    (widest, most)
+}
+
+// The width of the widest label of the entries that have rows of their own.
+fn widest_label(
+    alloc: Global,
+    cast: &Cast<'_>,
+    entries: &[Entry],
+    rows: &[Says],
+) -> Result<Pixels, AllocError> {
+    let mut widest = Pixels(60);
+    for row in rows {
+        if let Says::Entry { place, .. } = row {
+            match entries.get(*place as usize) {
+                Some(Entry::Send(event)) | Some(Entry::Recv(event)) => {
+                    let label = label_of(alloc, cast, event)?;
+                    widest = widest.max(width_of(label.as_slice(), Letters::Plain));
+                }
+                _ => {}
+            }
+        }
+    }
+    Ok(widest)
+}
+
+// How many entries the longest fold has; 0 where nothing is folded.
+fn longest_fold(rows: &[Says]) -> u32 {
+    let mut longest: u32 = 0;
+    for row in rows {
+        if let Says::Fold { first, end, .. } = row {
+            longest = longest.max(end.saturating_sub(*first));
+        }
+    }
+    longest
+}
+
+// Whether a row is that of a Recover.
+fn is_recover(entries: &[Entry], place: u32) -> bool {
+    matches!(entries.get(place as usize), Some(Entry::Recover { .. }))
+}
+
+// The widest of the names of long labels as they stand at the foot.
+fn widest_foot(cast: &Cast<'_>) -> Pixels {
+    let mut widest = Pixels(0);
+    for message in cast.messages.iter() {
+        if message.label.len() > LABEL {
+            widest = widest.max(width_of(message.label, Letters::Small));
+        }
+    }
+    widest
+}
+
+// For each entry the number of its row.
+fn rows_of_entries(
+    alloc: Global,
+    entries: &[Entry],
+    rows: &[Says],
+) -> Result<Vec<u32>, AllocError> {
+    let mut row_of = Vec::new(alloc);
+    for _ in entries {
+        row_of.push(0)?;
+    }
+    let mut number: u32 = 0;
+    for row in rows {
+        match row {
+            Says::Entry { place, .. } => set(&mut row_of, *place as usize, number),
+            Says::Fold { first, end, .. } => {
+                for place in *first as usize..(*end as usize).min(entries.len()) {
+                    set(&mut row_of, place, number);
+                }
+            }
+            Says::Arrow { .. } | Says::Nothing => {}
+        }
+        number = number.saturating_add(1);
+    }
+    Ok(row_of)
+}
+
+// Sets one of these, if it is there.
+fn set(items: &mut Vec<u32>, number: usize, item: u32) {
+    if let Some(slot) = items.get_mut(number) {
+        *slot = item;
+    }
+}
+
+// The rows, from this height downwards.
+fn rows_from(
+    alloc: Global,
+    entries: &[Entry],
+    rows: &[Says],
+    top: Pixels,
+) -> Result<Vec<Row>, AllocError> {
+    let mut placed = Vec::new(alloc);
+    let mut at = top;
+    for row in rows {
+        let (height, shown) = match row {
+            Says::Entry { place, .. } => {
+                let height = if is_recover(entries, *place) {
+                    RECOVER_ROW
+                } else {
+                    ENTRY_ROW
+                };
+                (height, true)
+            }
+            Says::Fold { .. } => (FOLD_ROW, false),
+            Says::Arrow { .. } | Says::Nothing => (Pixels(0), false),
+        };
+        placed.push(Row {
+            top: at,
+            bottom: at + height,
+            shown,
+        })?;
+        at = at + height;
+    }
+    Ok(placed)
+}
+
+// Where the last of these rows ends.
+fn end_of(rows: &[Row], top: Pixels) -> Pixels {
+    match rows.last() {
+        Some(row) => row.bottom,
+        None => top,
+    }
+}
+
+/// Where everything of a picture stands that has these rows. Fails where memory runs out.
+pub fn lay_out<'a>(
+    alloc: Global,
+    cast: Cast<'a>,
+    entries: &'a [Entry],
+    story: &'a Story,
+    lines: &[RoleLine],
+    rows: &[Says],
+) -> Result<Layout<'a>, AllocError> {
+    let names = names_of(alloc, cast.roles.as_slice())?;
+    let (widest_name, most_lines) = sizes_of(names.as_slice());
+    let fold = longest_fold(rows);
+    let numbers = wide(digits(count_of(entries)).saturating_add(1), Letters::Small);
+    let left = Pixels(52).max(numbers + Pixels(16));
+    let mut column = Pixels(132)
+        .max(widest_label(alloc, &cast, entries, rows)? + Pixels(74))
+        .max(widest_name + Pixels(20));
+    if fold > 0 {
+        let counts = wide(
+            digits(fold).saturating_mul(2).saturating_add(12),
+            Letters::Small,
+        );
+        column = column.max(counts + Pixels(12));
+    }
+    let notes = left + column * cast.count() + Pixels(12);
+    let beside = width_of_notes(alloc, &cast, entries, rows)?;
+    let title = title_of(alloc, &cast, entries, lines)?;
+    let foot = widest_foot(&cast);
+    let width = (notes + beside + Pixels(12))
+        .max(width_of(title.as_slice(), Letters::Big) + Pixels(24))
+        .max(if foot.0 > 0 {
+            left + foot + Pixels(80)
+        } else {
+            Pixels(0)
+        })
+        .max(left + Pixels(280));
+    let top = if fold > 0 { TITLE + BAR } else { TITLE };
+    let hosts = if cast.roles.iter().any(|role| role.host.is_some()) {
+        HOST_LINE
+    } else {
+        Pixels(0)
+    };
+    let first = top + HEAD_LINE * most_lines + HEAD_REST + hosts;
+    let start = first + Pixels(10);
+    let placed = rows_from(alloc, entries, rows, start)?;
+    let end = end_of(placed.as_slice(), start) + Pixels(8);
+    Ok(Layout {
+        alloc,
+        cast,
+        entries,
+        story,
+        names,
+        title,
+        folded: fold > 0,
+        left,
+        column,
+        notes,
+        width,
+        top,
+        first,
+        end,
+        rows: placed,
+        row_of: rows_of_entries(alloc, entries, rows)?,
+    })
+}
+
+impl<'a> Layout<'a> {
+    /// The middle of a role's column.
+    pub fn x(&self, role: u8) -> Pixels {
+        self.left + self.column * u32::from(role) + self.column.half()
+    }
+
+    /// How wide all columns are.
+    pub fn columns(&self) -> Pixels {
+        self.column * self.cast.count()
+    }
+
+    /// How many roles there are, at most eight.
+    pub fn roles(&self) -> u8 {
+        self.cast.roles.len().min(8) as u8
+    }
+
+    /// How many entries there are.
+    pub fn count(&self) -> u32 {
+        count_of(self.entries)
+    }
+
+    /// The entry at a place.
+    pub fn entry(&self, at: u32) -> Option<Entry> {
+        self.entries.get(at as usize).copied()
+    }
+
+    /// The event at a place, if there is one.
+    pub fn event(&self, at: u32) -> Option<Event> {
+        match self.entries.get(at as usize) {
+            Some(Entry::Send(event)) | Some(Entry::Recv(event)) => Some(*event),
+            _ => None,
+        }
+    }
+
+    /// The number of the row of the entry at a place.
+    pub fn row_number(&self, at: u32) -> u32 {
+        self.row_of.get(at as usize).copied().unwrap_or(0)
+    }
+
+    /// The row of the entry at a place.
+    pub fn row(&self, at: u32) -> Row {
+        let number = self.row_number(at);
+        match self.rows.get(number as usize) {
+            Some(row) => *row,
+            None => Row {
+                top: self.first,
+                bottom: self.first,
+                shown: false,
+            },
+        }
+    }
+
+    /// The height of the mark of the entry at a place; the middle of its fold where it is folded.
+    pub fn y(&self, at: u32) -> Pixels {
+        self.row(at).middle()
+    }
+
+    /// Whether the entry at a place has a row of its own.
+    pub fn is_shown(&self, at: u32) -> bool {
+        self.row(at).shown
+    }
+}

@@ -1,0 +1,97 @@
+// The notes beside the columns: who recovers, and what a fold holds.
+
+use crate::cast::Cast;
+use crate::text_width::{Letters, width_of};
+use crate::wording::{Piece, shortened, text_of};
+use rcv_picture::group::{Counts, Says};
+use rcv_picture::pixels::Pixels;
+use rcv_tree::entry::Entry;
+use std::alloc::{AllocError, Global};
+
+/// The most letters of a name in a note.
+const NAME: usize = 12;
+
+/// Who recovers where a role does: its host, if it shares one. Fails where memory runs out.
+pub fn who_recovers(alloc: Global, cast: &Cast<'_>, role: u8) -> Result<Vec<u8>, AllocError> {
+    if let Some(host) = cast.host_of(role) {
+        return text_of(
+            alloc,
+            &[
+                Piece::Word(b"host "),
+                Piece::Number(host),
+                Piece::Word(b" recovers"),
+            ],
+        );
+    }
+    let name = shortened(alloc, cast.name_of(role), NAME)?;
+    text_of(
+        alloc,
+        &[Piece::Word(name.as_slice()), Piece::Word(b" recovers")],
+    )
+}
+
+// A number with a word, which is another one where the number isn't 1.
+fn counted(alloc: Global, number: u32, one: &[u8], many: &[u8]) -> Result<Vec<u8>, AllocError> {
+    let word = if number == 1 { one } else { many };
+    text_of(alloc, &[Piece::Number(number), Piece::Word(word)])
+}
+
+/// How many events a Recover undoes. Fails where memory runs out.
+pub fn undone_text(alloc: Global, undone: u32) -> Result<Vec<u8>, AllocError> {
+    counted(alloc, undone, b" event undone", b" events undone")
+}
+
+/// How many entries a fold holds. Fails where memory runs out.
+pub fn entries_text(alloc: Global, first: u32, end: u32) -> Result<Vec<u8>, AllocError> {
+    counted(alloc, end.saturating_sub(first), b" entry", b" entries")
+}
+
+/// How many crashes and recoveries a fold holds. Fails where memory runs out.
+pub fn failures_text(alloc: Global, counts: &Counts) -> Result<Vec<u8>, AllocError> {
+    if counts.crashes == 0 && counts.recoveries == 0 {
+        return Vec::from_slice(alloc, b"no crash here");
+    }
+    let mut text = counted(alloc, counts.crashes, b" crash, ", b" crashes, ")?;
+    let recoveries = counted(alloc, counts.recoveries, b" recovery", b" recoveries")?;
+    text.extend_from_slice(recoveries.as_slice())?;
+    Ok(text)
+}
+
+// How wide the notes beside a row are.
+fn width_beside(
+    alloc: Global,
+    cast: &Cast<'_>,
+    entries: &[Entry],
+    row: &Says,
+) -> Result<Pixels, AllocError> {
+    let (above, below) = match row {
+        Says::Entry { place, .. } => match entries.get(*place as usize) {
+            Some(Entry::Recover { role, undone, .. }) => (
+                who_recovers(alloc, cast, role.0)?,
+                undone_text(alloc, *undone)?,
+            ),
+            _ => return Ok(Pixels(0)),
+        },
+        Says::Fold { first, end, counts } => (
+            entries_text(alloc, *first, *end)?,
+            failures_text(alloc, counts)?,
+        ),
+        Says::Arrow { .. } | Says::Nothing => return Ok(Pixels(0)),
+    };
+    let above = width_of(above.as_slice(), Letters::Bold);
+    Ok(above.max(width_of(below.as_slice(), Letters::Small)))
+}
+
+/// How wide the notes beside these rows are. Fails where memory runs out.
+pub fn width_of_notes(
+    alloc: Global,
+    cast: &Cast<'_>,
+    entries: &[Entry],
+    rows: &[Says],
+) -> Result<Pixels, AllocError> {
+    let mut widest = Pixels(0);
+    for row in rows {
+        widest = widest.max(width_beside(alloc, cast, entries, row)?);
+    }
+    Ok(widest)
+}
