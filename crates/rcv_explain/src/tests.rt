@@ -1,3 +1,5 @@
+// The examples of all codes: each is refused by its own code, and what repairs it is taken.
+
 use crate::explain;
 use rcv_input::{InputError, read_input, refusal_line};
 use std::alloc::{AllocError, Global};

@@ -2,6 +2,7 @@
 use denote.RawPtr.{null_ptr}
 use Rattle.std.proofs.Common.{◌≡◌, ℕ, ◌+◌, ◌^◌, ◌<◌, ◌≤◌, true, false, List, [], ◌∷◌, length, map, refl, sym, ap, ◌∙◌, inl, inr, arith}
 use Rattle.std.specs.Prelude.{◌⊎◌}
+use Rattle.std.proofs.Math.Logic.{⊎_elim}
 use Rattle.std.specs.Global.{Vec}
 use Rattle.rcv_tree.specs.declared.statement.Stmt.{Stmt}
 use Rattle.rcv_tree.specs.declared.statement.Stmt.TheVariants as stmt
@@ -11,7 +12,6 @@ use Rattle.rcv_tree.specs.declared.statement.Block.{Block}
 use Rattle.rcv_tree.specs.declared.statement.Blocks.{Blocks}
 use Rattle.rcv_tree.specs.declared.protocol.Decl.{Decl}
 use Rattle.rcv_tree.specs.declared.protocol.Protocol.{Protocol}
-use Rattle.rcv_tree.specs.declared.refusal.Refusal.TheVariants as refusals
 use Rattle.rcv_model.specs.Text.{Body, Single, Choose, Loop, Again, Bodies, Or, stmt_body, body_of, bodies_of, joined, alternatives}
 use Rattle.rcv_model.proofs.Text.{body_of_lem, bodies_of_lem, stmt_body-Message, stmt_body-Choice, stmt_body-Rec, stmt_body-Continue}
 use Rattle.rcv_lexer.specs.declared.token.Span.{Span}
@@ -26,10 +26,9 @@ use Rattle.rcv_syntax.specs.Grammar.{Written, NoStmt, AMessage, AChoice, ARec, A
 use Rattle.rcv_machine.specs.Machine.{Place, State, Answer, Taken, Refuses, behind, inside, inside_rec, outermost, reading}
 use Rattle.rcv_syntax.specs.Trees.{role_at, roles_at, points, points_of, singles, tree_of, trees_of}
 use Rattle.rcv_reader.specs.Refusals.{IsRead}
-use Rattle.rcv_machine.specs.Laws.{IsFair}
-use Rattle.rcv_machine.proofs.Fair.{codes_are_fair}
-use Rattle.rcv_machine.proofs.Exactly.{refusal_is_first}
-use Rattle.rcv_reader.proofs.Answering.{taken_of, read_of, stopped_of}
+use Rattle.rcv_syntax.specs.Refusing.{IsFirst}
+use Rattle.rcv_machine.proofs.Exactly.{refusal_is_first, taken_is_free, one_first}
+use Rattle.rcv_reader.proofs.Answering.{read_of}
 use Rattle.rcv_grammar.specs.Laws.{IsRefusedAs, IsReadPart, IsRefusedPart, HasRefusal, PartsHaveOneAnswer}
 use Rattle.rcv_grammar.proofs.Passing.{Passes, PassAll, passes_fit}
 use Rattle.rcv_grammar.proofs.Canonizing.{body_passes}
@@ -53,21 +52,15 @@ record HasBlocks (bs : Bodies) (k m : ℕ) : Type 0 where
 
 block_of : (b : Body) (k m : ℕ) → HasStmts b k m → m < 2 ^ 63 → (block : Block) × (body_of block ≡ b)
 block_of b k m h lt =
-    let items = a_vec Stmt h.list (omega (arith, lt, h.few)) in (
-      roll-Block (record { items = items }),
-      body_of_lem (roll-Block (record { items = items }))
-          ∙ ap (λ (x : Block-F Stmt Block Blocks). joined (map stmt_body x.items.items)) (out-roll-Block (record { items = items }))
-          ∙ h.say,
-    )
+    let shape : Block-F Stmt Block Blocks = record { items = a_vec Stmt h.list (omega (arith, lt, h.few)) } in
+    let same = ap (λ (x : Block-F Stmt Block Blocks). joined (map stmt_body x.items.items)) (out-roll-Block shape) in
+    (roll-Block shape, body_of_lem (roll-Block shape) ∙ same ∙ h.say)
 
 blocks_of : (bs : Bodies) (k m : ℕ) → HasBlocks bs k m → m < 2 ^ 63 → (blocks : Blocks) × (bodies_of blocks ≡ bs)
 blocks_of bs k m h lt =
-    let items = a_vec Block h.list (omega (arith, lt, h.few)) in (
-      roll-Blocks (record { items = items }),
-      bodies_of_lem (roll-Blocks (record { items = items }))
-          ∙ ap (λ (x : Blocks-F Stmt Block Blocks). alternatives (map body_of x.items.items)) (out-roll-Blocks (record { items = items }))
-          ∙ h.say,
-    )
+    let shape : Blocks-F Stmt Block Blocks = record { items = a_vec Block h.list (omega (arith, lt, h.few)) } in
+    let same = ap (λ (x : Blocks-F Stmt Block Blocks). alternatives (map body_of x.items.items)) (out-roll-Blocks shape) in
+    (roll-Blocks shape, bodies_of_lem (roll-Blocks shape) ∙ same ∙ h.say)
 
 add_stmt : (x : Stmt) (from : Body → Body) (rest : Body) (k m l : ℕ) → ((b : Body) → stmt_body x b ≡ from b) → 1 + m ≤ l → HasStmts rest k m → HasStmts (from rest) k l
 add_stmt x from rest k m l says le h = record { list = x ∷ h.list; say = says (joined (map stmt_body h.list)) ∙ ap from h.say; few = omega (arith, le, h.few) }
@@ -194,18 +187,12 @@ source_read symbols s state lt spells taken =
       ),
     )
 
-answered : (symbols : List Symbol) (a : Answer) → length symbols < 2 ^ 63 → reading symbols ≡ a → IsFair symbols a
+answered : (symbols : List Symbol) → length symbols < 2 ^ 63 → (a : Answer) → reading symbols ≡ a
     → ((p : Protocol) × IsRead symbols p) ⊎ IsRefusedAs symbols
-answered symbols (Taken state) lt e fair = inl (source_read symbols fair.0 state lt fair.1 e)
-answered symbols (Refuses fault left) lt e fair = inr (fault, left, refusal_is_first symbols fault left e)
+answered symbols lt (Taken state) e = let d = (taken_is_free symbols state e).0 in inl (source_read symbols d.0 state lt d.1 e)
+answered symbols lt (Refuses fault left) e = inr (fault, left, refusal_is_first symbols fault left e)
 
 -- ---- a part
-
-part_answered : (bundle : List ℕ) (part : Span) (last : ℕ) (tokens : List Token) → AreTokens bundle part tokens
-    → ((p : Protocol) × IsRead (symbols_of bundle tokens) p) ⊎ IsRefusedAs (symbols_of bundle tokens)
-    → IsReadPart bundle part ⊎ HasRefusal bundle part last
-part_answered bundle part last tokens are (inl h) = inl (tokens, h.0, are, h.1)
-part_answered bundle part last tokens are (inr h) = inr (_, _, inr (tokens, are, (h.0, h.1, h.2, refl)))
 
 symbols_few : (bundle : List ℕ) (tokens : List Token) → length (symbols_of bundle tokens) ≡ length tokens
 symbols_few bundle [] = refl
@@ -218,18 +205,16 @@ either_answered bundle part last lt (inl h) =
     let few = tokens_few bundle part h.0 h.1 in
     let same = symbols_few bundle h.0 in
     let symbols = symbols_of bundle h.0 in
-    part_answered bundle part last h.0 h.1 (answered symbols (reading symbols) (omega (arith, lt, few, same)) refl (codes_are_fair symbols))
+    ⊎_elim (λ read. inl (h.0, read.0, h.1, read.1)) (λ refused. inr (_, _, inr (h.0, h.1, (refused.0, refused.1, refused.2, refl))))
+    (answered symbols (omega (arith, lt, few, same)) (reading symbols) refl)
 either_answered bundle part last lt (inr h) = inr (10, h.0, inl (refl, h.1))
 
 read_not_refused : (bundle : List ℕ) (part : Span) (last code line : ℕ) → IsReadPart bundle part → IsRefusedPart bundle part last code line → ⊥
 read_not_refused bundle part last code line h (inl k) = one_reading.either bundle part h.0 line h.2 k.1
 read_not_refused bundle part last code line h (inr k) =
     let same : h.0 ≡ k.0 = one_reading.tokens bundle part h.0 k.0 h.2 k.1 in
-    let t = taken_of (symbols_of bundle h.0) h.1 h.3 in
-    let taken = t.1 in
-    let u = stopped_of bundle k.0 last (refusals.Text code line) k.2 in
-    let refused = u.2 in
-    cc
+    let first : IsFirst (symbols_of bundle h.0) k.2.0 k.2.1 = rw same k.2.2 in
+    h.3.0 k.2.0 first.front k.2.1 first.cut first.holds
 
 same_refusal : (bundle : List ℕ) (part : Span) (last code line other_code other_line : ℕ) → IsRefusedPart bundle part last code line
     → IsRefusedPart bundle part last other_code other_line → (code ≡ other_code) × (line ≡ other_line)
@@ -239,12 +224,10 @@ same_refusal bundle part last code line other_code other_line (inl h) (inr k) = 
 same_refusal bundle part last code line other_code other_line (inr h) (inl k) = absurd (one_reading.either bundle part h.0 other_line h.1 k.1)
 same_refusal bundle part last code line other_code other_line (inr h) (inr k) =
     let same : h.0 ≡ k.0 = one_reading.tokens bundle part h.0 k.0 h.1 k.1 in
-    let a = stopped_of bundle h.0 last (refusals.Text code line) h.2 in
-    let b = stopped_of bundle k.0 last (refusals.Text other_code other_line) k.2 in
-    let first = a.2 in
-    let second = b.2 in
-    let is = a.3 in
-    let other = b.3 in
+    let first : IsFirst (symbols_of bundle h.0) k.2.0 k.2.1 = rw same k.2.2 in
+    let one = one_first (symbols_of bundle h.0) h.2.0 k.2.0 h.2.1 k.2.1 h.2.2 first in
+    let is = h.2.3 in
+    let other = k.2.3 in
     (cc, cc)
 
 pub parts_have_one_answer : PartsHaveOneAnswer

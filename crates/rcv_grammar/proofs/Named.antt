@@ -1,5 +1,5 @@
 -- Roles and messages of a protocol that was read have words for names, and roles differ.
-use Rattle.std.proofs.Common.{ℕ, List, [], ◌∷◌, ◌++◌}
+use Rattle.std.proofs.Common.{ℕ, List, [], ◌∷◌}
 use Rattle.std.specs.List.{All}
 use Rattle.std.proofs.lemmas.List.Elements.{All-append, All-cons, All-nil}
 use Rattle.rcv_tree.specs.Words.{IsWord}
@@ -20,40 +20,30 @@ names_are_words : (names : List (List ℕ)) → AreNames names → All IsWord na
 names_are_words [] h = All-nil IsWord
 names_are_words (n ∷ names) h = All-cons IsWord n names h.0.0 (names_are_words names h.1)
 
-abbrev Messages : Type 0
-Messages = List (ℕ × SingleMessage)
-
-abbrev HaveLabels : Messages → Type 0
-HaveLabels messages = All (λ (m : ℕ × SingleMessage). IsWord m.1.label) messages
-
-both_labels : (xs ys : Messages) → HaveLabels xs → HaveLabels ys → HaveLabels (xs ++ ys)
-both_labels xs ys a b = All-append (λ (m : ℕ × SingleMessage). IsWord m.1.label) xs ys a b
-
-no_labels : HaveLabels []
-no_labels = All-nil (λ (m : ℕ × SingleMessage). IsWord m.1.label)
+abbrev HasLabel : ℕ × SingleMessage → Type 0
+HasLabel message = IsWord message.1.label
 
 mutual
-  labels : (roles : List (List ℕ)) (b : Body) → IsPrintableBody roles b → HaveLabels (singles b)
-  labels roles End h = no_labels
-  labels roles (Single label sorts s r p rest) h =
-      All-cons (λ (m : ℕ × SingleMessage). IsWord m.1.label) _ (singles rest) h.0.0 (labels roles rest h.4)
-  labels roles (Choose s bs rest) h = both_labels (singles_of bs) (singles rest) (some_labels roles bs h.1) (labels roles rest h.2)
-  labels roles (Loop name body rest) h = both_labels (singles body) (singles rest) (labels roles body h.1) (labels roles rest h.2)
+  labels : (roles : List (List ℕ)) (b : Body) → IsPrintableBody roles b → All HasLabel (singles b)
+  labels roles End h = All-nil HasLabel
+  labels roles (Single label sorts s r p rest) h = All-cons HasLabel _ _ h.0.0 (labels roles rest h.4)
+  labels roles (Choose s bs rest) h = All-append HasLabel _ _ (some_labels roles bs h.1) (labels roles rest h.2)
+  labels roles (Loop name body rest) h = All-append HasLabel _ _ (labels roles body h.1) (labels roles rest h.2)
   labels roles (Again name rest) h = labels roles rest h.1
-  labels roles (Parallel bs rest) h = both_labels (singles_of bs) (singles rest) (two_labels roles bs h.0) (labels roles rest h.1)
+  labels roles (Parallel bs rest) h = All-append HasLabel _ _ (two_labels roles bs h.0) (labels roles rest h.1)
   labels roles (Call name places rest) h = labels roles rest h.2
 
-  labels_of : (roles : List (List ℕ)) (bs : Bodies) → ArePrintableBlocks roles bs → HaveLabels (singles_of bs)
-  labels_of roles NoMore h = no_labels
-  labels_of roles (Or b bs) h = both_labels (singles b) (singles_of bs) (labels roles b h.0) (labels_of roles bs h.1)
+  labels_of : (roles : List (List ℕ)) (bs : Bodies) → ArePrintableBlocks roles bs → All HasLabel (singles_of bs)
+  labels_of roles NoMore h = All-nil HasLabel
+  labels_of roles (Or b bs) h = All-append HasLabel _ _ (labels roles b h.0) (labels_of roles bs h.1)
 
-  some_labels : (roles : List (List ℕ)) (bs : Bodies) → SomeBlocks roles bs → HaveLabels (singles_of bs)
+  some_labels : (roles : List (List ℕ)) (bs : Bodies) → SomeBlocks roles bs → All HasLabel (singles_of bs)
   some_labels roles NoMore h = absurd h
-  some_labels roles (Or b bs) h = both_labels (singles b) (singles_of bs) (labels roles b h.0) (labels_of roles bs h.1)
+  some_labels roles (Or b bs) h = All-append HasLabel _ _ (labels roles b h.0) (labels_of roles bs h.1)
 
-  two_labels : (roles : List (List ℕ)) (bs : Bodies) → TwoBlocks roles bs → HaveLabels (singles_of bs)
+  two_labels : (roles : List (List ℕ)) (bs : Bodies) → TwoBlocks roles bs → All HasLabel (singles_of bs)
   two_labels roles NoMore h = absurd h
-  two_labels roles (Or b bs) h = both_labels (singles b) (singles_of bs) (labels roles b h.0) (some_labels roles bs h.1)
+  two_labels roles (Or b bs) h = All-append HasLabel _ _ (labels roles b h.0) (some_labels roles bs h.1)
 
 differ : (symbols : List Symbol) (p : Protocol) → IsTakenAs symbols p → AreDifferent p.roles
 differ symbols p (state, taken, r) = rw r.role_names (head_follows r.source (stmts r.source.body (Is Close ∷ [])) state (rw r.spelled.2 at taken)).0

@@ -21,7 +21,8 @@ use Rattle.rcv_script.specs.Scripts as own
 use Rattle.rcv_script.specs.Scripts.{ScriptsView}
 use Rattle.rcv_plan.specs.Symbols as plans
 use Rattle.rcv_plan.specs.Refusing as planning
-use Rattle.rcv_input.specs.Input.{IsProtocolOf, AreScriptsOf, IsPlanOf}
+use Rattle.rcv_model.specs.Script as model
+use Rattle.rcv_input.specs.Input.{IsProtocolOf, IsAcceptedOf, AreScriptsOf, IsPlanOf}
 use Rattle.rcv_input.specs.declared.refused.Refused.TheVariants as refused
 use Rattle.rcv_input.specs.declared.refused.Refused.TheVariants.{Rule, NoRole}
 use Rattle.rcv_input.specs.declared.refused.InputError.{InputError}
@@ -29,7 +30,7 @@ use Rattle.rcv_input.specs.declared.refused.InputError.TheVariants as causes
 use Rattle.rcv_input.specs.Refusals.{letter, unread, ruled_out, script_letter, unscripted, plan_letter, unplanned, IsRefused, IsUnread, IsUnscripted, IsUnplanned, IsRule, IsRuledOut}
 use Rattle.rcv_tree.specs.declared.refusal.Refusal.{Refusal}
 use Rattle.rcv_model.specs.Form.{HasForm}
-use Rattle.rcv_accept.specs.Accepted.{IsRefusedBy}
+use Rattle.rcv_accept.specs.Accepted.{IsAcceptedProtocol, IsRefusedBy}
 use Rattle.rcv_input.proofs.Declared.{refused_role_declared}
 
 pub by_letter : (input : List ℕ) (e : TextError) → lexer.IsRefused input (parts_of input).protocol e → IsUnread input e
@@ -87,6 +88,24 @@ pub plan_read : (input : List ℕ) (p : Protocol) (tokens : List Token) (part : 
     → MatchResult result (planning.IsRead p.roles (plans.symbols_of input tokens)) (planning.IsRefused input tokens last p.roles) → MatchResult result (IsPlanOf input p) (IsUnplanned input p)
 plan_read input p tokens part last (Ok lines) is end cut h = record { tokens = tokens; cut = subst (λ (s : Span). AreTokens input s tokens) is cut; read = h }
 plan_read input p tokens part last (Err e) is end cut h = by_plan input p tokens e part last is end cut h
+
+-- ---- with its line
+
+abbrev HasItsLine : TextError → InputError → Type 0
+HasItsLine e r =
+    ((code line : ℕ) → e ≡ errors.Refused (refusals.Text code line) → r ≡ causes.Refused (refused.Line code line))
+    × (e ≡ errors.Memory → r ≡ causes.Memory)
+
+pub unscripted_line : (input : List ℕ) (p : Protocol) (e : TextError) (r : InputError) → IsAcceptedOf input p → IsUnscripted input p e
+    → HasItsLine e r → IsRefused input r
+unscripted_line input p errors.Memory r accepted h line = rw (line.1 refl) tt
+unscripted_line input p (errors.Refused x) r accepted h line = rw (line.0 h.0 h.1 (ap errors.Refused h.2)) (h.3 accepted)
+
+pub unplanned_line : (input : List ℕ) (p : Protocol) (lines : List (List model.Line)) (e : TextError) (r : InputError) → IsAcceptedOf input p
+    → AreScriptsOf input p lines → IsUnplanned input p e → HasItsLine e r → IsRefused input r
+unplanned_line input p lines errors.Memory r accepted are h line = rw (line.1 refl) tt
+unplanned_line input p lines (errors.Refused x) r accepted are h line =
+    rw (line.0 h.0 h.1 (ap errors.Refused h.2)) (h.3 lines accepted are)
 
 -- ---- acceptance
 

@@ -35,17 +35,6 @@ pub fn read_part(alloc: Global, input: &[u8], part: Span) -> Result<Protocol, Te
     read_protocol(alloc, input, list.as_slice(), last)
 }
 
-// The names, copied. Fails where memory runs out.
-fn copy_of(alloc: Global, names: &Names) -> Result<Names, AllocError>
-    ensures { IfOk result (λ copy. copy ≡ names.now) }
-{
-    let mut copy = Names::new(alloc);
-    for name in names.as_slice() {
-        copy.push(Name::of(alloc, name.as_slice())?)?;
-    }
-    Ok(copy)
-}
-
 // The name of a role, copied. Fails where memory runs out.
 fn name_of(alloc: Global, names: &Names, role: RoleId) -> Result<Name, AllocError>
     requires { role < length names.now }
@@ -77,7 +66,7 @@ pub fn accepted_of(alloc: Global, protocol: Protocol) -> Result<Accepted, InputE
     ensures { MatchResult result (λ a. a.protocol ≡ protocol) (IsRuledOut protocol) }
 {
     // The protocol is gone where it isn't accepted.
-    let roles = copy_of(alloc, &protocol.roles)?;
+    let roles = protocol.roles.share()?;
     match accept(alloc, protocol) {
         Ok(accepted) => Ok(accepted),
         Err(TextError::Refused(refusal)) => {

@@ -2,7 +2,6 @@
 use denote.Param.Send.{IsSync, sendable, view_sync, recorded_sync, struct_sync}
 use denote.Struct.Declared.{shape}
 use Rattle.std.proofs.Crossing as std
-use Rattle.rcv_script.proofs.expression.Atom.TheLaws.TheKnot as expr
 use Rattle.rcv_tree.proofs.statement.Stmt.TheLaws.TheKnot as stmt
 use Rattle.rcv_accept.specs.contracts.accepted.Accepted as accepted
 use Rattle.rcv_script.specs.contracts.scripts.Scripts as scripts
@@ -13,7 +12,7 @@ accepted_sync : IsSync accepted.the_row
 accepted_sync = search (std.crosses, stmt.crosses, sendable) depth 60 fits 20000
 
 scripts_sync : IsSync scripts.the_row
-scripts_sync = search (std.crosses, expr.crosses, sendable) depth 60 fits 20000
+scripts_sync = search (std.crosses, sendable) depth 60 fits 20000
 
 pub setup_sync : IsSync setup.the_row
 setup_sync = view_sync inside.the_row _ _ _ _ (recorded_sync (inside.the_field).row _ _ (inside.the_type).to_one (struct_sync (shape inside.the_type) (accepted_sync, (scripts_sync, (search (std.crosses, sendable) depth 60 fits 20000, (search (std.crosses, sendable) depth 60 fits 20000, (search (std.crosses, sendable) depth 60 fits 20000, tt)))))))

@@ -2,3 +2,4 @@ pub mod Pieces
 pub mod Tokens
 pub mod Parts
 pub mod Laws
+pub mod Seen

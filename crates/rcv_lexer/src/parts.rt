@@ -21,29 +21,20 @@ pub struct Separator {
     pub plan: bool,
 }
 
-// Behind n bytes of a line: how long the line is with its end, where it ends here.
-fn line_end(n: usize, text: &[u8]) -> Option<usize>
-    requires { n + length text.now < 2 ^ 63 }
-    ensures is { result ≡ line_end n text.now }
-    ensures within { IfSome result (λ m. m ≤ n + length text.now) }
-{
-    match text {
-        [] => Some(n),
-        [b'\n', ..] => Some(n + 1),
-        [b'\r', b'\n', ..] => Some(n + 2),
-        _ => None,
-    }
-}
-
 // How long the first line is with its end, where it is exactly this word.
 fn line_of(word: &[u8], text: &[u8]) -> Option<usize>
     ensures is { result ≡ line_of word.now text.now }
     ensures within { IfSome result (λ m. m ≤ length text.now) }
 {
-    if text.starts_with(word) {
-        line_end(word.len(), &text[word.len()..])
-    } else {
-        None
+    let len = word.len();
+    if !text.starts_with(word) {
+        return None;
+    }
+    match &text[len..] {
+        [] => Some(len),
+        [b'\n', ..] => Some(len + 1),
+        [b'\r', b'\n', ..] => Some(len + 2),
+        _ => None,
     }
 }
 
@@ -56,18 +47,14 @@ fn here(scripts: bool, fresh: bool, place: usize, text: &[u8]) -> Option<Separat
     if !fresh {
         return None;
     }
-    if scripts && let Some(len) = line_of(b"%% scripts", text) {
-        return Some(Separator {
-            place,
-            behind: place + len,
-            plan: false,
-        });
-    }
-    let len = line_of(b"%% plan", text)?;
+    let (plan, len) = match line_of(b"%% scripts", text) {
+        Some(len) if scripts => (false, len),
+        _ => (true, line_of(b"%% plan", text)?),
+    };
     Some(Separator {
         place,
         behind: place + len,
-        plan: true,
+        plan,
     })
 }
 
@@ -106,31 +93,21 @@ pub fn split(bundle: &[u8]) -> Parts
     ensures plan { LiesIn bundle.now result.plan }
 {
     let end = bundle.len();
-    let Some(first) = first_from(true, 0, bundle) else {
-        return Parts {
-            protocol: span(0, end),
-            scripts: span(end, end),
-            plan: span(end, end),
-        };
+    let none = Separator {
+        place: end,
+        behind: end,
+        plan: true,
     };
-    let protocol = span(0, first.place);
-    if first.plan {
-        return Parts {
-            protocol,
-            scripts: span(first.place, first.place),
-            plan: span(first.behind, end),
-        };
-    }
-    match first_from(false, first.behind, &bundle[first.behind..]) {
-        None => Parts {
-            protocol,
-            scripts: span(first.behind, end),
-            plan: span(end, end),
-        },
-        Some(second) => Parts {
-            protocol,
-            scripts: span(first.behind, second.place),
-            plan: span(second.behind, end),
-        },
+    let first = first_from(true, 0, bundle).unwrap_or(none);
+    let (scripts, second) = if first.plan {
+        (first.place, first)
+    } else {
+        let second = first_from(false, first.behind, &bundle[first.behind..]);
+        (first.behind, second.unwrap_or(none))
+    };
+    Parts {
+        protocol: span(0, first.place),
+        scripts: span(scripts, second.place),
+        plan: span(second.behind, end),
     }
 }

@@ -14,8 +14,8 @@ fn tokens_of_the_middle_part(rt: HostRuntime) -> Result<(), Fail> {
     )?;
     assert!(rt; list.len() == 3);
     let mark = list.get(1).ok_or("none")?;
-    assert!(rt; mark.kind == Kind::Mark);
-    assert!(rt; mark.span == Span { start: 11, end: 13 });
-    assert!(rt; mark.line == 3);
+    assert!(rt; mark.kind() == Kind::Mark);
+    assert!(rt; mark.span() == Span { start: 11, end: 13 });
+    assert!(rt; mark.line() == 3);
     Ok(())
 }

@@ -2,9 +2,12 @@
 
 ghost use Rattle.std.specs.Prelude.{◌≡◌};
 ghost use Rattle.rcv_lexer.specs.declared.token.TextError.TheVariants.{Memory};
+ghost use Rattle.rcv_lexer.specs.Seen.{token};
 
 use rcv_tree::refusal::Refusal;
 use std::alloc::{AllocError, AllocFailed};
+use std::marker::Model;
+use std::mem::size_of;
 use thiserror::Error;
 
 /// A stretch of the bundle: the place of its first byte, and the place behind its last one. Places are counted from 0.
@@ -27,12 +30,64 @@ pub enum Kind {
     Mark,
 }
 
-/// A token: what it is, where it stands, and the line of its first byte, counted from 1.
+/// A token: what it is, where it stands, and the line of its first byte, counted from 1. It takes 16 bytes, since a
+/// bundle may have as many tokens as bytes.
 #[derive(Clone, Copy, Debug, PartialEq, Eq)]
 pub struct Token {
-    pub kind: Kind,
-    pub span: Span,
-    pub line: u32,
+    kind: Kind,
+    start: u32,
+    end: u32,
+    line: u32,
+}
+
+impl Model for Token {
+    ghost use Rattle.rcv_lexer.specs.Seen.{Seen};
+
+    ghost Value = { Seen };
+
+    ghost view = { λ a. record { kind = a.kind; span = record { start = a.start; end = a.end }; line = a.line } };
+
+    ghost inverse = { λ t. record { kind = t.kind; start = t.span.start; end = t.span.end; line = t.line } };
+}
+
+const _: () = prove!(size_of::<Token>() == 16);
+
+impl Token {
+    /// The token of this kind there, on a line.
+    pub fn new(kind: Kind, start: u32, end: u32, line: u32) -> Self
+        ensures { result ≡ token kind start end line }
+    {
+        Token {
+            kind,
+            start,
+            end,
+            line,
+        }
+    }
+
+    /// What it is.
+    pub fn kind(&self) -> Kind
+        ensures { result ≡ self.now.kind }
+    {
+        self.kind
+    }
+
+    /// Where it stands.
+    pub fn span(&self) -> Span
+        ensures { result ≡ self.now.span }
+    {
+        Span {
+            start: self.start as usize,
+            end: self.end as usize,
+        }
+    }
+
+    /// The line of its first byte.
+    pub fn line(&self) -> u32
+        ensures { result ≡ self.now.line }
+    {
+        self.line
+    }
 }
 
 /// Why a part has no tokens.

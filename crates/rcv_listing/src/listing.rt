@@ -15,8 +15,8 @@ use rcv_input::InputError;
 use rcv_lexer::token::TextError;
 use rcv_points::filling::points_of;
 use rcv_text::writer::Writer;
-use rcv_tree::name::{Name, Names};
-use std::alloc::{AllocError, Global};
+use rcv_tree::name::Names;
+use std::alloc::Global;
 
 /// The points of a protocol as text: a line for each, in text order.
 #[derive(Drop)]
@@ -25,17 +25,6 @@ pub enum Listing {
     Accepted(Vec<u8>),
     /// A rule does: what its refusal says stands behind the points.
     RuledOut(Vec<u8>),
-}
-
-// The names, copied. Fails where memory runs out.
-fn copy_of(alloc: Global, names: &Names) -> Result<Names, AllocError>
-    ensures { IfOk result (λ copy. copy ≡ names.now) }
-{
-    let mut copy = Names::new(alloc);
-    for name in names.as_slice() {
-        copy.push(Name::of(alloc, name.as_slice())?)?;
-    }
-    Ok(copy)
 }
 
 // The listing of a protocol that was read.
@@ -47,7 +36,7 @@ fn listing_of(alloc: Global, source: Source) -> Result<Listing, InputError>
 {
     let Source { protocol, lines } = source;
     // The protocol is gone where it isn't accepted.
-    let roles = copy_of(alloc, &protocol.roles)?;
+    let roles = protocol.roles.share()?;
     let points = points_of(alloc, &protocol)?;
     let table = Table {
         points: &points,

@@ -47,7 +47,8 @@ fn said_by<'a>(input: &'a [u8], token: &Token) -> Lexeme<'a, Sign>
     requires { LiesIn input.now token.now.span }
     ensures { symbol_in result ≡ said_by input.now token.now }
 {
-    Sign::lexeme(token.kind, &input[token.span.start..token.span.end])
+    let span = token.span();
+    Sign::lexeme(token.kind(), &input[span.start..span.end])
 }
 
 /// The lines of the receivers of a protocol with these tokens, in order: one for each of its points. Fails where memory
@@ -62,7 +63,7 @@ pub fn receiver_lines(alloc: Global, input: &[u8], tokens: &[Token]) -> Result<V
     while let [token, after @ ..] = rest {
         let lexeme = said_by(input, token);
         if is_receiver(listed, &lexeme) {
-            lines.push(token.line)?;
+            lines.push(token.line())?;
         }
         listed = goes_on(listed, &lexeme);
         rest = after;

@@ -1,3 +1,5 @@
+// Listings of a protocol that is accepted and of one that a rule refuses.
+
 use crate::{Listing, points_text};
 use std::alloc::Global;
 use std::test::Fail;

@@ -37,7 +37,8 @@ const USAGE: &[u8] =
 ///   greater than before.
 /// - `WriteFault`: the sink's count of faults rose, and a beginning of what should be written was, not all of it. It
 ///   comes always where that count is greater than before.
-/// - `Memory`: memory was wanted, and nothing was written.
+/// - `Memory`: memory was wanted, or a picture would be longer than pictures of so many entries may be; nothing was
+///   written.
 /// - `TooLong`: more than 1,048,576 bytes were taken from the source, under `journal` more than 134,217,728, or the
 ///   bundle before the line `%% journal` has more than 1,048,576; nothing was written.
 pub fn look<S: Source, K: Sink>(

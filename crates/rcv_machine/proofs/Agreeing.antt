@@ -1,101 +1,150 @@
--- Each step of the machine is the table's.
-use Rattle.std.proofs.Common.{◌≡◌, ℕ, Bool, true, false, cond, List, [], ◌∷◌, length, refl, inl, inr}
+-- A step goes on, or stops with a code, only where the grammar has the symbol: behind it is derived what the item derives.
+use Rattle.std.proofs.Common.{◌≡◌, ℕ, Bool, true, false, cond, List, [], ◌∷◌, ◌++◌, length, refl, ap, inl, inr}
 use Rattle.std.specs.Prelude.{◌⊎◌, ◌==◌, nat_le, not, Option, Some, None}
-use Rattle.rcv_syntax.specs.declared.sign.Sign.TheVariants.{Global, Or, Choice, Rec, Continue, Par, Do, Open, Close, Right, Comma, Dot}
+use Rattle.rcv_tree.specs.declared.protocol.Decl.{Decl}
+use Rattle.rcv_syntax.specs.declared.sign.Sign.TheVariants.{Global, To, Or, Choice, Rec, Continue, Par, Do, Open, Close, Right, Comma, Semicolon, Dot}
 use Rattle.rcv_syntax.specs.declared.fault.Fault.{Fault}
 use Rattle.rcv_syntax.specs.declared.fault.Fault.TheVariants.{Token, Deep, NoName, Twice, SelfMessage, AfterContinue, Unguarded, TooMany}
 use Rattle.rcv_syntax.specs.Symbols.{Symbol, Is, Word, Text}
-use Rattle.rcv_syntax.specs.Grammar.{is_decl_word}
+use Rattle.rcv_syntax.specs.Grammar.{NoStmt, AMessage, AChoice, ARec, AContinue, APar, ADo, NoBlock, ABlock, is_decl_word}
 use Rattle.rcv_syntax.specs.Codes.{is_among}
 use Rattle.rcv_syntax.specs.Trees.{place_of, is_listed}
 use Rattle.rcv_machine.specs.Machine.{Place, Item, This, AnyName, AnyQuoted, MoreModules, Decls, Alias, RoleName, MoreRoles, Sorts, MoreSorts, Subject, Sender, Receiver, MoreReceivers, RecName, AgainName, Opening, First, Rest, More, State, Outcome, On, Wrong, behind, unless, by_place, meets, is_open, begins, ends, branches, step}
-use Rattle.rcv_machine.proofs.Parts.{Part, spread, parts, beginning, ending, taking, going, Takes, OrBlocks}
+use Rattle.rcv_machine.proofs.Deriving.{Derives, one, completion}
+use Rattle.rcv_machine.proofs.Heads.{meets_only}
 
--- the outcome at a symbol behind which the table has these parts, or none
-abbrev pub Agrees : Outcome → Option (List Part) → Type 0
-Agrees (On s k) next = next ≡ Some (parts k)
-Agrees (Wrong Token) next = next ≡ None
-Agrees (Wrong _) next = (k : List Part) × (next ≡ Some k)
+-- behind the symbol stands what the others derive
+abbrev Offers : List Item → Symbol → List Item → Type 0
+Offers k t next = (us : List Symbol) → Derives next us → Derives k (t ∷ us)
 
--- another fault than Token
-abbrev IsOther : Fault → Type 0
-IsOther Token = ⊥
-IsOther _ = Unit {0}
-
-tested : (b : Bool) (f : Fault) (o : Outcome) (k : List Part) → IsOther f → Agrees o (Some k) → Agrees (unless b f o) (Some k)
-tested false f o k other a = a
-tested true Token o k other a = absurd other
-tested true _ o k other a = (k, refl)
-
-placed : (o : Option ℕ) (next : ℕ → Outcome) (k : List Part) → ((r : ℕ) → Agrees (next r) (Some k)) → Agrees (by_place o next) (Some k)
-placed None next k a = (k, refl)
-placed (Some r) next k a = a r
-
-chosen : (b : Bool) (s : State) (k : List Item) → Agrees (cond b (On s k) (Wrong Token)) (cond b (Some (parts k)) None)
-chosen true s k = refl
-chosen false s k = refl
-
-begins_agrees : (t : Symbol) (ts : List Symbol) (s : State) (p : Place) (k : List Item) → Agrees (begins s p t ts k) (beginning t (parts k))
-begins_agrees (Word n) ts s p k = tested p.ended AfterContinue _ _ tt refl
-begins_agrees (Is Choice) ts s p k = tested p.ended AfterContinue _ _ tt refl
-begins_agrees (Is Rec) ts s p k = tested p.ended AfterContinue _ _ tt refl
-begins_agrees (Is Continue) ts s p k = tested p.ended AfterContinue _ _ tt (tested (is_open p ts) Unguarded _ _ tt refl)
-begins_agrees (Is Par) ts s p k = tested p.ended AfterContinue _ _ tt (_, refl)
-begins_agrees (Is Do) ts s p k = tested p.ended AfterContinue _ _ tt (_, refl)
-begins_agrees _ ts s p k = refl
-
-ends_agrees : (t : Symbol) (ts : List Symbol) (s : State) (p : Place) (k : List Item) → Agrees (ends s p t ts k) (ending t (parts k))
-ends_agrees (Is Close) ts s p k = refl
-ends_agrees t ts s p k = begins_agrees t ts s p k
-
-branches_agrees : (t : Symbol) (ts : List Symbol) (s : State) (p : Place) (k : List Item) → Agrees (branches s p t ts k) (taking OrBlocks t (parts k))
-branches_agrees (Is Or) ts s p k = refl
-branches_agrees t ts s p k = ends_agrees t ts s (behind p false) k
-
-step_agrees : (i : Item) (t : Symbol) (ts : List Symbol) (s : State) (k : List Item) → Agrees (step s t ts (i ∷ k)) (going t (spread i (parts k)))
-step_agrees (This m) t ts s k = chosen (meets t m) s k
-step_agrees (First p) t ts s k = begins_agrees t ts s p k
-step_agrees (Rest p) t ts s k = ends_agrees t ts s p k
-step_agrees (More p) t ts s k = branches_agrees t ts s p k
-step_agrees (Decls aliases) (Word w) ts s k = chosen (is_decl_word w) s _
-step_agrees (Alias aliases) (Word n) ts s k = tested (is_among n aliases) Twice _ _ tt refl
-step_agrees RoleName (Word n) ts s k = tested (is_among n s.roles) Twice _ _ tt (tested (nat_le 8 (length s.roles)) TooMany _ _ tt refl)
-step_agrees Subject (Word n) ts s k = placed (place_of s.roles n) _ _ (λ r. refl)
-step_agrees Sender (Word n) ts s k = placed (place_of s.roles n) _ _ (λ r. refl)
-step_agrees (Receiver sender before) (Word n) ts s k =
-    placed (place_of s.roles n) _ _
-    (λ r. tested (is_listed r before) Twice _ _ tt (tested (r == sender) SelfMessage _ _ tt (tested (nat_le 256 s.count) TooMany _ _ tt refl)))
-step_agrees (AgainName p) (Word n) ts s k = tested (not (is_among n p.recs)) NoName _ _ tt refl
-step_agrees (Opening p) (Is Open) ts s k = tested (nat_le 32 p.depth) Deep _ _ tt refl
-step_agrees AnyName (Word n) ts s k = refl
-step_agrees AnyQuoted (Text q) ts s k = refl
-step_agrees MoreModules (Is Dot) ts s k = refl
-step_agrees (Decls aliases) (Is Global) ts s k = refl
-step_agrees MoreRoles (Is Comma) ts s k = refl
-step_agrees Sorts (Is Right) ts s k = refl
-step_agrees MoreSorts (Is Comma) ts s k = refl
-step_agrees (MoreReceivers sender before) (Is Comma) ts s k = refl
-step_agrees (RecName p) (Word n) ts s k = refl
-step_agrees _ _ ts s k = refl
-
--- ---- behind the protocol too
-
-pub spread_full : (i : Item) (k : List Part) → Takes [] (spread i k) → ⊥
-spread_full (This m) k h = h
-spread_full _ k h = h
+abbrev pub Has : List Item → Symbol → Type 0
+Has k t = (us : List Symbol) × Derives k (t ∷ us)
 
 -- Behind a whole protocol another one is refused, but not as a token.
-abbrev pub AgreesAt : Outcome → Symbol → List Part → Type 0
-AgreesAt (On s k') t k = going t k ≡ Some (parts k')
-AgreesAt (Wrong Token) t k = (going t k ≡ None) × (t ≡ Is Global → Takes [] k → ⊥)
-AgreesAt (Wrong _) t k = ((next : List Part) × (going t k ≡ Some next)) ⊎ ((t ≡ Is Global) × Takes [] k)
+abbrev pub Agrees : Outcome → List Item → Symbol → Type 0
+Agrees (On s next) k t = Offers k t next
+Agrees (Wrong Token) k t = Unit {0}
+Agrees (Wrong _) k t = Has k t ⊎ ((k ≡ []) × (t ≡ Is Global))
 
-inside_agrees : (o : Outcome) (t : Symbol) (i : Item) (k : List Part) → Agrees o (going t (spread i k)) → AgreesAt o t (spread i k)
-inside_agrees (On s k') t i k a = a
-inside_agrees (Wrong Token) t i k a = (a, λ e h. spread_full i k h)
-inside_agrees (Wrong _) t i k a = inl a
+has : (k : List Item) (t : Symbol) (next : List Item) → Offers k t next → Has k t
+has k t next o = let c = completion next in (c.0, o c.0 c.1)
 
-pub steps_agree : (k : List Item) (t : Symbol) (ts : List Symbol) (s : State) → AgreesAt (step s t ts k) t (parts k)
-steps_agree (i ∷ k) t ts s = inside_agrees (step s t ts (i ∷ k)) t i (parts k) (step_agrees i t ts s k)
-steps_agree [] (Is Global) ts s = inr (refl, tt)
-steps_agree [] _ ts s = (refl, λ e h. cc)
+tested : (b : Bool) (f : Fault) (o : Outcome) (k : List Item) (t : Symbol) → Has k t → Agrees o k t → Agrees (unless b f o) k t
+tested false f o k t h a = a
+tested true Token o k t h a = tt
+tested true _ o k t h a = inl h
+
+-- one test
+asked : (b : Bool) (f : Fault) (s : State) (k : List Item) (t : Symbol) (next : List Item) → Offers k t next
+    → Agrees (unless b f (On s next)) k t
+asked b f s k t next o = tested b f (On s next) k t (has k t next o) o
+
+placed : (o : Option ℕ) (next : ℕ → Outcome) (k : List Item) (t : Symbol) → Has k t → ((r : ℕ) → Agrees (next r) k t)
+    → Agrees (by_place o next) k t
+placed None next k t h a = inl h
+placed (Some r) next k t h a = a r
+
+chosen : (b : Bool) (s : State) (k : List Item) (t : Symbol) (next : List Item) → (b ≡ true → Offers k t next)
+    → Agrees (cond b (On s next) (Wrong Token)) k t
+chosen true s k t next o = o refl
+chosen false s k t next o = tt
+
+-- what is said of one item holds of one that derives more
+through : (o : Outcome) (i j : Item) (k : List Item) (t : Symbol) → ((ts : List Symbol) → Derives (j ∷ k) ts → Derives (i ∷ k) ts)
+    → Agrees o (j ∷ k) t → Agrees o (i ∷ k) t
+through (On s next) i j k t e a = λ us d. e (t ∷ us) (a us d)
+through (Wrong Token) i j k t e a = tt
+through (Wrong _) i j k t e (inl a) = inl (a.0, e (t ∷ a.0) a.1)
+through (Wrong _) i j k t e (inr a) = absurd cc
+
+begins_agrees : (t : Symbol) (ts : List Symbol) (s : State) (p : Place) (k : List Item) → Agrees (begins s p t ts k) (First p ∷ k) t
+begins_agrees (Word n) ts s p k = asked p.ended AfterContinue s _ _ _ (λ us d.
+    let (_, a, (_, (ss, b), (_, c, (_, (s, r, rs, e), (vs, (rest, is, g), more))))) = d in
+    (vs, (AMessage n ss s r rs rest, tt, is, simp (a, b, c, e, g)), more))
+begins_agrees (Is Choice) ts s p k = asked p.ended AfterContinue s _ _ _ (λ us d.
+    let (_, a, (_, (s, b), (_, (f, begun, proper, c), (vs, (os, rest, are, is, e), more)))) = d in
+    (vs, (AChoice s f os rest, tt, (begun, proper, are, is), simp (a, b, c, e)), more))
+begins_agrees (Is Rec) ts s p k = asked p.ended AfterContinue s _ _ _ (λ us d.
+    let (_, (m, body, begun, proper, a), (vs, (rest, is, b), more)) = d in
+    (vs, (ARec m body rest, tt, (begun, proper, is), simp (a, b)), more))
+begins_agrees (Is Continue) ts s p k =
+    let o : Offers (First p ∷ k) (Is Continue) (AgainName p ∷ Rest (behind p true) ∷ k) = λ us d.
+    let (_, (m, a), (vs, (rest, is, b), more)) = d in (vs, (AContinue m rest, tt, is, simp (a, b)), more) in
+    let some = has (First p ∷ k) (Is Continue) (AgainName p ∷ Rest (behind p true) ∷ k) o in
+    tested p.ended AfterContinue _ _ _ some (asked (is_open p ts) Unguarded s _ _ _ o)
+begins_agrees (Is Par) ts s p k =
+    let c = completion k in
+    let par : Has (First p ∷ k) (Is Par) = (_, (c.0, (APar one one NoBlock NoStmt, tt, (tt, tt, tt, tt, tt, tt), refl), c.1)) in
+    tested p.ended AfterContinue _ _ _ par (inl par)
+begins_agrees (Is Do) ts s p k =
+    let c = completion k in
+    let call : Has (First p ∷ k) (Is Do) = (_, (c.0, (ADo [] [] [] NoStmt, tt, tt, refl), c.1)) in
+    tested p.ended AfterContinue _ _ _ call (inl call)
+begins_agrees _ ts s p k = tt
+
+ends_agrees : (t : Symbol) (ts : List Symbol) (s : State) (p : Place) (k : List Item) → Agrees (ends s p t ts k) (Rest p ∷ k) t
+ends_agrees (Is Close) ts s p k = λ us d. (us, (NoStmt, tt, refl), d)
+ends_agrees t ts s p k =
+    through (begins s p t ts k) (Rest p) (First p) k t (λ us d. (d.0, (d.1.0, d.1.2, d.1.3), d.2)) (begins_agrees t ts s p k)
+
+branches_agrees : (t : Symbol) (ts : List Symbol) (s : State) (p : Place) (k : List Item) → Agrees (branches s p t ts k) (More p ∷ k) t
+branches_agrees (Is Or) ts s p k = λ us d.
+    let (_, (f, begun, proper, a), (vs, (os, rest, are, is, b), more)) = d in
+    (vs, (ABlock f os, rest, (begun, proper, are), is, simp (a, b)), more)
+branches_agrees t ts s p k =
+    through (ends s (behind p false) t ts k) (More p) (Rest (behind p false)) k t (λ us d. (d.0, (NoBlock, d.1.0, tt, d.1.1, d.1.2), d.2))
+    (ends_agrees t ts s (behind p false) k)
+
+pub agrees : (k : List Item) (t : Symbol) (ts : List Symbol) (s : State) → Agrees (step s t ts k) k t
+agrees [] (Is Global) ts s = inr (refl, refl)
+agrees (This m ∷ k) t ts s = chosen (meets t m) s _ t k (λ e us d. (us, ap (λ (x : Symbol). x ∷ us) (meets_only t m e), d))
+agrees (First p ∷ k) t ts s = begins_agrees t ts s p k
+agrees (Rest p ∷ k) t ts s = ends_agrees t ts s p k
+agrees (More p ∷ k) t ts s = branches_agrees t ts s p k
+agrees (AnyName ∷ k) (Word n) ts s = λ us d. (us, (n, refl), d)
+agrees (AnyQuoted ∷ k) (Text q) ts s = λ us d. (us, (q, refl), d)
+agrees (MoreModules ∷ k) (Is Dot) ts s = λ us d.
+    let (_, (n, a), (vs, (ns, b), more)) = d in (vs, (n ∷ ns, simp (a, b)), more)
+agrees (MoreModules ∷ k) (Is Semicolon) ts s = λ us d. (us, ([], refl), d)
+agrees (Decls aliases ∷ k) (Is Global) ts s = λ us d. (us, ([], tt, refl), d)
+agrees (Decls aliases ∷ k) (Word w) ts s = chosen (is_decl_word w) s _ (Word w) _ (λ is us d.
+    let (_, a, (_, (schema, b), (_, c, (_, (extern, e), (_, g, (_, (file, h), (_, i, (vs, (alias, ds, are, j), more)))))))) = d in
+    let first : Decl = record { word = w; schema = schema; extern_name = extern; file = file; alias = alias } in
+    (vs, (first ∷ ds, (is, are), simp (a, b, c, e, g, h, i, j)), more))
+agrees (Alias aliases ∷ k) (Word n) ts s = asked (is_among n aliases) Twice s _ _ _ (λ us d.
+    let (_, a, (vs, (ds, are, b), more)) = d in (vs, (n, ds, are, simp (a, b)), more))
+agrees (RoleName ∷ k) (Word n) ts s =
+    let o : Offers (RoleName ∷ k) (Word n) (MoreRoles ∷ k) = λ us d. (d.0, (n, d.1.0, ap (λ (x : List Symbol). Word n ∷ x) d.1.1), d.2) in
+    let some = has (RoleName ∷ k) (Word n) (MoreRoles ∷ k) o in
+    tested (is_among n s.roles) Twice _ _ _ some (asked (nat_le 8 (length s.roles)) TooMany _ _ _ _ o)
+agrees (MoreRoles ∷ k) (Is Comma) ts s = λ us d.
+    let (_, a, (vs, (n, ns, b), more)) = d in (vs, (n ∷ ns, simp (a, b)), more)
+agrees (MoreRoles ∷ k) (Is Right) ts s = λ us d. (us, ([], refl), d)
+agrees (Sorts ∷ k) (Word n) ts s = λ us d. (d.0, (n ∷ d.1.0, ap (λ (x : List Symbol). Word n ∷ x) d.1.1), d.2)
+agrees (Sorts ∷ k) (Is Right) ts s = λ us d. (us, ([], refl), d)
+agrees (MoreSorts ∷ k) (Is Comma) ts s = λ us d.
+    let (_, (n, a), (vs, (ns, b), more)) = d in (vs, (n ∷ ns, simp (a, b)), more)
+agrees (MoreSorts ∷ k) (Is Right) ts s = λ us d. (us, ([], refl), d)
+agrees (Subject ∷ k) (Word n) ts s =
+    let o : Offers (Subject ∷ k) (Word n) k = λ us d. (us, (n, refl), d) in
+    placed (place_of s.roles n) _ _ _ (has (Subject ∷ k) (Word n) k o) (λ r. o)
+agrees (Sender ∷ k) (Word n) ts s =
+    let o : (r : ℕ) → Offers (Sender ∷ k) (Word n) (This (Is To) ∷ Receiver r [] ∷ k) = λ r us d.
+    let (_, a, (vs, (m, ns, b), more)) = d in (vs, (n, m, ns, simp (a, b)), more) in
+    placed (place_of s.roles n) _ _ _ (has (Sender ∷ k) (Word n) (This (Is To) ∷ Receiver 0 [] ∷ k) (o 0)) o
+agrees (Receiver sender before ∷ k) (Word n) ts s =
+    let o : (r : ℕ) → Offers (Receiver sender before ∷ k) (Word n) (MoreReceivers sender (before ++ r ∷ []) ∷ k) = λ r us d.
+    (d.0, (n, d.1.0, ap (λ (x : List Symbol). Word n ∷ x) d.1.1), d.2) in
+    let some = has (Receiver sender before ∷ k) (Word n) (MoreReceivers sender (before ++ 0 ∷ []) ∷ k) (o 0) in
+    placed (place_of s.roles n) _ _ _ some (λ r. tested (is_listed r before) Twice _ _ _ some
+    (tested (r == sender) SelfMessage _ _ _ some (asked (nat_le 256 s.count) TooMany _ _ _ _ (o r))))
+agrees (MoreReceivers sender before ∷ k) (Is Comma) ts s = λ us d.
+    let (vs, (r, rs, a), more) = d in (vs, (r ∷ rs, ap (λ (x : List Symbol). Is Comma ∷ x) a), more)
+agrees (MoreReceivers sender before ∷ k) (Is Semicolon) ts s = λ us d. (us, ([], refl), d)
+agrees (RecName p ∷ k) (Word n) ts s = λ us d.
+    let (vs, (b, begun, proper, a), more) = d in (vs, (n, b, begun, proper, ap (λ (x : List Symbol). Word n ∷ x) a), more)
+agrees (AgainName p ∷ k) (Word n) ts s = asked (not (is_among n p.recs)) NoName s _ _ _ (λ us d.
+    (d.0, (n, ap (λ (x : List Symbol). Word n ∷ x) d.1), d.2))
+agrees (Opening p ∷ k) (Is Open) ts s = asked (nat_le 32 p.depth) Deep s _ _ _ (λ us d.
+    let (vs, (b, begun, proper, a), more) = d in (vs, (b, begun, proper, ap (λ (x : List Symbol). Is Open ∷ x) a), more))
+agrees _ _ ts s = tt

@@ -1,13 +1,9 @@
-pub mod Parts
-pub mod Agreeing
 pub mod Heads
-pub mod Fair
+pub mod Deriving
+pub mod Agreeing
 pub mod Knowing
 pub mod Judging
-pub mod Among
 pub mod Naming
-pub mod Receiving
-pub mod Standing
-pub mod Refusing
+pub mod Telling
 pub mod Answering
 pub mod Exactly

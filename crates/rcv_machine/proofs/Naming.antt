@@ -1,106 +1,86 @@
--- Names and the places of roles; from where a walk comes without a message.
-use Rattle.std.proofs.Common.{slice_index_or, ◌≡◌, ℕ, suc, ◌+◌, Bool, true, false, cond, List, [], ◌∷◌, ◌++◌, length, refl, sym, ap, ◌∙◌, arith, inl, inr}
-use Rattle.std.specs.Prelude.{◌⊎◌, ◌==◌, nat_lt, not, Option, Some, None}
-use Rattle.std.specs.List.{position_or_len}
+-- Names and the places of roles; names of enclosing recursions, and from where a walk comes without a message.
+use Rattle.std.proofs.Common.{◌≡◌, ℕ, ◌+◌, Bool, true, false, List, [], ◌∷◌, ◌++◌, length, refl, sym, ap, ◌∙◌, arith, length-append, slice_index_or, inl, inr}
+use Rattle.std.specs.Prelude.{◌-◌, ◌⊎◌, ◌||◌, ◌↔◌, ◌==◌, nat_lt, not, Option, Some, None}
 use Rattle.std.specs.Str.{bytes_eq}
-use Rattle.std.proofs.lemmas.Bool.Decides.{nat_tests}
-use Rattle.std.proofs.lemmas.List.Quantifiers.{position-Some}
+use Rattle.std.proofs.lemmas.List.{drop-append-le}
+use Rattle.std.proofs.lemmas.List.Folds.{list_any-append}
+use Rattle.std.proofs.lemmas.Bool.Decides.{Decides-or, Decides-like, same_from_decides, nat_tests, Decides-eqb}
 use Rattle.std.proofs.lemmas.Slice.Eq.{bytes_eq-Decides}
-use Rattle.rcv_syntax.specs.declared.sign.Sign.TheVariants.{Choice, At, Or, Rec, Open, Close, Semicolon, Continue}
+use Rattle.rcv_syntax.specs.Codes.{is_among, open_braces, Comes, FromItsStart, IntoRec, IntoChoice, IntoBranch}
+use Rattle.rcv_machine.specs.Machine.{Place, inside, inside_rec}
+use Rattle.rcv_machine.proofs.Knowing.{recent}
+use Rattle.std.specs.List.{position_or_len}
+use Rattle.std.proofs.lemmas.List.Quantifiers.{position-Some}
+use Rattle.rcv_syntax.specs.declared.sign.Sign.TheVariants.{Choice, At, Or, Rec, Open, Close}
 use Rattle.rcv_syntax.specs.Symbols.{Symbol, Is, Word}
 use Rattle.rcv_syntax.specs.Trees.{is_listed, place_of}
-use Rattle.rcv_syntax.specs.Codes.{standing, AsReceiver, open_braces, Comes, FromItsStart, IntoRec, IntoChoice, IntoBranch, is_behind_continue, is_among}
-use Rattle.rcv_machine.proofs.Knowing.{ArePlaces}
-use Rattle.rcv_machine.proofs.Among.{bytes_swap}
 
-swapped : (a b : List ℕ) (x y : Bool) → bytes_eq a b ≡ x → bytes_eq b a ≡ y → x ≡ y
-swapped a b true true e f = refl
-swapped a b false false e f = refl
-swapped a b true false e f = let g = bytes_swap a b e in cc
-swapped a b false true e f = let g = bytes_swap b a f in cc
+pub bytes_sym : (a b : List ℕ) → bytes_eq a b ≡ bytes_eq b a
+bytes_sym a b =
+    same_from_decides (bytes_eq a b) (bytes_eq b a) (bytes_eq-Decides a b) (Decides-like (bytes_eq b a) sym sym (bytes_eq-Decides b a))
 
-found : (n : List ℕ) (roles : List (List ℕ)) → nat_lt (position_or_len (λ role. bytes_eq role n) roles) (length roles) ≡ is_among n roles
-found n [] = refl
-found n (x ∷ xs) = go (bytes_eq x n) refl (swapped n x (bytes_eq n x) (bytes_eq x n) refl refl) (found n xs)
-  where
-    go : (b : Bool) → bytes_eq x n ≡ b → bytes_eq n x ≡ bytes_eq x n → nat_lt (position_or_len (λ role. bytes_eq role n) xs) (length xs) ≡ is_among n xs
-        → nat_lt (position_or_len (λ role. bytes_eq role n) (x ∷ xs)) (length (x ∷ xs)) ≡ is_among n (x ∷ xs)
-    go true t e h = let e' : bytes_eq n x ≡ true = e ∙ t in rw (t, e') (first (length xs))
-      where
-        first : (a : ℕ) → nat_lt 0 (suc a) ≡ true
-        first a = grind (arith, nat_tests)
-    go false t e h = let e' : bytes_eq n x ≡ false = e ∙ t in rw (t, e') (later (position_or_len (λ role. bytes_eq role n) xs) (length xs) ∙ h)
-      where
-        later : (a b : ℕ) → nat_lt (1 + a) (suc b) ≡ nat_lt a b
-        later a b = grind (arith, nat_tests)
+or_false : (b : Bool) → (b || false) ≡ b
+or_false true = refl
+or_false false = refl
+
+pub among_more : (name n : List ℕ) (recs : List (List ℕ))
+    → (is_among name (recs ++ n ∷ []) ≡ true) ↔ ((is_among name recs ≡ true) ⊎ (name ≡ n))
+among_more name n recs =
+    let either = Decides-or (is_among name recs) (bytes_eq name n) ((λ old. old), (λ old. old)) (bytes_eq-Decides name n) in
+    let both = list_any-append (λ (other : List ℕ). bytes_eq name other) recs (n ∷ []) in
+    rw (both, or_false (bytes_eq name n)) either
+
+-- inside one recursion more a walk comes to it as well
+pub recent_more : (p : Place) (n : List ℕ) → recent (inside (inside_rec p n)) ≡ recent p ++ n ∷ []
+recent_more p n =
+    let len = length-append p.recs (n ∷ []) in
+    let same : length (p.recs ++ n ∷ []) - (p.comes + 1) ≡ length p.recs - p.comes = omega (arith, len) in
+    rw same (drop-append-le (length p.recs - p.comes) p.recs (n ∷ []) (omega arith))
 
 abbrev pub is_none : Option ℕ → Bool
 is_none None = true
 is_none (Some r) = false
 
+found : (n : List ℕ) (roles : List (List ℕ)) → nat_lt (position_or_len (λ role. bytes_eq role n) roles) (length roles) ≡ is_among n roles
+found n [] = refl
+found n (x ∷ xs) = grind (arith, nat_tests, bytes_sym n x, found n xs)
+
 -- a name has a place where it is that of a role
-pub unknown : (n : List ℕ) (roles : List (List ℕ)) (o : Option ℕ) → place_of roles n ≡ o → not (is_among n roles) ≡ is_none o
-unknown n roles o e = ap not (sym (found n roles)) ∙ go (nat_lt (position_or_len (λ role. bytes_eq role n) roles) (length roles)) o e
-  where
-    go : (b : Bool) (x : Option ℕ) → cond b (Some (position_or_len (λ role. bytes_eq role n) roles)) None ≡ x → not b ≡ is_none x
-    go true None g = absurd cc
-    go true (Some r) g = refl
-    go false None g = refl
-    go false (Some r) g = absurd cc
+pub unknown : (n : List ℕ) (roles : List (List ℕ)) → not (is_among n roles) ≡ is_none (place_of roles n)
+unknown n roles = let here = found n roles in grind (arith, nat_tests, here)
 
--- the name at a place
-abbrev name_at : List (List ℕ) → ℕ → List ℕ
-name_at roles r = slice_index_or roles r []
-
-named_so : (roles : List (List ℕ)) (n : List ℕ) (r : ℕ) → place_of roles n ≡ Some r → name_at roles r ≡ n
-named_so roles n r e = let a = position-Some (λ role. bytes_eq role n) roles r [] e in (bytes_eq-Decides (name_at roles r) n).0 a.1
+named_so : (roles : List (List ℕ)) (n : List ℕ) (r : ℕ) → place_of roles n ≡ Some r → slice_index_or roles r [] ≡ n
+named_so roles n r e =
+    let a = position-Some (λ role. bytes_eq role n) roles r [] e in (bytes_eq-Decides (slice_index_or roles r []) n).0 a.1
 
 -- names are one exactly where their places are
-pub same_place : (roles : List (List ℕ)) (n m : List ℕ) (r q : ℕ) → place_of roles n ≡ Some r → place_of roles m ≡ Some q → (r == q) ≡ bytes_eq n m
-same_place roles n m r q e f = go (r == q) (bytes_eq n m) refl refl
-  where
-    go : (x y : Bool) → (r == q) ≡ x → bytes_eq n m ≡ y → x ≡ y
-    go true true a b = refl
-    go false false a b = refl
-    go true false a b =
-        let same : r ≡ q = grind (arith, nat_tests) in
-        let names : n ≡ m = sym (named_so roles n r e) ∙ ap (λ (i : ℕ). name_at roles i) same ∙ named_so roles m q f in
-        let c = (bytes_eq-Decides n m).1 names in
-        cc
-    go false true a b =
-        let names : n ≡ m = (bytes_eq-Decides n m).0 b in
-        let same : Some r ≡ Some q = sym e ∙ ap (λ (x : List ℕ). place_of roles x) names ∙ f in
-        let s : r ≡ q = cc in
-        let t : (r == q) ≡ true = grind (arith, nat_tests) in
-        cc
+pub same_place : (roles : List (List ℕ)) (n m : List ℕ) (r q : ℕ) → place_of roles n ≡ Some r → place_of roles m ≡ Some q
+    → (r == q) ≡ bytes_eq n m
+same_place roles n m r q e f =
+    same_from_decides (r == q) (bytes_eq n m) (Decides-eqb r q) (Decides-like (bytes_eq n m)
+    (λ s. let same : Some r ≡ Some q = sym e ∙ ap (place_of roles) s ∙ f in cc)
+    (λ s. sym (named_so roles n r e) ∙ ap (λ (i : ℕ). slice_index_or roles i []) s ∙ named_so roles m q f) (bytes_eq-Decides n m))
 
-pub same_listed : (roles : List (List ℕ)) (n : List ℕ) (r : ℕ) (ns : List (List ℕ)) (rs : List ℕ) → place_of roles n ≡ Some r → ArePlaces roles ns rs → is_listed r rs ≡ is_among n ns
-same_listed roles n r [] rs e h = rw h refl
-same_listed roles n r (m ∷ ns) [] e h = absurd h
-same_listed roles n r (m ∷ ns) (q ∷ rs) e h = let a = same_place roles n m r q e h.0 in let b = same_listed roles n r ns rs e h.1 in rw (a, b) refl
-
-pub one_more : (roles : List (List ℕ)) (n : List ℕ) (r : ℕ) (ns : List (List ℕ)) (rs : List ℕ) → place_of roles n ≡ Some r → ArePlaces roles ns rs → ArePlaces roles (ns ++ n ∷ []) (rs ++ r ∷ [])
-one_more roles n r [] rs e h = rw h (e, refl)
-one_more roles n r (m ∷ ns) [] e h = absurd h
-one_more roles n r (m ∷ ns) (q ∷ rs) e h = (h.0, one_more roles n r ns rs e h.1)
-
--- behind a receiver nothing is behind a continue
-pub receiver_ends : (r : List ℕ) (back : List Symbol) → standing back ≡ AsReceiver → is_behind_continue (Is Semicolon ∷ Word r ∷ back) ≡ false
-receiver_ends r (Is Continue ∷ back) e = absurd cc
-receiver_ends r [] e = refl
-receiver_ends r (_ ∷ back) e = refl
+-- a list of names, and one more
+pub one_more : (roles : List (List ℕ)) (n m : List ℕ) (r q : ℕ) (ns : List (List ℕ)) (rs : List ℕ) → place_of roles n ≡ Some r
+    → place_of roles m ≡ Some q → is_listed q rs ≡ is_among m ns → is_listed q (rs ++ r ∷ []) ≡ is_among m (ns ++ n ∷ [])
+one_more roles n m r q ns rs e f h =
+    list_any-append (λ other. q == other) rs (r ∷ [])
+    ∙ ap (λ (z : Bool). z || ((q == r) || false)) h
+    ∙ ap (λ (z : Bool). is_among m ns || (z || false)) (same_place roles m n q r f e)
+    ∙ sym (list_any-append (λ other. bytes_eq m other) ns (n ∷ []))
 
 -- ---- walks
 
 -- from where a walk comes to what stands behind these symbols
 abbrev pub Origin : List ℕ → List Symbol → Type 0
-Origin x (Is Open ∷ Word n ∷ Is Rec ∷ b) = (x ≡ n) ⊎ Comes x b
+Origin x (Is Open ∷ Word n ∷ Is Rec ∷ b) = Comes x b ⊎ (x ≡ n)
 Origin x (Is Open ∷ Word a ∷ Is At ∷ Is Choice ∷ b) = Comes x b
-Origin x (Is Open ∷ Is Or ∷ Is Close ∷ b) = (first : List Symbol) × (braces : List (List Symbol)) × (open_braces b ≡ first ∷ braces) × Comes x (Is Open ∷ first)
+Origin x (Is Open ∷ Is Or ∷ Is Close ∷ b) = Comes x (Is Open ∷ slice_index_or (open_braces b) 0 [])
 Origin x _ = ⊥
 
 pub origin : {x : List ℕ} {l : List Symbol} → Comes x l → Origin x l
-origin (FromItsStart x b) = inl refl
-origin (IntoRec x y b c) = inr c
+origin (FromItsStart x b) = inr refl
+origin (IntoRec x y b c) = inl c
 origin (IntoChoice x a b c) = c
-origin (IntoBranch x b first braces e c) = (first, braces, e, c)
+origin (IntoBranch x b first braces e c) = rw e c

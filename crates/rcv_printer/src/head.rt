@@ -8,7 +8,7 @@ ghost use Rattle.rcv_printer.specs.Printing.{Puts};
 use crate::names::put_list;
 use crate::text::put;
 use rcv_text::writer::Writer;
-use rcv_tree::name::{Name, Names};
+use rcv_tree::name::Names;
 use rcv_tree::protocol::{Decl, Decls};
 use std::alloc::AllocError;
 
@@ -48,11 +48,11 @@ pub fn put_decls(text: &mut Writer, decls: &Decls) -> Result<(), AllocError>
 }
 
 // Puts the line with the protocol's name and its roles behind the text.
-pub fn put_head(text: &mut Writer, name: &Name, roles: &Names) -> Result<(), AllocError>
+pub fn put_head(text: &mut Writer, name: &[u8], roles: &Names) -> Result<(), AllocError>
     ensures { OnOk result (Puts text.old text.new (head_line name.now roles.now)) }
 {
     put(text, b"global protocol ")?;
-    put(text, name.as_slice())?;
+    put(text, name)?;
     put(text, b"(")?;
     put_list(text, b"role ", b", role ", roles)?;
     put(text, b") {\n")

@@ -21,7 +21,7 @@ pub fn print_protocol(alloc: Global, protocol: &Protocol) -> Result<Vec<u8>, All
     put_module(&mut text, &protocol.module)?;
     put_decls(&mut text, &protocol.decls)?;
     put(&mut text, b"\n")?;
-    put_head(&mut text, &protocol.name, &protocol.roles)?;
+    put_head(&mut text, protocol.name.as_slice(), &protocol.roles)?;
     put_block(alloc, &mut text, &protocol.roles, b"  ", &protocol.body)?;
     put(&mut text, b"}\n")?;
     Ok(text.finish())

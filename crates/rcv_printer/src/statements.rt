@@ -2,7 +2,7 @@
 
 ghost use Rattle.std.specs.Prelude.{◌≡◌, ◌++◌, OnOk, IfOk, codes};
 ghost use Rattle.rcv_model.specs.Text.{body_of, bodies_of, stmt_body};
-ghost use Rattle.rcv_printer.specs.CanonicalText.{inner, message_line, body_text, blocks_text};
+ghost use Rattle.rcv_printer.specs.CanonicalText.{inner, body_text, blocks_text};
 ghost use Rattle.rcv_printer.specs.Printing.{Puts, PutsStatements};
 
 use crate::names::{name_of, put_list, put_roles};
@@ -20,28 +20,6 @@ fn inner(alloc: Global, margin: &[u8]) -> Result<Vec<u8>, AllocError>
     let mut more = Vec::from_slice(alloc, margin)?;
     more.extend_from_slice(b"  ")?;
     Ok(more)
-}
-
-// Puts the line of a message behind the text.
-fn put_message(
-    text: &mut Writer,
-    margin: &[u8],
-    label: &Name,
-    sorts: &Names,
-    sender: &[u8],
-    receiver: &[u8],
-) -> Result<(), AllocError>
-    ensures { OnOk result (Puts text.old text.new (message_line margin.now label.now sorts.now sender.now receiver.now)) }
-{
-    put(text, margin)?;
-    put(text, label.as_slice())?;
-    put(text, b"(")?;
-    put_list(text, b"", b", ", sorts)?;
-    put(text, b") from ")?;
-    put(text, sender)?;
-    put(text, b" to ")?;
-    put(text, receiver)?;
-    put(text, b";\n")
 }
 
 // Puts the statements of a block behind the text, each behind the margin.
@@ -98,6 +76,7 @@ fn put_stmt(
 ) -> Result<(), AllocError>
     ensures { OnOk result (PutsStatements roles.now margin.now text.old text.new (stmt_body stmt.now)) }
 {
+    put(text, margin)?;
     match stmt {
         Stmt::Message {
             label,
@@ -105,23 +84,23 @@ fn put_stmt(
             sender,
             receiver,
             ..
-        } => put_message(
-            text,
-            margin,
-            label,
-            sorts,
-            name_of(roles, *sender),
-            name_of(roles, *receiver),
-        ),
+        } => {
+            put(text, label.as_slice())?;
+            put(text, b"(")?;
+            put_list(text, b"", b", ", sorts)?;
+            put(text, b") from ")?;
+            put(text, name_of(roles, *sender))?;
+            put(text, b" to ")?;
+            put(text, name_of(roles, *receiver))?;
+            put(text, b";\n")
+        }
         Stmt::Choice { subject, branches } => {
-            put(text, margin)?;
             put(text, b"choice at ")?;
             put(text, name_of(roles, *subject))?;
             put_blocks(alloc, text, roles, margin, b" ", b" or ", branches)?;
             put(text, b"\n")
         }
         Stmt::Rec { name, body } => {
-            put(text, margin)?;
             put(text, b"rec ")?;
             put(text, name.as_slice())?;
             put(text, b" {\n")?;
@@ -130,13 +109,11 @@ fn put_stmt(
             put(text, b"}\n")
         }
         Stmt::Continue { name } => {
-            put(text, margin)?;
             put(text, b"continue ")?;
             put(text, name.as_slice())?;
             put(text, b";\n")
         }
         Stmt::Par { blocks } => {
-            put(text, margin)?;
             put(text, b"par")?;
             put_blocks(alloc, text, roles, margin, b" ", b" and ", blocks)?;
             put(text, b"\n")
@@ -145,7 +122,6 @@ fn put_stmt(
             protocol,
             roles: places,
         } => {
-            put(text, margin)?;
             put(text, b"do ")?;
             put(text, protocol.as_slice())?;
             put(text, b"(")?;

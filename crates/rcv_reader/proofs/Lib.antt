@@ -1,5 +1,4 @@
 pub mod Stops
-pub mod Going
 pub mod Reading
 pub mod Blocks
 pub mod Heading

@@ -1,16 +1,17 @@
 // What stands before the statements: the names of the module, the declarations and the roles.
 
-ghost use Rattle.std.specs.Prelude.{◌≡◌, ◌≢◌, ◌<◌, ◌≤◌, ◌+◌, ◌++◌, ◌∷◌, [], length, ℕ, List, codes, IfOk, OnOk, IfErr, true, false};
+ghost use Rattle.std.specs.Prelude.{◌≡◌, ◌≢◌, ◌<◌, ◌+◌, ◌++◌, ◌∷◌, [], length, ℕ, List, codes, IfOk, OnOk, IfErr, true, false};
 ghost use Rattle.rcv_tree.specs.Lists.{declarations};
-ghost use Rattle.rcv_syntax.specs.Symbols.{Is, IsNotNext};
-ghost use Rattle.rcv_syntax.specs.Grammar.{decls, is_decl_word};
-ghost use Rattle.rcv_machine.specs.Machine.{This, AnyName, AnyQuoted, MoreModules, Alias, RoleName, MoreRoles};
-ghost use Rattle.rcv_reader.specs.Descent.{declaring, a_name, a_name_of, a_quoted, AddsName, module_list, names_of_roles, IsDecl, AreSuch, Takes, Keeps};
+ghost use Rattle.rcv_syntax.specs.Symbols.{Is, Word, Text, IsNotNext};
+ghost use Rattle.rcv_syntax.specs.Grammar.{is_decl_word};
+ghost use Rattle.rcv_machine.specs.Machine.{This, AnyName, AnyQuoted, MoreModules, Decls as Declaring, Alias, RoleName, MoreRoles};
+ghost use Rattle.rcv_reader.specs.Standing.{at, with_roles};
+ghost use Rattle.rcv_reader.specs.Descent.{AddsName, module_list, names_of_roles, IsDecl, AreSuch, Takes};
 
 use crate::aliases::Aliases;
-use crate::parser::{Parser, holds};
+use crate::parser::Parser;
 use crate::stop::Stop;
-use rcv_scan::is;
+use rcv_scan::{Lexeme, is};
 use rcv_syntax::{Fault, Sign};
 use rcv_tree::name::{Name, Names};
 use rcv_tree::protocol::{Decl, Decls};
@@ -27,24 +28,21 @@ impl<'a> Parser<'a> {
     // Takes what stands between two quotes.
     fn quoted(&mut self, alloc: Global) -> Result<Name, Stop>
         ensures goes { Takes result self.old self.new (λ k. AnyQuoted ∷ k) (λ x k. k) }
-        ensures read { IfOk result (λ q. self.old.rest ≡ a_quoted q self.new.rest) }
-        ensures kept { Keeps self.old self.new }
-        ensures shorter { length self.new.rest ≤ length self.old.rest }
+        ensures read { IfOk result (λ q. self.old ≡ at self.new (Text q ∷ self.new.rest)) }
     {
-        let Some((bytes, after)) = self.rest.text() else {
+        let Some((Lexeme::Text(bytes), after)) = self.next() else {
             return Err(Stop::Refused(Fault::Token));
         };
         let text = Name::of(alloc, bytes)?;
-        self.rest = after;
+        self.go_to(after);
         Ok(text)
     }
 
     /// Takes the names of the module, and the mark behind them.
     pub fn modules(&mut self, alloc: Global) -> Result<Names, Stop>
         ensures goes { Takes result self.old self.new (λ k. AnyName ∷ MoreModules ∷ k) (λ x k. k) }
-        ensures read { IfOk result (λ names. (names ≢ []) × (self.old.rest ≡ module_list names (Is Sign.Semicolon ∷ self.new.rest))) }
-        ensures kept { Keeps self.old self.new }
-        ensures shorter { length self.new.rest ≤ length self.old.rest }
+        ensures read { IfOk result (λ names. (names ≢ []) × (self.old ≡ at self.new (module_list names
+            (Is Sign.Semicolon ∷ self.new.rest)))) }
     {
         let mut names = Names::new(alloc);
         let first = self.name(alloc)?;
@@ -59,24 +57,20 @@ impl<'a> Parser<'a> {
 
     // Takes the name of one more role.
     fn add_role(&mut self, alloc: Global) -> Result<(), Stop>
-        requires few { length self.old.roles ≤ 8 }
         ensures goes { Takes result self.old self.new (λ k. RoleName ∷ k) (λ x k. MoreRoles ∷ k) }
-        ensures read { OnOk result (AddsName self.old.roles self.new.roles self.old.rest self.new.rest) }
-        ensures few { length self.new.roles ≤ 8 }
-        ensures kept { (self.new.recs.items ≡ self.old.recs.items) × (self.new.count ≡ self.old.count) }
-        ensures shorter { length self.new.rest ≤ length self.old.rest }
+        ensures read { OnOk result (AddsName self.old self.new) }
     {
-        let Some((bytes, after)) = self.rest.word() else {
+        let Some((bytes, after)) = self.word() else {
             return Err(Stop::Refused(Fault::Token));
         };
-        if holds(bytes, self.roles.as_slice()) {
+        if self.has_role(bytes) {
             return Err(Stop::Refused(Fault::Twice));
         }
-        if self.roles.as_slice().len() >= 8 {
+        if self.is_full() {
             return Err(Stop::Refused(Fault::TooMany));
         }
-        self.roles.push(Name::of(alloc, bytes)?)?;
-        self.rest = after;
+        self.declare(Name::of(alloc, bytes)?)?;
+        self.go_to(after);
         Ok(())
     }
 
@@ -84,46 +78,40 @@ impl<'a> Parser<'a> {
     pub fn role_names(&mut self, alloc: Global) -> Result<(), Stop>
         requires none { self.old.roles ≡ [] }
         ensures goes { Takes result self.old self.new (λ k. RoleName ∷ k) (λ x k. k) }
-        ensures read { OnOk result ((self.new.roles ≢ []) × (self.old.rest ≡ names_of_roles self.new.roles
-            (Is Sign.Right ∷ self.new.rest))) }
-        ensures few { length self.new.roles ≤ 8 }
-        ensures kept { (self.new.recs.items ≡ self.old.recs.items) × (self.new.count ≡ self.old.count) }
-        ensures shorter { length self.new.rest ≤ length self.old.rest }
+        ensures read { OnOk result ((self.new.roles ≢ []) × (self.old ≡ with_roles self.new []
+            (names_of_roles self.new.roles (Is Sign.Right ∷ self.new.rest)))) }
     {
         self.add_role(alloc)?;
         while self.takes(Sign::Comma) {
             self.expect(Sign::Role)?;
             self.add_role(alloc)?;
         }
-        self.expect(Sign::Right)
+        self.expect(Sign::Right)?;
+        Ok(())
     }
 
     // Takes the word `as`.
     fn word_as(&mut self) -> Result<(), Stop>
-        ensures goes { Takes result self.old self.new (λ k. This (a_name_of (codes "as")) ∷ k) (λ x k. k) }
-        ensures read { OnOk result (self.old.rest ≡ a_name (codes "as") self.new.rest) }
-        ensures kept { Keeps self.old self.new }
-        ensures shorter { length self.new.rest ≤ length self.old.rest }
+        ensures goes { Takes result self.old self.new (λ k. This (Word (codes "as")) ∷ k) (λ x k. k) }
+        ensures read { OnOk result (self.old ≡ at self.new (Word (codes "as") ∷ self.new.rest)) }
     {
-        let Some((bytes, after)) = self.rest.word() else {
+        let Some((bytes, after)) = self.word() else {
             return Err(Stop::Refused(Fault::Token));
         };
         if !is(bytes, b"as") {
             return Err(Stop::Refused(Fault::Token));
         }
-        self.rest = after;
+        self.go_to(after);
         Ok(())
     }
 
     // Takes the alias of a declaration.
     fn alias(&mut self, alloc: Global, aliases: &mut Aliases<'a>) -> Result<Name, Stop>
         ensures goes { Takes result self.old self.new (λ k. Alias aliases.old ∷ k)
-            (λ x k. This (Is Sign.Semicolon) ∷ declaring aliases.new ∷ k) }
-        ensures read { IfOk result (λ n. self.old.rest ≡ a_name n self.new.rest) }
-        ensures kept { Keeps self.old self.new }
-        ensures shorter { length self.new.rest ≤ length self.old.rest }
+            (λ x k. This (Is Sign.Semicolon) ∷ Declaring aliases.new ∷ k) }
+        ensures read { IfOk result (λ n. self.old ≡ at self.new (Word n ∷ self.new.rest)) }
     {
-        let Some((bytes, after)) = self.rest.word() else {
+        let Some((bytes, after)) = self.word() else {
             return Err(Stop::Refused(Fault::Token));
         };
         if aliases.holds(bytes) {
@@ -131,40 +119,36 @@ impl<'a> Parser<'a> {
         }
         aliases.push(bytes)?;
         let alias = Name::of(alloc, bytes)?;
-        self.rest = after;
+        self.go_to(after);
         Ok(alias)
     }
 
     // Takes the word that begins a declaration.
     fn decl_word(&mut self, alloc: Global, aliases: &Aliases<'a>) -> Result<Name, Stop>
         requires { IsNotNext (Is Sign.Global) self.old.rest }
-        ensures goes { Takes result self.old self.new (λ k. declaring aliases.now ∷ k)
+        ensures goes { Takes result self.old self.new (λ k. Declaring aliases.now ∷ k)
             (λ x k. This (Is Sign.Less) ∷ AnyName ∷ This (Is Sign.Greater) ∷ AnyQuoted
-            ∷ This (Is Sign.From) ∷ AnyQuoted ∷ This (a_name_of (codes "as")) ∷ Alias aliases.now ∷ k) }
-        ensures read { IfOk result (λ n. (is_decl_word n ≡ true) × (self.old.rest ≡ a_name n self.new.rest)) }
-        ensures kept { Keeps self.old self.new }
-        ensures shorter { length self.new.rest ≤ length self.old.rest }
-        ensures taken { OnOk result (length self.new.rest < length self.old.rest) }
+            ∷ This (Is Sign.From) ∷ AnyQuoted ∷ This (Word (codes "as")) ∷ Alias aliases.now ∷ k) }
+        ensures read { IfOk result (λ n. (is_decl_word n ≡ true) × (self.old ≡ at self.new (Word n ∷ self.new.rest))) }
     {
-        let Some((bytes, after)) = self.rest.word() else {
+        let Some((Lexeme::Word(bytes), after)) = self.next() else {
             return Err(Stop::Refused(Fault::Token));
         };
         if !is_decl_word(bytes) {
             return Err(Stop::Refused(Fault::Token));
         }
         let word = Name::of(alloc, bytes)?;
-        self.rest = after;
+        self.go_to(after);
         Ok(word)
     }
 
     // Takes a declaration.
     fn decl(&mut self, alloc: Global, aliases: &mut Aliases<'a>) -> Result<Decl, Stop>
         requires { IsNotNext (Is Sign.Global) self.old.rest }
-        ensures goes { Takes result self.old self.new (λ k. declaring aliases.old ∷ k) (λ x k. declaring aliases.new ∷ k) }
-        ensures read { IfOk result (λ d. IsDecl d self.old.rest self.new.rest) }
-        ensures kept { Keeps self.old self.new }
-        ensures shorter { length self.new.rest ≤ length self.old.rest }
-        ensures taken { OnOk result (length self.new.rest < length self.old.rest) }
+        ensures goes { Takes result self.old self.new (λ k. Declaring aliases.old ∷ k)
+            (λ x k. Declaring aliases.new ∷ k) }
+        ensures read { IfOk result (λ d. IsDecl d self.old self.new) }
+        ensures shorter { OnOk result (length self.new.rest < length self.old.rest) }
     {
         let word = self.decl_word(alloc, aliases)?;
         self.expect(Sign::Less)?;
@@ -187,10 +171,8 @@ impl<'a> Parser<'a> {
 
     /// Takes the declarations, and the word `global` behind them.
     pub fn decls(&mut self, alloc: Global) -> Result<Decls, Stop>
-        ensures goes { Takes result self.old self.new (λ k. declaring [] ∷ k) (λ x k. k) }
-        ensures read { IfOk result (λ ds. AreSuch (declarations ds) self.old.rest (Is Sign.Global ∷ self.new.rest)) }
-        ensures kept { Keeps self.old self.new }
-        ensures shorter { length self.new.rest ≤ length self.old.rest }
+        ensures goes { Takes result self.old self.new (λ k. Declaring [] ∷ k) (λ x k. k) }
+        ensures read { IfOk result (λ ds. AreSuch (declarations ds) self.old self.new) }
     {
         let mut list = Decls::new(alloc);
         let mut aliases = Aliases::new(alloc);

@@ -1,16 +1,20 @@
 // A descent over the statements with one token of look-ahead, and two at the word `continue`.
 
-ghost use Rattle.std.specs.Prelude.{◌≡◌, ◌<◌, ◌≤◌, ◌+◌, ◌-◌, ◌++◌, ◌∷◌, [], length, ℕ, List, drop, IfSome, IfNone, OnOk, IfOk, IfErr, true, false, Option};
+ghost use Rattle.std.specs.List.{All};
+ghost use Rattle.std.specs.Prelude.{◌≡◌, ◌<◌, ◌≤◌, nat_le, ◌+◌, ◌-◌, ◌^◌, ◌++◌, ◌∷◌, [], length, ℕ, List, drop, IfSome, IfNone, OnOk, IfOk, IfErr, true, false, Option};
 ghost use Rattle.rcv_tree.specs.Lists.{statements};
-ghost use Rattle.rcv_tree.specs.declared.statement.Stmt.{Stmt};
-ghost use Rattle.rcv_syntax.specs.Symbols.{Is, IsNotNext};
+ghost use Rattle.rcv_lexer.specs.Parts.{LiesIn};
+ghost use Rattle.rcv_scan.specs.Symbols.{symbol_in};
+ghost use Rattle.rcv_syntax.specs.Symbols.{Symbol, Is, Word, symbols_of};
 ghost use Rattle.rcv_syntax.specs.Grammar.{sort_list};
 ghost use Rattle.rcv_syntax.specs.Codes.{is_among};
 ghost use Rattle.rcv_syntax.specs.Trees.{place_of, is_listed};
-ghost use Rattle.rcv_machine.specs.Machine.{This, AnyName, Sorts, Subject, Sender, Receiver, MoreReceivers, RecName, AgainName, Opening, First, Rest, More, inside, behind, known};
-ghost use Rattle.rcv_reader.specs.Descent.{a_name, is_unguarded, MayBegin, IsReceived, AreReceived, Adds, Halts, starts, waits, IsRoleName, messages, IsBlock, AreBranches, Takes, Keeps, TakesSome, place_of_spot};
+ghost use Rattle.rcv_machine.specs.Machine.{Place, Item, This, AnyName, Sorts, Subject, Sender, Receiver, MoreReceivers, RecName, AgainName, Opening, First, Rest, More, Refuses, inside, behind, is_open};
+ghost use Rattle.rcv_reader.specs.Standing.{IsSmall, at, back_at, with_roles, within, answers, IsUnnamed, IsOver};
+ghost use Rattle.rcv_reader.specs.Descent.{IsReceived, AreReceived, IsNext, ended_fault, IsRoleName, messages, Takes, TakesSome, TakesAll, TakesBlock, TakesBranches, place_of_spot, at_first};
 
 use crate::stop::Stop;
+use rcv_lexer::token::Token;
 use rcv_scan::{Ahead, Lexeme};
 use rcv_syntax::{Fault, Sign};
 use rcv_tree::name::{Name, Names};
@@ -18,6 +22,8 @@ use rcv_tree::point::Point;
 use rcv_tree::role::{RoleId, Roles};
 use rcv_tree::statement::{Block, Blocks, Stmt};
 use std::alloc::{AllocError, Global};
+use std::marker::Model;
+use std::mem;
 
 /// A place in a block: how many blocks are open, for how many of the innermost recursions a walk comes from the start
 /// of their body without a message, and whether a `continue` of this block stands before.
@@ -32,10 +38,33 @@ pub struct Spot {
 /// innermost last, and the number of points.
 #[derive(Drop)]
 pub struct Parser<'a> {
-    pub rest: Ahead<'a, Sign>,
-    pub roles: Names,
-    pub recs: Vec<Name>,
-    pub count: u16,
+    rest: Ahead<'a, Sign>,
+    roles: Names,
+    recs: Vec<Name>,
+    count: u16,
+}
+
+impl<'a> Model for Parser<'a> {
+    ghost use Rattle.std.specs.Prelude.{length};
+    ghost use Rattle.rcv_reader.specs.Standing.{Standing, IsSmall};
+
+    ghost Value = { Standing };
+
+    ghost view = { λ a. record { roles = a.roles; recs = a.recs.items; count = a.count; rest = a.rest } };
+
+    ghost invariant = { λ a. IsSmall (length a.roles) a.count };
+}
+
+// What begins in a block, with what is left behind its word.
+#[derive(Drop)]
+enum Begin<'a> {
+    Message,
+    Choice(Ahead<'a, Sign>),
+    Rec(Ahead<'a, Sign>),
+    Continue(Ahead<'a, Sign>),
+    // What isn't read yet.
+    NotYet,
+    Nothing,
 }
 
 // What the messages of a statement have in common.
@@ -74,18 +103,7 @@ fn is_listed(role: RoleId, before: &[RoleId]) -> bool
     before.iter().any(|other| role == *other)
 }
 
-// The same names once more.
-fn copy_of(alloc: Global, names: &Names) -> Result<Names, AllocError>
-    ensures { IfOk result (λ copy. copy ≡ names.now) }
-{
-    let mut copy = Names::new(alloc);
-    for name in names.as_slice() {
-        copy.push(Name::of(alloc, name.as_slice())?)?;
-    }
-    Ok(copy)
-}
-
-// Adds a message for each of these receivers, behind so many points, with copies of the label and the sorts.
+// Adds a message for each of these receivers, behind so many points, with a copy of the label and the same list of sorts.
 fn add_copies(
     alloc: Global,
     heading: &Heading,
@@ -102,7 +120,7 @@ fn add_copies(
         point += 1;
         block.push(Stmt::Message {
             label: Name::of(alloc, heading.label.as_slice())?,
-            sorts: copy_of(alloc, &heading.sorts)?,
+            sorts: heading.sorts.share()?,
             sender: heading.sender,
             receiver: *receiver,
             point: Point(point),
@@ -111,76 +129,167 @@ fn add_copies(
     Ok(())
 }
 
+// What speaks against this behind a `continue`.
+fn ended_fault(begin: &Begin) -> Fault
+    ensures { result ≡ ended_fault begin.now }
+{
+    match begin {
+        Begin::Nothing => Fault::Token,
+        _ => Fault::AfterContinue,
+    }
+}
+
 impl<'a> Parser<'a> {
+    /// All these tokens, and nothing known.
+    pub fn new(alloc: Global, bundle: &'a [u8], list: &'a [Token]) -> Self
+        requires { All (λ t. LiesIn bundle.now t.span) list.now }
+        ensures { result ≡ at_first (symbols_of bundle.now list.now) }
+    {
+        Parser {
+            rest: Ahead::new(bundle, list),
+            roles: Names::new(alloc),
+            recs: Vec::new(alloc),
+            count: 0,
+        }
+    }
+
+    /// How many tokens are left.
+    pub fn left(&self) -> usize
+        ensures { result ≡ length self.now.rest }
+    {
+        self.rest.len()
+    }
+
+    /// What the next token says, and what is left behind it.
+    pub fn next(&self) -> Option<(Lexeme<'a, Sign>, Ahead<'a, Sign>)>
+        ensures some { IfSome result (λ r. self.now ≡ at self.now (symbol_in r.0 ∷ r.1)) }
+        ensures none { IfNone result (self.now.rest ≡ []) }
+    {
+        self.rest.next()
+    }
+
+    /// The name that is next, and what is left behind it.
+    pub fn word(&self) -> Option<(&'a [u8], Ahead<'a, Sign>)>
+        ensures some { IfSome result (λ r. self.now ≡ at self.now (Word r.0.now ∷ r.1)) }
+        ensures none { IfNone result (IsUnnamed self.now) }
+    {
+        self.rest.word()
+    }
+
+    /// What is left behind this word or mark, if it is next.
+    pub fn sign(&self, sign: Sign) -> Option<Ahead<'a, Sign>>
+        ensures some { IfSome result (λ after. self.now ≡ at self.now (Is sign ∷ after)) }
+        ensures none { IfNone result (IsOver sign self.now) }
+    {
+        self.rest.sign(sign)
+    }
+
+    /// Goes on in front of these.
+    pub fn go_to(&mut self, after: Ahead<'a, Sign>)
+        ensures there { self.new ≡ at self.old after.entry }
+        ensures taken { (t : Symbol) → self.old ≡ at self.old (t ∷ after.entry)
+            → self.old ≡ at self.new (t ∷ self.new.rest) }
+    {
+        self.rest = after;
+    }
+
     /// Takes this word or mark.
     pub fn expect(&mut self, sign: Sign) -> Result<(), Stop>
         ensures goes { Takes result self.old self.new (λ k. This (Is sign) ∷ k) (λ x k. k) }
-        ensures read { OnOk result (self.old.rest ≡ Is sign ∷ self.new.rest) }
-        ensures kept { Keeps self.old self.new }
-        ensures shorter { length self.new.rest ≤ length self.old.rest }
+        ensures read { OnOk result (self.old ≡ at self.new (Is sign ∷ self.new.rest)) }
     {
-        let Some(after) = self.rest.sign(sign) else {
+        let Some(after) = self.sign(sign) else {
             return Err(Stop::Refused(Fault::Token));
         };
-        self.rest = after;
+        self.go_to(after);
         Ok(())
     }
 
     /// Takes this word or mark if it is next.
     pub fn takes(&mut self, sign: Sign) -> bool
-        ensures yes { result ≡ true → self.old.rest ≡ Is sign ∷ self.new.rest }
-        ensures taken { result ≡ true → length self.new.rest < length self.old.rest }
-        ensures no { result ≡ false → (self.new.rest ≡ self.old.rest) × IsNotNext (Is sign) self.old.rest }
-        ensures kept { Keeps self.old self.new }
-        ensures shorter { length self.new.rest ≤ length self.old.rest }
+        ensures yes { result ≡ true → self.old ≡ at self.new (Is sign ∷ self.new.rest) }
+        ensures no { result ≡ false → (self.old ≡ self.new) × IsOver sign self.new }
     {
-        let Some(after) = self.rest.sign(sign) else {
+        let Some(after) = self.sign(sign) else {
             return false;
         };
-        self.rest = after;
+        self.go_to(after);
         true
     }
 
     /// Takes any name.
     pub fn name(&mut self, alloc: Global) -> Result<Name, Stop>
         ensures goes { Takes result self.old self.new (λ k. AnyName ∷ k) (λ x k. k) }
-        ensures read { IfOk result (λ n. self.old.rest ≡ a_name n self.new.rest) }
-        ensures kept { Keeps self.old self.new }
-        ensures shorter { length self.new.rest ≤ length self.old.rest }
+        ensures read { IfOk result (λ n. self.old ≡ at self.new (Word n ∷ self.new.rest)) }
     {
-        let Some((bytes, after)) = self.rest.word() else {
+        let Some((bytes, after)) = self.word() else {
             return Err(Stop::Refused(Fault::Token));
         };
         let name = Name::of(alloc, bytes)?;
-        self.rest = after;
+        self.go_to(after);
         Ok(name)
+    }
+
+    /// Whether a role has this name.
+    pub fn has_role(&self, name: &[u8]) -> bool
+        ensures { result ≡ is_among name.now self.now.roles }
+    {
+        holds(name, self.roles.as_slice())
+    }
+
+    /// Whether there is no place for one more role.
+    pub fn is_full(&self) -> bool
+        ensures { result ≡ nat_le 8 (length self.now.roles) }
+    {
+        self.roles.as_slice().len() >= 8
+    }
+
+    /// Adds a role.
+    pub fn declare(&mut self, role: Name) -> Result<(), AllocError>
+        requires { length self.old.roles < 8 }
+        ensures { OnOk result (self.new ≡ with_roles self.old (self.old.roles ++ role ∷ []) self.old.rest) }
+    {
+        self.roles.push(role)?;
+        Ok(())
+    }
+
+    /// Hands out the roles.
+    pub fn into_roles(&mut self, alloc: Global) -> Names
+        ensures is { result ≡ self.old.roles }
+        ensures small { IsSmall (length self.old.roles) self.old.count }
+    {
+        mem::replace(&mut self.roles, Names::new(alloc))
+    }
+
+    // The place of the role with this name.
+    fn place_of(&self, name: &[u8]) -> Option<usize>
+        ensures is { result ≡ place_of self.now.roles name.now }
+        ensures few { IfSome result (λ place. place < 8) }
+    {
+        place_of(self.roles.as_slice(), name)
     }
 
     // Takes the name of a role: the subject of a choice, or a sender.
     fn role(&mut self) -> Result<RoleId, Stop>
-        requires few { length self.old.roles ≤ 8 }
         ensures subject { Takes result self.old self.new (λ k. Subject ∷ k) (λ r k. k) }
         ensures sender { Takes result self.old self.new (λ k. Sender ∷ k) (λ r k. This (Is Sign.To) ∷ Receiver r [] ∷ k) }
-        ensures read { IfOk result (λ r. IsRoleName self.old.roles r self.old.rest self.new.rest) }
-        ensures kept { Keeps self.old self.new }
-        ensures shorter { length self.new.rest ≤ length self.old.rest }
+        ensures read { IfOk result (λ r. IsRoleName self.old self.new r) }
     {
-        let Some((bytes, after)) = self.rest.word() else {
+        let Some((bytes, after)) = self.word() else {
             return Err(Stop::Refused(Fault::Token));
         };
-        let Some(place) = place_of(self.roles.as_slice(), bytes) else {
+        let Some(place) = self.place_of(bytes) else {
             return Err(Stop::Refused(Fault::NoName));
         };
-        self.rest = after;
+        self.go_to(after);
         Ok(RoleId(place as u8))
     }
 
     // Takes sorts, and the parenthesis behind them.
     fn sorts(&mut self, alloc: Global) -> Result<Names, Stop>
         ensures goes { Takes result self.old self.new (λ k. Sorts ∷ k) (λ x k. k) }
-        ensures read { IfOk result (λ sorts. self.old.rest ≡ sort_list sorts (Is Sign.Right ∷ self.new.rest)) }
-        ensures kept { Keeps self.old self.new }
-        ensures shorter { length self.new.rest ≤ length self.old.rest }
+        ensures read { IfOk result (λ sorts. self.old ≡ at self.new (sort_list sorts (Is Sign.Right ∷ self.new.rest))) }
+        ensures shorter { OnOk result (length self.new.rest < length self.old.rest) }
     {
         let mut sorts = Names::new(alloc);
         if self.takes(Sign::Right) {
@@ -196,20 +305,29 @@ impl<'a> Parser<'a> {
         Ok(sorts)
     }
 
+    // Counts a point, unless there are too many.
+    fn count_point(&mut self) -> bool
+        ensures yes { result ≡ true → (nat_le 256 self.old.count ≡ false)
+            × (self.new ≡ back_at self.old (self.old.count + 1) self.old.rest) }
+        ensures no { result ≡ false → (nat_le 256 self.old.count ≡ true) × (self.old ≡ self.new) }
+    {
+        if self.count >= 256 {
+            return false;
+        }
+        self.count += 1;
+        true
+    }
+
     // Takes one receiver of a message, which makes a point. These stand before it.
     fn receiver(&mut self, sender: RoleId, before: &[RoleId]) -> Result<RoleId, Stop>
-        requires few { length self.old.roles ≤ 8 }
-        requires count { self.old.count ≤ 256 }
-        ensures goes { Takes result self.old self.new (λ k. Receiver sender before.now ∷ k) (λ r k. MoreReceivers sender (before.now ++ r ∷ []) ∷ k) }
-        ensures read { IfOk result (λ r. IsReceived self.old.roles sender before.now r self.old.rest self.new.rest) }
-        ensures counted { OnOk result ((self.new.count ≡ self.old.count + 1) × (self.new.count ≤ 256)) }
-        ensures kept { (self.new.roles ≡ self.old.roles) × (self.new.recs.items ≡ self.old.recs.items) }
-        ensures shorter { length self.new.rest ≤ length self.old.rest }
+        ensures goes { Takes result self.old self.new (λ k. Receiver sender before.now ∷ k)
+            (λ r k. MoreReceivers sender (before.now ++ r ∷ []) ∷ k) }
+        ensures read { IfOk result (λ r. IsReceived self.old self.new sender before.now r) }
     {
-        let Some((bytes, after)) = self.rest.word() else {
+        let Some((bytes, after)) = self.word() else {
             return Err(Stop::Refused(Fault::Token));
         };
-        let Some(place) = place_of(self.roles.as_slice(), bytes) else {
+        let Some(place) = self.place_of(bytes) else {
             return Err(Stop::Refused(Fault::NoName));
         };
         let receiver = RoleId(place as u8);
@@ -219,23 +337,18 @@ impl<'a> Parser<'a> {
         if receiver == sender {
             return Err(Stop::Refused(Fault::SelfMessage));
         }
-        if self.count >= 256 {
+        if !self.count_point() {
             return Err(Stop::Refused(Fault::TooMany));
         }
-        self.count += 1;
-        self.rest = after;
+        self.go_to(after);
         Ok(receiver)
     }
 
     // Takes all receivers of a message, and the mark behind them.
     fn receivers(&mut self, alloc: Global, sender: RoleId) -> Result<Receivers, Stop>
-        requires few { length self.old.roles ≤ 8 }
-        requires count { self.old.count ≤ 256 }
         ensures goes { Takes result self.old self.new (λ k. Receiver sender [] ∷ k) (λ x k. k) }
-        ensures read { IfOk result (λ rs. AreReceived self.old.roles sender (rs.others ++ rs.last ∷ []) self.old.rest self.new.rest) }
-        ensures counted { IfOk result (λ rs. (self.new.count ≡ self.old.count + (length rs.others + 1)) × (self.new.count ≤ 256)) }
-        ensures kept { OnOk result ((self.new.roles ≡ self.old.roles) × (self.new.recs.items ≡ self.old.recs.items)) }
-        ensures shorter { length self.new.rest ≤ length self.old.rest }
+        ensures read { IfOk result (λ rs. AreReceived self.old self.new sender (rs.others ++ rs.last ∷ [])) }
+        ensures shorter { OnOk result (length self.new.rest < length self.old.rest) }
     {
         let mut others = Roles::new(alloc);
         let mut last = self.receiver(sender, others.as_slice())?;
@@ -247,17 +360,19 @@ impl<'a> Parser<'a> {
         Ok(Receivers { others, last })
     }
 
+    // The number of points, for which there is a place.
+    fn points(&self) -> u16
+        ensures { (result ≡ self.now.count) × (self.now.count ≤ 256) }
+    {
+        self.count
+    }
+
     // Takes a message.
     fn message(&mut self, alloc: Global, block: &mut Block) -> Result<(), Stop>
-        requires few { length self.old.roles ≤ 8 }
-        requires count { self.old.count ≤ 256 }
         ensures goes { Takes result self.old self.new
             (λ k. AnyName ∷ This (Is Sign.Left) ∷ Sorts ∷ This (Is Sign.From) ∷ Sender ∷ k) (λ x k. k) }
-        ensures read { OnOk result (TakesSome self.old self.new (statements block.old) (statements block.new) self.old.rest) }
-        ensures kept { OnOk result ((self.new.roles ≡ self.old.roles) × (self.new.recs.items ≡ self.old.recs.items)
-            × (self.new.count ≤ 256)) }
-        ensures shorter { length self.new.rest ≤ length self.old.rest }
-        ensures taken { OnOk result (length self.new.rest < length self.old.rest) }
+        ensures read { OnOk result (TakesSome self.old self.new [] (statements block.old) (statements block.new)) }
+        ensures shorter { OnOk result (length self.new.rest < length self.old.rest) }
     {
         let label = self.name(alloc)?;
         self.expect(Sign::Left)?;
@@ -270,70 +385,84 @@ impl<'a> Parser<'a> {
             sorts,
             sender,
         };
-        let points = self.count;
+        let before = self.points();
         let receivers = self.receivers(alloc, sender)?;
-        add_copies(alloc, &heading, receivers.others.as_slice(), points, block)?;
+        let now = self.points();
+        add_copies(alloc, &heading, receivers.others.as_slice(), before, block)?;
         block.push(Stmt::Message {
             label: heading.label,
             sorts: heading.sorts,
             sender,
             receiver: receivers.last,
-            point: Point(self.count),
+            point: Point(now),
         })?;
         Ok(())
     }
 
+    // Whether the name is that of an enclosing recursion.
+    fn encloses(&self, name: &[u8]) -> bool
+        ensures { result ≡ is_among name.now self.now.recs }
+    {
+        holds(name, self.recs.as_slice())
+    }
+
     // Takes the name behind `continue`, which is that of an enclosing recursion, and the mark behind it.
     fn again(&mut self, alloc: Global, spot: Spot, block: &mut Block) -> Result<(), Stop>
-        requires count { self.old.count ≤ 256 }
-        ensures goes { let p = place_of_spot self.old spot in
-            Takes result self.old self.new (λ k. AgainName p ∷ k) (λ x k. k) }
-        ensures read { OnOk result (TakesSome self.old self.new (statements block.old) (statements block.new)
-            (Is Sign.Continue ∷ self.old.rest)) }
-        ensures kept { OnOk result ((self.new.roles ≡ self.old.roles) × (self.new.recs.items ≡ self.old.recs.items)
-            × (self.new.count ≤ 256)) }
-        ensures shorter { length self.new.rest ≤ length self.old.rest }
+        ensures goes { Takes result self.old self.new (λ k. AgainName (place_of_spot self.old spot) ∷ k) (λ x k. k) }
+        ensures read { OnOk result (TakesSome self.old self.new (Is Sign.Continue ∷ [])
+            (statements block.old) (statements block.new)) }
+        ensures shorter { OnOk result (length self.new.rest < length self.old.rest) }
     {
-        let Some((bytes, after)) = self.rest.word() else {
+        let Some((bytes, after)) = self.word() else {
             return Err(Stop::Refused(Fault::Token));
         };
-        if !holds(bytes, self.recs.as_slice()) {
+        if !self.encloses(bytes) {
             return Err(Stop::Refused(Fault::NoName));
         }
-        let name = Name::of(alloc, bytes)?;
-        self.rest = after;
+        self.go_to(after);
         self.expect(Sign::Semicolon)?;
+        let name = Name::of(alloc, bytes)?;
         block.push(Stmt::Continue { name })?;
         Ok(())
     }
 
     // Takes the brace that begins a block.
     fn open(&mut self, spot: Spot) -> Result<(), Stop>
-        ensures goes { let p = place_of_spot self.old spot in
-            Takes result self.old self.new (λ k. Opening p ∷ k) (λ x k. First (inside p) ∷ k) }
-        ensures read { OnOk result (self.old.rest ≡ Is Sign.Open ∷ self.new.rest) }
-        ensures kept { Keeps self.old self.new }
-        ensures shorter { length self.new.rest ≤ length self.old.rest }
-        ensures taken { OnOk result ((length self.new.rest < length self.old.rest) × (spot.depth < 32)) }
+        ensures goes { Takes result self.old self.new (λ k. Opening (place_of_spot self.old spot) ∷ k)
+            (λ x k. First (inside (place_of_spot self.old spot)) ∷ k) }
+        ensures read { OnOk result ((self.old ≡ at self.new (Is Sign.Open ∷ self.new.rest)) × (spot.depth < 32)) }
     {
-        let Some(after) = self.rest.sign(Sign::Open) else {
+        let Some(after) = self.sign(Sign::Open) else {
             return Err(Stop::Refused(Fault::Token));
         };
         if spot.depth >= 32 {
             return Err(Stop::Refused(Fault::Deep));
         }
-        self.rest = after;
+        self.go_to(after);
         Ok(())
     }
 
-    // Whether `continue` is next with the name of a recursion to which a walk comes from the start of its body.
-    fn is_unguarded(&self, spot: Spot) -> bool
-        requires { spot.comes ≤ length self.now.recs.items }
-        ensures { result ≡ is_unguarded (place_of_spot self.now spot) self.now.rest }
+    // What begins here.
+    fn begin(&self) -> Begin<'a>
+        ensures next { IsNext result self.now }
+        ensures ended { (p : Place) (k : List Item) → p.ended ≡ true
+            → answers self.now (First p ∷ k) ≡ Refuses (ended_fault result) self.now.rest }
     {
-        let Some(after) = self.rest.sign(Sign::Continue) else {
-            return false;
-        };
+        match self.next() {
+            Some((Lexeme::Word(_), _)) => Begin::Message,
+            Some((Lexeme::Is(Sign::Choice), after)) => Begin::Choice(after),
+            Some((Lexeme::Is(Sign::Rec), after)) => Begin::Rec(after),
+            Some((Lexeme::Is(Sign::Continue), after)) => Begin::Continue(after),
+            Some((Lexeme::Is(Sign::Par | Sign::Do), _)) => Begin::NotYet,
+            _ => Begin::Nothing,
+        }
+    }
+
+    // Whether the name is next, of a recursion from the start of whose body a walk comes here without a message.
+    fn is_unguarded(&self, spot: Spot, after: &Ahead<'a, Sign>) -> bool
+        requires { spot.comes ≤ length self.now.recs }
+        ensures { result ≡ is_open (place_of_spot self.now spot) after.now }
+    {
         let Some((name, _)) = after.word() else {
             return false;
         };
@@ -341,78 +470,45 @@ impl<'a> Parser<'a> {
         holds(name, &recs[recs.len() - spot.comes..])
     }
 
-    // Whether a statement begins here.
-    fn starts(&self) -> bool
-        ensures { result ≡ starts self.now.rest }
+    // Enters the body of a recursion.
+    fn enter(&mut self, name: Name) -> Result<(), AllocError>
+        ensures entered { OnOk result (self.new ≡ within self.old (self.old.recs ++ name ∷ [])) }
+        ensures room { OnOk result (length self.new.recs < 2 ^ 63) }
     {
-        match self.rest.next() {
-            Some((Lexeme::Word(_), _)) => true,
-            Some(
-                (Lexeme::Is(Sign::Choice | Sign::Rec | Sign::Continue | Sign::Par | Sign::Do), _),
-            ) => true,
-            _ => false,
-        }
-    }
-
-    // Whether a statement begins here that isn't read yet.
-    fn waits(&self) -> bool
-        ensures { result ≡ waits self.now.rest }
-    {
-        matches!(
-            self.rest.next(),
-            Some((Lexeme::Is(Sign::Par | Sign::Do), _))
-        )
-    }
-
-    // Nothing but the grammar may speak against a statement here.
-    fn may_begin(&self, spot: Spot) -> Result<(), Stop>
-        requires { spot.comes ≤ length self.now.recs.items }
-        ensures may { OnOk result (MayBegin (place_of_spot self.now spot) self.now.rest) }
-        ensures err { let p = place_of_spot self.now spot in
-            IfErr result (λ e. Halts e (known self.now.roles self.now.count) (λ k. First p ∷ k) self.now.rest self.now.rest) }
-    {
-        if spot.ended && self.starts() {
-            return Err(Stop::Refused(Fault::AfterContinue));
-        }
-        if spot.ended {
-            return Err(Stop::Refused(Fault::Token));
-        }
-        if self.waits() {
-            return Err(Stop::Refused(Fault::NotYet));
-        }
-        if self.is_unguarded(spot) {
-            return Err(Stop::Refused(Fault::Unguarded));
-        }
+        self.recs.push(name)?;
         Ok(())
+    }
+
+    // Leaves the body of the innermost recursion.
+    fn leave(&mut self)
+        ensures { (recs : List (List ℕ)) (name : List ℕ) → self.old.recs ≡ recs ++ name ∷ []
+            → self.new ≡ within self.old recs }
+    {
+        self.recs.pop();
     }
 
     // Takes a recursion, of which the word is taken.
     #[cycle(descent)]
     fn recursion(&mut self, alloc: Global, spot: Spot, block: &mut Block) -> Result<(), Stop>
-        requires few { length self.old.roles ≤ 8 }
-        requires count { self.old.count ≤ 256 }
-        requires comes { spot.comes ≤ length self.old.recs.items }
-        ensures goes { let p = place_of_spot self.old spot in
-            Takes result self.old self.new (λ k. RecName p ∷ k) (λ x k. k) }
-        ensures read { OnOk result (TakesSome self.old self.new (statements block.old) (statements block.new)
-            (Is Sign.Rec ∷ self.old.rest)) }
-        ensures kept { OnOk result ((self.new.roles ≡ self.old.roles) × (self.new.recs.items ≡ self.old.recs.items)
-            × (self.new.count ≤ 256)) }
-        ensures shorter { length self.new.rest ≤ length self.old.rest }
+        requires comes { spot.comes ≤ length self.old.recs }
+        ensures goes { Takes result self.old self.new (λ k. RecName (place_of_spot self.old spot) ∷ k) (λ x k. k) }
+        ensures read { OnOk result (TakesSome self.old self.new (Is Sign.Rec ∷ [])
+            (statements block.old) (statements block.new)) }
+        ensures shorter { OnOk result (length self.new.rest < length self.old.rest) }
     {
-        let Some((bytes, after)) = self.rest.word() else {
+        let Some((bytes, after)) = self.word() else {
             return Err(Stop::Refused(Fault::Token));
         };
         let name = Name::of(alloc, bytes)?;
-        self.recs.push(Name::of(alloc, bytes)?)?;
-        self.rest = after;
+        self.enter(Name::of(alloc, bytes)?)?;
+        self.go_to(after);
         let inner = Spot {
             depth: spot.depth,
             comes: spot.comes + 1,
             ended: false,
         };
         let body = self.block(alloc, inner)?;
-        let _name = self.recs.pop();
+        self.leave();
         block.push(Stmt::Rec { name, body })?;
         Ok(())
     }
@@ -420,16 +516,13 @@ impl<'a> Parser<'a> {
     // Takes a choice, of which the word is taken.
     #[cycle(descent)]
     fn choice(&mut self, alloc: Global, spot: Spot, block: &mut Block) -> Result<(), Stop>
-        requires few { length self.old.roles ≤ 8 }
-        requires count { self.old.count ≤ 256 }
-        requires comes { spot.comes ≤ length self.old.recs.items }
+        requires comes { spot.comes ≤ length self.old.recs }
         ensures goes { let p = place_of_spot self.old spot in
-            Takes result self.old self.new (λ k. This (Is Sign.At) ∷ Subject ∷ Opening p ∷ More p ∷ k) (λ x k. Rest (behind p false) ∷ k) }
-        ensures read { OnOk result (TakesSome self.old self.new (statements block.old) (statements block.new)
-            (Is Sign.Choice ∷ self.old.rest)) }
-        ensures kept { OnOk result ((self.new.roles ≡ self.old.roles) × (self.new.recs.items ≡ self.old.recs.items)
-            × (self.new.count ≤ 256)) }
-        ensures shorter { length self.new.rest ≤ length self.old.rest }
+            Takes result self.old self.new (λ k. This (Is Sign.At) ∷ Subject ∷ Opening p ∷ More p ∷ k)
+            (λ x k. Rest (behind (place_of_spot self.new spot) false) ∷ k) }
+        ensures read { OnOk result (TakesSome self.old self.new (Is Sign.Choice ∷ [])
+            (statements block.old) (statements block.new)) }
+        ensures shorter { OnOk result (length self.new.rest < length self.old.rest) }
     {
         self.expect(Sign::At)?;
         let subject = self.role()?;
@@ -441,15 +534,12 @@ impl<'a> Parser<'a> {
     // Takes the blocks of a choice.
     #[cycle(descent)]
     fn branches(&mut self, alloc: Global, spot: Spot) -> Result<Blocks, Stop>
-        requires few { length self.old.roles ≤ 8 }
-        requires count { self.old.count ≤ 256 }
-        requires comes { spot.comes ≤ length self.old.recs.items }
+        requires comes { spot.comes ≤ length self.old.recs }
         ensures goes { let p = place_of_spot self.old spot in
-            Takes result self.old self.new (λ k. Opening p ∷ More p ∷ k) (λ x k. Rest (behind p false) ∷ k) }
-        ensures read { IfOk result (λ bs. AreBranches self.old.roles self.old.count self.new.count bs self.old.rest self.new.rest) }
-        ensures kept { OnOk result ((self.new.roles ≡ self.old.roles) × (self.new.recs.items ≡ self.old.recs.items)
-            × (self.new.count ≤ 256)) }
-        ensures shorter { length self.new.rest ≤ length self.old.rest }
+            Takes result self.old self.new (λ k. Opening p ∷ More p ∷ k)
+            (λ x k. Rest (behind (place_of_spot self.new spot) false) ∷ k) }
+        ensures read { IfOk result (λ bs. TakesBranches self.old self.new bs) }
+        ensures shorter { OnOk result (length self.new.rest < length self.old.rest) }
     {
         let mut branches = Blocks::new(alloc);
         let first = self.block(alloc, spot)?;
@@ -464,15 +554,10 @@ impl<'a> Parser<'a> {
     // Takes a block of at least one statement, with its braces.
     #[cycle(descent)]
     fn block(&mut self, alloc: Global, spot: Spot) -> Result<Block, Stop>
-        requires few { length self.old.roles ≤ 8 }
-        requires count { self.old.count ≤ 256 }
-        requires comes { spot.comes ≤ length self.old.recs.items }
-        ensures goes { let p = place_of_spot self.old spot in
-            Takes result self.old self.new (λ k. Opening p ∷ k) (λ x k. k) }
-        ensures read { IfOk result (λ b. IsBlock self.old.roles self.old.count self.new.count b self.old.rest self.new.rest) }
-        ensures kept { OnOk result ((self.new.roles ≡ self.old.roles) × (self.new.recs.items ≡ self.old.recs.items)
-            × (self.new.count ≤ 256)) }
-        ensures shorter { length self.new.rest ≤ length self.old.rest }
+        requires comes { spot.comes ≤ length self.old.recs }
+        ensures goes { Takes result self.old self.new (λ k. Opening (place_of_spot self.old spot) ∷ k) (λ x k. k) }
+        ensures read { IfOk result (λ b. TakesBlock self.old self.new b) }
+        ensures shorter { OnOk result (length self.new.rest < length self.old.rest) }
     {
         self.open(spot)?;
         let inner = Spot {
@@ -494,22 +579,16 @@ impl<'a> Parser<'a> {
     /// Takes the other statements of a block, and its last brace.
     #[cycle(descent)]
     pub fn stmts(&mut self, alloc: Global, spot: Spot, block: &mut Block) -> Result<(), Stop>
-        requires few { length self.old.roles ≤ 8 }
-        requires count { self.old.count ≤ 256 }
-        requires comes { spot.comes ≤ length self.old.recs.items }
-        ensures goes { let p = place_of_spot self.old spot in
-            Takes result self.old self.new (λ k. Rest p ∷ k) (λ x k. k) }
-        ensures read { OnOk result (Adds self.old.roles self.old.count self.new.count (statements block.old) (statements block.new)
-            self.old.rest (Is Sign.Close ∷ self.new.rest)) }
-        ensures kept { OnOk result ((self.new.roles ≡ self.old.roles) × (self.new.recs.items ≡ self.old.recs.items)
-            × (self.new.count ≤ 256)) }
-        ensures shorter { length self.new.rest ≤ length self.old.rest }
+        requires comes { spot.comes ≤ length self.old.recs }
+        ensures goes { Takes result self.old self.new (λ k. Rest (place_of_spot self.old spot) ∷ k) (λ x k. k) }
+        ensures read { OnOk result (TakesAll self.old self.new (statements block.old) (statements block.new)) }
+        ensures shorter { OnOk result (length self.new.rest < length self.old.rest) }
     {
         let mut here = spot;
         while !self.takes(Sign::Close) {
             let ended = self.stmt(alloc, here, block)?;
             here = Spot {
-                depth: spot.depth,
+                depth: here.depth,
                 comes: 0,
                 ended,
             };
@@ -520,31 +599,41 @@ impl<'a> Parser<'a> {
     // Takes a statement. Answers whether it ends its block.
     #[cycle(descent)]
     fn stmt(&mut self, alloc: Global, spot: Spot, block: &mut Block) -> Result<bool, Stop>
-        requires few { length self.old.roles ≤ 8 }
-        requires count { self.old.count ≤ 256 }
-        requires comes { spot.comes ≤ length self.old.recs.items }
-        ensures goes { let p = place_of_spot self.old spot in
-            Takes result self.old self.new (λ k. First p ∷ k) (λ ended k. Rest (behind p ended) ∷ k) }
-        ensures read { OnOk result (TakesSome self.old self.new (statements block.old) (statements block.new) self.old.rest) }
-        ensures kept { OnOk result ((self.new.roles ≡ self.old.roles) × (self.new.recs.items ≡ self.old.recs.items)
-            × (self.new.count ≤ 256)) }
-        ensures shorter { length self.new.rest ≤ length self.old.rest }
-        ensures taken { OnOk result (length self.new.rest < length self.old.rest) }
+        requires comes { spot.comes ≤ length self.old.recs }
+        ensures goes { Takes result self.old self.new (λ k. First (place_of_spot self.old spot) ∷ k)
+            (λ ended k. Rest (behind (place_of_spot self.new spot) ended) ∷ k) }
+        ensures read { OnOk result (TakesSome self.old self.new [] (statements block.old) (statements block.new)) }
+        ensures shorter { OnOk result (length self.new.rest < length self.old.rest) }
     {
-        self.may_begin(spot)?;
-        if self.takes(Sign::Choice) {
-            self.choice(alloc, spot, block)?;
-            return Ok(false);
+        let begin = self.begin();
+        if spot.ended {
+            return Err(Stop::Refused(ended_fault(&begin)));
         }
-        if self.takes(Sign::Rec) {
-            self.recursion(alloc, spot, block)?;
-            return Ok(false);
+        match begin {
+            Begin::Message => {
+                self.message(alloc, block)?;
+                Ok(false)
+            }
+            Begin::Choice(after) => {
+                self.go_to(after);
+                self.choice(alloc, spot, block)?;
+                Ok(false)
+            }
+            Begin::Rec(after) => {
+                self.go_to(after);
+                self.recursion(alloc, spot, block)?;
+                Ok(false)
+            }
+            Begin::Continue(after) => {
+                if self.is_unguarded(spot, &after) {
+                    return Err(Stop::Refused(Fault::Unguarded));
+                }
+                self.go_to(after);
+                self.again(alloc, spot, block)?;
+                Ok(true)
+            }
+            Begin::NotYet => Err(Stop::Refused(Fault::NotYet)),
+            Begin::Nothing => Err(Stop::Refused(Fault::Token)),
         }
-        if self.takes(Sign::Continue) {
-            self.again(alloc, spot, block)?;
-            return Ok(true);
-        }
-        self.message(alloc, block)?;
-        Ok(false)
     }
 }

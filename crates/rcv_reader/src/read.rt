@@ -6,22 +6,21 @@ ghost use Rattle.rcv_tree.specs.Lists.{statements, declarations};
 ghost use Rattle.rcv_model.specs.Form.{HasForm};
 ghost use Rattle.rcv_model.specs.Text.{body_of};
 ghost use Rattle.rcv_lexer.specs.Parts.{LiesIn};
-ghost use Rattle.rcv_syntax.specs.Symbols.{Is, symbols_of};
-ghost use Rattle.rcv_machine.specs.Machine.{in_head, known};
-ghost use Rattle.rcv_reader.specs.Descent.{Ends, EndFails, IsHead, Takes};
+ghost use Rattle.rcv_syntax.specs.Symbols.{symbols_of};
+ghost use Rattle.rcv_machine.specs.Machine.{in_head};
+ghost use Rattle.rcv_reader.specs.Descent.{Ends, Halts, IsHead, Takes, at_first};
 ghost use Rattle.rcv_reader.specs.Refusals.{IsRead, IsRefused};
 
 use crate::parser::{Parser, Spot};
 use crate::stop::Stop;
 use rcv_lexer::token::{TextError, Token};
-use rcv_scan::{Ahead, line_before};
+use rcv_scan::{Lexeme, line_before};
 use rcv_syntax::{Fault, Sign};
 use rcv_tree::name::{Name, Names};
 use rcv_tree::protocol::{Decls, Protocol};
 use rcv_tree::refusal::Refusal;
 use rcv_tree::statement::Block;
 use std::alloc::Global;
-use std::mem;
 
 // What stands before the body, but for the roles.
 #[derive(Drop)]
@@ -36,9 +35,7 @@ impl<'a> Parser<'a> {
     fn head(&mut self, alloc: Global) -> Result<Head, Stop>
         requires none { self.old.roles ≡ [] }
         ensures goes { Takes result self.old self.new in_head (λ x k. k) }
-        ensures read { IfOk result (λ h. IsHead h.«module» (declarations h.decls) h.name self.new.roles self.old.rest self.new.rest) }
-        ensures few { OnOk result (length self.new.roles ≤ 8) }
-        ensures kept { OnOk result ((self.new.recs.items ≡ self.old.recs.items) × (self.new.count ≡ self.old.count)) }
+        ensures read { IfOk result (λ h. IsHead h.«module» (declarations h.decls) h.name self.old self.new) }
     {
         self.expect(Sign::Module)?;
         let module = self.modules(alloc)?;
@@ -59,22 +56,18 @@ impl<'a> Parser<'a> {
     // Nothing may stand behind the protocol.
     fn end(&self) -> Result<(), Stop>
         ensures done { OnOk result (self.now.rest ≡ []) }
-        ensures err { IfErr result (λ e. EndFails e (known self.now.roles self.now.count) self.now.rest) }
+        ensures err { IfErr result (λ e. Halts e self.now self.now (λ k. [])) }
     {
-        if self.rest.is_empty() {
-            return Ok(());
+        match self.next() {
+            None => Ok(()),
+            Some((Lexeme::Is(Sign::Global), _)) => Err(Stop::Refused(Fault::NotYet)),
+            Some(_) => Err(Stop::Refused(Fault::Token)),
         }
-        let Some(_behind) = self.rest.sign(Sign::Global) else {
-            return Err(Stop::Refused(Fault::Token));
-        };
-        Err(Stop::Refused(Fault::NotYet))
     }
 
     // Takes a whole protocol.
     fn protocol(&mut self, alloc: Global) -> Result<Protocol, Stop>
-        requires none { self.old.roles ≡ [] }
-        requires outside { self.old.recs.items ≡ [] }
-        requires fresh { self.old.count ≡ 0 }
+        requires fresh { self.old ≡ at_first self.old.rest }
         ensures ok { IfOk result (IsRead self.old.rest) }
         ensures form { IfOk result (λ p. HasForm (body_of p.body) (length p.roles)) }
         ensures err { IfErr result (λ e. Ends e self.old.rest self.new.rest) }
@@ -88,7 +81,7 @@ impl<'a> Parser<'a> {
         };
         self.stmts(alloc, spot, &mut body)?;
         self.end()?;
-        let roles = mem::replace(&mut self.roles, Names::new(alloc));
+        let roles = self.into_roles(alloc);
         Ok(Protocol {
             module: head.module,
             decls: head.decls,
@@ -118,18 +111,13 @@ pub fn read_protocol(
     ensures read { MatchResult result (IsRead (symbols_of bundle.now list.now)) (IsRefused bundle.now list.now last) }
     ensures form { IfOk result (λ p. HasForm (body_of p.body) (length p.roles)) }
 {
-    let mut parser = Parser {
-        rest: Ahead::new(bundle, list),
-        roles: Names::new(alloc),
-        recs: Vec::new(alloc),
-        count: 0,
-    };
+    let mut parser = Parser::new(alloc, bundle, list);
     match parser.protocol(alloc) {
         Ok(protocol) => Ok(protocol),
         Err(Stop::Memory) => Err(TextError::Memory),
         Err(Stop::Refused(fault)) => Err(TextError::Refused(Refusal::Text {
             code: fault.code(),
-            line: line_before(list, last, parser.rest.len()),
+            line: line_before(list, last, parser.left()),
         })),
     }
 }

@@ -68,13 +68,14 @@ impl<'a, S: Alphabet> Ahead<'a, S> {
         let [first, after @ ..] = self.tokens else {
             return None;
         };
-        let bytes = &self.bundle[first.span.start..first.span.end];
+        let span = first.span();
+        let bytes = &self.bundle[span.start..span.end];
         let rest = Ahead {
             bundle: self.bundle,
             tokens: after,
             signs: PhantomData,
         };
-        Some((S::lexeme(first.kind, bytes), rest))
+        Some((S::lexeme(first.kind(), bytes), rest))
     }
 
     /// What is left behind this sign, if it is next.

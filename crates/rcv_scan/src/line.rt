@@ -11,7 +11,7 @@ pub fn line_before(list: &[Token], last: u32, left: usize) -> u32
 {
     let place = list.len().saturating_sub(left);
     match &list[place..] {
-        [first, ..] => first.line,
+        [first, ..] => first.line(),
         [] => last,
     }
 }

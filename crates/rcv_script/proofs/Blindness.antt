@@ -1,18 +1,11 @@
--- Where the attempt is read, factor by factor, term by term and line by line; where it isn't, the lines are blind.
-use Rattle.std.proofs.Common.{◌≡◌, ℕ, zero, suc, Bool, true, false, List, [], ◌∷◌, map, refl, ap, sym, ◌∙◌}
+-- Where the attempt isn't read, the lines are blind.
+use Rattle.std.proofs.Common.{◌≡◌, ℕ, zero, suc, Bool, true, false, List, [], ◌∷◌, refl}
 use Rattle.std.specs.Prelude.{◌||◌, Some, None}
-use Rattle.rcv_model.specs.Script.{Expr, Literal, TheValue, TheAttempt, Variable, Negated, Plus, Minus, Times, Line, VarLine, SendLine, PickLine, OnLine}
+use Rattle.rcv_model.specs.Script.{Expr, Literal, TheValue, TheAttempt, Variable, Negated, Plus, Minus, Times, Line, VarLine, SendLine}
+use Rattle.rcv_model.specs.Script.{PickLine, OnLine}
 use Rattle.rcv_model.specs.Transparent.{IsBlind, AreBlind}
-use Rattle.rcv_script.specs.Expressions.{Signed, times_more, plus_more, plus_or_minus, product_of, sum_of, atom_expr, term_expr, product_expr, sum_expr, factors, terms}
-use Rattle.rcv_script.specs.Attempts.{reads, some_read, some_term_reads, lines_read, scripts_read}
+use Rattle.rcv_script.specs.Attempts.{reads, lines_read, scripts_read}
 use Rattle.rcv_script.specs.Lines.{lines_at}
-use Rattle.rcv_script.specs.declared.expression.Product.{Product}
-use Rattle.rcv_script.specs.declared.expression.Sum.{Sum}
-use Rattle.rcv_script.proofs.Values.{product_is, sum_is}
-
-or_assoc : (a b c : Bool) → ((a || b) || c) ≡ (a || (b || c))
-or_assoc true b c = refl
-or_assoc false b c = refl
 
 or_false : (a b : Bool) → (a || b) ≡ false → (a ≡ false) × (b ≡ false)
 or_false true b e = absurd (cc)
@@ -20,43 +13,6 @@ or_false false b e = (refl, e)
 
 both_false : (a b : Bool) → a ≡ false → b ≡ false → (a || b) ≡ false
 both_false a b e f = rw (e, f) refl
-
-times_reads : (a : Expr) (bs : List Expr) → reads (times_more a bs) ≡ (reads a || some_read bs)
-times_reads a [] = or_end (reads a)
-  where
-    or_end : (x : Bool) → x ≡ (x || false)
-    or_end true = refl
-    or_end false = refl
-times_reads a (b ∷ bs) = times_reads (Times a b) bs ∙ or_assoc (reads a) (reads b) (some_read bs)
-
-product_of_reads : (es : List Expr) → some_read es ≡ reads (product_of es)
-product_of_reads [] = refl
-product_of_reads (a ∷ more) = sym (times_reads a more)
-
-signed_reads : (minus : Bool) (a b : Expr) → reads (plus_or_minus minus a b) ≡ (reads a || reads b)
-signed_reads false a b = refl
-signed_reads true a b = refl
-
-plus_reads : (a : Expr) (bs : List Signed) → reads (plus_more a bs) ≡ (reads a || some_term_reads bs)
-plus_reads a [] = or_end (reads a)
-  where
-    or_end : (x : Bool) → x ≡ (x || false)
-    or_end true = refl
-    or_end false = refl
-plus_reads a (b ∷ bs) =
-    plus_reads (plus_or_minus b.minus a b.expr) bs
-    ∙ ap (λ x. x || some_term_reads bs) (signed_reads b.minus a b.expr)
-    ∙ or_assoc (reads a) (reads b.expr) (some_term_reads bs)
-
-sum_of_reads : (es : List Signed) → some_term_reads es ≡ reads (sum_of es)
-sum_of_reads [] = refl
-sum_of_reads (a ∷ more) = sym (plus_reads a.expr more)
-
-pub product_reads : (p : Product) → some_read (map atom_expr (factors p)) ≡ reads (product_expr p)
-product_reads p = product_of_reads (map atom_expr (factors p)) ∙ ap reads (sym (product_is p))
-
-pub sum_reads : (s : Sum) → some_term_reads (map term_expr (terms s)) ≡ reads (sum_expr s)
-sum_reads s = sum_of_reads (map term_expr (terms s)) ∙ ap reads (sym (sum_is s))
 
 -- ---- blind lines
 

@@ -1,92 +1,78 @@
--- Worked cases of the table: what stands before, and at what the code holds.
-use Rattle.std.proofs.Common.{◌≡◌, ℕ, zero, suc, false, List, [], ◌∷◌, ◌++◌, codes, refl}
+-- Worked cases of the table.
+use Rattle.std.proofs.Common.{◌≡◌, ℕ, zero, suc, false, List, [], ◌∷◌, ◌++◌, codes, refl, rules}
 use Rattle.std.specs.Prelude.{replicate}
 use Rattle.rcv_script.specs.declared.sign.Sign.TheVariants as signs
 use Rattle.rcv_script.specs.declared.fault.Fault.{Fault}
 use Rattle.rcv_script.specs.declared.fault.Fault.TheVariants as faults
-use Rattle.rcv_script.specs.Symbols.{Symbol, Is, Word, Number}
+use Rattle.rcv_script.specs.Symbols.{Symbol, Is, Number}
+use Rattle.rcv_script.specs.Refusals.{backward}
 use Rattle.rcv_script.specs.Table.{Holds, is_role, is_label, is_variable, is_too_many, nesting}
-use Rattle.rcv_script.proofs.Examples.{roles, messages, of_a, var_x}
-
-abbrev backward : List Symbol → List Symbol → List Symbol
-backward [] back = back
-backward (t ∷ ts) back = backward ts (t ∷ back)
+use Rattle.rcv_script.proofs.Examples.{roles, messages, w, of_a, var_x, send, on, set_x}
 
 -- the code holds behind these symbols at this one
-abbrev HoldsBehind : Fault → List Symbol → Symbol → Type 0
-HoldsBehind f front t = Holds roles messages f (backward front []) t
+abbrev Case : Type 0
+Case = Fault × List Symbol × Symbol
 
-abbrev w : List ℕ → Symbol
-w name = Word name
+abbrev AllHold : List Case → Type 0
+AllHold [] = Unit {0}
+AllHold (c ∷ cs) = Holds roles messages c.0 (backward c.1 []) c.2 × AllHold cs
 
 abbrev closed : List Symbol
-closed = of_a (Is signs.Close ∷ [])
+closed = of_a (Is signs.Close ∷ w (codes "role") ∷ [])
 
--- 31
-unknown_role : HoldsBehind faults.Role (closed ++ w (codes "role") ∷ []) (w (codes "C"))
-unknown_role = refl
+abbrev sum : List Symbol → List Symbol
+sum front = of_a (send (codes "big") front)
 
-second_script : HoldsBehind faults.Role (closed ++ w (codes "role") ∷ []) (w (codes "A"))
-second_script = refl
+-- n times these symbols
+abbrev times : ℕ → List Symbol → List Symbol
+times zero front = []
+times (suc n) front = front ++ times n front
 
-first_script : is_role roles (backward (closed ++ w (codes "role") ∷ []) []) (w (codes "B")) ≡ false
+abbrev pick_big : List Symbol
+pick_big = w (codes "pick") ∷ w (codes "big") ∷ Is signs.Semicolon ∷ []
+
+they_hold : AllHold (
+    -- an unknown role, and a second script of one
+    (faults.Role, closed, w (codes "C")) ∷ (faults.Role, closed, w (codes "A"))
+    -- a label that is never sent, one that has a line, and one that is never picked
+    ∷ (faults.Label, of_a (w (codes "send") ∷ []), w (codes "low"))
+    ∷ (faults.Label, sum (Number 1 ∷ Is signs.Semicolon ∷ w (codes "send") ∷ []), w (codes "big"))
+    ∷ (faults.Label, of_a (w (codes "pick") ∷ []), w (codes "low"))
+    -- a variable that is declared twice, one with a word of expressions, one that isn't declared, and one of another script
+    ∷ (faults.Variable, of_a (var_x ++ w (codes "var") ∷ []), w (codes "x"))
+    ∷ (faults.Variable, of_a (w (codes "var") ∷ []), w (codes "attempt"))
+    ∷ (faults.Variable, of_a (var_x ++ send (codes "big") (w (codes "x") ∷ Is signs.Plus ∷ [])), w (codes "y"))
+    ∷ (
+      faults.Variable,
+      of_a (var_x ++ Is signs.Close ∷ w (codes "role") ∷ w (codes "B") ∷ Is signs.Open ∷ on (codes "big") []),
+      w (codes "x"),
+    )
+    ∷ (faults.Variable, of_a (w (codes "pick") ∷ w (codes "big") ∷ w (codes "when") ∷ []), w (codes "value"))
+    ∷ (faults.AttemptInState, of_a (var_x ++ set_x (codes "low") []), w (codes "attempt"))
+    -- a number for a message without sorts, and of one
+    ∷ (faults.NoPayload, of_a (w (codes "send") ∷ []), w (codes "ping"))
+    ∷ (faults.NoPayload, of_a (var_x ++ set_x (codes "ping") (Number 1 ∷ Is signs.Plus ∷ [])), w (codes "value"))
+    -- the 33rd sign or parenthesis, the 17th variable and the 257th line
+    ∷ (faults.TooMany, sum (replicate 32 (Is signs.Minus)), Is signs.Minus)
+    ∷ (faults.TooMany, sum (replicate 31 (Is signs.Left) ++ Is signs.Minus ∷ []), Is signs.Left)
+    ∷ (faults.TooMany, of_a (times 16 var_x), w (codes "var")) ∷ (faults.TooMany, of_a (times 256 pick_big), w (codes "pick")) ∷ [])
+they_hold = search (rules, refl, tt) depth 40
+
+-- a first script of a role, a part in a message that is received, a variable with a word of the grammar
+first_script : is_role roles (backward closed []) (w (codes "B")) ≡ false
 first_script = refl
-
--- 32
-never_sent : HoldsBehind faults.Label (of_a (w (codes "send") ∷ [])) (w (codes "low"))
-never_sent = refl
-
-sent_twice : HoldsBehind faults.Label (of_a (w (codes "send") ∷ w (codes "big") ∷ Is signs.Equals ∷ Number 1 ∷ Is signs.Semicolon ∷ w (codes "send") ∷ [])) (w (codes "big"))
-sent_twice = refl
-
-never_picked : HoldsBehind faults.Label (of_a (w (codes "pick") ∷ [])) (w (codes "low"))
-never_picked = refl
 
 taken_part : is_label roles messages (backward (of_a (w (codes "on") ∷ [])) []) (w (codes "low")) ≡ false
 taken_part = refl
 
--- 33; variables may be called as the words of the grammar
-twice_declared : HoldsBehind faults.Variable (of_a (var_x ++ w (codes "var") ∷ [])) (w (codes "x"))
-twice_declared = refl
-
-own_word : HoldsBehind faults.Variable (of_a (w (codes "var") ∷ [])) (w (codes "attempt"))
-own_word = refl
-
 called_var : is_variable (backward (of_a (w (codes "var") ∷ [])) []) (w (codes "var")) ≡ false
 called_var = refl
 
-not_declared : HoldsBehind faults.Variable (of_a (var_x ++ w (codes "send") ∷ w (codes "big") ∷ Is signs.Equals ∷ w (codes "x") ∷ Is signs.Plus ∷ [])) (w (codes "y"))
-not_declared = refl
-
-of_another_script : HoldsBehind faults.Variable (of_a (var_x ++ Is signs.Close ∷ w (codes "role") ∷ w (codes "B") ∷ Is signs.Open ∷ w (codes "on") ∷ w (codes "big") ∷ w (codes "set") ∷ [])) (w (codes "x"))
-of_another_script = refl
-
-value_in_a_pick : HoldsBehind faults.Variable (of_a (w (codes "pick") ∷ w (codes "big") ∷ w (codes "when") ∷ [])) (w (codes "value"))
-value_in_a_pick = refl
-
--- 34
-attempt : HoldsBehind faults.AttemptInState (of_a (var_x ++ w (codes "on") ∷ w (codes "low") ∷ w (codes "set") ∷ w (codes "x") ∷ Is signs.Equals ∷ [])) (w (codes "attempt"))
-attempt = refl
-
--- 35
-bare : HoldsBehind faults.NoPayload (of_a (w (codes "send") ∷ [])) (w (codes "ping"))
-bare = refl
-
-no_value : HoldsBehind faults.NoPayload (of_a (var_x ++ w (codes "on") ∷ w (codes "ping") ∷ w (codes "set") ∷ w (codes "x") ∷ Is signs.Equals ∷ Number 1 ∷ Is signs.Plus ∷ [])) (w (codes "value"))
-no_value = refl
-
--- 36
-abbrev sum : List Symbol → List Symbol
-sum front = of_a (w (codes "send") ∷ w (codes "big") ∷ Is signs.Equals ∷ front)
-
-deep_sign : HoldsBehind faults.TooMany (sum (replicate 32 (Is signs.Minus))) (Is signs.Minus)
-deep_sign = refl
-
-deep_parenthesis : HoldsBehind faults.TooMany (sum (replicate 31 (Is signs.Left) ++ Is signs.Minus ∷ [])) (Is signs.Left)
-deep_parenthesis = refl
-
 not_so_deep : is_too_many (backward (sum (replicate 31 (Is signs.Left))) []) (Is signs.Left) ≡ false
 not_so_deep = refl
+
+line_256 : is_too_many (backward (of_a (times 255 pick_big)) []) (w (codes "pick")) ≡ false
+line_256 = refl
 
 -- a sign is over behind its atom, one in front of a parenthesis behind that
 signs_over : nesting (backward (sum (Is signs.Minus ∷ Is signs.Left ∷ Is signs.Minus ∷ Number 1 ∷ Is signs.Times ∷ [])) []) ≡ 2
@@ -94,21 +80,3 @@ signs_over = refl
 
 all_over : nesting (backward (sum (Is signs.Minus ∷ Is signs.Left ∷ Number 1 ∷ Is signs.Right ∷ Is signs.Minus ∷ [])) []) ≡ 0
 all_over = refl
-
--- n variables x
-abbrev variables_x : ℕ → List Symbol
-variables_x zero = []
-variables_x (suc n) = var_x ++ variables_x n
-
-seventeenth : HoldsBehind faults.TooMany (of_a (variables_x 16)) (w (codes "var"))
-seventeenth = refl
-
-abbrev picks : ℕ → List Symbol
-picks zero = []
-picks (suc n) = w (codes "pick") ∷ w (codes "big") ∷ Is signs.Semicolon ∷ picks n
-
-line_257 : HoldsBehind faults.TooMany (of_a (picks 256)) (w (codes "pick"))
-line_257 = refl
-
-line_256 : is_too_many (backward (of_a (picks 255)) []) (w (codes "pick")) ≡ false
-line_256 = refl

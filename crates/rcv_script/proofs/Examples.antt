@@ -1,5 +1,5 @@
 -- Worked cases of scripts: A sends big, which has sorts, and ping, which has none; B sends low to A.
-use Rattle.std.proofs.Common.{◌≡◌, ℕ, Bool, true, false, List, [], ◌∷◌, ◌++◌, length, map, codes, refl, sym, ◌∙◌, ap, arith}
+use Rattle.std.proofs.Common.{◌≡◌, ℕ, Bool, true, false, List, [], ◌∷◌, ◌++◌, length, map, codes, refl, sym, ◌∙◌, ap, arith, rules}
 use Rattle.std.specs.Prelude.{replicate, pos, negsuc, Some, None, slice_index_or}
 use Rattle.rcv_tree.specs.declared.protocol.Protocol.{Protocol}
 use Rattle.rcv_model.specs.Text.{Body, End, Single, body_of}
@@ -12,6 +12,7 @@ use Rattle.rcv_script.specs.Symbols.{Symbol, Is, Word, Number}
 use Rattle.rcv_script.specs.Scripts.{ScriptsView, AreScriptsFor}
 use Rattle.rcv_script.specs.Grammar.{Digits, Named, Signed, Inside, NoAtom, TimesAtom, NoProduct, PlusProduct, MinusProduct, SumOf, VarText, SendText, PickText, WhenText, OnText, WrittenScript}
 use Rattle.rcv_script.specs.Refusals.{AreRead, IsFirst}
+use Rattle.rcv_script.specs.declared.fault.Fault.{Fault}
 use Rattle.rcv_script.proofs.Answering.{taken, refused}
 
 abbrev message : List ℕ → ℕ → ℕ → Bool → PointView
@@ -23,18 +24,34 @@ messages = message (codes "big") 0 1 true ∷ message (codes "low") 1 0 true ∷
 abbrev pub roles : List (List ℕ)
 roles = codes "A" ∷ codes "B" ∷ []
 
--- role A { .. }
+abbrev pub w : List ℕ → Symbol
+w name = Word name
+
+-- role A { .., its line var x = -2;, and lines of it
 abbrev pub of_a : List Symbol → List Symbol
-of_a lines = Word (codes "role") ∷ Word (codes "A") ∷ Is signs.Open ∷ lines
+of_a lines = w (codes "role") ∷ w (codes "A") ∷ Is signs.Open ∷ lines
+
+abbrev pub var_x : List Symbol
+var_x = w (codes "var") ∷ w (codes "x") ∷ Is signs.Equals ∷ Is signs.Minus ∷ Number 2 ∷ Is signs.Semicolon ∷ []
+
+abbrev pub send : List ℕ → List Symbol → List Symbol
+send label more = w (codes "send") ∷ w label ∷ Is signs.Equals ∷ more
+
+abbrev pub on : List ℕ → List Symbol → List Symbol
+on label more = w (codes "on") ∷ w label ∷ w (codes "set") ∷ more
+
+abbrev pub set_x : List ℕ → List Symbol → List Symbol
+set_x label more = on label (w (codes "x") ∷ Is signs.Equals ∷ more)
 
 abbrev ended : List Symbol
 ended = Is signs.Semicolon ∷ Is signs.Close ∷ []
 
+-- 32 signs may be open, and the 33rd may not.
+abbrev signed : ℕ → List Symbol
+signed n = of_a (send (codes "big") (replicate n (Is signs.Minus) ++ Number 1 ∷ []))
+
 nothing : AreRead roles messages [] ([] ∷ [] ∷ [])
 nothing = taken roles messages _ _ refl
-
-abbrev pub var_x : List Symbol
-var_x = Word (codes "var") ∷ Word (codes "x") ∷ Is signs.Equals ∷ Is signs.Minus ∷ Number 2 ∷ Is signs.Semicolon ∷ []
 
 -- 1 - x - 2 * x is (1 - x) - (2 * x)
 from_the_left :
@@ -54,38 +71,22 @@ remembered :
     ((VarLine (negsuc 1) ∷ OnLine (codes "low") 0 TheValue ∷ []) ∷ [] ∷ [])
 remembered = taken roles messages _ _ refl
 
-no_number :
-    IsFirst roles messages (of_a (var_x ++ Word (codes "on") ∷ Word (codes "ping") ∷ Word (codes "set") ∷ Word (codes "x") ∷ Is signs.Equals ∷ Word (codes "value") ∷ ended))
-    faults.NoPayload (Word (codes "value") ∷ ended)
-no_number = refused roles messages _ _ _ refl
+-- where what isn't read is refused, by which code
+abbrev AllRefused : List (Fault × List Symbol × List Symbol) → Type 0
+AllRefused [] = Unit {0}
+AllRefused (x ∷ xs) = IsFirst roles messages (x.1 ++ x.2) x.0 x.2 × AllRefused xs
 
-attempt_in_state :
-    IsFirst roles messages (of_a (var_x ++ Word (codes "on") ∷ Word (codes "ping") ∷ Word (codes "set") ∷ Word (codes "x") ∷ Is signs.Equals ∷ Word (codes "attempt") ∷ ended))
-    faults.AttemptInState (Word (codes "attempt") ∷ ended)
-attempt_in_state = refused roles messages _ _ _ refl
-
--- A label that B alone sends, and one without sorts.
-least_code : IsFirst roles messages (of_a (Word (codes "send") ∷ Word (codes "low") ∷ [])) faults.Label (Word (codes "low") ∷ [])
-least_code = refused roles messages _ _ _ refl
-
-bare : IsFirst roles messages (of_a (Word (codes "send") ∷ Word (codes "ping") ∷ [])) faults.NoPayload (Word (codes "ping") ∷ [])
-bare = refused roles messages _ _ _ refl
-
-second_script : IsFirst roles messages (of_a (Is signs.Close ∷ of_a [])) faults.Role (Word (codes "A") ∷ Is signs.Open ∷ [])
-second_script = refused roles messages _ _ _ refl
-
-cut : IsFirst roles messages (of_a []) faults.Token []
-cut = refused roles messages _ _ _ refl
-
--- 32 signs may be open, and the 33rd may not.
-abbrev signed : ℕ → List Symbol
-signed n = of_a (Word (codes "send") ∷ Word (codes "big") ∷ Is signs.Equals ∷ (replicate n (Is signs.Minus) ++ Number 1 ∷ []))
-
-deepest : IsFirst roles messages (signed 32) faults.Token []
-deepest = refused roles messages _ _ _ refl
-
-too_deep : IsFirst roles messages (signed 33) faults.TooMany (Is signs.Minus ∷ Number 1 ∷ [])
-too_deep = refused roles messages _ _ _ refl
+-- Each code. At a label that B alone sends it is 32, not 35, and behind whole scripts a word is 30.
+they_are_refused : AllRefused (
+    (faults.Token, of_a [], []) ∷ (faults.Token, of_a (Is signs.Close ∷ []), w (codes "end") ∷ []) ∷ (faults.Token, signed 32, [])
+    ∷ (faults.Role, of_a (Is signs.Close ∷ w (codes "role") ∷ []), w (codes "A") ∷ Is signs.Open ∷ [])
+    ∷ (faults.Role, w (codes "role") ∷ [], w (codes "C") ∷ []) ∷ (faults.Label, of_a (w (codes "send") ∷ []), w (codes "low") ∷ [])
+    ∷ (faults.Label, of_a (w (codes "on") ∷ []), w (codes "far") ∷ []) ∷ (faults.Variable, of_a (send (codes "big") []), w (codes "x") ∷ [])
+    ∷ (faults.AttemptInState, of_a (var_x ++ set_x (codes "ping") []), w (codes "attempt") ∷ ended)
+    ∷ (faults.NoPayload, of_a (var_x ++ set_x (codes "ping") []), w (codes "value") ∷ ended)
+    ∷ (faults.NoPayload, of_a (w (codes "send") ∷ []), w (codes "ping") ∷ [])
+    ∷ (faults.TooMany, of_a (send (codes "big") (replicate 32 (Is signs.Minus))), Is signs.Minus ∷ Number 1 ∷ []) ∷ [])
+they_are_refused = search (rules, refused roles messages, tt) depth 40
 
 -- Scripts without lines of a protocol with this one message fit it, and don't fit one in which B sends it.
 abbrev one_message : Body
@@ -137,16 +138,3 @@ forms_lines =
 
 forms_read : AreRead roles messages forms_text (forms_lines ∷ [] ∷ [])
 forms_read = record { written = all_forms; derived = refl; free = (taken roles messages forms_text (forms_lines ∷ [] ∷ []) refl).free; said = refl }
-
--- Each code has a text. At a label that B alone sends it is 32, not 35, and behind whole scripts a word is 30.
-no_grammar : IsFirst roles messages (of_a (Is signs.Close ∷ Word (codes "end") ∷ [])) faults.Token (Word (codes "end") ∷ [])
-no_grammar = refused roles messages _ _ _ refl
-
-unknown_role : IsFirst roles messages (Word (codes "role") ∷ Word (codes "C") ∷ []) faults.Role (Word (codes "C") ∷ [])
-unknown_role = refused roles messages _ _ _ refl
-
-unknown_label : IsFirst roles messages (of_a (Word (codes "on") ∷ Word (codes "far") ∷ [])) faults.Label (Word (codes "far") ∷ [])
-unknown_label = refused roles messages _ _ _ refl
-
-unknown_variable : IsFirst roles messages (of_a (Word (codes "send") ∷ Word (codes "big") ∷ Is signs.Equals ∷ Word (codes "x") ∷ [])) faults.Variable (Word (codes "x") ∷ [])
-unknown_variable = refused roles messages _ _ _ refl

@@ -1,27 +1,45 @@
--- At a symbol no code from 31 on holds, or the least of them is this.
-use Rattle.std.proofs.Common.{◌≡◌, ℕ, false, List, [], ◌∷◌, ◌++◌}
-use Rattle.std.specs.Prelude.{nat_le}
+-- The least code that holds at a symbol.
+use Rattle.std.proofs.Common.{◌≡◌, ℕ, ◌≤◌, Bool, cond, List, arith}
+use Rattle.std.proofs.lemmas.Bool.Decides.{nat_tests}
+use Rattle.std.specs.Prelude.{Option, Some, None}
 use Rattle.rcv_points.specs.Follow.{PointView}
 use Rattle.rcv_script.specs.declared.fault.Fault.{Fault}
 use Rattle.rcv_script.specs.declared.fault.Fault.TheVariants as faults
 use Rattle.rcv_script.specs.Symbols.{Symbol}
-use Rattle.rcv_script.specs.Table.{Holds}
-use Rattle.rcv_script.specs.Refusals.{code_of, backward}
+use Rattle.rcv_script.specs.Table.{Holds, is_role, is_label, is_variable, is_attempt_in_state, is_without_payload, is_too_many}
+use Rattle.rcv_script.specs.Refusals.{code_of}
 
--- no code from 31 on that is less than this number holds
-abbrev pub NoneBelow : List (List ℕ) → List PointView → ℕ → List Symbol → Symbol → Type 0
-NoneBelow roles messages c back t = (f : Fault) → nat_le c (code_of f) ≡ false → Holds roles messages f back t → ⊥
+-- the protocol's roles and messages
+pub record Frame : Type 0 where
+  pub roles : List (List ℕ)
+  pub messages : List PointView
 
--- no code from 31 on holds
-abbrev pub NoneAt : List (List ℕ) → List PointView → List Symbol → Symbol → Type 0
-NoneAt roles messages back t = NoneBelow roles messages 37 back t
+-- the first code from 31 on of which the test holds, and 37 where there is none
+abbrev first_code : (role label variable attempt bare many : Bool) → ℕ
+first_code role label variable attempt bare many =
+    cond role 31 (cond label 32 (cond variable 33 (cond attempt 34 (cond bare 35 (cond many 36 37)))))
 
--- none holds at any of these symbols, where those stand before
-abbrev pub NoneIn : List (List ℕ) → List PointView → List Symbol → List Symbol → Type 0
-NoneIn roles messages back symbols = (front : List Symbol) (t : Symbol) (ts : List Symbol) → symbols ≡ front ++ t ∷ ts → NoneAt roles messages (backward front back) t
+abbrev pub least_code : Frame → List Symbol → Symbol → ℕ
+least_code frame back t =
+    first_code (is_role frame.roles back t) (is_label frame.roles frame.messages back t) (is_variable back t)
+    (is_attempt_in_state back t) (is_without_payload frame.roles frame.messages back t) (is_too_many back t)
 
--- the code holds at the first of what is left, and no lesser one from 31 on; code 30 is left to the grammar
-abbrev pub IsLeast : List (List ℕ) → List PointView → Fault → List Symbol → List Symbol → Type 0
-IsLeast roles messages faults.Token back left = Unit {0}
-IsLeast roles messages f back [] = ⊥
-IsLeast roles messages f back (t ∷ ts) = Holds roles messages f back t × NoneBelow roles messages (code_of f) back t
+-- the code of what speaks against a symbol
+abbrev pub code_or : Option Fault → ℕ
+code_or None = 37
+code_or (Some f) = code_of f
+
+-- what speaks against the symbol is the least code from 31 on that holds
+abbrev pub Speaks : Frame → Option Fault → List Symbol → Symbol → Type 0
+Speaks frame o back t = least_code frame back t ≡ code_or o
+
+-- the least code holds, and no lesser one
+pub holds : (frame : Frame) (f : Fault) (back : List Symbol) (t : Symbol) → Speaks frame (Some f) back t
+    → Holds frame.roles frame.messages f back t
+holds frame faults.Token back t is = absurd (grind (arith, nat_tests, is))
+holds frame _ back t is = grind (arith, nat_tests, is)
+
+pub none_lesser : (frame : Frame) (f : Fault) (back : List Symbol) (t : Symbol) → Holds frame.roles frame.messages f back t
+    → least_code frame back t ≤ code_of f
+none_lesser frame faults.Token back t h = absurd h
+none_lesser frame _ back t h = grind (arith, nat_tests, h)

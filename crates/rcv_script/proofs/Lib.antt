@@ -8,11 +8,9 @@ pub mod Least
 pub mod Deriving
 pub mod Viewing
 pub mod Knowing
-pub mod Computing
 pub mod Named
 pub mod Wording
 pub mod Lining
-pub mod Telling
 pub mod Agreeing
 pub mod Answering
 pub mod Once

@@ -1,193 +1,186 @@
--- Steps over words, products and sums in expressions.
-use Rattle.std.proofs.Common.{◌≡◌, ℕ, Bool, true, false, codes, List, ◌∷◌, refl, sym, subst, ◌∙◌, inl, inr}
-use Rattle.std.specs.Prelude.{◌||◌, ◌&&◌, not, cond, Option, Some, None}
+-- The machine goes through expressions of the grammar.
+use Rattle.std.proofs.Common.{◌≡◌, ℕ, Bool, true, false, cond, codes, List, [], ◌∷◌, refl, sym, ap, subst, ◌∙◌, arith}
+use Rattle.std.proofs.lemmas.Bool.Decides.{nat_tests}
+use Rattle.std.specs.Prelude.{drop, Option, Some, None}
 use Rattle.std.specs.Str.{bytes_eq}
 use Rattle.std.proofs.lemmas.Slice.Eq.{bytes_eq-Decides}
-use Rattle.rcv_model.specs.Script.{Expr, TheValue, TheAttempt, Variable}
-use Rattle.rcv_points.specs.Follow.{PointView}
+use Rattle.rcv_model.specs.Script.{Expr, TheValue, TheAttempt, Variable, Negated, Times, Plus, Minus}
 use Rattle.rcv_script.specs.declared.sign.Sign.TheVariants as signs
-use Rattle.rcv_script.specs.declared.fault.Fault.{Fault}
-use Rattle.rcv_script.specs.declared.fault.Fault.TheVariants as faults
 use Rattle.rcv_script.specs.Symbols.{Symbol, Is, Word, Number}
-use Rattle.rcv_script.specs.Machine.{Place, Item, AnAtom, On, unless, fault_if, atom, word_atom, variable, place_of, takes_bare}
-use Rattle.rcv_script.specs.Table.{is_among, line_so_far, label, is_deciding, is_remembering, variables, begins_an_atom, role_of, is_role, is_label, is_variable, is_attempt_in_state, is_without_payload, is_too_many}
-use Rattle.rcv_script.proofs.Viewing.{InSum, word_joins, not_one, not_two, not_three, not_none, stays}
-use Rattle.rcv_script.proofs.Knowing.{value_fault, Computes, Over, Awaits, Judged}
-use Rattle.rcv_script.proofs.Named.{lost_name, found_name}
-use Rattle.rcv_script.proofs.Computing.{none_below, number_atom, sign_atom, inner_atom}
+use Rattle.rcv_script.specs.Grammar.{WrittenAtom, Digits, Named, Signed, Inside, MoreAtoms, NoAtom, TimesAtom, MoreProducts, NoProduct, PlusProduct, MinusProduct, WrittenSum, SumOf, atom_text, atoms_text, products_text, sum_text}
+use Rattle.rcv_script.specs.Meaning.{word_says, atom_says, product_says, terms_say, sum_says}
+use Rattle.rcv_script.specs.Machine.{Place, Item, This, AnAtom, Factors, Terms, On, unless, deeper, a_product, a_sum, variable, place_of, is_some}
+use Rattle.rcv_script.specs.Table.{is_among, line_so_far, variables, begins_an_atom, minuses, parentheses, with_signs, nesting}
+use Rattle.rcv_script.proofs.Deriving.{AllLines}
+use Rattle.rcv_script.proofs.Least.{Frame}
+use Rattle.rcv_script.proofs.Viewing.{view, word_joins, IsLonger, is_longer, stays}
+use Rattle.rcv_script.proofs.Knowing.{Told, ToldBy, tell, Computes, Over, onward}
+use Rattle.rcv_script.proofs.Named.{some_name}
 
--- What each code says of a word in an expression, by whether the line decides, the word is value or attempt, and a variable.
-abbrev variable_so : Bool → Bool → Bool → Bool → Bool
-variable_so decides value attempt among = (not (value || attempt) && not among) || (decides && value)
+-- the symbol at which a product or a sum ends
+abbrev ends_product : List Symbol → Type 0
+ends_product (Is signs.Times ∷ ts) = ⊥
+ends_product _ = Unit {0}
 
-no_role : (roles : List (List ℕ)) (back : List Symbol) (w : List ℕ) → InSum (line_so_far back) → is_role roles back (Word w) ≡ false
-no_role roles back w i = let e = not_one (codes "role") (line_so_far back) i in rw e refl
+abbrev pub ends_sum : List Symbol → Type 0
+ends_sum (Is signs.Times ∷ ts) = ⊥
+ends_sum (Is signs.Plus ∷ ts) = ⊥
+ends_sum (Is signs.Minus ∷ ts) = ⊥
+ends_sum _ = Unit {0}
 
-no_label : (roles : List (List ℕ)) (messages : List PointView) (back : List Symbol) (w : List ℕ) → InSum (line_so_far back) → is_label roles messages back (Word w) ≡ false
-no_label roles messages back w i =
-    let e = not_one (codes "send") (line_so_far back) i in
-    let f = not_one (codes "pick") (line_so_far back) i in
-    let g = not_one (codes "on") (line_so_far back) i in
-    rw (e, f, g) refl
+product_ends : (more : MoreProducts) (us : List Symbol) → ends_sum us → ends_product (products_text more us)
+product_ends NoProduct (Is signs.Times ∷ us) h = h
+product_ends _ us h = tt
 
-no_more : (back : List Symbol) (w : List ℕ) → InSum (line_so_far back) → is_too_many back (Word w) ≡ false
-no_more back w i = let e = not_none (line_so_far back) i in rw e refl
+module _ (frame : Frame) (ss : AllLines) where
+  -- what is awaited behind an expression goes on
+  abbrev pub Follows : Item → List Symbol → List Symbol → Type 0
+  Follows i back us = (next : List Symbol) → Over back next → Told frame i next us ss
 
-as_variable : (back : List Symbol) (w : List ℕ) (d v a m : Bool) → InSum (line_so_far back) → begins_an_atom back ≡ true → is_deciding back ≡ d → bytes_eq w (codes "value") ≡ v → bytes_eq w (codes "attempt") ≡ a
-    → is_among w (variables back) ≡ m → is_variable back (Word w) ≡ variable_so d v a m
-as_variable back w d v a m i b ed ev ea em = go d v a i ed ev ea
-  where
-    go : (d v a : Bool) → InSum (line_so_far back) → is_deciding back ≡ d → bytes_eq w (codes "value") ≡ v → bytes_eq w (codes "attempt") ≡ a → is_variable back (Word w) ≡ variable_so d v a m
-    go true true true (inl j) ed ev ea =
-        let e = not_one (codes "var") (line_so_far back) (inl j) in
-        let f = not_three (line_so_far back) (inl j) in
-        rw (e, f, em, b, ea, ev, ed) refl
-    go true true true (inr j) ed ev ea = let g = j.0 in absurd cc
-    go true true false (inl j) ed ev ea =
-        let e = not_one (codes "var") (line_so_far back) (inl j) in
-        let f = not_three (line_so_far back) (inl j) in
-        rw (e, f, em, b, ea, ev, ed) refl
-    go true true false (inr j) ed ev ea = let g = j.0 in absurd cc
-    go true false true (inl j) ed ev ea =
-        let e = not_one (codes "var") (line_so_far back) (inl j) in
-        let f = not_three (line_so_far back) (inl j) in
-        rw (e, f, em, b, ea, ev, ed) refl
-    go true false true (inr j) ed ev ea = let g = j.0 in absurd cc
-    go true false false (inl j) ed ev ea =
-        let e = not_one (codes "var") (line_so_far back) (inl j) in
-        let f = not_three (line_so_far back) (inl j) in
-        rw (e, f, em, b, ea, ev, ed) refl
-    go true false false (inr j) ed ev ea = let g = j.0 in absurd cc
-    go false true true (inl j) ed ev ea = let g = j.0 in absurd cc
-    go false true true (inr j) ed ev ea =
-        let e = not_one (codes "var") (line_so_far back) (inr j) in
-        let f = not_three (line_so_far back) (inr j) in
-        let r = j.1 in
-        rw (e, f, em, b, ea, ev, ed, r) refl
-    go false true false (inl j) ed ev ea = let g = j.0 in absurd cc
-    go false true false (inr j) ed ev ea =
-        let e = not_one (codes "var") (line_so_far back) (inr j) in
-        let f = not_three (line_so_far back) (inr j) in
-        let r = j.1 in
-        rw (e, f, em, b, ea, ev, ed, r) refl
-    go false false true (inl j) ed ev ea = let g = j.0 in absurd cc
-    go false false true (inr j) ed ev ea =
-        let e = not_one (codes "var") (line_so_far back) (inr j) in
-        let f = not_three (line_so_far back) (inr j) in
-        let r = j.1 in
-        rw (e, f, em, b, ea, ev, ed, r) refl
-    go false false false (inl j) ed ev ea = let g = j.0 in absurd cc
-    go false false false (inr j) ed ev ea =
-        let e = not_one (codes "var") (line_so_far back) (inr j) in
-        let f = not_three (line_so_far back) (inr j) in
-        let r = j.1 in
-        rw (e, f, em, b, ea, ev, ed, r) refl
+  -- an atom begins; one without a sign before it; one is over
+  abbrev Opens : Place → List Symbol → Type 0
+  Opens p back = Computes frame p (view back) × (begins_an_atom back ≡ true) × (p.depth ≡ nesting back)
 
-as_attempt : (back : List Symbol) (w : List ℕ) (r a : Bool) → is_remembering back ≡ r → bytes_eq w (codes "attempt") ≡ a → is_attempt_in_state back (Word w) ≡ (r && a)
-as_attempt back w r a er ea = rw (er, ea) refl
+  abbrev pub Starts : Place → List Symbol → Type 0
+  Starts p back =
+      Computes frame p (view back) × (begins_an_atom back ≡ true) × (minuses back ≡ 0) × (p.depth ≡ with_signs (parentheses back))
 
-as_value : (roles : List (List ℕ)) (messages : List PointView) (back : List Symbol) (w : List ℕ) (r v : Bool) → InSum (line_so_far back) → is_remembering back ≡ r → bytes_eq w (codes "value") ≡ v
-    → is_without_payload roles messages back (Word w) ≡ (r && v && takes_bare messages (role_of roles back) (label back))
-as_value roles messages back w r v i er ev = let e = not_one (codes "send") (line_so_far back) i in rw (e, er, ev) refl
+  abbrev Rests : Place → List Symbol → Type 0
+  Rests p back = Computes frame p (view back) × (begins_an_atom back ≡ false) × (p.depth ≡ with_signs (parentheses back))
 
-not_attempt : (w : List ℕ) → bytes_eq w (codes "value") ≡ true → bytes_eq w (codes "attempt") ≡ false
-not_attempt w e = let same : w ≡ codes "value" = (bytes_eq-Decides w (codes "value")).0 e in rw same refl
+  rests : (p : Place) (back next : List Symbol) → Starts p back → Over back next → Rests p next
+  rests p back next h o = (subst (Computes frame p) (sym o.same) h.0, o.whole, h.3 ∙ sym (ap with_signs o.braces))
 
-word_over : (roles : List (List ℕ)) (messages : List PointView) (p : Place) (back : List Symbol) (w : List ℕ) → Computes roles messages p back → Over back (Word w ∷ back)
-word_over roles messages p back w c = record { same = stays back (Word w) (word_joins back w c.inside) c.inside; braces = refl; whole = not_two (line_so_far back) c.inside }
+  -- behind a mark that goes on with an expression
+  marked : (p : Place) (back : List Symbol) (m : Symbol) → Rests p back → view (m ∷ back) ≡ view back → begins_an_atom (m ∷ back) ≡ true
+      → minuses (m ∷ back) ≡ 0 → parentheses (m ∷ back) ≡ parentheses back → Starts p (m ∷ back)
+  marked p back m h same begins none braces = (subst (Computes frame p) (sym same) h.0, begins, none, h.2 ∙ sym (ap with_signs braces))
 
-word_step : (roles : List (List ℕ)) (messages : List PointView) (p : Place) (w : List ℕ) (k : Expr → Item) (back : List Symbol) → Awaits roles messages back (AnAtom p k) → Judged roles messages (word_atom p w k) back (Word w)
-word_step roles messages p w k back h = by_kind h.0.inside (bytes_eq w (codes "value")) (bytes_eq w (codes "attempt")) refl refl
-  where
-    on : (e : Expr) → Awaits roles messages (Word w ∷ back) (k e)
-    on e = h.3 e (Word w ∷ back) (word_over roles messages p back w h.0)
+  word_told : (w : List ℕ) (p : Place) (k : Expr → Item) (back us : List Symbol) → Opens p back
+      → Follows (k (word_says p.names w)) back us → Told frame (AnAtom p k) back (Word w ∷ us) ss
+  word_told w p k back us h f = go (bytes_eq w (codes "value")) (bytes_eq w (codes "attempt")) (place_of p.names w) refl refl refl
+    where
+      line : IsLonger (line_so_far back)
+      line = is_longer (line_so_far back) h.0.0
 
-    value_is : (f : Option Fault) → value_fault roles messages back ≡ f → p.value ≡ f
-    value_is f e = h.0.value ∙ e
+      named : (o : Option ℕ) → place_of p.names w ≡ o → is_among w (variables back) ≡ is_some o
+      named o eo = ap (is_among w) (sym h.0.1) ∙ sym (some_name w p.names) ∙ ap is_some eo
 
-    -- the value where a line decides, and where one remembers
-    value_case : (i : InSum (line_so_far back)) → bytes_eq w (codes "value") ≡ true → Judged roles messages (unless p.value (On (k TheValue))) back (Word w)
-    value_case (inl i) v =
-        let d = i.0 in
-        let r = i.1 in
-        let a = not_attempt w v in
-        let is : p.value ≡ Some faults.Variable = h.0.value ∙ rw d refl in
-        subst (λ (f : Option Fault). Judged roles messages (unless f (On (k TheValue))) back (Word w)) (sym is) (
-          as_variable back w true true false (is_among w (variables back)) (inl i) h.1 d v a refl,
-          none_below roles messages 33 back (Word w) (λ le. no_role roles back w (inl i)) (λ le. no_label roles messages back w (inl i)) (λ le. absurd cc) (λ le. absurd cc) (λ le. absurd cc) (λ le. absurd cc),
-        )
-    value_case (inr i) v =
-        let d = i.0 in
-        let a = not_attempt w v in
-        let is : p.value ≡ fault_if (takes_bare messages (role_of roles back) (label back)) faults.NoPayload = h.0.value ∙ rw d refl in
-        subst (λ (f : Option Fault). Judged roles messages (unless f (On (k TheValue))) back (Word w)) (sym is) (go (takes_bare messages (role_of roles back) (label back)) refl)
-      where
-        go : (b : Bool) → takes_bare messages (role_of roles back) (label back) ≡ b → Judged roles messages (unless (fault_if b faults.NoPayload) (On (k TheValue))) back (Word w)
-        go true t = (
-          as_value roles messages back w true true (inr i) i.1 v ∙ t,
-          none_below roles messages 35 back (Word w) (λ le. no_role roles back w (inr i)) (λ le. no_label roles messages back w (inr i)) (λ le. as_variable back w false true false (is_among w (variables back)) (inr i) h.1 i.0 v (not_attempt w v) refl)
-              (λ le. as_attempt back w true false i.1 (not_attempt w v)) (λ le. absurd cc) (λ le. absurd cc),
-        )
-        go false t = (
-          none_below roles messages 37 back (Word w) (λ le. no_role roles back w (inr i)) (λ le. no_label roles messages back w (inr i)) (λ le. as_variable back w false true false (is_among w (variables back)) (inr i) h.1 i.0 v (not_attempt w v) refl)
-              (λ le. as_attempt back w true false i.1 (not_attempt w v)) (λ le. as_value roles messages back w true true (inr i) i.1 v ∙ t) (λ le. no_more back w (inr i)),
-          on TheValue,
-        )
+      said : (e : Expr) → word_says p.names w ≡ e → Told frame (k e) (Word w ∷ back) us ss
+      said e is = subst (λ (x : Expr). Told frame (k x) (Word w ∷ back) us ss) is (f (Word w ∷ back)
+          (record { same = stays back (Word w) (word_joins back w h.0.0) h.0.0; braces = refl; whole = line.two }))
 
-    attempt_case : (i : InSum (line_so_far back)) → bytes_eq w (codes "value") ≡ false → bytes_eq w (codes "attempt") ≡ true → Judged roles messages (unless p.attempt (On (k TheAttempt))) back (Word w)
-    attempt_case (inl i) v a =
-        let d = i.0 in
-        let is : p.attempt ≡ None = h.0.attempt ∙ rw d refl in
-        subst (λ (f : Option Fault). Judged roles messages (unless f (On (k TheAttempt))) back (Word w)) (sym is) (
-          none_below roles messages 37 back (Word w) (λ le. no_role roles back w (inl i)) (λ le. no_label roles messages back w (inl i)) (λ le. as_variable back w true false true (is_among w (variables back)) (inl i) h.1 i.0 v a refl)
-              (λ le. as_attempt back w false true i.1 a) (λ le. as_value roles messages back w false false (inl i) i.1 v) (λ le. no_more back w (inl i)),
-          on TheAttempt,
-        )
-    attempt_case (inr i) v a =
-        let d = i.0 in
-        let is : p.attempt ≡ Some faults.AttemptInState = h.0.attempt ∙ rw d refl in
-        subst (λ (f : Option Fault). Judged roles messages (unless f (On (k TheAttempt))) back (Word w)) (sym is) (
-          as_attempt back w true true i.1 a,
-          none_below roles messages 34 back (Word w) (λ le. no_role roles back w (inr i)) (λ le. no_label roles messages back w (inr i)) (λ le. as_variable back w false false true (is_among w (variables back)) (inr i) h.1 i.0 v a refl)
-              (λ le. absurd cc) (λ le. absurd cc) (λ le. absurd cc),
-        )
+      go : (v a : Bool) (o : Option ℕ) → bytes_eq w (codes "value") ≡ v → bytes_eq w (codes "attempt") ≡ a → place_of p.names w ≡ o
+          → ToldBy frame (cond v (unless p.value (On (k TheValue))) (cond a (unless p.attempt (On (k TheAttempt))) (variable o k)))
+          back (Word w) (λ j. Told frame j (Word w ∷ back) us ss)
+      go true a o ev ea eo =
+          let value = (bytes_eq-Decides w (codes "value")).0 ev in
+          let other : bytes_eq w (codes "attempt") ≡ false = rw value refl in
+          tell frame p.value (k TheValue) back (Word w) (λ j. Told frame j (Word w ∷ back) us ss)
+          (simp (h.0.2, line.one, line.three, line.none, ev, other) (grind (arith, nat_tests, h.0.0)))
+          (λ ok. said TheValue (rw ev refl))
+      go false true o ev ea eo = tell frame p.attempt (k TheAttempt) back (Word w) (λ j. Told frame j (Word w ∷ back) us ss)
+          (simp (h.0.3, line.one, line.three, line.none, ev, ea) (grind (arith, nat_tests, h.0.0)))
+          (λ ok. said TheAttempt (rw (ev, ea) refl))
+      go false false None ev ea eo =
+          let unknown = named None eo in simp (line.one, line.three, line.none, ev, ea, unknown) (grind (arith, nat_tests, h.0.0, h.1))
+      go false false (Some n) ev ea eo = let known = named (Some n) eo in (
+        simp (line.one, line.three, line.none, ev, ea, known) (grind (arith, nat_tests, h.0.0, h.1)),
+        said (Variable n) (rw (ev, ea, eo) refl),
+      )
 
-    -- what the codes after 33 say of any other word
-    no_attempt : InSum (line_so_far back) → bytes_eq w (codes "attempt") ≡ false → is_attempt_in_state back (Word w) ≡ false
-    no_attempt (inl i) a = as_attempt back w false false i.1 a
-    no_attempt (inr i) a = as_attempt back w true false i.1 a
+  abbrev AtomTold : WrittenAtom → Type 0
+  AtomTold a = (p : Place) (k : Expr → Item) (back us : List Symbol) → Opens p back → Follows (k (atom_says p.names a)) back us
+      → Told frame (AnAtom p k) back (atom_text a us) ss
 
-    no_value : (i : InSum (line_so_far back)) → bytes_eq w (codes "value") ≡ false → is_without_payload roles messages back (Word w) ≡ false
-    no_value (inl i) v = as_value roles messages back w false false (inl i) i.1 v
-    no_value (inr i) v = as_value roles messages back w true false (inr i) i.1 v
+  abbrev AtomsTold : MoreAtoms → Type 0
+  AtomsTold more = (p : Place) (left : Expr) (k : Expr → Item) (back us : List Symbol) → Rests p back → ends_product us
+      → Follows (k (product_says p.names left more)) back us → Told frame (Factors p left k) back (atoms_text more us) ss
 
-    as_name : (m : Bool) → (i : InSum (line_so_far back)) → bytes_eq w (codes "value") ≡ false → bytes_eq w (codes "attempt") ≡ false → is_among w (variables back) ≡ m → is_variable back (Word w) ≡ not m
-    as_name true (inl i) v a e = as_variable back w true false false true (inl i) h.1 i.0 v a e
-    as_name true (inr i) v a e = as_variable back w false false false true (inr i) h.1 i.0 v a e
-    as_name false (inl i) v a e = as_variable back w true false false false (inl i) h.1 i.0 v a e
-    as_name false (inr i) v a e = as_variable back w false false false false (inr i) h.1 i.0 v a e
+  abbrev TermsTold : MoreProducts → Type 0
+  TermsTold more = (p : Place) (left : Expr) (k : Expr → Item) (back us : List Symbol) → Rests p back → ends_sum us
+      → Follows (k (terms_say p.names left more)) back us → Told frame (Terms p left k) back (products_text more us) ss
 
-    name_case : (i : InSum (line_so_far back)) → bytes_eq w (codes "value") ≡ false → bytes_eq w (codes "attempt") ≡ false → (o : Option ℕ) → place_of p.names w ≡ o → Judged roles messages (variable o k) back (Word w)
-    name_case i v a None e =
-        let m : is_among w (variables back) ≡ false = lost_name w (variables back) (subst (λ (x : List (List ℕ)). place_of x w ≡ None) h.0.names e) in (
-          as_name false i v a m,
-          none_below roles messages 33 back (Word w) (λ le. no_role roles back w i) (λ le. no_label roles messages back w i) (λ le. absurd cc) (λ le. absurd cc) (λ le. absurd cc) (λ le. absurd cc),
-        )
-    name_case i v a (Some n) e =
-        let m : is_among w (variables back) ≡ true = found_name w (variables back) n (subst (λ (x : List (List ℕ)). place_of x w ≡ Some n) h.0.names e) in (
-          none_below roles messages 37 back (Word w) (λ le. no_role roles back w i) (λ le. no_label roles messages back w i) (λ le. as_name true i v a m) (λ le. no_attempt i a) (λ le. no_value i v) (λ le. no_more back w i),
-          on (Variable n),
+  product_told : (a : WrittenAtom) (more : MoreAtoms) → AtomTold a → AtomsTold more → (p : Place) (so : Expr → Expr) (k : Expr → Item)
+      → (back us : List Symbol) → Starts p back → ends_product us
+      → Follows (k (product_says p.names (so (atom_says p.names a)) more)) back us
+      → Told frame (AnAtom p (λ e. Factors p (so e) k)) back (atom_text a (atoms_text more us)) ss
+  product_told a more first others p so k back us h e f =
+      first p (λ x. Factors p (so x) k) back (atoms_text more us) (h.0, h.1, omega arith) (λ next o.
+      others p (so (atom_says p.names a)) k next us (rests p back next h o) e (λ last o'. f last (onward o.same o.braces o')))
+
+  term_told : (a : WrittenAtom) (atoms : MoreAtoms) (more : MoreProducts) → AtomTold a → AtomsTold atoms → TermsTold more
+      → (p : Place) (so : Expr → Expr) (k : Expr → Item) (back us : List Symbol) → Starts p back → ends_sum us
+      → Follows (k (terms_say p.names (so (product_says p.names (atom_says p.names a) atoms)) more)) back us
+      → Told frame (a_product p (λ e. Terms p (so e) k)) back (atom_text a (atoms_text atoms (products_text more us))) ss
+  term_told a atoms more first others rest p so k back us h e f =
+      product_told a atoms first others p (λ x. x) (λ x. Terms p (so x) k) back _ h (product_ends more us e) (λ next o.
+      rest p _ k next us (rests p back next h o) e (λ last o'. f last (onward o.same o.braces o')))
+
+  no_factor : (p : Place) (left : Expr) (k : Expr → Item) (back us : List Symbol) → ends_product us
+      → Told frame (k left) back us ss → Told frame (Factors p left k) back us ss
+  no_factor p left k back [] e h = h
+  no_factor p left k back (Is signs.Times ∷ us) e h = absurd e
+  no_factor p left k back (t ∷ us) e h = h
+
+  no_term : (p : Place) (left : Expr) (k : Expr → Item) (back us : List Symbol) → ends_sum us
+      → Told frame (k left) back us ss → Told frame (Terms p left k) back us ss
+  no_term p left k back [] e h = h
+  no_term p left k back (Is signs.Times ∷ us) e h = absurd e
+  no_term p left k back (Is signs.Plus ∷ us) e h = absurd e
+  no_term p left k back (Is signs.Minus ∷ us) e h = absurd e
+  no_term p left k back (t ∷ us) e h = h
+
+  mutual
+    atom_told : (a : WrittenAtom) → AtomTold a
+    atom_told (Digits n) p k back us h f =
+        (refl, f (Number n ∷ back) (record { same = stays back (Number n) refl h.0.0; braces = refl; whole = refl }))
+    atom_told (Named w) p k back us h f = word_told w p k back us h f
+    atom_told (Signed a) p k back us h f =
+        let same = stays back (Is signs.Minus) refl h.0.0 in
+        tell frame _ (AnAtom (deeper p) (λ e. k (Negated e))) back (Is signs.Minus) _
+        (rw h.2 (grind (arith, nat_tests, h.0.0, h.1))) (λ ok.
+        atom_told a (deeper p) (λ e. k (Negated e)) (Is signs.Minus ∷ back) us
+        (subst (Computes frame p) (sym same) h.0, refl, rw h.1 (omega (arith, h.2))) (λ next o. f next (onward same refl o)))
+    atom_told (Inside s) p k back us h f =
+        let same = stays back (Is signs.Left) refl h.0.0 in
+        let c = subst (Computes frame p) (sym same) h.0 in
+        tell frame _ (a_sum (deeper p) (λ e. This (Is signs.Right) (k e))) back (Is signs.Left) _ (rw h.2 (grind (arith, nat_tests))) (λ ok.
+        sum_told s (deeper p) (λ e. This (Is signs.Right) (k e)) (Is signs.Left ∷ back) (Is signs.Right ∷ us)
+        (c, refl, refl, omega (arith, h.2)) tt (λ next o. (
+          refl,
+          f (Is signs.Right ∷ next) (record {
+            same = stays next (Is signs.Right) refl (subst (Computes frame p) (sym o.same) c).0 ∙ o.same ∙ same;
+            braces = ap (λ (z : List (List Symbol)). drop 1 z) o.braces;
+            whole = refl;
+          }),
+        )))
+
+    atoms_told : (more : MoreAtoms) → AtomsTold more
+    atoms_told NoAtom p left k back us h e f = no_factor p left k back us e (f back (record { same = refl; braces = refl; whole = h.1 }))
+    atoms_told (TimesAtom a more) p left k back us h e f =
+        let same = stays back (Is signs.Times) refl h.0.0 in (
+          refl,
+          product_told a more (atom_told a) (atoms_told more) p (λ x. Times left x) k (Is signs.Times ∷ back) us
+              (marked p back (Is signs.Times) h same refl refl refl) e (λ next o. f next (onward same refl o)),
         )
 
-    by_kind : InSum (line_so_far back) → (v a : Bool) → bytes_eq w (codes "value") ≡ v → bytes_eq w (codes "attempt") ≡ a
-        → Judged roles messages (cond v (unless p.value (On (k TheValue))) (cond a (unless p.attempt (On (k TheAttempt))) (variable (place_of p.names w) k))) back (Word w)
-    by_kind i true a ev ea = value_case i ev
-    by_kind i false true ev ea = attempt_case i ev ea
-    by_kind i false false ev ea = name_case i ev ea (place_of p.names w) refl
+    terms_told : (more : MoreProducts) → TermsTold more
+    terms_told NoProduct p left k back us h e f = no_term p left k back us e (f back (record { same = refl; braces = refl; whole = h.1 }))
+    terms_told (PlusProduct a atoms more) p left k back us h e f =
+        let same = stays back (Is signs.Plus) refl h.0.0 in (
+          refl,
+          term_told a atoms more (atom_told a) (atoms_told atoms) (terms_told more) p (λ x. Plus left x) k (Is signs.Plus ∷ back) us
+              (marked p back (Is signs.Plus) h same refl refl refl) e (λ next o. f next (onward same refl o)),
+        )
+    terms_told (MinusProduct a atoms more) p left k back us h e f =
+        let same = stays back (Is signs.Minus) refl h.0.0 in (
+          grind (arith, nat_tests, h.1),
+          term_told a atoms more (atom_told a) (atoms_told atoms) (terms_told more) p (λ x. Minus left x) k (Is signs.Minus ∷ back) us
+              (marked p back (Is signs.Minus) h same refl (rw h.1 refl) refl) e (λ next o. f next (onward same refl o)),
+        )
 
-pub atom_step : (roles : List (List ℕ)) (messages : List PointView) (p : Place) (t : Symbol) (k : Expr → Item) (back : List Symbol) → Awaits roles messages back (AnAtom p k) → Judged roles messages (atom p t k) back t
-atom_step roles messages p (Number n) k back h = number_atom roles messages p n k back h
-atom_step roles messages p (Word w) k back h = word_step roles messages p w k back h
-atom_step roles messages p (Is signs.Minus) k back h = sign_atom roles messages p k back h
-atom_step roles messages p (Is signs.Left) k back h = inner_atom roles messages p k back h
-atom_step roles messages p _ k back h = tt
+    pub sum_told : (s : WrittenSum) (p : Place) (k : Expr → Item) (back us : List Symbol) → Starts p back → ends_sum us
+        → Follows (k (sum_says p.names s)) back us → Told frame (a_sum p k) back (sum_text s us) ss
+    sum_told (SumOf a atoms more) p k back us h e f =
+        term_told a atoms more (atom_told a) (atoms_told atoms) (terms_told more) p (λ x. x) k back us h e f

@@ -8,7 +8,6 @@ use Rattle.rcv_script.specs.declared.line.Condition.{Condition}
 use Rattle.rcv_script.specs.declared.line.Line.{Line}
 use Rattle.rcv_script.specs.declared.line.Line.TheVariants.{Var, Send, Pick, On}
 use Rattle.rcv_points.specs.Follow.{PointsView}
-use Rattle.rcv_script.specs.Expressions.{sum_expr}
 
 -- how a line compares
 abbrev pub test_of : Comparison → Test
@@ -21,7 +20,7 @@ test_of AtLeast = script.AtLeast
 
 -- the condition of a line
 abbrev pub condition_of : Condition → script.Condition
-condition_of c = record { left = sum_expr c.left; test = test_of c.comparison; right = sum_expr c.right }
+condition_of c = record { left = c.left; test = test_of c.comparison; right = c.right }
 
 -- the condition of a pick line, if it has one
 abbrev pub when_of : Option Condition → Option script.Condition
@@ -31,9 +30,9 @@ when_of (Some c) = Some (condition_of c)
 -- what a line says
 abbrev pub line_of : Line → script.Line
 line_of (Var first) = script.VarLine first
-line_of (Send label number) = script.SendLine label (sum_expr number)
+line_of (Send label number) = script.SendLine label number
 line_of (Pick label when) = script.PickLine label (when_of when)
-line_of (On label place number) = script.OnLine label place (sum_expr number)
+line_of (On label place number) = script.OnLine label place number
 
 -- the lines of role r; a role without a script has none
 abbrev pub lines_at : List (List script.Line) → ℕ → List script.Line

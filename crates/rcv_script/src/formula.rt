@@ -1,14 +1,16 @@
-// A descent over expressions, with one token of look-ahead.
+// A descent over expressions, with one token of look-ahead, which writes their steps.
 
-ghost use Rattle.std.specs.Prelude.{◌≡◌, ◌<◌, ◌≤◌, ◌∷◌, length, IfSome, IfNone, IfOk, IfErr, true, false, Option, ℕ};
+ghost use Rattle.std.specs.Prelude.{◌≡◌, ◌<◌, ◌≤◌, ◌∷◌, ◌+◌, ◌-◌, ℕ, length, true, false};
+ghost use Rattle.std.specs.Prelude.{Option, IfSome, IfNone, IfOk, IfErr};
 ghost use Rattle.rcv_model.specs.Script.{Negated};
 ghost use Rattle.rcv_script.specs.Symbols.{Is, Word, IsNotNext};
-ghost use Rattle.rcv_script.specs.Expressions.{atom_expr, product_expr, sum_expr};
+ghost use Rattle.rcv_script.specs.Expressions.{IsOperand};
 ghost use Rattle.rcv_script.specs.Lines.{test_of};
 ghost use Rattle.rcv_script.specs.Machine.{This, ATest, AnAtom, a_product, a_sum, with_expr, condition, place_of};
-ghost use Rattle.rcv_script.specs.Descent.{Goes, Passes, IsWordAtom, IsNoWordAtom, place_at, term_sign, parts_of};
+ghost use Rattle.rcv_script.specs.Descent.{Goes, Passes, Writes, IsWordAtom, IsNoWordAtom};
+ghost use Rattle.rcv_script.specs.Descent.{at_depth, rooms, term_sign, parts_of};
 
-use crate::expression::{Atom, Product, Sum, Term};
+use crate::expression::{Formula, Step};
 use crate::fault::{Fault, ScriptError};
 use crate::line::{Comparison, Condition};
 use crate::parser::Parser;
@@ -32,24 +34,25 @@ pub fn place_of(names: &[Name], name: &[u8]) -> Option<usize>
 }
 
 // What a word is in an expression, or what speaks against it.
-fn word_atom(names: &Names, banned: Banned, word: &[u8]) -> Result<Atom, Fault>
-    ensures ok { (depth : ℕ) → IfOk result (IsWordAtom (place_at names.now banned.value banned.attempt depth) word.now) }
-    ensures err { (depth : ℕ) → IfErr result (IsNoWordAtom (place_at names.now banned.value banned.attempt depth) word.now) }
+fn word_atom(names: &Names, banned: Banned, word: &[u8]) -> Result<Step, Fault>
+    ensures ok { (depth : ℕ) → IfOk result (IsWordAtom (at_depth names.now banned depth) word.now) }
+    ensures operand { IfOk result IsOperand }
+    ensures err { (depth : ℕ) → IfErr result (IsNoWordAtom (at_depth names.now banned depth) word.now) }
 {
     if is(word, b"value") {
         return match banned.value {
-            None => Ok(Atom::Value),
+            None => Ok(Step::Value),
             Some(fault) => Err(fault),
         };
     }
     if is(word, b"attempt") {
         return match banned.attempt {
-            None => Ok(Atom::Attempt),
+            None => Ok(Step::Attempt),
             Some(fault) => Err(fault),
         };
     }
     match place_of(names.as_slice(), word) {
-        Some(place) => Ok(Atom::Variable(place)),
+        Some(place) => Ok(Step::Variable(place)),
         None => Err(Fault::Variable),
     }
 }
@@ -100,7 +103,8 @@ impl<'a> Parser<'a> {
     fn takes_term(&mut self) -> Option<bool>
         ensures some { IfSome result (λ minus. self.old.rest ≡ Is (term_sign minus) ∷ self.new.rest) }
         ensures taken { IfSome result (λ minus. length self.new.rest < length self.old.rest) }
-        ensures none { IfNone result ((self.new.rest ≡ self.old.rest) × IsNotNext (Is Sign.Plus) self.old.rest × IsNotNext (Is Sign.Minus) self.old.rest) }
+        ensures none { IfNone result ((self.new.rest ≡ self.old.rest)
+            × IsNotNext (Is Sign.Plus) self.old.rest × IsNotNext (Is Sign.Minus) self.old.rest) }
         ensures shorter { length self.new.rest ≤ length self.old.rest }
     {
         if let Some(after) = self.rest.sign(Sign::Plus) {
@@ -118,24 +122,27 @@ impl<'a> Parser<'a> {
     #[cycle(descent)]
     fn atom(
         &mut self,
-        alloc: Global,
         names: &Names,
         banned: Banned,
         depth: u32,
-    ) -> Result<Atom, ScriptError>
+        steps: &mut Vec<Step>,
+    ) -> Result<(), ScriptError>
         requires { depth ≤ 32 }
-        ensures goes { Goes result (λ k. AnAtom (place_at names.now banned.value banned.attempt depth) k) atom_expr self.old.rest self.new.rest }
+        ensures goes { Writes result steps.old.items steps.new.items (rooms depth - 1)
+            (λ k. AnAtom (at_depth names.now banned depth) k) self.old.rest self.new.rest }
         ensures shorter { length self.new.rest ≤ length self.old.rest }
     {
         if let Some((number, after)) = self.rest.number() {
             self.rest = after;
-            return Ok(Atom::Number(number as i64));
+            steps.push(Step::Number(number as i64))?;
+            return Ok(());
         }
         if let Some((word, after)) = self.rest.word() {
             return match word_atom(names, banned, word) {
-                Ok(atom) => {
+                Ok(step) => {
                     self.rest = after;
-                    Ok(atom)
+                    steps.push(step)?;
+                    Ok(())
                 }
                 Err(fault) => Err(ScriptError::Refused(fault)),
             };
@@ -145,14 +152,14 @@ impl<'a> Parser<'a> {
                 return Err(ScriptError::Refused(Fault::TooMany));
             }
             self.rest = after;
-            return self.negated(alloc, names, banned, depth + 1);
+            return self.negated(names, banned, depth + 1, steps);
         }
         if let Some(after) = self.rest.sign(Sign::Left) {
             if depth >= 32 {
                 return Err(ScriptError::Refused(Fault::TooMany));
             }
             self.rest = after;
-            return self.group(alloc, names, banned, depth + 1);
+            return self.group(names, banned, depth + 1, steps);
         }
         Err(ScriptError::Refused(Fault::Token))
     }
@@ -161,85 +168,98 @@ impl<'a> Parser<'a> {
     #[cycle(descent)]
     fn negated(
         &mut self,
-        alloc: Global,
         names: &Names,
         banned: Banned,
         depth: u32,
-    ) -> Result<Atom, ScriptError>
+        steps: &mut Vec<Step>,
+    ) -> Result<(), ScriptError>
         requires { depth ≤ 32 }
-        ensures goes { Goes result (λ k. AnAtom (place_at names.now banned.value banned.attempt depth) (λ e. k (Negated e)))
-            atom_expr self.old.rest self.new.rest }
+        ensures goes { Writes result steps.old.items steps.new.items (rooms depth + 1)
+            (λ k. AnAtom (at_depth names.now banned depth) (λ e. k (Negated e))) self.old.rest self.new.rest }
         ensures shorter { length self.new.rest ≤ length self.old.rest }
     {
-        let atom = self.atom(alloc, names, banned, depth)?;
-        Ok(Atom::Negated(Box::new(alloc, atom)?))
+        self.atom(names, banned, depth, steps)?;
+        steps.push(Step::Negate)?;
+        Ok(())
     }
 
     // Takes the sum behind a parenthesis, and the parenthesis behind it.
     #[cycle(descent)]
     fn group(
         &mut self,
-        alloc: Global,
         names: &Names,
         banned: Banned,
         depth: u32,
-    ) -> Result<Atom, ScriptError>
+        steps: &mut Vec<Step>,
+    ) -> Result<(), ScriptError>
         requires { depth ≤ 32 }
-        ensures goes { Goes result (λ k. a_sum (place_at names.now banned.value banned.attempt depth) (λ e. This (Is Sign.Right) (k e)))
-            atom_expr self.old.rest self.new.rest }
+        ensures goes { Writes result steps.old.items steps.new.items (rooms depth + 1)
+            (λ k. a_sum (at_depth names.now banned depth) (λ e. This (Is Sign.Right) (k e)))
+            self.old.rest self.new.rest }
         ensures shorter { length self.new.rest ≤ length self.old.rest }
     {
-        let sum = self.sum(alloc, names, banned, depth)?;
+        self.sum(names, banned, depth, steps)?;
         self.expect(Sign::Right)?;
-        Ok(Atom::Group(sum))
+        Ok(())
     }
 
     // Takes atoms, multiplied.
     #[cycle(descent)]
     fn product(
         &mut self,
-        alloc: Global,
         names: &Names,
         banned: Banned,
         depth: u32,
-    ) -> Result<Product, ScriptError>
+        steps: &mut Vec<Step>,
+    ) -> Result<(), ScriptError>
         requires { depth ≤ 32 }
-        ensures goes { Goes result (λ k. a_product (place_at names.now banned.value banned.attempt depth) k)
-            product_expr self.old.rest self.new.rest }
+        ensures goes { Writes result steps.old.items steps.new.items (rooms depth)
+            (λ k. a_product (at_depth names.now banned depth) k) self.old.rest self.new.rest }
         ensures shorter { length self.new.rest ≤ length self.old.rest }
     {
-        let mut product = Product::new(alloc);
-        product.push(self.atom(alloc, names, banned, depth)?)?;
+        self.atom(names, banned, depth, steps)?;
         while self.takes(Sign::Times) {
-            product.push(self.atom(alloc, names, banned, depth)?)?;
+            self.atom(names, banned, depth, steps)?;
+            steps.push(Step::Multiply)?;
         }
-        Ok(product)
+        Ok(())
     }
 
-    /// Takes products, added and subtracted, where so many parentheses and signs are open.
+    // Takes products, added and subtracted, where so many parentheses and signs are open.
     #[cycle(descent)]
-    pub fn sum(
+    fn sum(
+        &mut self,
+        names: &Names,
+        banned: Banned,
+        depth: u32,
+        steps: &mut Vec<Step>,
+    ) -> Result<(), ScriptError>
+        requires { depth ≤ 32 }
+        ensures goes { Writes result steps.old.items steps.new.items (rooms depth + 1)
+            (λ k. a_sum (at_depth names.now banned depth) k) self.old.rest self.new.rest }
+        ensures shorter { length self.new.rest ≤ length self.old.rest }
+    {
+        self.product(names, banned, depth, steps)?;
+        while let Some(minus) = self.takes_term() {
+            self.product(names, banned, depth, steps)?;
+            steps.push(if minus { Step::Subtract } else { Step::Add })?;
+        }
+        Ok(())
+    }
+
+    // Takes an expression.
+    fn formula(
         &mut self,
         alloc: Global,
         names: &Names,
         banned: Banned,
-        depth: u32,
-    ) -> Result<Sum, ScriptError>
-        requires { depth ≤ 32 }
-        ensures goes { Goes result (λ k. a_sum (place_at names.now banned.value banned.attempt depth) k) sum_expr self.old.rest self.new.rest }
+    ) -> Result<Formula, ScriptError>
+        ensures goes { Goes result (λ k. a_sum (at_depth names.now banned 0) k) (λ e. e) self.old.rest self.new.rest }
         ensures shorter { length self.new.rest ≤ length self.old.rest }
     {
-        let mut sum = Sum::new(alloc);
-        let first = self.product(alloc, names, banned, depth)?;
-        sum.push(Term {
-            minus: false,
-            product: first,
-        })?;
-        while let Some(minus) = self.takes_term() {
-            let product = self.product(alloc, names, banned, depth)?;
-            sum.push(Term { minus, product })?;
-        }
-        Ok(sum)
+        let mut steps = Vec::new(alloc);
+        self.sum(names, banned, 0, &mut steps)?;
+        Ok(Formula::of(steps))
     }
 
     /// Takes what a line computes: the mark `=`, an expression, and the mark `;`.
@@ -248,14 +268,15 @@ impl<'a> Parser<'a> {
         alloc: Global,
         names: &Names,
         banned: Banned,
-    ) -> Result<Sum, ScriptError>
-        ensures goes { Goes result (λ k. with_expr (place_at names.now banned.value banned.attempt 0) k) sum_expr self.old.rest self.new.rest }
+    ) -> Result<Formula, ScriptError>
+        ensures goes { Goes result (λ k. with_expr (at_depth names.now banned 0) k) (λ e. e)
+            self.old.rest self.new.rest }
         ensures shorter { length self.new.rest ≤ length self.old.rest }
     {
         self.expect(Sign::Equals)?;
-        let sum = self.sum(alloc, names, banned, 0)?;
+        let formula = self.formula(alloc, names, banned)?;
         self.expect(Sign::Semicolon)?;
-        Ok(sum)
+        Ok(formula)
     }
 
     /// Takes a condition, and the mark `;`.
@@ -265,12 +286,13 @@ impl<'a> Parser<'a> {
         names: &Names,
         banned: Banned,
     ) -> Result<Condition, ScriptError>
-        ensures goes { Goes result (λ k. condition (place_at names.now banned.value banned.attempt 0) k) parts_of self.old.rest self.new.rest }
+        ensures goes { Goes result (λ k. condition (at_depth names.now banned 0) k) parts_of
+            self.old.rest self.new.rest }
         ensures shorter { length self.new.rest ≤ length self.old.rest }
     {
-        let left = self.sum(alloc, names, banned, 0)?;
+        let left = self.formula(alloc, names, banned)?;
         let comparison = self.comparison()?;
-        let right = self.sum(alloc, names, banned, 0)?;
+        let right = self.formula(alloc, names, banned)?;
         self.expect(Sign::Semicolon)?;
         Ok(Condition {
             left,

@@ -3,35 +3,17 @@
 ghost use Rattle.std.specs.Prelude.{◌≡◌, ◌&&◌, not, map, Option};
 ghost use Rattle.rcv_points.specs.Follow.{message_at};
 ghost use Rattle.rcv_script.specs.Lines.{line_of, IsPointOf};
-ghost use Rattle.rcv_script.specs.Machine.{is_sent, is_part, sends, takes_part, sends_bare, takes_bare, has_send, send_fault, pick_fault, on_fault, label_fault};
+ghost use Rattle.rcv_script.specs.Machine.{is_sent, is_part, sends, takes_part, sends_bare, takes_bare, has_send};
+ghost use Rattle.rcv_script.specs.Machine.{send_fault, pick_fault, on_fault};
 
 use crate::fault::Fault;
 use crate::line::Line;
-use crate::words::LineKind;
 use rcv_points::points::Points;
 use rcv_scan::is;
 use rcv_tree::point::Point;
 
-/// What speaks against the label of a line of this kind behind these lines. A `var` line has none.
-pub fn label_fault(
-    kind: LineKind,
-    points: &Points,
-    role: usize,
-    lines: &[Line],
-    label: &[u8],
-) -> Option<Fault>
-    ensures { result ≡ label_fault kind points.now.messages role (map line_of lines.now) label.now }
-{
-    match kind {
-        LineKind::Send => send_fault(points, role, lines, label),
-        LineKind::Pick => pick_fault(points, role, label),
-        LineKind::On => on_fault(points, role, label),
-        LineKind::Var => None,
-    }
-}
-
-// What speaks against the label of a `send` line behind these lines.
-fn send_fault(points: &Points, role: usize, lines: &[Line], label: &[u8]) -> Option<Fault>
+/// What speaks against the label of a `send` line behind these lines.
+pub fn send_fault(points: &Points, role: usize, lines: &[Line], label: &[u8]) -> Option<Fault>
     ensures { result ≡ send_fault points.now.messages role (map line_of lines.now) label.now }
 {
     if !sends(points, role, label) {
@@ -46,8 +28,8 @@ fn send_fault(points: &Points, role: usize, lines: &[Line], label: &[u8]) -> Opt
     None
 }
 
-// What speaks against the label of a `pick` line.
-fn pick_fault(points: &Points, role: usize, label: &[u8]) -> Option<Fault>
+/// What speaks against the label of a `pick` line.
+pub fn pick_fault(points: &Points, role: usize, label: &[u8]) -> Option<Fault>
     ensures { result ≡ pick_fault points.now.messages role label.now }
 {
     if sends(points, role, label) {
@@ -57,8 +39,8 @@ fn pick_fault(points: &Points, role: usize, label: &[u8]) -> Option<Fault>
     }
 }
 
-// What speaks against the label of an `on` line.
-fn on_fault(points: &Points, role: usize, label: &[u8]) -> Option<Fault>
+/// What speaks against the label of an `on` line.
+pub fn on_fault(points: &Points, role: usize, label: &[u8]) -> Option<Fault>
     ensures { result ≡ on_fault points.now.messages role label.now }
 {
     if takes_part(points, role, label) {

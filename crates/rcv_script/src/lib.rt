@@ -14,7 +14,10 @@ mod read;
 pub mod scripts;
 mod setting;
 mod sign;
+#[cfg(test)]
+mod tests;
 mod words;
+mod writing;
 
 pub use fault::Fault;
 pub use read::read_scripts;

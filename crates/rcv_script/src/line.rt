@@ -2,11 +2,10 @@
 
 ghost use Rattle.std.specs.Prelude.{◌≡◌, Option, pos, slice_set};
 ghost use Rattle.rcv_model.specs.Script.{calculate, holds, is_met};
-ghost use Rattle.rcv_script.specs.Expressions.{sum_expr};
 ghost use Rattle.rcv_script.specs.Lines.{test_of, when_of, line_of};
 ghost use Rattle.rcv_script.specs.Attempts.{line_reads};
 
-use crate::expression::Sum;
+use crate::expression::Formula;
 use rcv_tree::name::Name;
 use rcv_tree::variables::Vars;
 
@@ -24,9 +23,9 @@ pub enum Comparison {
 /// Two expressions and how they compare.
 #[derive(Drop)]
 pub struct Condition {
-    pub left: Sum,
+    pub left: Formula,
     pub comparison: Comparison,
-    pub right: Sum,
+    pub right: Formula,
 }
 
 /// A line of a script.
@@ -39,7 +38,7 @@ pub enum Line {
     /// The number that is sent with a label.
     Send {
         label: Name,
-        number: Sum,
+        number: Formula,
     },
     /// The label that is picked where the condition holds; without one it always holds.
     Pick {
@@ -50,7 +49,7 @@ pub enum Line {
     On {
         label: Name,
         place: usize,
-        number: Sum,
+        number: Formula,
     },
 }
 

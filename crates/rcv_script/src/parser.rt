@@ -1,20 +1,21 @@
 // A descent over lines and scripts.
 
-ghost use Rattle.std.specs.Prelude.{◌≡◌, ◌<◌, ◌≤◌, ◌∷◌, ◌++◌, [], length, map, Option, None, Some, IfOk, pos, neg_ℤ};
-ghost use Rattle.rcv_script.specs.Symbols.{Is, Word};
-ghost use Rattle.rcv_script.specs.Expressions.{sum_expr};
+ghost use Rattle.std.specs.Prelude.{◌<◌, ◌≤◌, length, map, Option, IfOk, pos, neg_ℤ};
+ghost use Rattle.rcv_script.specs.Symbols.{Is};
 ghost use Rattle.rcv_script.specs.Lines.{line_of, when_of};
-ghost use Rattle.rcv_script.specs.Machine.{AWord, ASigned, ANumber, Lines, ALine, var_fault, set_fault, label_fault, var_line, send_line, pick_line, on_line, line_behind, line_fault, rest_of_pick, place_in, fault_if, takes_bare};
-ghost use Rattle.rcv_script.specs.Descent.{Goes, writing, place_at};
+ghost use Rattle.rcv_script.specs.Machine.{This, AWord, ASigned, ANumber, Lines, ALine};
+ghost use Rattle.rcv_script.specs.Machine.{var_line, send_line, pick_line, on_line, line_behind, rest_of_pick};
+ghost use Rattle.rcv_script.specs.Machine.{begun, var_fault, set_fault, place_in, deciding};
+ghost use Rattle.rcv_script.specs.Descent.{Goes, Adds, a_label};
 
 use crate::fault::{Fault, ScriptError};
 use crate::formula::{Banned, place_of};
-use crate::labels::{label_fault, takes_bare};
 use crate::line::{Condition, Line};
 use crate::sign::Sign;
 use crate::words::{LineKind, kind_of};
+use crate::writing::Writing;
 use rcv_points::points::Points;
-use rcv_scan::{Ahead, is};
+use rcv_scan::Ahead;
 use rcv_tree::name::{Name, Names};
 use std::alloc::Global;
 
@@ -24,40 +25,16 @@ pub struct Parser<'a> {
     pub rest: Ahead<'a, Sign>,
 }
 
-// What speaks against the name of a new variable.
-fn var_fault(names: &Names, name: &[u8]) -> Option<Fault>
-    ensures { result ≡ var_fault names.now name.now }
-{
-    if is(name, b"value") || is(name, b"attempt") {
-        return Some(Fault::Variable);
-    }
-    match place_of(names.as_slice(), name) {
-        Some(_) => Some(Fault::Variable),
-        None => None,
-    }
-}
-
-// What speaks against one more line of this kind.
-fn line_fault(kind: LineKind, names: &Names, lines: &[Line]) -> Option<Fault>
-    ensures { result ≡ line_fault names.now (map line_of lines.now) kind }
-{
-    let many = match kind {
-        LineKind::Var => lines.len() >= 256 || names.as_slice().len() >= 16,
-        LineKind::Send | LineKind::Pick | LineKind::On => lines.len() >= 256,
-    };
-    if many { Some(Fault::TooMany) } else { None }
-}
-
 impl<'a> Parser<'a> {
     // Takes the name of a new variable.
-    fn new_variable(&mut self, alloc: Global, names: &Names) -> Result<Name, ScriptError>
-        ensures goes { Goes result (λ k. AWord (var_fault names.now) k) (λ n. n) self.old.rest self.new.rest }
+    fn new_variable(&mut self, alloc: Global, writing: &Writing<'_>) -> Result<Name, ScriptError>
+        ensures goes { Goes result (λ k. AWord (var_fault writing.now.names) k) (λ n. n) self.old.rest self.new.rest }
         ensures shorter { length self.new.rest ≤ length self.old.rest }
     {
         let Some((word, after)) = self.rest.word() else {
             return Err(ScriptError::Refused(Fault::Token));
         };
-        if let Some(fault) = var_fault(names, word) {
+        if let Some(fault) = writing.var_fault(word) {
             return Err(ScriptError::Refused(fault));
         }
         let name = Name::of(alloc, word)?;
@@ -67,7 +44,8 @@ impl<'a> Parser<'a> {
 
     // Takes the name of a variable: its place.
     fn variable(&mut self, names: &Names) -> Result<usize, ScriptError>
-        ensures goes { Goes result (λ k. AWord (set_fault names.now) (λ n. k (place_in names.now n))) (λ place. place) self.old.rest self.new.rest }
+        ensures goes { Goes result (λ k. AWord (set_fault names.now) (λ n. k (place_in names.now n)))
+            (λ place. place) self.old.rest self.new.rest }
         ensures shorter { length self.new.rest ≤ length self.old.rest }
     {
         let Some((word, after)) = self.rest.word() else {
@@ -108,16 +86,16 @@ impl<'a> Parser<'a> {
     }
 
     // Takes what stands behind the word `var`.
-    fn var_line(&mut self, alloc: Global, names: &mut Names) -> Result<Line, ScriptError>
-        ensures goes { Goes result (λ k. var_line names.old k) (λ line. (names.new, line_of line)) self.old.rest self.new.rest }
+    fn var_line(&mut self, alloc: Global, writing: &mut Writing<'_>) -> Result<(), ScriptError>
+        ensures goes { Adds result (λ s k. var_line s.names k) writing.old writing.new self.old.rest self.new.rest }
         ensures shorter { length self.new.rest ≤ length self.old.rest }
     {
-        let name = self.new_variable(alloc, names)?;
+        let name = self.new_variable(alloc, writing)?;
         self.expect(Sign::Equals)?;
         let first = self.signed()?;
         self.expect(Sign::Semicolon)?;
-        names.push(name)?;
-        Ok(Line::Var { first })
+        writing.add_variable(name, first)?;
+        Ok(())
     }
 
     // Takes the label of a line of this kind.
@@ -125,18 +103,15 @@ impl<'a> Parser<'a> {
         &mut self,
         alloc: Global,
         kind: LineKind,
-        points: &Points,
-        role: usize,
-        lines: &[Line],
+        writing: &Writing<'_>,
     ) -> Result<Name, ScriptError>
-        ensures goes { Goes result (λ k. AWord (label_fault kind points.now.messages role (map line_of lines.now)) k)
-            (λ n. n) self.old.rest self.new.rest }
+        ensures goes { Goes result (λ k. a_label kind writing.now k) (λ n. n) self.old.rest self.new.rest }
         ensures shorter { length self.new.rest ≤ length self.old.rest }
     {
         let Some((word, after)) = self.rest.word() else {
             return Err(ScriptError::Refused(Fault::Token));
         };
-        if let Some(fault) = label_fault(kind, points, role, lines, word) {
+        if let Some(fault) = writing.label_fault(kind, word) {
             return Err(ScriptError::Refused(fault));
         }
         let label = Name::of(alloc, word)?;
@@ -145,44 +120,30 @@ impl<'a> Parser<'a> {
     }
 
     // Takes what stands behind the word `send`.
-    fn send_line(
-        &mut self,
-        alloc: Global,
-        points: &Points,
-        role: usize,
-        names: &Names,
-        lines: &[Line],
-    ) -> Result<Line, ScriptError>
-        ensures goes { Goes result (λ k. send_line (writing points.now.messages role names.now lines.now) k)
-            (λ line. (names.now, line_of line)) self.old.rest self.new.rest }
+    fn send_line(&mut self, alloc: Global, writing: &mut Writing<'_>) -> Result<(), ScriptError>
+        ensures goes { Adds result send_line writing.old writing.new self.old.rest self.new.rest }
         ensures shorter { length self.new.rest ≤ length self.old.rest }
     {
-        let label = self.label(alloc, LineKind::Send, points, role, lines)?;
-        let number = self.number_set(alloc, names, DECIDING)?;
-        Ok(Line::Send { label, number })
+        let label = self.label(alloc, LineKind::Send, writing)?;
+        let number = self.number_set(alloc, writing.names(), DECIDING)?;
+        writing.add(Line::Send { label, number })?;
+        Ok(())
     }
 
     // Takes what stands behind the word `pick`.
-    fn pick_line(
-        &mut self,
-        alloc: Global,
-        points: &Points,
-        role: usize,
-        names: &Names,
-        lines: &[Line],
-    ) -> Result<Line, ScriptError>
-        ensures goes { Goes result (λ k. pick_line (writing points.now.messages role names.now lines.now) k)
-            (λ line. (names.now, line_of line)) self.old.rest self.new.rest }
+    fn pick_line(&mut self, alloc: Global, writing: &mut Writing<'_>) -> Result<(), ScriptError>
+        ensures goes { Adds result pick_line writing.old writing.new self.old.rest self.new.rest }
         ensures shorter { length self.new.rest ≤ length self.old.rest }
     {
-        let label = self.label(alloc, LineKind::Pick, points, role, lines)?;
-        let when = self.when(alloc, names)?;
-        Ok(Line::Pick { label, when })
+        let label = self.label(alloc, LineKind::Pick, writing)?;
+        let when = self.when(alloc, writing.names())?;
+        writing.add(Line::Pick { label, when })?;
+        Ok(())
     }
 
     // Takes what stands behind the label of a `pick` line.
     fn when(&mut self, alloc: Global, names: &Names) -> Result<Option<Condition>, ScriptError>
-        ensures goes { Goes result (λ k. rest_of_pick (place_at names.now (Some Fault.Variable) None 0) k) when_of self.old.rest self.new.rest }
+        ensures goes { Goes result (λ k. rest_of_pick (deciding names.now) k) when_of self.old.rest self.new.rest }
         ensures shorter { length self.new.rest ≤ length self.old.rest }
     {
         if self.takes(Sign::Semicolon) {
@@ -193,28 +154,21 @@ impl<'a> Parser<'a> {
     }
 
     // Takes what stands behind the word `on`.
-    fn on_line(
-        &mut self,
-        alloc: Global,
-        points: &Points,
-        role: usize,
-        names: &Names,
-        lines: &[Line],
-    ) -> Result<Line, ScriptError>
-        ensures goes { Goes result (λ k. on_line (writing points.now.messages role names.now lines.now) k)
-            (λ line. (names.now, line_of line)) self.old.rest self.new.rest }
+    fn on_line(&mut self, alloc: Global, writing: &mut Writing<'_>) -> Result<(), ScriptError>
+        ensures goes { Adds result on_line writing.old writing.new self.old.rest self.new.rest }
         ensures shorter { length self.new.rest ≤ length self.old.rest }
     {
-        let label = self.label(alloc, LineKind::On, points, role, lines)?;
-        let banned = remembering(points, role, label.as_slice());
+        let label = self.label(alloc, LineKind::On, writing)?;
+        let banned = writing.remembering(label.as_slice());
         self.expect_word(b"set")?;
-        let place = self.variable(names)?;
-        let number = self.number_set(alloc, names, banned)?;
-        Ok(Line::On {
+        let place = self.variable(writing.names())?;
+        let number = self.number_set(alloc, writing.names(), banned)?;
+        writing.add(Line::On {
             label,
             place,
             number,
-        })
+        })?;
+        Ok(())
     }
 
     // Takes what stands behind the first word of a line.
@@ -222,35 +176,23 @@ impl<'a> Parser<'a> {
         &mut self,
         alloc: Global,
         kind: LineKind,
-        points: &Points,
-        role: usize,
-        names: &mut Names,
-        lines: &[Line],
-    ) -> Result<Line, ScriptError>
-        ensures goes { Goes result (λ k. line_behind (writing points.now.messages role names.old lines.now) kind k)
-            (λ line. (names.new, line_of line)) self.old.rest self.new.rest }
+        writing: &mut Writing<'_>,
+    ) -> Result<(), ScriptError>
+        ensures goes { Adds result (λ s k. line_behind s kind k) writing.old writing.new self.old.rest self.new.rest }
         ensures shorter { length self.new.rest ≤ length self.old.rest }
     {
         match kind {
-            LineKind::Var => self.var_line(alloc, names),
-            LineKind::Send => self.send_line(alloc, points, role, names, lines),
-            LineKind::Pick => self.pick_line(alloc, points, role, names, lines),
-            LineKind::On => self.on_line(alloc, points, role, names, lines),
+            LineKind::Var => self.var_line(alloc, writing),
+            LineKind::Send => self.send_line(alloc, writing),
+            LineKind::Pick => self.pick_line(alloc, writing),
+            LineKind::On => self.on_line(alloc, writing),
         }
     }
 
-    // Takes a line of a role's script, behind these variables and lines.
-    fn line(
-        &mut self,
-        alloc: Global,
-        points: &Points,
-        role: usize,
-        names: &mut Names,
-        lines: &[Line],
-    ) -> Result<Line, ScriptError>
-        ensures goes { Goes result (λ k. ALine (writing points.now.messages role names.old lines.now) k)
-            (λ line. (names.new, line_of line)) self.old.rest self.new.rest }
-        ensures taken { IfOk result (λ line. length self.new.rest < length self.old.rest) }
+    // Takes a line.
+    fn line(&mut self, alloc: Global, writing: &mut Writing<'_>) -> Result<(), ScriptError>
+        ensures goes { Adds result (λ s k. ALine s k) writing.old writing.new self.old.rest self.new.rest }
+        ensures taken { IfOk result (λ _. length self.new.rest < length self.old.rest) }
         ensures shorter { length self.new.rest ≤ length self.old.rest }
     {
         let Some((word, after)) = self.rest.word() else {
@@ -259,31 +201,30 @@ impl<'a> Parser<'a> {
         let Some(kind) = kind_of(word) else {
             return Err(ScriptError::Refused(Fault::Token));
         };
-        if let Some(fault) = line_fault(kind, names, lines) {
+        if let Some(fault) = writing.line_fault(kind) {
             return Err(ScriptError::Refused(fault));
         }
         self.rest = after;
-        self.line_behind(alloc, kind, points, role, names, lines)
+        self.line_behind(alloc, kind, writing)
     }
 
-    /// Takes the lines of a role, and the brace behind them.
+    /// Takes the lines of a role between braces.
     pub fn lines(
         &mut self,
         alloc: Global,
         points: &Points,
         role: usize,
     ) -> Result<Vec<Line>, ScriptError>
-        ensures goes { Goes result (λ k. Lines (writing points.now.messages role [] []) k)
+        ensures goes { Goes result (λ k. This (Is Sign.Open) (Lines (begun points.now.messages role) k))
             (λ lines. map line_of lines.items) self.old.rest self.new.rest }
         ensures shorter { length self.new.rest ≤ length self.old.rest }
     {
-        let mut names = Names::new(alloc);
-        let mut lines = Vec::new(alloc);
+        self.expect(Sign::Open)?;
+        let mut writing = Writing::new(alloc, points, role);
         while !self.takes(Sign::Close) {
-            let line = self.line(alloc, points, role, &mut names, lines.as_slice())?;
-            lines.push(line)?;
+            self.line(alloc, &mut writing)?;
         }
-        Ok(lines)
+        Ok(writing.into_lines())
     }
 }
 
@@ -292,15 +233,3 @@ const DECIDING: Banned = Banned {
     value: Some(Fault::Variable),
     attempt: None,
 };
-
-// What an `on` line of this label may not read.
-fn remembering(points: &Points, role: usize, label: &[u8]) -> Banned
-    ensures value { result.value ≡ fault_if (takes_bare points.now.messages role label.now) Fault.NoPayload }
-    ensures attempt { result.attempt ≡ Some Fault.AttemptInState }
-{
-    let bare = takes_bare(points, role, label);
-    Banned {
-        value: if bare { Some(Fault::NoPayload) } else { None },
-        attempt: Some(Fault::AttemptInState),
-    }
-}

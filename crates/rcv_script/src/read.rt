@@ -13,7 +13,6 @@ use crate::fault::{Fault, ScriptError};
 use crate::formula::place_of;
 use crate::parser::Parser;
 use crate::scripts::{Script, Scripts};
-use crate::sign::Sign;
 use rcv_accept::accepted::Accepted;
 use rcv_lexer::token::{TextError, Token};
 use rcv_points::points::Points;
@@ -75,12 +74,12 @@ impl<'a> Parser<'a> {
         points: &Points,
         given: &[usize],
     ) -> Result<Given, ScriptError>
-        ensures goes { Goes result (λ k. script roles.now given.now points.now.messages k) (λ x. (x.role, x.script)) self.old.rest self.new.rest }
+        ensures goes { Goes result (λ k. script roles.now given.now points.now.messages k) (λ x. (x.role, x.script))
+            self.old.rest self.new.rest }
         ensures declared { IfOk result (λ x. x.role < length roles.now) }
         ensures shorter { length self.new.rest ≤ length self.old.rest }
     {
         let role = self.role(roles, given)?;
-        self.expect(Sign::Open)?;
         let lines = self.lines(alloc, points, role)?;
         Ok(Given {
             role,
@@ -137,13 +136,13 @@ fn no_lines(alloc: Global, roles: &Names) -> Result<Vec<Script>, ScriptError>
 /// end. A part without tokens gives each role a script without lines.
 ///
 /// Refused at the first token at which a code holds, or at the part's end, with the least code at it and its line:
-/// 30 where the grammar doesn't have the token or the end there, and at a number above 9223372036854775807; 31 at a role
-/// that isn't declared or has a script before; 32 at a label of `send` or `pick` that the role never sends, one of `on`
-/// that it neither sends nor receives, and that of a second `send` line; 33 at a variable that isn't declared before,
-/// at a name that is declared again or is `value` or `attempt`, and at `value` in a `send` or `pick` line; 34 at
-/// `attempt` in an `on` line; 35 at a label of `send` that stands for a message without sorts, and at `value` in an `on`
-/// line of such a label; 36 at the word `var` of the 17th variable, the first word of the 257th line of a role, and the
-/// 33rd nested parenthesis or sign of an expression. `Memory` where no memory is left.
+/// 30 where the grammar doesn't have the token or the end there, and at a number above 9223372036854775807; 31 at a
+/// role that isn't declared or has a script before; 32 at a label of `send` or `pick` that the role never sends, one of
+/// `on` that it neither sends nor receives, and that of a second `send` line; 33 at a variable that isn't declared
+/// before, at a name that is declared again or is `value` or `attempt`, and at `value` in a `send` or `pick` line; 34
+/// at `attempt` in an `on` line; 35 at a label of `send` that stands for a message without sorts, and at `value` in an
+/// `on` line of such a label; 36 at the word `var` of the 17th variable, the first word of the 257th line of a role,
+/// and the 33rd nested parenthesis or sign of an expression. `Memory` where no memory is left.
 #[tactic(auto, using(crate::proofs::Answering::taken, crate::proofs::Answering::refused))]
 pub fn read_scripts(
     alloc: Global,

@@ -1,6 +1,7 @@
 // The scripts of a protocol's roles, and what they decide.
 
-ghost use Rattle.std.specs.Prelude.{◌≡◌, ◌≢◌, ◌↔◌, ◌<◌, ℕ, ℤ, List, [], length, map, false, slice_get, IfOk, IfSome, IfNone};
+ghost use Rattle.std.specs.Prelude.{◌≡◌, ◌≢◌, ◌↔◌, ◌<◌, ℕ, ℤ, List, [], length, map, false, slice_get};
+ghost use Rattle.std.specs.Prelude.{IfOk, IfSome, IfNone};
 ghost use Rattle.std.specs.List.{All};
 ghost use Rattle.rcv_model.specs.Script.{first_vars, carry_out, pick, number_for, first_with};
 ghost use Rattle.rcv_model.specs.Transparent.{AreBlind};
@@ -43,7 +44,8 @@ impl Model for Script {
     ghost view = { λ a. map line_of a.lines.items };
 }
 
-/// The scripts of a protocol, by role, with the messages of its points. Contracts see both. None of the calls takes memory.
+/// The scripts of a protocol, by role, with the messages of its points. Contracts see both. None of the calls takes
+/// memory.
 #[derive(Drop)]
 pub struct Scripts {
     roles: Vec<Script>,
@@ -110,11 +112,13 @@ impl Scripts {
         }
     }
 
-    /// The number that a role sends with a point: that of the `send` line of the point's label, and 0 where it has none.
+    /// The number that a role sends with a point: that of the `send` line of the point's label, and 0 where it has
+    /// none.
     #[inline(always)]
     pub fn value(&self, role: RoleId, vars: &Vars, attempt: u32, point: Point) -> i64
         requires { HasPoint self.now.messages point }
-        ensures { result ≡ number_for ((net_by self.now.messages).label point) (lines_at self.now.lines role) vars.now attempt }
+        ensures { result
+            ≡ number_for ((net_by self.now.messages).label point) (lines_at self.now.lines role) vars.now attempt }
     {
         match self.script(role) {
             Some(script) => script.number(self.acts(role, point).send, vars, attempt),
@@ -127,7 +131,8 @@ impl Scripts {
     #[inline(always)]
     pub fn received(&self, role: RoleId, vars: &Vars, point: Point, value: i64) -> Vars
         requires { HasPoint self.now.messages point }
-        ensures { result ≡ carry_out ((net_by self.now.messages).label point) value (lines_at self.now.lines role) vars.now }
+        ensures { result
+            ≡ carry_out ((net_by self.now.messages).label point) value (lines_at self.now.lines role) vars.now }
     {
         let mut now = *vars;
         self.receive(role, &mut now, point, value);
@@ -138,7 +143,8 @@ impl Scripts {
     #[inline(always)]
     pub fn receive(&self, role: RoleId, vars: &mut Vars, point: Point, value: i64) -> Changed
         requires { HasPoint self.now.messages point }
-        ensures vars { vars.new ≡ carry_out ((net_by self.now.messages).label point) value (lines_at self.now.lines role) vars.old }
+        ensures vars { vars.new
+            ≡ carry_out ((net_by self.now.messages).label point) value (lines_at self.now.lines role) vars.old }
         ensures changed { IsChange result vars.old vars.new }
     {
         match self.script(role) {
@@ -153,7 +159,8 @@ impl Scripts {
     /// The variables of a role behind an event that sent this number with a point: as where it was received.
     pub fn sent(&self, role: RoleId, vars: &Vars, point: Point, value: i64) -> Vars
         requires { HasPoint self.now.messages point }
-        ensures { result ≡ carry_out ((net_by self.now.messages).label point) value (lines_at self.now.lines role) vars.now }
+        ensures { result
+            ≡ carry_out ((net_by self.now.messages).label point) value (lines_at self.now.lines role) vars.now }
     {
         self.received(role, vars, point, value)
     }

@@ -1,6 +1,6 @@
 -- Worked cases of the table: what stands before, and at what the code holds.
 use Rattle.std.proofs.Common.{◌≡◌, ℕ, zero, suc, false, codes, List, [], ◌∷◌, refl}
-use Rattle.rcv_syntax.specs.declared.sign.Sign.TheVariants.{Module, Global, Protocol, Role, From, Choice, At, Or, Rec, Continue, Par, Do, Open, Close, Left, Right, Comma, Semicolon, Less, Greater}
+use Rattle.rcv_syntax.specs.declared.sign.Sign.TheVariants.{Module, Global, From, Choice, At, Or, Rec, Continue, Par, Do, Open, Close, Left, Right, Comma, Semicolon, Less, Greater}
 use Rattle.rcv_syntax.specs.declared.fault.Fault.TheVariants.{Deep, NoName, Twice, SelfMessage, AfterContinue, Unguarded, TooMany, NotYet}
 use Rattle.rcv_syntax.specs.Symbols.{Symbol, Is, Word, Text}
 use Rattle.rcv_syntax.specs.Codes.{FromItsStart, IntoRec, IntoChoice, IntoBranch, is_behind_continue, is_deep, is_unknown, is_repeated}

@@ -2,6 +2,7 @@
 use Rattle.std.proofs.Common.{ℕ, zero, suc, codes, List, [], ◌∷◌}
 use Rattle.rcv_syntax.specs.declared.sign.Sign.TheVariants.{Module, Global, Protocol, Role, From, To, Rec, Continue, Open, Left, Right, Comma, Semicolon, Less, Greater}
 use Rattle.rcv_syntax.specs.Symbols.{Symbol, Is, Word, Text}
+use Rattle.rcv_syntax.specs.Grammar.{roles_behind}
 
 -- names
 abbrev pub a : Symbol
@@ -22,10 +23,13 @@ y = Word (codes "Y")
 abbrev pub both : List (List ℕ)
 both = codes "A" ∷ codes "B" ∷ []
 
+-- module X; global protocol Y(role A, role B
+abbrev pub heading : List Symbol → List Symbol
+heading next = Is Module ∷ x ∷ Is Semicolon ∷ Is Global ∷ Is Protocol ∷ y ∷ Is Left ∷ Is Role ∷ a ∷ Is Comma ∷ Is Role ∷ b ∷ next
+
 -- module X; global protocol Y(role A, role B) {
 abbrev pub text : List Symbol → List Symbol
-text next = Is Module ∷ x ∷ Is Semicolon ∷ Is Global ∷ Is Protocol ∷ y ∷ Is Left ∷ Is Role ∷ a ∷ Is Comma ∷ Is Role ∷ b ∷ Is Right
-    ∷ Is Open ∷ next
+text next = heading (Is Right ∷ Is Open ∷ next)
 
 -- X() from A to
 abbrev pub sends : List Symbol → List Symbol
@@ -56,10 +60,5 @@ abbrev pub more_roles : List (List ℕ)
 more_roles = codes "C" ∷ codes "D" ∷ codes "E" ∷ codes "F" ∷ codes "G" ∷ codes "H" ∷ []
 
 -- module X; global protocol Y(role A, role B, role .., role
-abbrev pub with_others : List (List ℕ) → List Symbol → List Symbol
-with_others [] next = Is Comma ∷ Is Role ∷ next
-with_others (n ∷ ns) next = Is Comma ∷ Is Role ∷ Word n ∷ with_others ns next
-
 abbrev pub with_roles : List (List ℕ) → List Symbol → List Symbol
-with_roles names next =
-    Is Module ∷ x ∷ Is Semicolon ∷ Is Global ∷ Is Protocol ∷ y ∷ Is Left ∷ Is Role ∷ a ∷ Is Comma ∷ Is Role ∷ b ∷ with_others names next
+with_roles names next = heading (roles_behind names (Is Comma ∷ Is Role ∷ next))

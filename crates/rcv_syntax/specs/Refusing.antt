@@ -1,5 +1,5 @@
 -- Where the reader refuses: at the first symbol, or the end, at which a code of the table holds, with the least code there.
-use Rattle.std.specs.Prelude.{◌≡◌, ◌<◌, ℕ, List, [], ◌∷◌, ◌++◌}
+use Rattle.std.specs.Prelude.{◌≡◌, ◌<◌, List, [], ◌∷◌, ◌++◌}
 use Rattle.rcv_syntax.specs.declared.sign.Sign.TheVariants.{Global}
 use Rattle.rcv_syntax.specs.declared.fault.Fault.{Fault}
 use Rattle.rcv_syntax.specs.declared.fault.Fault.TheVariants as faults

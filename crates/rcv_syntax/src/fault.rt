@@ -7,23 +7,23 @@ ghost use Rattle.rcv_syntax.specs.Codes.{code_of};
 #[derive(Clone, Copy, Debug, PartialEq, Eq)]
 pub enum Fault {
     /// The grammar doesn't have it there.
-    Token,
+    Token = 11,
     /// The brace of the 33rd nested block.
-    Deep,
+    Deep = 12,
     /// A role that isn't declared, or the name of no enclosing recursion.
-    NoName,
+    NoName = 13,
     /// A role, an alias or a receiver that stands before.
-    Twice,
+    Twice = 14,
     /// A receiver that is the sender.
-    SelfMessage,
+    SelfMessage = 15,
     /// A statement behind a `continue`.
-    AfterContinue,
+    AfterContinue = 16,
     /// A `continue` to which a walk comes without a message.
-    Unguarded,
+    Unguarded = 17,
     /// The ninth role, or the receiver that makes the 257th point.
-    TooMany,
+    TooMany = 18,
     /// Text that isn't read yet.
-    NotYet,
+    NotYet = 19,
 }
 
 impl Fault {
@@ -31,16 +31,6 @@ impl Fault {
     pub fn code(self) -> u8
         ensures { result ≡ code_of self }
     {
-        match self {
-            Fault::Token => 11,
-            Fault::Deep => 12,
-            Fault::NoName => 13,
-            Fault::Twice => 14,
-            Fault::SelfMessage => 15,
-            Fault::AfterContinue => 16,
-            Fault::Unguarded => 17,
-            Fault::TooMany => 18,
-            Fault::NotYet => 19,
-        }
+        self as u8
     }
 }

@@ -35,44 +35,30 @@ impl Alphabet for Sign {
 fn head_word(word: &[u8]) -> Option<Sign>
     ensures { result ≡ head_word word.now }
 {
-    if is(word, b"module") {
-        Some(Sign::Module)
-    } else if is(word, b"global") {
-        Some(Sign::Global)
-    } else if is(word, b"protocol") {
-        Some(Sign::Protocol)
-    } else if is(word, b"role") {
-        Some(Sign::Role)
-    } else {
-        None
+    match word {
+        _ if is(word, b"module") => Some(Sign::Module),
+        _ if is(word, b"global") => Some(Sign::Global),
+        _ if is(word, b"protocol") => Some(Sign::Protocol),
+        _ if is(word, b"role") => Some(Sign::Role),
+        _ => None,
     }
 }
 
 fn stmt_word(word: &[u8]) -> Option<Sign>
     ensures { result ≡ stmt_word word.now }
 {
-    if is(word, b"from") {
-        Some(Sign::From)
-    } else if is(word, b"to") {
-        Some(Sign::To)
-    } else if is(word, b"choice") {
-        Some(Sign::Choice)
-    } else if is(word, b"at") {
-        Some(Sign::At)
-    } else if is(word, b"or") {
-        Some(Sign::Or)
-    } else if is(word, b"rec") {
-        Some(Sign::Rec)
-    } else if is(word, b"continue") {
-        Some(Sign::Continue)
-    } else if is(word, b"par") {
-        Some(Sign::Par)
-    } else if is(word, b"and") {
-        Some(Sign::And)
-    } else if is(word, b"do") {
-        Some(Sign::Do)
-    } else {
-        None
+    match word {
+        _ if is(word, b"from") => Some(Sign::From),
+        _ if is(word, b"to") => Some(Sign::To),
+        _ if is(word, b"choice") => Some(Sign::Choice),
+        _ if is(word, b"at") => Some(Sign::At),
+        _ if is(word, b"or") => Some(Sign::Or),
+        _ if is(word, b"rec") => Some(Sign::Rec),
+        _ if is(word, b"continue") => Some(Sign::Continue),
+        _ if is(word, b"par") => Some(Sign::Par),
+        _ if is(word, b"and") => Some(Sign::And),
+        _ if is(word, b"do") => Some(Sign::Do),
+        _ => None,
     }
 }
 
@@ -88,25 +74,16 @@ fn reserved(word: &[u8]) -> Option<Sign>
 fn mark(bytes: &[u8]) -> Sign
     ensures { result ≡ mark bytes.now }
 {
-    if is(bytes, b"{") {
-        Sign::Open
-    } else if is(bytes, b"}") {
-        Sign::Close
-    } else if is(bytes, b"(") {
-        Sign::Left
-    } else if is(bytes, b")") {
-        Sign::Right
-    } else if is(bytes, b",") {
-        Sign::Comma
-    } else if is(bytes, b";") {
-        Sign::Semicolon
-    } else if is(bytes, b".") {
-        Sign::Dot
-    } else if is(bytes, b"<") {
-        Sign::Less
-    } else if is(bytes, b">") {
-        Sign::Greater
-    } else {
-        Sign::Foreign
+    match bytes {
+        _ if is(bytes, b"{") => Sign::Open,
+        _ if is(bytes, b"}") => Sign::Close,
+        _ if is(bytes, b"(") => Sign::Left,
+        _ if is(bytes, b")") => Sign::Right,
+        _ if is(bytes, b",") => Sign::Comma,
+        _ if is(bytes, b";") => Sign::Semicolon,
+        _ if is(bytes, b".") => Sign::Dot,
+        _ if is(bytes, b"<") => Sign::Less,
+        _ if is(bytes, b">") => Sign::Greater,
+        _ => Sign::Foreign,
     }
 }

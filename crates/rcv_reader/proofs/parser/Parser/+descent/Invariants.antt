@@ -22,15 +22,13 @@ abbrev pub decreases-stmts : goal.decreases-stmts
 decreases-stmts l = 3 * length l.self.now.rest + 1
 
 abbrev pub invariant-stmts-loop-alloc : goal.invariant-stmts-loop-alloc
-invariant-stmts-loop-alloc l =
-    StmtsSoFar l.fn.self.roles l.self.roles l.fn.self.recs.items l.self.recs.items l.fn.self.count l.self.count l.spot.depth l.fn.spot.comes l.fn.spot.ended l.here.depth l.here.comes l.here.ended (statements l.fn.block) (statements l.block) l.fn.self.rest l.self.rest
+invariant-stmts-loop-alloc l = StmtsSoFar l.fn.self l.self l.fn.spot l.here (statements l.fn.block) (statements l.block)
 
 abbrev pub decreases-stmts-loop-alloc : goal.decreases-stmts-loop-alloc
 decreases-stmts-loop-alloc l = length l.self.rest
 
 abbrev pub invariant-branches-loop-alloc : goal.invariant-branches-loop-alloc
-invariant-branches-loop-alloc l =
-    BranchesSoFar l.fn.self.roles l.self.roles l.fn.self.recs.items l.self.recs.items l.fn.self.count l.self.count l.spot.depth l.spot.comes l.spot.ended (blocks l.branches) l.fn.self.rest l.self.rest
+invariant-branches-loop-alloc l = BranchesSoFar l.fn.self l.self l.spot (blocks l.branches)
 
 abbrev pub decreases-branches-loop-alloc : goal.decreases-branches-loop-alloc
 decreases-branches-loop-alloc l = length l.self.rest

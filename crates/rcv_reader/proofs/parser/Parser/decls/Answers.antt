@@ -3,5 +3,6 @@ use Rattle.rcv_reader.proofs.parser.Parser.decls.Goals as goal
 
 pub loop-alloc-preserved : goal.loop-alloc-preserved
 loop-alloc-preserved c =
-    decls_next _ _ _ _ _ _ _ _ _ _ _ _ _ _ _ _ c.in_ok-decl.decl _ _ _ _ c.loop-alloc.invariant (c.takes.ensures.no c.loop-alloc-test.true) c.takes.ensures.kept
-    c.in_ok-decl.ensures.goes c.in_ok-decl.ensures.read c.decl.ensures.kept c.in_ok-push.ensures.ok c.decl.ensures.shorter
+    decls_next _ _ _ _ _ _ _ _ c.in_ok-decl.decl c.loop-alloc.invariant (c.takes.ensures.no c.loop-alloc-test.true).0
+    c.in_ok-decl.ensures.goes c.in_ok-decl.ensures.read
+    c.in_ok-push.ensures.ok

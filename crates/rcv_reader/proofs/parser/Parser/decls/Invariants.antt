@@ -4,7 +4,7 @@ use Rattle.rcv_reader.proofs.Heading.{DeclsSoFar}
 use Rattle.rcv_reader.proofs.parser.Parser.decls.Given as goal
 
 abbrev pub invariant-loop-alloc : goal.invariant-loop-alloc
-invariant-loop-alloc l = DeclsSoFar l.fn.self.roles l.self.roles l.fn.self.recs.items l.self.recs.items l.fn.self.count l.self.count l.aliases (declarations l.list) l.fn.self.rest l.self.rest
+invariant-loop-alloc l = DeclsSoFar l.fn.self l.self l.aliases (declarations l.list)
 
 abbrev pub decreases-loop-alloc : goal.decreases-loop-alloc
 decreases-loop-alloc l = length l.self.rest

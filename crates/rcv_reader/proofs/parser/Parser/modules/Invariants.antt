@@ -1,9 +1,9 @@
 use Rattle.std.proofs.Common.{length}
-use Rattle.rcv_reader.proofs.Heading.{ModulesSoFar}
+use Rattle.rcv_reader.proofs.Reading.{ModulesSoFar}
 use Rattle.rcv_reader.proofs.parser.Parser.modules.Given as goal
 
 abbrev pub invariant-loop-alloc : goal.invariant-loop-alloc
-invariant-loop-alloc l = ModulesSoFar l.fn.self.roles l.self.roles l.fn.self.recs.items l.self.recs.items l.fn.self.count l.self.count l.names l.fn.self.rest l.self.rest
+invariant-loop-alloc l = ModulesSoFar l.fn.self l.self l.names
 
 abbrev pub decreases-loop-alloc : goal.decreases-loop-alloc
 decreases-loop-alloc l = length l.self.rest

@@ -1,12 +1,18 @@
-use Rattle.std.proofs.lemmas.Result.{err_from_is_err_and}
-use Rattle.rcv_script.proofs.Written.{lines_next, lines_fail}
+use Rattle.std.proofs.Common.{List, ◌∙◌, arith}
+use Rattle.rcv_model.specs.Script.{Line}
+use Rattle.rcv_script.specs.Machine.{Item, Lines}
+use Rattle.rcv_script.proofs.Going.{fails}
+use Rattle.rcv_script.proofs.Written.{lines_to_line}
 use Rattle.rcv_script.proofs.parser.Parser.lines.Goals as goal
 
 pub returns-in_err-line-clause-goes : goal.returns-in_err-line-clause-goes
 returns-in_err-line-clause-goes c =
-    let p = err_from_is_err_and c.from_residual.result c.from_residual.ensures.1 in
-    rw (p.1, p.2) (lines_fail c.in_err-line.field-0.0 _ _ _ c.loop-alloc.lines.items _ _ _ _ _ c.as_slice.ensures.value c.loop-alloc.invariant (c.takes.ensures.no c.loop-alloc-test.true) c.in_err-line.ensures.goes)
+    fails (λ (k : List Line → Item) s. Lines s k) _ _ _ _ _ _ _ _ c.from_residual-in_err-line.ensures.1 c.in_err-line.ensures.goes
+    (λ k. c.loop-alloc.invariant.goes k ∙ lines_to_line c.loop-alloc.writing _ _ (c.takes.ensures.no c.loop-alloc-test.true) k)
 
 pub loop-alloc-preserved : goal.loop-alloc-preserved
-loop-alloc-preserved c =
-    lines_next _ _ _ _ c.loop-alloc.lines.items _ _ c.in_ok-line.line _ _ _ _ c.as_slice.ensures.value c.loop-alloc.invariant (c.takes.ensures.no c.loop-alloc-test.true) c.in_ok-line.ensures.goes c.in_ok-line.ensures.taken c.in_ok-push.ensures.items
+loop-alloc-preserved c = record {
+  goes = λ k. c.loop-alloc.invariant.goes k ∙ lines_to_line c.loop-alloc.writing _ _ (c.takes.ensures.no c.loop-alloc-test.true) k
+      ∙ c.in_ok-line.ensures.goes (λ s. Lines s k);
+  shorter = omega (arith, c.loop-alloc.invariant.shorter, c.takes.ensures.shorter, c.in_ok-line.ensures.taken);
+}

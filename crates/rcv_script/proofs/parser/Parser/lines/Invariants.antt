@@ -1,9 +1,16 @@
-use Rattle.std.proofs.Common.{length}
-use Rattle.rcv_script.proofs.Written.{LinesSoFar}
+use Rattle.std.proofs.Common.{◌≡◌, ◌≤◌, List, length}
+use Rattle.rcv_model.specs.Script.{Line}
+use Rattle.rcv_script.specs.declared.sign.Sign.TheVariants.{Open}
+use Rattle.rcv_script.specs.Symbols.{Is}
+use Rattle.rcv_script.specs.Machine.{Item, This, Lines, begun, answer}
 use Rattle.rcv_script.proofs.parser.Parser.lines.Given as goal
 
 abbrev pub invariant-loop-alloc : goal.invariant-loop-alloc
-invariant-loop-alloc l = LinesSoFar l.points.messages l.role l.names l.lines.items l.fn.self.rest l.self.rest
+invariant-loop-alloc l = record {
+  goes : (k : List Line → Item)
+      → answer (This (Is Open) (Lines (begun l.points.messages l.role) k)) l.fn.self.rest ≡ answer (Lines l.writing k) l.self.rest;
+  shorter : length l.self.rest ≤ length l.fn.self.rest;
+}
 
 abbrev pub decreases-loop-alloc : goal.decreases-loop-alloc
 decreases-loop-alloc l = length l.self.rest

@@ -1,15 +1,10 @@
-use Rattle.std.proofs.Common.{ℕ, List}
-use Rattle.std.proofs.lemmas.Result.{err_from_is_err_and}
-use Rattle.rcv_model.specs.Script.{Expr, Line, SendLine}
-use Rattle.rcv_script.specs.Machine.{send_line, with_expr, deciding}
-use Rattle.rcv_script.specs.Descent.{writing}
-use Rattle.rcv_script.proofs.Going.{halts_behind}
+use Rattle.rcv_model.specs.Script.{SendLine}
+use Rattle.rcv_script.specs.Machine.{Item, Writing, with_line}
+use Rattle.rcv_script.proofs.Going.{fails}
 use Rattle.rcv_script.proofs.parser.Parser.send_line.Goals as goal
 
 pub returns-in_err-number-clause-goes : goal.returns-in_err-number-clause-goes
 returns-in_err-number-clause-goes c =
-    let p = err_from_is_err_and c.from_residual-in_err-number.result c.from_residual-in_err-number.ensures.1 in
-    let s = writing c.args.points.now.messages c.args.role c.args.names.now c.args.lines.now in
-    rw (p.1, p.2) (halts_behind (List (List ℕ) × Line) Expr c.in_err-number.field-0.0 (λ k. send_line s k) (λ k. with_expr (deciding s.names) k)
-    (λ k e. k (s.names, SendLine c.in_ok-label.label e)) _ _ _ (λ k. c.in_ok-label.ensures.goes (λ l. with_expr (deciding s.names) (λ e. k (s.names, SendLine l e))))
-    c.in_err-number.ensures.goes)
+    let s = c.args.writing.now in
+    fails (λ (k : Writing → Item) e. k (with_line s (s.names, SendLine c.in_ok-label.label e))) _ _ _ _ _ _ _ _
+    c.from_residual-in_err-number.ensures.1 (rw c.names.ensures at c.in_err-number.ensures.goes) (λ k. c.in_ok-label.ensures.goes _)

@@ -1,0 +1,140 @@
+// The script of a role while it is read.
+
+ghost use Rattle.std.specs.Prelude.{◌≡◌, ◌∷◌, ◌++◌, [], map, Option, IfOk};
+ghost use Rattle.rcv_model.specs.Script.{VarLine};
+ghost use Rattle.rcv_script.specs.Lines.{line_of};
+ghost use Rattle.rcv_script.specs.Machine.{begun, with_line, var_fault, line_fault, label_fault, remembering};
+ghost use Rattle.rcv_script.specs.Descent.{at_depth};
+
+use crate::fault::Fault;
+use crate::formula::{Banned, place_of};
+use crate::labels::{on_fault, pick_fault, send_fault, takes_bare};
+use crate::line::Line;
+use crate::words::LineKind;
+use rcv_points::points::Points;
+use rcv_scan::is;
+use rcv_tree::name::{Name, Names};
+use std::alloc::{AllocError, Global};
+use std::marker::Model;
+
+/// What is known behind some lines of a script: the points of the protocol, the role, its variables and these lines.
+#[derive(Drop)]
+pub struct Writing<'a> {
+    points: &'a Points,
+    role: usize,
+    names: Names,
+    lines: Vec<Line>,
+}
+
+impl<'a> Model for Writing<'a> {
+    ghost use Rattle.std.specs.Prelude.{map};
+    ghost use Rattle.rcv_script.specs.Lines.{line_of};
+    ghost use Rattle.rcv_script.specs.Machine.{Writing};
+    ghost use Rattle.rcv_script.specs.Codes.{expr_code};
+    ghost use Rattle.std.specs.Coded.{codes};
+
+    ghost Value = { Writing };
+
+    ghost coded = { Prim.hlevel (codes, expr_code) };
+
+    ghost view = { λ a. record {
+      messages = a.points.now.messages;
+      role = a.role;
+      names = a.names;
+      lines = map line_of a.lines.items;
+    } };
+}
+
+impl<'a> Writing<'a> {
+    /// The script of a role, without lines.
+    pub fn new(alloc: Global, points: &'a Points, role: usize) -> Self
+        ensures { result ≡ begun points.now.messages role }
+    {
+        Writing {
+            points,
+            role,
+            names: Names::new(alloc),
+            lines: Vec::new(alloc),
+        }
+    }
+
+    /// The names of the variables.
+    pub fn names(&self) -> &Names
+        ensures { result.now ≡ self.now.names }
+    {
+        &self.names
+    }
+
+    /// The lines.
+    pub fn into_lines(self) -> Vec<Line>
+        ensures { map line_of result.items ≡ self.entry.lines }
+    {
+        self.lines
+    }
+
+    /// What speaks against the name of a new variable.
+    pub fn var_fault(&self, name: &[u8]) -> Option<Fault>
+        ensures { result ≡ var_fault self.now.names name.now }
+    {
+        if is(name, b"value") || is(name, b"attempt") {
+            return Some(Fault::Variable);
+        }
+        match place_of(self.names.as_slice(), name) {
+            Some(_) => Some(Fault::Variable),
+            None => None,
+        }
+    }
+
+    /// What speaks against one more line of this kind.
+    pub fn line_fault(&self, kind: LineKind) -> Option<Fault>
+        ensures { result ≡ line_fault self.now.names self.now.lines kind }
+    {
+        let names = self.names.as_slice();
+        let lines = self.lines.as_slice();
+        let many = match kind {
+            LineKind::Var => lines.len() >= 256 || names.len() >= 16,
+            LineKind::Send | LineKind::Pick | LineKind::On => lines.len() >= 256,
+        };
+        if many { Some(Fault::TooMany) } else { None }
+    }
+
+    /// What speaks against the label of a line of this kind. A `var` line has none.
+    pub fn label_fault(&self, kind: LineKind, label: &[u8]) -> Option<Fault>
+        ensures { result ≡ label_fault kind self.now.messages self.now.role self.now.lines label.now }
+    {
+        match kind {
+            LineKind::Send => send_fault(self.points, self.role, self.lines.as_slice(), label),
+            LineKind::Pick => pick_fault(self.points, self.role, label),
+            LineKind::On => on_fault(self.points, self.role, label),
+            LineKind::Var => None,
+        }
+    }
+
+    /// What an `on` line of this label may not read.
+    pub fn remembering(&self, label: &[u8]) -> Banned
+        ensures { at_depth self.now.names result 0 ≡ remembering self.now label.now }
+    {
+        let bare = takes_bare(self.points, self.role, label);
+        Banned {
+            value: if bare { Some(Fault::NoPayload) } else { None },
+            attempt: Some(Fault::AttemptInState),
+        }
+    }
+
+    /// Adds a line.
+    pub fn add(&mut self, line: Line) -> Result<(), AllocError>
+        ensures { IfOk result (λ _. self.new ≡ with_line self.old (self.old.names, line_of line)) }
+    {
+        self.lines.push(line)?;
+        Ok(())
+    }
+
+    /// Adds a variable and its line.
+    pub fn add_variable(&mut self, name: Name, first: i64) -> Result<(), AllocError>
+        ensures { IfOk result (λ _. self.new ≡ with_line self.old (self.old.names ++ name ∷ [], VarLine first)) }
+    {
+        self.names.push(name)?;
+        self.lines.push(Line::Var { first })?;
+        Ok(())
+    }
+}
