@@ -4,7 +4,6 @@ use Rattle.std.specs.Prelude.{Option}
 use Rattle.rcv_lexer.specs.Parts.{parts_of}
 use Rattle.rcv_lexer.specs.Tokens.{line_at}
 use Rattle.rcv_syntax.specs.declared.sign.Sign.TheVariants.{Module, Global, Choice, At, Rec, Continue, Par, And, Do, Open, Close, Left, Right, Comma, Semicolon}
-use Rattle.rcv_syntax.specs.declared.fault.Fault.TheVariants.{AfterContinue}
 use Rattle.rcv_syntax.specs.Symbols.{Symbol, Is, Word, line_before}
 use Rattle.rcv_model.specs.Text as trees
 use Rattle.rcv_tree.specs.declared.protocol.Decl.{Decl}
@@ -13,7 +12,7 @@ use Rattle.rcv_syntax.specs.Grammar.{Written, NoStmt, AMessage, AChoice, ARec, A
 use Rattle.rcv_reader.specs.Refusals.{IsRead}
 use Rattle.rcv_grammar.proofs.Answered.{source_read}
 use Rattle.rcv_syntax.specs.Codes.{code_of}
-use Rattle.rcv_machine.specs.Machine.{Place, RoleName, Receiver, Rest, Wrong, step, Answer, Taken, Refuses, answer, reading, known}
+use Rattle.rcv_machine.specs.Machine.{State, RoleName, Receiver, Rest, Answer, Taken, Refuses, answer, reading, known}
 use Rattle.rcv_syntax.specs.Trees.{tree_of}
 use Rattle.rcv_grammar.specs.Canonical.{written_of}
 use Rattle.rcv_syntax.proofs.Texts.{a, b, c, x, y, both, text, sends, message, rec_x, again_x, nested, alias_a, more_roles}
@@ -33,6 +32,12 @@ at_receiver count before symbols = shown (answer (known both count) (Receiver 0 
 abbrev at_ninth : Symbol → Option (ℕ × List Symbol)
 at_ninth role = shown (answer (known (both ++ more_roles) 0) (RoleName ∷ []) (role ∷ []))
 
+-- behind a continue
+abbrev at_ended : List Symbol → Option (ℕ × List Symbol)
+at_ended symbols =
+    let place = Rest (record { depth = 2; recs = codes "X" ∷ []; comes = 1; ended = true }) in
+    shown (answer (known both 0) (place ∷ []) symbols)
+
 -- an answer, the code that it has, and what is left
 abbrev Case : Type 0
 Case = Option (ℕ × List Symbol) × ℕ × List Symbol
@@ -40,7 +45,7 @@ Case = Option (ℕ × List Symbol) × ℕ × List Symbol
 abbrev AreRefused : List Case → Type 0
 AreRefused cases = map (λ (c : Case). c.0) cases ≡ map (λ (c : Case). Some (c.1, c.2)) cases
 
-each_code : AreRefused (
+refused : AreRefused (
     -- a wrong symbol, an early end, a branch without a statement, and the end behind the deepest block
     (refusal (text (x ∷ y ∷ Is Close ∷ [])), 11, y ∷ Is Close ∷ [])
     ∷ (refusal (text (message [])), 11, [])
@@ -69,20 +74,12 @@ each_code : AreRefused (
     ∷ (refusal (text (Is Do ∷ [])), 19, Is Do ∷ [])
     ∷ (refusal (text (Is Close ∷ Is Global ∷ [])), 19, Is Global ∷ [])
     ∷ (refusal (text (Is Close ∷ Is Close ∷ [])), 11, Is Close ∷ [])
-    ∷ [])
-each_code = refl
-
--- code 17 at the word, before its name is read
-at_continue : AreRefused (
-    (refusal (text (rec_x (Is Continue ∷ x ∷ []))), 17, Is Continue ∷ x ∷ [])
+    -- code 17 at the word, before its name is read
+    ∷ (refusal (text (rec_x (Is Continue ∷ x ∷ []))), 17, Is Continue ∷ x ∷ [])
     ∷ (refusal (text (rec_x (Is Continue ∷ []))), 11, [])
     ∷ (refusal (text (rec_x (Is Continue ∷ y ∷ Is Semicolon ∷ []))), 13, y ∷ Is Semicolon ∷ [])
-    ∷ [])
-at_continue = refl
-
-least_code : AreRefused (
-    -- par and do behind a continue
-    (refusal (text (rec_x (message (again_x (Is Par ∷ []))))), 16, Is Par ∷ [])
+    -- the least code: par and do behind a continue
+    ∷ (refusal (text (rec_x (message (again_x (Is Par ∷ []))))), 16, Is Par ∷ [])
     ∷ (refusal (text (rec_x (message (again_x (Is Do ∷ []))))), 16, Is Do ∷ [])
     -- where no point is left: a name of no role, one that stands before, the sender
     ∷ (at_receiver 256 [] (c ∷ []), 13, c ∷ [])
@@ -90,35 +87,30 @@ least_code : AreRefused (
     ∷ (at_receiver 256 [] (a ∷ []), 15, a ∷ [])
     -- a ninth role with the name of the first
     ∷ (at_ninth a, 14, a ∷ [])
+    -- behind a continue, at a place to which a walk comes
+    ∷ (at_ended (Is Continue ∷ x ∷ []), 16, Is Continue ∷ x ∷ [])
     ∷ [])
-least_code = refl
-
--- behind a continue, at a place to which a walk comes
-abbrev ended_place : Place
-ended_place = record { depth = 2; recs = codes "X" ∷ []; comes = 1; ended = true }
-
-ended_before_unguarded : step (known both 0) (Is Continue) (x ∷ []) (Rest ended_place ∷ []) ≡ Wrong AfterContinue
-ended_before_unguarded = refl
+refused = refl
 
 -- ---- what is taken
-
-one_message : reading (text (message (Is Close ∷ []))) ≡ Taken (known both 1)
-one_message = refl
-
--- behind 255 points there is one more
-last_point : answer (known both 255) (Receiver 0 [] ∷ []) (b ∷ Is Semicolon ∷ []) ≡ Taken (known both 256)
-last_point = refl
 
 -- a body that is never left: rec X { rec Y { X() from A to B; continue X; } and what follows
 abbrev never_left : List Symbol → List Symbol
 never_left next = rec_x (Is Rec ∷ y ∷ Is Open ∷ message (again_x (Is Close ∷ next)))
 
-guarded_behind : reading (text (never_left (again_x (Is Close ∷ Is Close ∷ [])))) ≡ Taken (known both 1)
-guarded_behind = refl
+-- an answer, and the state that it has
+abbrev AreTaken : List (Answer × State) → Type 0
+AreTaken cases = map (λ (c : Answer × State). c.0) cases ≡ map (λ (c : Answer × State). Taken c.1) cases
 
--- what stands behind it isn't behind a continue of its own block
-statement_behind : reading (text (never_left (message (Is Close ∷ Is Close ∷ [])))) ≡ Taken (known both 2)
-statement_behind = refl
+are_taken : AreTaken (
+    (reading (text (message (Is Close ∷ []))), known both 1)
+    -- behind 255 points there is one more
+    ∷ (answer (known both 255) (Receiver 0 [] ∷ []) (b ∷ Is Semicolon ∷ []), known both 256)
+    -- what stands behind a body that is never left isn't behind a continue of its own block
+    ∷ (reading (text (never_left (again_x (Is Close ∷ Is Close ∷ [])))), known both 1)
+    ∷ (reading (text (never_left (message (Is Close ∷ Is Close ∷ [])))), known both 2)
+    ∷ [])
+are_taken = refl
 
 -- ---- the line of a part's end
 
@@ -134,9 +126,13 @@ line_of_the_separator = refl
 
 -- ---- the canonical source
 
+-- X(..) from A to B, ..
+abbrev an_x : List (List ℕ) → List (List ℕ) → Written → Written
+an_x sorts others rest = AMessage (codes "X") sorts (codes "A") (codes "B") others rest
+
 -- a message to B and C is written as two
-two_receivers : written_of (both ++ more_roles) (tree_of (both ++ more_roles) 0 (AMessage (codes "X") [] (codes "A") (codes "B") (codes "C" ∷ []) NoStmt))
-    ≡ AMessage (codes "X") [] (codes "A") (codes "B") [] (AMessage (codes "X") [] (codes "A") (codes "C") [] NoStmt)
+two_receivers : written_of (both ++ more_roles) (tree_of (both ++ more_roles) 0 (an_x [] (codes "C" ∷ []) NoStmt))
+    ≡ an_x [] [] (AMessage (codes "X") [] (codes "A") (codes "C") [] NoStmt)
 two_receivers = refl
 
 -- ---- texts of each production
@@ -147,7 +143,7 @@ source_with w = record { module_name = codes "X"; module_more = []; declared = [
 -- a par of two blocks and a do: derived, though not read yet
 par_and_do : IsDerived (text (Is Par ∷ Is Open ∷ message (Is Close ∷ Is And ∷ Is Open ∷ Is Do ∷ y ∷ Is Left ∷ a ∷ Is Comma ∷ b ∷ Is Right ∷ Is Semicolon ∷ Is Close ∷ Is Close ∷ [])))
 par_and_do = (
-  source_with (APar (AMessage (codes "X") [] (codes "A") (codes "B") [] NoStmt) (ADo (codes "Y") (codes "A") (codes "B" ∷ []) NoStmt) NoBlock NoStmt),
+  source_with (APar (an_x [] [] NoStmt) (ADo (codes "Y") (codes "A") (codes "B" ∷ []) NoStmt) NoBlock NoStmt),
   (tt, (tt, tt, tt, tt, tt, tt), refl),
 )
 
@@ -160,16 +156,12 @@ three = codes "A" ∷ codes "B" ∷ codes "C" ∷ []
 -- a dotted module, both declarations, sorts, two receivers, a choice of two, a recursion with its continue
 abbrev each_production : Source
 each_production =
-    record {
-      module_name = codes "X";
+    record (source_with (ARec (codes "X") (AChoice (codes "A")
+    (an_x (codes "T" ∷ codes "U" ∷ []) (codes "C" ∷ []) (AContinue (codes "X") NoStmt))
+    (ABlock (an_x [] [] (AMessage (codes "Y") [] (codes "B") (codes "C") [] NoStmt)) NoBlock) NoStmt) NoStmt)) {
       module_more = codes "Y" ∷ [];
       declared = decl_as (codes "type") (codes "T") ∷ decl_as (codes "data") (codes "U") ∷ [];
-      name = codes "Y";
-      role = codes "A";
       other_roles = codes "B" ∷ codes "C" ∷ [];
-      body = ARec (codes "X")
-          (AChoice (codes "A") (AMessage (codes "X") (codes "T" ∷ codes "U" ∷ []) (codes "A") (codes "B") (codes "C" ∷ []) (AContinue (codes "X") NoStmt))
-          (ABlock (AMessage (codes "X") [] (codes "A") (codes "B") [] (AMessage (codes "Y") [] (codes "B") (codes "C") [] NoStmt)) NoBlock) NoStmt) NoStmt;
     }
 
 each_is_read : (p : tree.Protocol) × IsRead (spelling each_production) p

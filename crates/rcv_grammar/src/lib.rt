@@ -26,6 +26,7 @@ pub fn read_texts_have_names()
 
 /// A part of a bundle of fewer than 2^63 bytes is read as some protocol, or it has a refusal. No part is both, and a
 /// refusal has one code and one line.
+#[tactic(auto, using(crate::proofs::Answered::parts_have_one_answer))]
 pub fn parts_have_one_answer()
     ensures { PartsHaveOneAnswer }
 {}

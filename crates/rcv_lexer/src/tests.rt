@@ -1,3 +1,5 @@
+// Parts of an input, and the tokens of one with the places at which they stand.
+
 use crate::token::{Kind, Span};
 use crate::{split, tokens};
 use std::test::Fail;

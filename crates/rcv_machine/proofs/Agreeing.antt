@@ -1,4 +1,5 @@
--- A step goes on, or stops with a code, only where the grammar has the symbol: behind it is derived what the item derives.
+-- What the awaited items derive, in which codes play no part. A step goes on, or stops with a code, only where the
+-- grammar has the symbol: behind it is derived what the item derives.
 use Rattle.std.proofs.Common.{◌≡◌, ℕ, Bool, true, false, cond, List, [], ◌∷◌, ◌++◌, length, refl, ap, inl, inr}
 use Rattle.std.specs.Prelude.{◌⊎◌, ◌==◌, nat_le, not, Option, Some, None}
 use Rattle.rcv_tree.specs.declared.protocol.Decl.{Decl}
@@ -6,12 +7,71 @@ use Rattle.rcv_syntax.specs.declared.sign.Sign.TheVariants.{Global, To, Or, Choi
 use Rattle.rcv_syntax.specs.declared.fault.Fault.{Fault}
 use Rattle.rcv_syntax.specs.declared.fault.Fault.TheVariants.{Token, Deep, NoName, Twice, SelfMessage, AfterContinue, Unguarded, TooMany}
 use Rattle.rcv_syntax.specs.Symbols.{Symbol, Is, Word, Text}
-use Rattle.rcv_syntax.specs.Grammar.{NoStmt, AMessage, AChoice, ARec, AContinue, APar, ADo, NoBlock, ABlock, is_decl_word}
+use Rattle.rcv_syntax.specs.Grammar.{Written, NoStmt, AMessage, AChoice, ARec, AContinue, APar, ADo, Blocks, NoBlock, ABlock, dotted, names_behind, sort_list, roles_behind, decls, stmts, blocks_behind, IsBegun, IsProper, AreProper, is_decl_word, AreDecls, Source, IsDerived}
 use Rattle.rcv_syntax.specs.Codes.{is_among}
 use Rattle.rcv_syntax.specs.Trees.{place_of, is_listed}
-use Rattle.rcv_machine.specs.Machine.{Place, Item, This, AnyName, AnyQuoted, MoreModules, Decls, Alias, RoleName, MoreRoles, Sorts, MoreSorts, Subject, Sender, Receiver, MoreReceivers, RecName, AgainName, Opening, First, Rest, More, State, Outcome, On, Wrong, behind, unless, by_place, meets, is_open, begins, ends, branches, step}
-use Rattle.rcv_machine.proofs.Deriving.{Derives, one, completion}
+use Rattle.rcv_machine.specs.Machine.{Place, Item, This, AnyName, AnyQuoted, MoreModules, Decls, Alias, RoleName, MoreRoles, Sorts, MoreSorts, Subject, Sender, Receiver, MoreReceivers, RecName, AgainName, Opening, First, Rest, More, State, Outcome, On, Wrong, behind, unless, by_place, meets, is_open, begins, ends, branches, step, awaited}
 use Rattle.rcv_machine.proofs.Heads.{meets_only}
+
+-- what an item derives, in front of what follows
+abbrev pub Front : Item → List Symbol → List Symbol → Type 0
+Front (This m) ts us = ts ≡ m ∷ us
+Front AnyQuoted ts us = (q : List ℕ) × (ts ≡ Text q ∷ us)
+Front MoreModules ts us = (ns : List (List ℕ)) × (ts ≡ dotted ns (Is Semicolon ∷ us))
+Front (Decls aliases) ts us = (ds : List Decl) × AreDecls ds × (ts ≡ decls ds (Is Global ∷ us))
+Front (Alias aliases) ts us = (n : List ℕ) × (ds : List Decl) × AreDecls ds × (ts ≡ Word n ∷ Is Semicolon ∷ decls ds (Is Global ∷ us))
+Front RoleName ts us = (n : List ℕ) × (ns : List (List ℕ)) × (ts ≡ Word n ∷ roles_behind ns (Is Right ∷ us))
+Front MoreRoles ts us = (ns : List (List ℕ)) × (ts ≡ roles_behind ns (Is Right ∷ us))
+Front Sorts ts us = (ns : List (List ℕ)) × (ts ≡ sort_list ns (Is Right ∷ us))
+Front MoreSorts ts us = (ns : List (List ℕ)) × (ts ≡ names_behind ns (Is Right ∷ us))
+Front Sender ts us =
+    (s : List ℕ) × (r : List ℕ) × (ns : List (List ℕ)) × (ts ≡ Word s ∷ Is To ∷ Word r ∷ names_behind ns (Is Semicolon ∷ us))
+Front (Receiver sender before) ts us = (r : List ℕ) × (ns : List (List ℕ)) × (ts ≡ Word r ∷ names_behind ns (Is Semicolon ∷ us))
+Front (MoreReceivers sender before) ts us = (ns : List (List ℕ)) × (ts ≡ names_behind ns (Is Semicolon ∷ us))
+Front (RecName p) ts us =
+    (n : List ℕ) × (b : Written) × IsBegun b × IsProper b × (ts ≡ Word n ∷ Is Open ∷ stmts b (Is Close ∷ us))
+Front (AgainName p) ts us = (n : List ℕ) × (ts ≡ Word n ∷ Is Semicolon ∷ us)
+Front (Opening p) ts us = (b : Written) × IsBegun b × IsProper b × (ts ≡ Is Open ∷ stmts b (Is Close ∷ us))
+Front (First p) ts us = (b : Written) × IsBegun b × IsProper b × (ts ≡ stmts b (Is Close ∷ us))
+Front (Rest p) ts us = (b : Written) × IsProper b × (ts ≡ stmts b (Is Close ∷ us))
+Front (More p) ts us = (bs : Blocks) × (b : Written) × AreProper bs × IsProper b × (ts ≡ blocks_behind Or bs (stmts b (Is Close ∷ us)))
+Front _ ts us = (n : List ℕ) × (ts ≡ Word n ∷ us)
+
+abbrev pub Derives : List Item → List Symbol → Type 0
+Derives [] ts = ts ≡ []
+Derives (i ∷ k) ts = (us : List Symbol) × Front i ts us × Derives k us
+
+-- a block of one statement
+abbrev one : Written
+one = AContinue [] NoStmt
+
+some_front : (i : Item) (us : List Symbol) → (ts : List Symbol) × Front i ts us
+some_front (This m) us = (_, refl)
+some_front (Decls aliases) us = (_, ([], tt, refl))
+some_front (Alias aliases) us = (_, ([], [], tt, refl))
+some_front RoleName us = (_, ([], [], refl))
+some_front Sender us = (_, ([], [], [], refl))
+some_front (Receiver sender before) us = (_, ([], [], refl))
+some_front (RecName p) us = (_, ([], one, tt, tt, refl))
+some_front (Opening p) us = (_, (one, tt, tt, refl))
+some_front (First p) us = (_, (one, tt, tt, refl))
+some_front (Rest p) us = (_, (NoStmt, tt, refl))
+some_front (More p) us = (_, (NoBlock, NoStmt, tt, tt, refl))
+some_front _ us = (_, ([], refl))
+
+-- some list is derived
+pub completion : (k : List Item) → (ts : List Symbol) × Derives k ts
+completion [] = ([], refl)
+completion (i ∷ k) = let c = completion k in let f = some_front i c.0 in (f.0, (c.0, f.1, c.1))
+
+-- what is awaited at first derives only what the grammar derives
+pub derived : (ts : List Symbol) → Derives awaited ts → IsDerived ts
+derived ts (_, a, (_, (x, b), (_, (xs, c), (_, (ds, are, d), (_, e, (_, (y, f), others)))))) =
+    let (_, g, (_, h, (_, (r, rs, i), (_, j, (_, (body, is, l), m))))) = others in
+    let source : Source = record { module_name = x; module_more = xs; declared = ds; name = y; role = r; other_roles = rs; body = body } in
+    (source, (are, is, simp (a, b, c, d, e, f, g, h, i, j, l, m)))
+
+-- ---- a step
 
 -- behind the symbol stands what the others derive
 abbrev Offers : List Item → Symbol → List Item → Type 0
@@ -68,8 +128,8 @@ begins_agrees (Is Rec) ts s p k = asked p.ended AfterContinue s _ _ _ (λ us d.
     let (_, (m, body, begun, proper, a), (vs, (rest, is, b), more)) = d in
     (vs, (ARec m body rest, tt, (begun, proper, is), simp (a, b)), more))
 begins_agrees (Is Continue) ts s p k =
-    let o : Offers (First p ∷ k) (Is Continue) (AgainName p ∷ Rest (behind p true) ∷ k) = λ us d.
-    let (_, (m, a), (vs, (rest, is, b), more)) = d in (vs, (AContinue m rest, tt, is, simp (a, b)), more) in
+    let o : Offers (First p ∷ k) (Is Continue) (AgainName p ∷ Rest (behind p true) ∷ k) = λ us (_, (m, a), (vs, (rest, is, b), more)).
+    (vs, (AContinue m rest, tt, is, simp (a, b)), more) in
     let some = has (First p ∷ k) (Is Continue) (AgainName p ∷ Rest (behind p true) ∷ k) o in
     tested p.ended AfterContinue _ _ _ some (asked (is_open p ts) Unguarded s _ _ _ o)
 begins_agrees (Is Par) ts s p k =
@@ -103,27 +163,24 @@ agrees (Rest p ∷ k) t ts s = ends_agrees t ts s p k
 agrees (More p ∷ k) t ts s = branches_agrees t ts s p k
 agrees (AnyName ∷ k) (Word n) ts s = λ us d. (us, (n, refl), d)
 agrees (AnyQuoted ∷ k) (Text q) ts s = λ us d. (us, (q, refl), d)
-agrees (MoreModules ∷ k) (Is Dot) ts s = λ us d.
-    let (_, (n, a), (vs, (ns, b), more)) = d in (vs, (n ∷ ns, simp (a, b)), more)
+agrees (MoreModules ∷ k) (Is Dot) ts s = λ us (_, (n, a), (vs, (ns, b), more)). (vs, (n ∷ ns, simp (a, b)), more)
 agrees (MoreModules ∷ k) (Is Semicolon) ts s = λ us d. (us, ([], refl), d)
 agrees (Decls aliases ∷ k) (Is Global) ts s = λ us d. (us, ([], tt, refl), d)
 agrees (Decls aliases ∷ k) (Word w) ts s = chosen (is_decl_word w) s _ (Word w) _ (λ is us d.
     let (_, a, (_, (schema, b), (_, c, (_, (extern, e), (_, g, (_, (file, h), (_, i, (vs, (alias, ds, are, j), more)))))))) = d in
     let first : Decl = record { word = w; schema = schema; extern_name = extern; file = file; alias = alias } in
     (vs, (first ∷ ds, (is, are), simp (a, b, c, e, g, h, i, j)), more))
-agrees (Alias aliases ∷ k) (Word n) ts s = asked (is_among n aliases) Twice s _ _ _ (λ us d.
-    let (_, a, (vs, (ds, are, b), more)) = d in (vs, (n, ds, are, simp (a, b)), more))
+agrees (Alias aliases ∷ k) (Word n) ts s = asked (is_among n aliases) Twice s _ _ _ (λ us (_, a, (vs, (ds, are, b), more)).
+    (vs, (n, ds, are, simp (a, b)), more))
 agrees (RoleName ∷ k) (Word n) ts s =
-    let o : Offers (RoleName ∷ k) (Word n) (MoreRoles ∷ k) = λ us d. (d.0, (n, d.1.0, ap (λ (x : List Symbol). Word n ∷ x) d.1.1), d.2) in
+    let o : Offers (RoleName ∷ k) (Word n) (MoreRoles ∷ k) = λ us (vs, (ns, a), more). (vs, (n, ns, simp a), more) in
     let some = has (RoleName ∷ k) (Word n) (MoreRoles ∷ k) o in
     tested (is_among n s.roles) Twice _ _ _ some (asked (nat_le 8 (length s.roles)) TooMany _ _ _ _ o)
-agrees (MoreRoles ∷ k) (Is Comma) ts s = λ us d.
-    let (_, a, (vs, (n, ns, b), more)) = d in (vs, (n ∷ ns, simp (a, b)), more)
+agrees (MoreRoles ∷ k) (Is Comma) ts s = λ us (_, a, (vs, (n, ns, b), more)). (vs, (n ∷ ns, simp (a, b)), more)
 agrees (MoreRoles ∷ k) (Is Right) ts s = λ us d. (us, ([], refl), d)
-agrees (Sorts ∷ k) (Word n) ts s = λ us d. (d.0, (n ∷ d.1.0, ap (λ (x : List Symbol). Word n ∷ x) d.1.1), d.2)
+agrees (Sorts ∷ k) (Word n) ts s = λ us (vs, (ns, a), more). (vs, (n ∷ ns, simp a), more)
 agrees (Sorts ∷ k) (Is Right) ts s = λ us d. (us, ([], refl), d)
-agrees (MoreSorts ∷ k) (Is Comma) ts s = λ us d.
-    let (_, (n, a), (vs, (ns, b), more)) = d in (vs, (n ∷ ns, simp (a, b)), more)
+agrees (MoreSorts ∷ k) (Is Comma) ts s = λ us (_, (n, a), (vs, (ns, b), more)). (vs, (n ∷ ns, simp (a, b)), more)
 agrees (MoreSorts ∷ k) (Is Right) ts s = λ us d. (us, ([], refl), d)
 agrees (Subject ∷ k) (Word n) ts s =
     let o : Offers (Subject ∷ k) (Word n) k = λ us d. (us, (n, refl), d) in
@@ -133,18 +190,16 @@ agrees (Sender ∷ k) (Word n) ts s =
     let (_, a, (vs, (m, ns, b), more)) = d in (vs, (n, m, ns, simp (a, b)), more) in
     placed (place_of s.roles n) _ _ _ (has (Sender ∷ k) (Word n) (This (Is To) ∷ Receiver 0 [] ∷ k) (o 0)) o
 agrees (Receiver sender before ∷ k) (Word n) ts s =
-    let o : (r : ℕ) → Offers (Receiver sender before ∷ k) (Word n) (MoreReceivers sender (before ++ r ∷ []) ∷ k) = λ r us d.
-    (d.0, (n, d.1.0, ap (λ (x : List Symbol). Word n ∷ x) d.1.1), d.2) in
+    let o : (r : ℕ) → Offers (Receiver sender before ∷ k) (Word n) (MoreReceivers sender (before ++ r ∷ []) ∷ k) = λ r us (vs, (ns, a), more).
+    (vs, (n, ns, simp a), more) in
     let some = has (Receiver sender before ∷ k) (Word n) (MoreReceivers sender (before ++ 0 ∷ []) ∷ k) (o 0) in
     placed (place_of s.roles n) _ _ _ some (λ r. tested (is_listed r before) Twice _ _ _ some
     (tested (r == sender) SelfMessage _ _ _ some (asked (nat_le 256 s.count) TooMany _ _ _ _ (o r))))
-agrees (MoreReceivers sender before ∷ k) (Is Comma) ts s = λ us d.
-    let (vs, (r, rs, a), more) = d in (vs, (r ∷ rs, ap (λ (x : List Symbol). Is Comma ∷ x) a), more)
+agrees (MoreReceivers sender before ∷ k) (Is Comma) ts s = λ us (vs, (r, rs, a), more). (vs, (r ∷ rs, simp a), more)
 agrees (MoreReceivers sender before ∷ k) (Is Semicolon) ts s = λ us d. (us, ([], refl), d)
-agrees (RecName p ∷ k) (Word n) ts s = λ us d.
-    let (vs, (b, begun, proper, a), more) = d in (vs, (n, b, begun, proper, ap (λ (x : List Symbol). Word n ∷ x) a), more)
-agrees (AgainName p ∷ k) (Word n) ts s = asked (not (is_among n p.recs)) NoName s _ _ _ (λ us d.
-    (d.0, (n, ap (λ (x : List Symbol). Word n ∷ x) d.1), d.2))
-agrees (Opening p ∷ k) (Is Open) ts s = asked (nat_le 32 p.depth) Deep s _ _ _ (λ us d.
-    let (vs, (b, begun, proper, a), more) = d in (vs, (b, begun, proper, ap (λ (x : List Symbol). Is Open ∷ x) a), more))
+agrees (RecName p ∷ k) (Word n) ts s = λ us (vs, (b, begun, proper, a), more). (vs, (n, b, begun, proper, simp a), more)
+agrees (AgainName p ∷ k) (Word n) ts s = asked (not (is_among n p.recs)) NoName s _ _ _ (λ us (vs, a, more).
+    (vs, (n, simp a), more))
+agrees (Opening p ∷ k) (Is Open) ts s = asked (nat_le 32 p.depth) Deep s _ _ _ (λ us (vs, (b, begun, proper, a), more).
+    (vs, (b, begun, proper, simp a), more))
 agrees _ _ ts s = tt

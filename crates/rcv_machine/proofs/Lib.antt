@@ -1,9 +1,6 @@
 pub mod Heads
-pub mod Deriving
 pub mod Agreeing
 pub mod Knowing
-pub mod Judging
 pub mod Naming
 pub mod Telling
-pub mod Answering
 pub mod Exactly

@@ -1,7 +1,8 @@
 -- Names and the places of roles; names of enclosing recursions, and from where a walk comes without a message.
 use Rattle.std.proofs.Common.{◌≡◌, ℕ, ◌+◌, Bool, true, false, List, [], ◌∷◌, ◌++◌, length, refl, sym, ap, ◌∙◌, arith, length-append, slice_index_or, inl, inr}
-use Rattle.std.specs.Prelude.{◌-◌, ◌⊎◌, ◌||◌, ◌↔◌, ◌==◌, nat_lt, not, Option, Some, None}
-use Rattle.std.specs.Str.{bytes_eq}
+use Rattle.std.specs.Prelude.{bytes_eq, is_none, ◌-◌, ◌⊎◌, ◌||◌, ◌↔◌, ◌==◌, nat_lt, not, Some}
+use Rattle.std.specs.List.{position_or_len}
+use Rattle.std.proofs.Math.Bool.{or-false}
 use Rattle.std.proofs.lemmas.List.{drop-append-le}
 use Rattle.std.proofs.lemmas.List.Folds.{list_any-append}
 use Rattle.std.proofs.lemmas.Bool.Decides.{Decides-or, Decides-like, same_from_decides, nat_tests, Decides-eqb}
@@ -9,7 +10,6 @@ use Rattle.std.proofs.lemmas.Slice.Eq.{bytes_eq-Decides}
 use Rattle.rcv_syntax.specs.Codes.{is_among, open_braces, Comes, FromItsStart, IntoRec, IntoChoice, IntoBranch}
 use Rattle.rcv_machine.specs.Machine.{Place, inside, inside_rec}
 use Rattle.rcv_machine.proofs.Knowing.{recent}
-use Rattle.std.specs.List.{position_or_len}
 use Rattle.std.proofs.lemmas.List.Quantifiers.{position-Some}
 use Rattle.rcv_syntax.specs.declared.sign.Sign.TheVariants.{Choice, At, Or, Rec, Open, Close}
 use Rattle.rcv_syntax.specs.Symbols.{Symbol, Is, Word}
@@ -17,18 +17,14 @@ use Rattle.rcv_syntax.specs.Trees.{is_listed, place_of}
 
 pub bytes_sym : (a b : List ℕ) → bytes_eq a b ≡ bytes_eq b a
 bytes_sym a b =
-    same_from_decides (bytes_eq a b) (bytes_eq b a) (bytes_eq-Decides a b) (Decides-like (bytes_eq b a) sym sym (bytes_eq-Decides b a))
-
-or_false : (b : Bool) → (b || false) ≡ b
-or_false true = refl
-or_false false = refl
+    same_from_decides _ _ (bytes_eq-Decides a b) (Decides-like (bytes_eq b a) sym sym (bytes_eq-Decides b a))
 
 pub among_more : (name n : List ℕ) (recs : List (List ℕ))
     → (is_among name (recs ++ n ∷ []) ≡ true) ↔ ((is_among name recs ≡ true) ⊎ (name ≡ n))
 among_more name n recs =
     let either = Decides-or (is_among name recs) (bytes_eq name n) ((λ old. old), (λ old. old)) (bytes_eq-Decides name n) in
     let both = list_any-append (λ (other : List ℕ). bytes_eq name other) recs (n ∷ []) in
-    rw (both, or_false (bytes_eq name n)) either
+    rw (both, or-false (bytes_eq name n)) either
 
 -- inside one recursion more a walk comes to it as well
 pub recent_more : (p : Place) (n : List ℕ) → recent (inside (inside_rec p n)) ≡ recent p ++ n ∷ []
@@ -36,10 +32,6 @@ recent_more p n =
     let len = length-append p.recs (n ∷ []) in
     let same : length (p.recs ++ n ∷ []) - (p.comes + 1) ≡ length p.recs - p.comes = omega (arith, len) in
     rw same (drop-append-le (length p.recs - p.comes) p.recs (n ∷ []) (omega arith))
-
-abbrev pub is_none : Option ℕ → Bool
-is_none None = true
-is_none (Some r) = false
 
 found : (n : List ℕ) (roles : List (List ℕ)) → nat_lt (position_or_len (λ role. bytes_eq role n) roles) (length roles) ≡ is_among n roles
 found n [] = refl

@@ -2,7 +2,9 @@
 use Rattle.std.specs.Prelude.{ℕ, ◌+◌, ◌-◌, ◌==◌, nat_le, Bool, true, false, not, cond, codes, List, [], ◌∷◌, ◌++◌, length, drop, Option, Some, None}
 use Rattle.std.specs.Str.{bytes_eq}
 use Rattle.rcv_syntax.specs.declared.sign.Sign.{Sign}
-use Rattle.rcv_syntax.specs.declared.sign.Sign.TheVariants.{Module, Global, Protocol, Role, From, To, Choice, At, Or, Rec, Continue, Par, And, Do, Open, Close, Left, Right, Comma, Semicolon, Dot, Less, Greater, Foreign}
+use Rattle.rcv_syntax.specs.contracts.sign.Sign.{the_type}
+use denote.Enum.Bare.{sameb}
+use Rattle.rcv_syntax.specs.declared.sign.Sign.TheVariants.{Module, Global, Protocol, Role, From, To, Choice, At, Or, Rec, Continue, Par, Do, Open, Close, Left, Right, Comma, Semicolon, Dot, Less, Greater}
 use Rattle.rcv_syntax.specs.declared.fault.Fault.{Fault}
 use Rattle.rcv_syntax.specs.declared.fault.Fault.TheVariants.{Token, Deep, NoName, Twice, SelfMessage, AfterContinue, Unguarded, TooMany, NotYet}
 use Rattle.rcv_syntax.specs.Symbols.{Symbol, Is, Word, Text, Number}
@@ -78,50 +80,20 @@ by_place (Some r) next = next r
 abbrev pub role_named : State → Symbol → (ℕ → Outcome) → Outcome
 role_named s t next = named t (λ n. by_place (place_of s.roles n) next)
 
--- one and the same
-abbrev pub same : Sign → Sign → Bool
-same Module Module = true
-same Global Global = true
-same Protocol Protocol = true
-same Role Role = true
-same From From = true
-same To To = true
-same Choice Choice = true
-same At At = true
-same Or Or = true
-same Rec Rec = true
-same Continue Continue = true
-same Par Par = true
-same And And = true
-same Do Do = true
-same Open Open = true
-same Close Close = true
-same Left Left = true
-same Right Right = true
-same Comma Comma = true
-same Semicolon Semicolon = true
-same Dot Dot = true
-same Less Less = true
-same Greater Greater = true
-same Foreign Foreign = true
-same _ _ = false
-
 abbrev pub meets : Symbol → Symbol → Bool
-meets (Is a) (Is b) = same a b
+meets (Is a) (Is b) = sameb the_type a b
 meets (Word a) (Word b) = bytes_eq a b
 meets (Text a) (Text b) = bytes_eq a b
 meets (Number a) (Number b) = a == b
 meets _ _ = false
 
--- What is awaited behind the symbol, where k is awaited behind the item.
+-- What is awaited behind the symbol, where k is awaited behind the item. One sign, or the other with which the item ends.
+abbrev pub either : State → Symbol → Sign → List Item → Sign → List Item → Outcome
+either s t sign next other k = cond (meets t (Is sign)) (On s next) (cond (meets t (Is other)) (On s k) (Wrong Token))
+
 abbrev pub quoted : Symbol → Outcome → Outcome
 quoted (Text q) next = next
 quoted _ next = Wrong Token
-
-abbrev pub modules : State → Symbol → List Item → Outcome
-modules s (Is Dot) k = On s (AnyName ∷ MoreModules ∷ k)
-modules s (Is Semicolon) k = On s k
-modules s _ k = Wrong Token
 
 abbrev pub declares : State → List (List ℕ) → Symbol → List Item → Outcome
 declares s aliases (Is Global) k = On s k
@@ -130,25 +102,10 @@ declares s aliases (Word w) k =
     ∷ This (Word (codes "as")) ∷ Alias aliases ∷ k)) (Wrong Token)
 declares s aliases _ k = Wrong Token
 
-abbrev pub more_roles : State → Symbol → List Item → Outcome
-more_roles s (Is Comma) k = On s (This (Is Role) ∷ RoleName ∷ k)
-more_roles s (Is Right) k = On s k
-more_roles s _ k = Wrong Token
-
 abbrev pub sorts : State → Symbol → List Item → Outcome
 sorts s (Word n) k = On s (MoreSorts ∷ k)
 sorts s (Is Right) k = On s k
 sorts s _ k = Wrong Token
-
-abbrev pub more_sorts : State → Symbol → List Item → Outcome
-more_sorts s (Is Comma) k = On s (AnyName ∷ MoreSorts ∷ k)
-more_sorts s (Is Right) k = On s k
-more_sorts s _ k = Wrong Token
-
-abbrev pub more_receivers : State → ℕ → List ℕ → Symbol → List Item → Outcome
-more_receivers s sender before (Is Comma) k = On s (Receiver sender before ∷ k)
-more_receivers s sender before (Is Semicolon) k = On s k
-more_receivers s sender before _ k = Wrong Token
 
 -- A receiver makes a point.
 abbrev pub receives : State → ℕ → List ℕ → List Item → ℕ → Outcome
@@ -203,18 +160,18 @@ step s t ts [] = behind_all t
 step s t ts (This m ∷ k) = cond (meets t m) (On s k) (Wrong Token)
 step s t ts (AnyName ∷ k) = named t (λ n. On s k)
 step s t ts (AnyQuoted ∷ k) = quoted t (On s k)
-step s t ts (MoreModules ∷ k) = modules s t k
+step s t ts (MoreModules ∷ k) = either s t Dot (AnyName ∷ MoreModules ∷ k) Semicolon k
 step s t ts (Decls aliases ∷ k) = declares s aliases t k
 step s t ts (Alias aliases ∷ k) = named t (λ n. unless (is_among n aliases) Twice
     (On s (This (Is Semicolon) ∷ Decls (aliases ++ n ∷ []) ∷ k)))
 step s t ts (RoleName ∷ k) = named t (declares_role s k)
-step s t ts (MoreRoles ∷ k) = more_roles s t k
+step s t ts (MoreRoles ∷ k) = either s t Comma (This (Is Role) ∷ RoleName ∷ k) Right k
 step s t ts (Sorts ∷ k) = sorts s t k
-step s t ts (MoreSorts ∷ k) = more_sorts s t k
+step s t ts (MoreSorts ∷ k) = either s t Comma (AnyName ∷ MoreSorts ∷ k) Right k
 step s t ts (Subject ∷ k) = role_named s t (λ r. On s k)
 step s t ts (Sender ∷ k) = role_named s t (λ r. On s (This (Is To) ∷ Receiver r [] ∷ k))
 step s t ts (Receiver sender before ∷ k) = role_named s t (receives s sender before k)
-step s t ts (MoreReceivers sender before ∷ k) = more_receivers s sender before t k
+step s t ts (MoreReceivers sender before ∷ k) = either s t Comma (Receiver sender before ∷ k) Semicolon k
 step s t ts (RecName p ∷ k) = named t (λ n. On s (Opening (inside_rec p n) ∷ k))
 step s t ts (AgainName p ∷ k) = named t (λ n. unless (not (is_among n p.recs)) NoName (On s (This (Is Semicolon) ∷ k)))
 step s t ts (Opening p ∷ k) = opens s p t k

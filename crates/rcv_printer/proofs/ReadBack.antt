@@ -1,11 +1,11 @@
 -- A canonical text is one part, whose tokens say its symbols. That of a protocol that was read is read as it, and as no other one.
-use Rattle.std.proofs.Common.{◌≡◌, ◌-◌, true, List, [], length, take, refl, sym, ap, subst, arith}
+use Rattle.std.proofs.Common.{◌≡◌, ◌-◌, true, List, [], length, take, refl, ap, subst, arith}
 use Rattle.std.proofs.lemmas.List.{take_all}
 use Rattle.rcv_lexer.specs.declared.token.Token.{Token}
 use Rattle.rcv_lexer.specs.Parts.{parts_from}
 use Rattle.rcv_lexer.specs.Tokens.{tokens_of}
 use Rattle.rcv_lexer.proofs.Once.{one_reading}
-use Rattle.rcv_syntax.specs.Symbols.{Symbol, symbols_of}
+use Rattle.rcv_syntax.specs.Symbols.{symbols_of}
 use Rattle.rcv_reader.specs.Refusals.{IsRead}
 use Rattle.rcv_grammar.proofs.Canonizing.{canonical_sources_are_read}
 use Rattle.rcv_grammar.proofs.Once.{texts_have_one_tree}
@@ -29,12 +29,9 @@ are_spelled p h =
 pub reads_back : CanonicalTextsReadBack
 reads_back bundle part tokens p are read =
     let text = are_spelled p (read_is_printable bundle part tokens p are read) in
-    record {
-      one_part = text.one_part;
-      tokens = text.tokens;
-      are_tokens = text.are_tokens;
-      read = subst (λ (symbols : List Symbol). IsRead symbols p) (sym text.say) (canonical_sources_are_read (symbols_of bundle tokens) p read);
-    }
+    let back : IsRead (symbols_of (canonical p) text.tokens) p =
+    rw text.say (canonical_sources_are_read (symbols_of bundle tokens) p read) in
+    search
 
 pub stays : CanonicalTextsStay
 stays bundle part tokens p q are read again =

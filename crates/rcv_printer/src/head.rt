@@ -5,8 +5,7 @@ ghost use Rattle.rcv_tree.specs.Lists.{declarations};
 ghost use Rattle.rcv_printer.specs.CanonicalText.{module_line, decl_line, decl_lines, head_line};
 ghost use Rattle.rcv_printer.specs.Printing.{Puts};
 
-use crate::names::put_list;
-use crate::text::put;
+use crate::names::{put, put_list};
 use rcv_text::writer::Writer;
 use rcv_tree::name::Names;
 use rcv_tree::protocol::{Decl, Decls};

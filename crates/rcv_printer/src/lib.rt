@@ -7,7 +7,6 @@ mod head;
 mod names;
 mod printer;
 mod statements;
-mod text;
 
 pub use printer::print_protocol;
 /// Want of memory, which is the one error of the calls of this crate.

@@ -1,15 +1,21 @@
-// Names, and lists of them.
+// What is put behind a text: a word, and lists of names.
 
 ghost use Rattle.std.specs.Prelude.{◌≡◌, ◌++◌, OnOk};
 ghost use Rattle.rcv_grammar.specs.Canonical.{name_at, names_at};
 ghost use Rattle.rcv_printer.specs.CanonicalText.{listed, comma_list};
 ghost use Rattle.rcv_printer.specs.Printing.{Puts};
 
-use crate::text::put;
 use rcv_text::writer::Writer;
 use rcv_tree::name::Names;
 use rcv_tree::role::{RoleId, Roles};
 use std::alloc::AllocError;
+
+// Puts the word behind the text.
+pub fn put(text: &mut Writer, word: &[u8]) -> Result<(), AllocError>
+    ensures { OnOk result (Puts text.old text.new (λ next. word.now ++ next)) }
+{
+    text.word(word)
+}
 
 // The name of a role.
 pub fn name_of(roles: &Names, role: RoleId) -> &[u8]

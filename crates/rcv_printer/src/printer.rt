@@ -4,8 +4,8 @@ ghost use Rattle.std.specs.Prelude.{◌≡◌, IfOk};
 ghost use Rattle.rcv_printer.specs.CanonicalText.{canonical};
 
 use crate::head::{put_decls, put_head, put_module};
+use crate::names::put;
 use crate::statements::put_block;
-use crate::text::put;
 use rcv_text::writer::Writer;
 use rcv_tree::protocol::Protocol;
 use std::alloc::{AllocError, Global};

@@ -5,8 +5,7 @@ ghost use Rattle.rcv_model.specs.Text.{body_of, bodies_of, stmt_body};
 ghost use Rattle.rcv_printer.specs.CanonicalText.{inner, body_text, blocks_text};
 ghost use Rattle.rcv_printer.specs.Printing.{Puts, PutsStatements};
 
-use crate::names::{name_of, put_list, put_roles};
-use crate::text::put;
+use crate::names::{name_of, put, put_list, put_roles};
 use rcv_text::writer::Writer;
 use rcv_tree::name::{Name, Names};
 use rcv_tree::role::RoleId;

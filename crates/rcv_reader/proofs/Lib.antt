@@ -1,7 +1,6 @@
 pub mod Stops
 pub mod Reading
 pub mod Blocks
-pub mod Heading
 pub mod Formed
 pub mod Whole
 pub mod Answering

@@ -1,15 +1,13 @@
 -- The whole text.
-use Rattle.std.proofs.Common.{◌≡◌, ℕ, false, Result, Ok, Err, IfErr, IsErrAnd, List, [], ◌∷◌, refl, sym, ap, subst, ◌∙◌, ◌≤◌, length, arith}
+use Rattle.std.proofs.Common.{◌≡◌, ℕ, false, Result, Ok, Err, IfErr, IsErrAnd, List, [], ◌∷◌, refl, sym, ap, ◌∙◌, ◌≤◌, length, arith}
 use Rattle.rcv_tree.specs.Lists.{statements, declarations}
 use Rattle.rcv_tree.specs.declared.statement.Stmt.{Stmt}
-use Rattle.rcv_tree.specs.declared.statement.Block.{Block}
 use Rattle.rcv_tree.specs.declared.protocol.Decl.{Decl}
 use Rattle.rcv_tree.specs.declared.protocol.Protocol.{Protocol}
 use Rattle.rcv_model.specs.Text as trees
 use Rattle.rcv_model.specs.Form.{HasForm}
 use Rattle.rcv_syntax.specs.declared.sign.Sign.TheVariants.{Close}
 use Rattle.rcv_syntax.specs.Symbols.{Symbol, Is}
-use Rattle.rcv_syntax.specs.Grammar.{NoStmt}
 use Rattle.rcv_syntax.specs.Trees.{points}
 use Rattle.rcv_machine.specs.Machine.{in_head, Item, Place, Rest, outermost, reading, known}
 use Rattle.rcv_machine.proofs.Exactly.{refusal_is_first, taken_is_free}
@@ -18,7 +16,7 @@ use Rattle.rcv_reader.specs.declared.stop.Stop.TheVariants as errors
 use Rattle.rcv_reader.specs.Standing.{Standing, IsSmall, answers}
 use Rattle.rcv_reader.specs.Refusals.{IsRead}
 use Rattle.rcv_reader.specs.Descent.{Halts, Ends, IsHead, TakesAll, at_first, place_at}
-use Rattle.rcv_reader.proofs.Blocks.{body_tree}
+use Rattle.rcv_reader.proofs.Blocks.{whole_block}
 use Rattle.rcv_reader.proofs.Formed.{tree_has_form}
 
 -- a list that isn't empty
@@ -57,40 +55,35 @@ ends_by (Err f) (errors.Refused fault) start p new front k is begun h = rw is (r
 pub protocol_read : (r : Protocol) (old p new : Standing) (none : List Stmt) → reading old.rest ≡ answers p (Rest (outer p) ∷ [])
     → p.count ≡ 0 → IsHead r.«module» (declarations r.decls) r.name old p
     → ((k : List Item) → answers p (Rest (outer p) ∷ k) ≡ answers new k)
-    → TakesAll p new none (statements r.body) → none ≡ [] → new.rest ≡ [] → r.roles ≡ new.roles → IsRead old.rest r
-protocol_read r old p new none begun fresh head goes body empty done roles =
+    → TakesAll p new none (statements r.body) → none ≡ [] → new.rest ≡ [] → r.roles ≡ new.roles → IsSmall (length new.roles) new.count
+    → IsRead old.rest r × HasForm (trees.body_of r.body) (length r.roles)
+protocol_read r old p new none begun fresh head goes body empty done roles small =
     let same : p.roles ≡ r.roles = ap (λ (x : Standing). x.roles) body.0 ∙ sym roles in
-    let adds = rw (fresh, empty, done, ← roles) at body.1 in
+    let adds = rw (fresh, done, ← roles) at body.1 in
+    let b = (whole_block false r.body r.roles 0 new.count none p.rest (Is Close ∷ []) empty adds).0 in
     let modules = parts_of r.«module» head.some_module in
     let others = parts_of r.roles (rw same at head.some_role) in
-    let written = adds.2.spelled NoStmt (Is Close ∷ []) refl in
-    let sound = adds.2.sound NoStmt (tt, tt) in (
-      (taken_is_free old.rest (known new.roles new.count) (begun ∙ (rw done at (goes [])))).1,
-      record {
-        source = record {
-          module_name = modules.0;
-          module_more = modules.1;
-          declared = declarations r.decls;
-          name = r.name;
-          role = others.0;
-          other_roles = others.1;
-          body = adds.2.put NoStmt;
-        };
-        spelled = (head.words, sound.0, rw (same, modules.2, others.2, written) at (ap (λ (x : Standing). x.rest) head.spelled));
-        modules = modules.2;
-        declared = refl;
-        named = refl;
-        role_names = others.2;
-        fit = sound.1;
-        tree = body_tree r.body r.roles 0 new.count p.rest (Is Close ∷ []) adds;
-      },
+    let short : points b.written ≤ 256 = omega (arith, b.counted, small.short) in (
+      (
+        (taken_is_free old.rest (known new.roles new.count) (begun ∙ (rw done at (goes [])))).1,
+        record {
+          source = record {
+            module_name = modules.0;
+            module_more = modules.1;
+            declared = declarations r.decls;
+            name = r.name;
+            role = others.0;
+            other_roles = others.1;
+            body = b.written;
+          };
+          spelled = (head.words, b.sound.0, rw (same, modules.2, others.2, b.spelled) at (ap (λ (x : Standing). x.rest) head.spelled));
+          modules = modules.2;
+          declared = refl;
+          named = refl;
+          role_names = others.2;
+          fit = b.sound.1;
+          tree = b.tree;
+        },
+      ),
+      rw b.tree (tree_has_form r.roles b.written b.sound.1 (rw roles small.few) short),
     )
-
-pub protocol_form : (roles : List (List ℕ)) (p new : Standing) (b : Block) (none : List Stmt) → TakesAll p new none (statements b)
-    → none ≡ [] → p.count ≡ 0 → roles ≡ new.roles → IsSmall (length new.roles) new.count → HasForm (trees.body_of b) (length roles)
-protocol_form roles p new b none body empty fresh same small =
-    let adds = rw (fresh, empty) at body.1 in
-    let sound = adds.2.sound NoStmt (tt, tt) in
-    let short : points (adds.2.put NoStmt) ≤ 256 = omega (arith, adds.2.counted NoStmt, small.short) in
-    rw same (subst (λ (x : trees.Body). HasForm x (length new.roles)) (sym (body_tree b new.roles 0 new.count p.rest _ adds))
-    (tree_has_form new.roles (adds.2.put NoStmt) sound.1 small.few short))

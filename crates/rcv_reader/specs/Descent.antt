@@ -1,23 +1,19 @@
 -- What the functions of the descent say: how the machine goes on, and how what was read is spelled.
-use Rattle.std.specs.Prelude.{◌≡◌, ℕ, ◌+◌, ◌==◌, Bool, true, false, List, [], ◌∷◌, ◌++◌, length, Result, Ok, Err, Some}
+use Rattle.std.specs.Prelude.{◌≡◌, ℕ, ◌+◌, ◌==◌, Bool, true, false, List, [], ◌∷◌, ◌++◌, length, ◌<◌, Result, Ok, Err, OnOk, Some}
 use Rattle.rcv_tree.specs.declared.statement.Stmt.{Stmt}
 use Rattle.rcv_tree.specs.declared.statement.Stmt.TheVariants as statements
 use Rattle.rcv_tree.specs.declared.statement.Block.{Block}
 use Rattle.rcv_tree.specs.declared.statement.Blocks.{Blocks}
 use Rattle.rcv_tree.specs.declared.protocol.Decl.{Decl}
 use Rattle.rcv_model.specs.Text as trees
-use Rattle.rcv_syntax.specs.declared.sign.Sign.TheVariants.{Module, Global, Protocol, Role, Left, Right, Open, Close, Or, Choice, Rec, Continue, Semicolon}
-use Rattle.rcv_syntax.specs.declared.fault.Fault.{Fault}
-use Rattle.rcv_syntax.specs.declared.fault.Fault.TheVariants.{Token, AfterContinue, NotYet}
+use Rattle.rcv_syntax.specs.declared.sign.Sign.TheVariants.{Module, Global, Protocol, Role, Left, Right, Open, Close, Or, Semicolon}
 use Rattle.rcv_syntax.specs.Symbols.{Symbol, Is, Word}
 use Rattle.rcv_syntax.specs.Grammar as grammar
-use Rattle.rcv_syntax.specs.Grammar.{Written, stmts, names_behind, roles_behind, dotted, decl, decls, is_decl_word, AreDecls, blocks_behind, IsBegun, IsProper, AreProper}
+use Rattle.rcv_syntax.specs.Grammar.{Written, stmts, names_behind, roles_behind, dotted, decls, AreDecls, blocks_behind, IsBegun, IsProper, AreProper}
 use Rattle.rcv_syntax.specs.Trees.{place_of, is_listed, roles_at, points, points_of, tree_of, trees_of, MayReceive, IsFit, AreFit}
 use Rattle.rcv_syntax.specs.Refusing.{IsFirst}
-use Rattle.rcv_machine.specs.Machine.{Item, First, Refuses, Place}
+use Rattle.rcv_machine.specs.Machine.{Item, Refuses, Place}
 use Rattle.rcv_reader.specs.declared.parser.Spot.{Spot}
-use Rattle.rcv_reader.specs.declared.parser.Begin.{Begin}
-use Rattle.rcv_reader.specs.declared.parser.Begin.TheVariants as begins
 use Rattle.rcv_reader.specs.declared.stop.Stop.{Stop}
 use Rattle.rcv_reader.specs.declared.stop.Stop.TheVariants as errors
 use Rattle.rcv_reader.specs.Standing.{Standing, at, back_at, with_roles, answers}
@@ -38,19 +34,9 @@ abbrev pub Takes : {X : Type 0} → Result X Stop → Standing → Standing → 
 Takes (Ok x) old new front behind = (k : List Item) → answers old (front k) ≡ answers new (behind x k)
 Takes (Err e) old new front behind = Halts e old new front
 
--- What begins here, where no `continue` stands before.
-abbrev pub IsNext : Begin → Standing → Type 0
-IsNext begins.Message p = (n : List ℕ) × (ts : List Symbol) × (p.rest ≡ Word n ∷ ts)
-IsNext (begins.Choice after) p = p ≡ at p (Is Choice ∷ after)
-IsNext (begins.Rec after) p = p ≡ at p (Is Rec ∷ after)
-IsNext (begins.Continue after) p = p ≡ at p (Is Continue ∷ after)
-IsNext begins.NotYet p = (q : Place) (k : List Item) → q.ended ≡ false → answers p (First q ∷ k) ≡ Refuses NotYet p.rest
-IsNext begins.Nothing p = (q : Place) (k : List Item) → answers p (First q ∷ k) ≡ Refuses Token p.rest
-
--- what speaks against it behind a `continue`
-abbrev pub ended_fault : Begin → Fault
-ended_fault begins.Nothing = Token
-ended_fault _ = AfterContinue
+-- The same, with at least one symbol read.
+abbrev pub Consumes : {X : Type 0} → Result X Stop → Standing → Standing → (List Item → List Item) → (X → List Item → List Item) → Type 0
+Consumes result old new front behind = Takes result old new front behind × OnOk result (length new.rest < length old.rest)
 
 -- the name of a role was read
 abbrev pub IsRoleName : Standing → Standing → ℕ → Type 0
@@ -79,77 +65,62 @@ pub record IsReceived (old new : Standing) (sender : ℕ) (before : List ℕ) (r
   pub counted : new.count ≡ old.count + 1
   pub spelled : old ≡ back_at new old.count (Word name ∷ new.rest)
 
--- All receivers of a message were read, and the mark behind them.
+-- Receivers of a message were read.
 pub record AreReceived (old new : Standing) (sender : ℕ) (receivers : List ℕ) : Type 0 where
   pub first : List ℕ
   pub others : List (List ℕ)
   pub may : MayReceive new.roles sender [] (first ∷ others)
   pub places : receivers ≡ roles_at new.roles (first ∷ others)
   pub counted : new.count ≡ old.count + length receivers
-  pub spelled : old ≡ back_at new old.count (Word first ∷ names_behind others (Is Semicolon ∷ new.rest))
+  pub spelled : old ≡ back_at new old.count (Word first ∷ names_behind others new.rest)
 
--- What is written is proper, and fit for these roles.
-abbrev pub IsSound : List (List ℕ) → Written → Type 0
-IsSound roles w = IsProper w × IsFit roles w
-
-abbrev pub AreSound : List (List ℕ) → grammar.Blocks → Type 0
-AreSound roles os = AreProper os × AreFit roles os
-
--- Statements were read: what is written, in front of any others of its block, with its symbols and its tree.
-pub record AreStmts (roles : List (List ℕ)) (n n' : ℕ) (added : List Stmt) (old new : List Symbol) : Type 0 where
-  pub put : Written → Written
-  pub sound : (rest : Written) → IsSound roles rest → IsSound roles (put rest)
-  pub spelled : (rest : Written) (next : List Symbol) → new ≡ stmts rest next → old ≡ stmts (put rest) next
-  pub counted : (rest : Written) → n + points (put rest) ≡ n' + points rest
-  pub tree : (rest : Written) → tree_of roles n (put rest) ≡ in_front added (tree_of roles n' rest)
-
--- at least one statement was read
-pub record AreSomeStmts (roles : List (List ℕ)) (n n' : ℕ) (added : List Stmt) (old new : List Symbol) : Type 0 where
-  pub stmts : AreStmts roles n n' added old new
-  pub begun : (rest : Written) → IsBegun (stmts.put rest)
-
--- A block was read, with its braces.
-pub record IsBlock (roles : List (List ℕ)) (n n' : ℕ) (b : Block) (old new : List Symbol) : Type 0 where
+-- Statements in front of next, behind n points and with m points behind them: how they are written, which is proper and
+-- fit for these roles, with their symbols and their tree.
+pub record AreStmts (roles : List (List ℕ)) (n m : ℕ) (body : trees.Body) (ts next : List Symbol) : Type 0 where
   pub written : Written
-  pub begun : IsBegun written
-  pub sound : IsSound roles written
-  pub spelled : old ≡ Is Open ∷ stmts written (Is Close ∷ new)
-  pub counted : n' ≡ n + points written
-  pub tree : trees.body_of b ≡ tree_of roles n written
+  pub sound : IsProper written × IsFit roles written
+  pub spelled : ts ≡ stmts written next
+  pub counted : m ≡ n + points written
+  pub tree : body ≡ tree_of roles n written
 
--- The blocks of a choice were read.
-pub record AreBranches (roles : List (List ℕ)) (n n' : ℕ) (bs : Blocks) (old new : List Symbol) : Type 0 where
-  pub first : Written
-  pub others : grammar.Blocks
-  pub begun : IsBegun first
-  pub sound : IsSound roles first
-  pub all_sound : AreSound roles others
-  pub spelled : old ≡ Is Open ∷ stmts first (Is Close ∷ blocks_behind Or others new)
-  pub counted : n' ≡ n + (points first + points_of others)
-  pub tree : trees.bodies_of bs ≡ trees.Or (tree_of roles n first) (trees_of roles (n + points first) others)
+-- The same of blocks, each behind the word or.
+pub record AreBlocks (roles : List (List ℕ)) (n m : ℕ) (bodies : trees.Bodies) (ts next : List Symbol) : Type 0 where
+  pub written : grammar.Blocks
+  pub sound : AreProper written × AreFit roles written
+  pub spelled : ts ≡ blocks_behind Or written next
+  pub counted : m ≡ n + points_of written
+  pub tree : bodies ≡ trees_of roles n written
 
--- statements were added to a block
-abbrev pub Adds : List (List ℕ) → ℕ → ℕ → List Stmt → List Stmt → List Symbol → List Symbol → Type 0
-Adds roles n n' block block' old new = (added : List Stmt) × (block' ≡ block ++ added) × AreStmts roles n n' added old new
+-- The whole is that of the block in front of statements; if some, there is at least one.
+pub record IsBehind (some : Bool) (roles : List (List ℕ)) (n m : ℕ) (block : List Stmt) (whole : trees.Body) (ts next : List Symbol)
+    : Type 0 where
+  pub body : trees.Body
+  pub same : whole ≡ in_front block body
+  pub stmts : AreStmts roles n m body ts next
+  pub begun : some ≡ true → IsBegun stmts.written
 
-abbrev pub AddsSome : List (List ℕ) → ℕ → ℕ → List Stmt → List Stmt → List Symbol → List Symbol → Type 0
-AddsSome roles n n' block block' old new = (added : List Stmt) × (block' ≡ block ++ added) × AreSomeStmts roles n n' added old new
+-- Statements were added to the block: with any that stand behind them they are statements too.
+pub record Adds (some : Bool) (roles : List (List ℕ)) (n n' : ℕ) (block block' : List Stmt) (old new : List Symbol) : Type 0 where
+  pub front : (m : ℕ) (body : trees.Body) (next : List Symbol) → AreStmts roles n' m body new next
+      → IsBehind some roles n m block (in_front block' body) old next
 
 -- Statements were read, and added to the block, with what may stand before the first of their symbols.
 abbrev pub TakesAll : Standing → Standing → List Stmt → List Stmt → Type 0
 TakesAll old new block block' = (old ≡ back_at new old.count old.rest)
-    × Adds new.roles old.count new.count block block' old.rest (Is Close ∷ new.rest)
+    × Adds false new.roles old.count new.count block block' old.rest (Is Close ∷ new.rest)
 
 abbrev pub TakesSome : Standing → Standing → List Symbol → List Stmt → List Stmt → Type 0
 TakesSome old new sign block block' = (old ≡ back_at new old.count old.rest)
-    × AddsSome new.roles old.count new.count block block' (sign ++ old.rest) new.rest
+    × Adds true new.roles old.count new.count block block' (sign ++ old.rest) new.rest
 
--- A block was read, or the blocks of a choice.
+-- A block was read, with its braces; or the blocks of a choice, as if the first stood behind the word or.
 abbrev pub TakesBlock : Standing → Standing → Block → Type 0
-TakesBlock old new b = (old ≡ back_at new old.count old.rest) × IsBlock new.roles old.count new.count b old.rest new.rest
+TakesBlock old new b = (old ≡ back_at new old.count old.rest) × (inner : List Symbol) × (old.rest ≡ Is Open ∷ inner)
+    × (w : AreStmts new.roles old.count new.count (trees.body_of b) inner (Is Close ∷ new.rest)) × IsBegun w.written
 
 abbrev pub TakesBranches : Standing → Standing → Blocks → Type 0
-TakesBranches old new bs = (old ≡ back_at new old.count old.rest) × AreBranches new.roles old.count new.count bs old.rest new.rest
+TakesBranches old new bs = (old ≡ back_at new old.count old.rest)
+    × AreBlocks new.roles old.count new.count (trees.bodies_of bs) (Is Or ∷ old.rest) new.rest
 
 -- ---- the head
 
@@ -169,15 +140,10 @@ pub record AddsName (old new : Standing) : Type 0 where
   pub added : new.roles ≡ old.roles ++ name ∷ []
   pub spelled : old ≡ with_roles new old.roles (Word name ∷ new.rest)
 
--- A declaration was read.
-pub record IsDecl (d : Decl) (old new : Standing) : Type 0 where
-  pub word : is_decl_word d.word ≡ true
-  pub spelled : old ≡ at new (decl d new.rest)
-
--- The declarations were read, with the word global behind them.
-pub record AreSuch (ds : List Decl) (old new : Standing) : Type 0 where
+-- Declarations were read.
+pub record AreTaken (ds : List Decl) (old new : Standing) : Type 0 where
   pub words : AreDecls ds
-  pub spelled : old ≡ at new (decls ds (Is Global ∷ new.rest))
+  pub spelled : old ≡ at new (decls ds new.rest)
 
 -- The head of a module was read, with the first brace of the body.
 pub record IsHead (modules : List (List ℕ)) (ds : List Decl) (name : List ℕ) (old new : Standing) : Type 0 where

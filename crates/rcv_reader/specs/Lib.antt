@@ -1,3 +1,4 @@
 pub mod Standing
+pub mod Aliases
 pub mod Descent
 pub mod Refusals

@@ -1,14 +1,15 @@
 // What stands before the statements: the names of the module, the declarations and the roles.
 
-ghost use Rattle.std.specs.Prelude.{◌≡◌, ◌≢◌, ◌<◌, ◌+◌, ◌++◌, ◌∷◌, [], length, ℕ, List, codes, IfOk, OnOk, IfErr, true, false};
+ghost use Rattle.std.specs.Prelude.{◌≡◌, ◌≢◌, ◌<◌, ◌+◌, ◌++◌, ◌∷◌, [], length, ℕ};
+ghost use Rattle.std.specs.Prelude.{List, codes, IfOk, OnOk, IfErr, true, false};
 ghost use Rattle.rcv_tree.specs.Lists.{declarations};
 ghost use Rattle.rcv_syntax.specs.Symbols.{Is, Word, Text, IsNotNext};
 ghost use Rattle.rcv_syntax.specs.Grammar.{is_decl_word};
-ghost use Rattle.rcv_machine.specs.Machine.{This, AnyName, AnyQuoted, MoreModules, Decls as Declaring, Alias, RoleName, MoreRoles};
+ghost use Rattle.rcv_machine.specs.Machine.{This, AnyName, AnyQuoted, MoreModules, Decls as Declaring, Alias, RoleName};
 ghost use Rattle.rcv_reader.specs.Standing.{at, with_roles};
-ghost use Rattle.rcv_reader.specs.Descent.{AddsName, module_list, names_of_roles, IsDecl, AreSuch, Takes};
+ghost use Rattle.rcv_reader.specs.Aliases.{HasThese};
+ghost use Rattle.rcv_reader.specs.Descent.{module_list, names_of_roles, AreTaken, Takes};
 
-use crate::aliases::Aliases;
 use crate::parser::Parser;
 use crate::stop::Stop;
 use rcv_scan::{Lexeme, is};
@@ -16,13 +17,7 @@ use rcv_syntax::{Fault, Sign};
 use rcv_tree::name::{Name, Names};
 use rcv_tree::protocol::{Decl, Decls};
 use std::alloc::Global;
-
-// Whether a declaration begins with the word.
-fn is_decl_word(word: &[u8]) -> bool
-    ensures { result ≡ is_decl_word word.now }
-{
-    is(word, b"type") || is(word, b"data")
-}
+use std::collections::BTreeSet;
 
 impl<'a> Parser<'a> {
     // Takes what stands between two quotes.
@@ -55,25 +50,6 @@ impl<'a> Parser<'a> {
         Ok(names)
     }
 
-    // Takes the name of one more role.
-    fn add_role(&mut self, alloc: Global) -> Result<(), Stop>
-        ensures goes { Takes result self.old self.new (λ k. RoleName ∷ k) (λ x k. MoreRoles ∷ k) }
-        ensures read { OnOk result (AddsName self.old self.new) }
-    {
-        let Some((bytes, after)) = self.word() else {
-            return Err(Stop::Refused(Fault::Token));
-        };
-        if self.has_role(bytes) {
-            return Err(Stop::Refused(Fault::Twice));
-        }
-        if self.is_full() {
-            return Err(Stop::Refused(Fault::TooMany));
-        }
-        self.declare(Name::of(alloc, bytes)?)?;
-        self.go_to(after);
-        Ok(())
-    }
-
     /// Takes the roles behind the first word `role`, and the parenthesis behind them.
     pub fn role_names(&mut self, alloc: Global) -> Result<(), Stop>
         requires none { self.old.roles ≡ [] }
@@ -95,7 +71,7 @@ impl<'a> Parser<'a> {
         ensures goes { Takes result self.old self.new (λ k. This (Word (codes "as")) ∷ k) (λ x k. k) }
         ensures read { OnOk result (self.old ≡ at self.new (Word (codes "as") ∷ self.new.rest)) }
     {
-        let Some((bytes, after)) = self.word() else {
+        let Some((Lexeme::Word(bytes), after)) = self.next() else {
             return Err(Stop::Refused(Fault::Token));
         };
         if !is(bytes, b"as") {
@@ -105,36 +81,44 @@ impl<'a> Parser<'a> {
         Ok(())
     }
 
-    // Takes the alias of a declaration.
-    fn alias(&mut self, alloc: Global, aliases: &mut Aliases<'a>) -> Result<Name, Stop>
-        ensures goes { Takes result self.old self.new (λ k. Alias aliases.old ∷ k)
-            (λ x k. This (Is Sign.Semicolon) ∷ Declaring aliases.new ∷ k) }
+    // Takes the alias of a declaration, and keeps it, to find it without going through all of them.
+    fn alias(
+        &mut self,
+        alloc: Global,
+        aliases: &mut BTreeSet<&'a [u8], Global>,
+    ) -> Result<Name, Stop>
+        ensures goes { (names : List (List ℕ)) → HasThese aliases.old names → Takes result self.old self.new
+            (λ k. Alias names ∷ k) (λ n k. This (Is Sign.Semicolon) ∷ Declaring (names ++ n ∷ []) ∷ k) }
+        ensures kept { IfOk result (λ n. (names : List (List ℕ)) → HasThese aliases.old names
+            → HasThese aliases.new (names ++ n ∷ [])) }
         ensures read { IfOk result (λ n. self.old ≡ at self.new (Word n ∷ self.new.rest)) }
     {
-        let Some((bytes, after)) = self.word() else {
+        let Some((Lexeme::Word(bytes), after)) = self.next() else {
             return Err(Stop::Refused(Fault::Token));
         };
-        if aliases.holds(bytes) {
+        if aliases.contains(bytes) {
             return Err(Stop::Refused(Fault::Twice));
         }
-        aliases.push(bytes)?;
+        let Ok(_) = aliases.insert(bytes) else {
+            return Err(Stop::Memory);
+        };
         let alias = Name::of(alloc, bytes)?;
         self.go_to(after);
         Ok(alias)
     }
 
     // Takes the word that begins a declaration.
-    fn decl_word(&mut self, alloc: Global, aliases: &Aliases<'a>) -> Result<Name, Stop>
+    fn decl_word(&mut self, alloc: Global) -> Result<Name, Stop>
         requires { IsNotNext (Is Sign.Global) self.old.rest }
-        ensures goes { Takes result self.old self.new (λ k. Declaring aliases.now ∷ k)
+        ensures goes { (names : List (List ℕ)) → Takes result self.old self.new (λ k. Declaring names ∷ k)
             (λ x k. This (Is Sign.Less) ∷ AnyName ∷ This (Is Sign.Greater) ∷ AnyQuoted
-            ∷ This (Is Sign.From) ∷ AnyQuoted ∷ This (Word (codes "as")) ∷ Alias aliases.now ∷ k) }
+            ∷ This (Is Sign.From) ∷ AnyQuoted ∷ This (Word (codes "as")) ∷ Alias names ∷ k) }
         ensures read { IfOk result (λ n. (is_decl_word n ≡ true) × (self.old ≡ at self.new (Word n ∷ self.new.rest))) }
     {
         let Some((Lexeme::Word(bytes), after)) = self.next() else {
             return Err(Stop::Refused(Fault::Token));
         };
-        if !is_decl_word(bytes) {
+        if !is(bytes, b"type") && !is(bytes, b"data") {
             return Err(Stop::Refused(Fault::Token));
         }
         let word = Name::of(alloc, bytes)?;
@@ -143,14 +127,20 @@ impl<'a> Parser<'a> {
     }
 
     // Takes a declaration.
-    fn decl(&mut self, alloc: Global, aliases: &mut Aliases<'a>) -> Result<Decl, Stop>
+    fn decl(
+        &mut self,
+        alloc: Global,
+        aliases: &mut BTreeSet<&'a [u8], Global>,
+    ) -> Result<Decl, Stop>
         requires { IsNotNext (Is Sign.Global) self.old.rest }
-        ensures goes { Takes result self.old self.new (λ k. Declaring aliases.old ∷ k)
-            (λ x k. Declaring aliases.new ∷ k) }
-        ensures read { IfOk result (λ d. IsDecl d self.old self.new) }
+        ensures goes { (names : List (List ℕ)) → HasThese aliases.old names → Takes result self.old self.new
+            (λ k. Declaring names ∷ k) (λ d k. Declaring (names ++ d.alias ∷ []) ∷ k) }
+        ensures kept { IfOk result (λ d. (names : List (List ℕ)) → HasThese aliases.old names
+            → HasThese aliases.new (names ++ d.alias ∷ [])) }
+        ensures read { IfOk result (λ d. AreTaken (d ∷ []) self.old self.new) }
         ensures shorter { OnOk result (length self.new.rest < length self.old.rest) }
     {
-        let word = self.decl_word(alloc, aliases)?;
+        let word = self.decl_word(alloc)?;
         self.expect(Sign::Less)?;
         let schema = self.name(alloc)?;
         self.expect(Sign::Greater)?;
@@ -172,10 +162,11 @@ impl<'a> Parser<'a> {
     /// Takes the declarations, and the word `global` behind them.
     pub fn decls(&mut self, alloc: Global) -> Result<Decls, Stop>
         ensures goes { Takes result self.old self.new (λ k. Declaring [] ∷ k) (λ x k. k) }
-        ensures read { IfOk result (λ ds. AreSuch (declarations ds) self.old self.new) }
+        ensures read { IfOk result (λ ds. AreTaken (declarations ds) self.old
+            (at self.new (Is Sign.Global ∷ self.new.rest))) }
     {
         let mut list = Decls::new(alloc);
-        let mut aliases = Aliases::new(alloc);
+        let mut aliases = BTreeSet::new(alloc);
         while !self.takes(Sign::Global) {
             let decl = self.decl(alloc, &mut aliases)?;
             list.push(decl)?;

@@ -1,7 +1,6 @@
 // Reads the text of a protocol into its tree.
 #![tactic(auto)]
 
-mod aliases;
 mod head;
 mod parser;
 mod read;

@@ -1,7 +1,8 @@
 // A descent over the statements with one token of look-ahead, and two at the word `continue`.
 
 ghost use Rattle.std.specs.List.{All};
-ghost use Rattle.std.specs.Prelude.{◌≡◌, ◌<◌, ◌≤◌, nat_le, ◌+◌, ◌-◌, ◌^◌, ◌++◌, ◌∷◌, [], length, ℕ, List, drop, IfSome, IfNone, OnOk, IfOk, IfErr, true, false, Option};
+ghost use Rattle.std.specs.Prelude.{◌≡◌, ◌<◌, ◌≤◌, ◌+◌, ◌-◌, ◌^◌, ◌++◌, ◌∷◌, [], length, ℕ, List};
+ghost use Rattle.std.specs.Prelude.{drop, IfSome, IfNone, OnOk, IfOk, IfErr, true, false, Option};
 ghost use Rattle.rcv_tree.specs.Lists.{statements};
 ghost use Rattle.rcv_lexer.specs.Parts.{LiesIn};
 ghost use Rattle.rcv_scan.specs.Symbols.{symbol_in};
@@ -9,9 +10,13 @@ ghost use Rattle.rcv_syntax.specs.Symbols.{Symbol, Is, Word, symbols_of};
 ghost use Rattle.rcv_syntax.specs.Grammar.{sort_list};
 ghost use Rattle.rcv_syntax.specs.Codes.{is_among};
 ghost use Rattle.rcv_syntax.specs.Trees.{place_of, is_listed};
-ghost use Rattle.rcv_machine.specs.Machine.{Place, Item, This, AnyName, Sorts, Subject, Sender, Receiver, MoreReceivers, RecName, AgainName, Opening, First, Rest, More, Refuses, inside, behind, is_open};
-ghost use Rattle.rcv_reader.specs.Standing.{IsSmall, at, back_at, with_roles, within, answers, IsUnnamed, IsOver};
-ghost use Rattle.rcv_reader.specs.Descent.{IsReceived, AreReceived, IsNext, ended_fault, IsRoleName, messages, Takes, TakesSome, TakesAll, TakesBlock, TakesBranches, place_of_spot, at_first};
+ghost use Rattle.rcv_machine.specs.Machine.{Place, Item, This, AnyName, RoleName, MoreRoles, Sorts, Subject};
+ghost use Rattle.rcv_machine.specs.Machine.{Sender, Receiver, MoreReceivers, RecName, AgainName, Opening};
+ghost use Rattle.rcv_machine.specs.Machine.{First, Rest, More, Refuses, inside, behind, is_open};
+ghost use Rattle.rcv_reader.specs.Standing.{IsSmall, at, within, answers, IsOver};
+ghost use Rattle.rcv_reader.specs.Descent.{AddsName, IsReceived, AreReceived};
+ghost use Rattle.rcv_reader.specs.Descent.{IsRoleName, messages, Takes, Consumes, TakesSome, TakesAll, TakesBlock};
+ghost use Rattle.rcv_reader.specs.Descent.{TakesBranches, place_of_spot, at_first};
 
 use crate::stop::Stop;
 use rcv_lexer::token::Token;
@@ -55,45 +60,11 @@ impl<'a> Model for Parser<'a> {
     ghost invariant = { λ a. IsSmall (length a.roles) a.count };
 }
 
-// What begins in a block, with what is left behind its word.
-#[derive(Drop)]
-enum Begin<'a> {
-    Message,
-    Choice(Ahead<'a, Sign>),
-    Rec(Ahead<'a, Sign>),
-    Continue(Ahead<'a, Sign>),
-    // What isn't read yet.
-    NotYet,
-    Nothing,
-}
-
-// What the messages of a statement have in common.
-#[derive(Drop)]
-struct Heading {
-    label: Name,
-    sorts: Names,
-    sender: RoleId,
-}
-
-// The receivers of a message, of which the last takes its label and sorts.
-#[derive(Drop)]
-struct Receivers {
-    others: Roles,
-    last: RoleId,
-}
-
-/// Whether the name is one of these.
-pub fn holds(name: &[u8], names: &[Name]) -> bool
+// Whether the name is one of these.
+fn holds(name: &[u8], names: &[Name]) -> bool
     ensures { result ≡ is_among name.now names.now }
 {
     names.iter().any(|other| name == other.as_slice())
-}
-
-// The place of the role with this name.
-fn place_of(roles: &[Name], name: &[u8]) -> Option<usize>
-    ensures { result ≡ place_of roles.now name.now }
-{
-    roles.iter().position(|role| role.as_slice() == name)
 }
 
 // Whether the role is one of these.
@@ -103,40 +74,33 @@ fn is_listed(role: RoleId, before: &[RoleId]) -> bool
     before.iter().any(|other| role == *other)
 }
 
-// Adds a message for each of these receivers, behind so many points, with a copy of the label and the same list of sorts.
+// Adds a message for each of these receivers, behind so many points, with a copy of the label and the same list of
+// sorts.
 fn add_copies(
     alloc: Global,
-    heading: &Heading,
+    label: &Name,
+    sorts: &Names,
+    sender: RoleId,
     receivers: &[RoleId],
     points: u16,
     block: &mut Block,
 ) -> Result<(), AllocError>
     requires few { points + length receivers.now ≤ 256 }
     ensures { OnOk result (statements block.new ≡ statements block.old
-        ++ messages heading.now.label heading.now.sorts heading.now.sender receivers.now points) }
+        ++ messages label.now sorts.now sender receivers.now points) }
 {
     let mut point = points;
     for receiver in receivers {
         point += 1;
         block.push(Stmt::Message {
-            label: Name::of(alloc, heading.label.as_slice())?,
-            sorts: heading.sorts.share()?,
-            sender: heading.sender,
+            label: Name::of(alloc, label.as_slice())?,
+            sorts: sorts.share()?,
+            sender,
             receiver: *receiver,
             point: Point(point),
         })?;
     }
     Ok(())
-}
-
-// What speaks against this behind a `continue`.
-fn ended_fault(begin: &Begin) -> Fault
-    ensures { result ≡ ended_fault begin.now }
-{
-    match begin {
-        Begin::Nothing => Fault::Token,
-        _ => Fault::AfterContinue,
-    }
 }
 
 impl<'a> Parser<'a> {
@@ -168,22 +132,6 @@ impl<'a> Parser<'a> {
         self.rest.next()
     }
 
-    /// The name that is next, and what is left behind it.
-    pub fn word(&self) -> Option<(&'a [u8], Ahead<'a, Sign>)>
-        ensures some { IfSome result (λ r. self.now ≡ at self.now (Word r.0.now ∷ r.1)) }
-        ensures none { IfNone result (IsUnnamed self.now) }
-    {
-        self.rest.word()
-    }
-
-    /// What is left behind this word or mark, if it is next.
-    pub fn sign(&self, sign: Sign) -> Option<Ahead<'a, Sign>>
-        ensures some { IfSome result (λ after. self.now ≡ at self.now (Is sign ∷ after)) }
-        ensures none { IfNone result (IsOver sign self.now) }
-    {
-        self.rest.sign(sign)
-    }
-
     /// Goes on in front of these.
     pub fn go_to(&mut self, after: Ahead<'a, Sign>)
         ensures there { self.new ≡ at self.old after.entry }
@@ -193,28 +141,27 @@ impl<'a> Parser<'a> {
         self.rest = after;
     }
 
-    /// Takes this word or mark.
-    pub fn expect(&mut self, sign: Sign) -> Result<(), Stop>
-        ensures goes { Takes result self.old self.new (λ k. This (Is sign) ∷ k) (λ x k. k) }
-        ensures read { OnOk result (self.old ≡ at self.new (Is sign ∷ self.new.rest)) }
-    {
-        let Some(after) = self.sign(sign) else {
-            return Err(Stop::Refused(Fault::Token));
-        };
-        self.go_to(after);
-        Ok(())
-    }
-
     /// Takes this word or mark if it is next.
     pub fn takes(&mut self, sign: Sign) -> bool
         ensures yes { result ≡ true → self.old ≡ at self.new (Is sign ∷ self.new.rest) }
         ensures no { result ≡ false → (self.old ≡ self.new) × IsOver sign self.new }
     {
-        let Some(after) = self.sign(sign) else {
+        let Some(after) = self.rest.sign(sign) else {
             return false;
         };
         self.go_to(after);
         true
+    }
+
+    /// Takes this word or mark.
+    pub fn expect(&mut self, sign: Sign) -> Result<(), Stop>
+        ensures goes { Takes result self.old self.new (λ k. This (Is sign) ∷ k) (λ x k. k) }
+        ensures read { OnOk result (self.old ≡ at self.new (Is sign ∷ self.new.rest)) }
+    {
+        if !self.takes(sign) {
+            return Err(Stop::Refused(Fault::Token));
+        }
+        Ok(())
     }
 
     /// Takes any name.
@@ -222,7 +169,7 @@ impl<'a> Parser<'a> {
         ensures goes { Takes result self.old self.new (λ k. AnyName ∷ k) (λ x k. k) }
         ensures read { IfOk result (λ n. self.old ≡ at self.new (Word n ∷ self.new.rest)) }
     {
-        let Some((bytes, after)) = self.word() else {
+        let Some((Lexeme::Word(bytes), after)) = self.next() else {
             return Err(Stop::Refused(Fault::Token));
         };
         let name = Name::of(alloc, bytes)?;
@@ -230,26 +177,22 @@ impl<'a> Parser<'a> {
         Ok(name)
     }
 
-    /// Whether a role has this name.
-    pub fn has_role(&self, name: &[u8]) -> bool
-        ensures { result ≡ is_among name.now self.now.roles }
+    /// Takes the name of one more role.
+    pub fn add_role(&mut self, alloc: Global) -> Result<(), Stop>
+        ensures goes { Takes result self.old self.new (λ k. RoleName ∷ k) (λ x k. MoreRoles ∷ k) }
+        ensures read { OnOk result (AddsName self.old self.new) }
     {
-        holds(name, self.roles.as_slice())
-    }
-
-    /// Whether there is no place for one more role.
-    pub fn is_full(&self) -> bool
-        ensures { result ≡ nat_le 8 (length self.now.roles) }
-    {
-        self.roles.as_slice().len() >= 8
-    }
-
-    /// Adds a role.
-    pub fn declare(&mut self, role: Name) -> Result<(), AllocError>
-        requires { length self.old.roles < 8 }
-        ensures { OnOk result (self.new ≡ with_roles self.old (self.old.roles ++ role ∷ []) self.old.rest) }
-    {
-        self.roles.push(role)?;
+        let Some((Lexeme::Word(bytes), after)) = self.next() else {
+            return Err(Stop::Refused(Fault::Token));
+        };
+        if holds(bytes, self.roles.as_slice()) {
+            return Err(Stop::Refused(Fault::Twice));
+        }
+        if self.roles.as_slice().len() >= 8 {
+            return Err(Stop::Refused(Fault::TooMany));
+        }
+        self.roles.push(Name::of(alloc, bytes)?)?;
+        self.go_to(after);
         Ok(())
     }
 
@@ -266,16 +209,20 @@ impl<'a> Parser<'a> {
         ensures is { result ≡ place_of self.now.roles name.now }
         ensures few { IfSome result (λ place. place < 8) }
     {
-        place_of(self.roles.as_slice(), name)
+        self.roles
+            .as_slice()
+            .iter()
+            .position(|role| role.as_slice() == name)
     }
 
     // Takes the name of a role: the subject of a choice, or a sender.
     fn role(&mut self) -> Result<RoleId, Stop>
         ensures subject { Takes result self.old self.new (λ k. Subject ∷ k) (λ r k. k) }
-        ensures sender { Takes result self.old self.new (λ k. Sender ∷ k) (λ r k. This (Is Sign.To) ∷ Receiver r [] ∷ k) }
+        ensures sender { Takes result self.old self.new (λ k. Sender ∷ k)
+            (λ r k. This (Is Sign.To) ∷ Receiver r [] ∷ k) }
         ensures read { IfOk result (λ r. IsRoleName self.old self.new r) }
     {
-        let Some((bytes, after)) = self.word() else {
+        let Some((Lexeme::Word(bytes), after)) = self.next() else {
             return Err(Stop::Refused(Fault::Token));
         };
         let Some(place) = self.place_of(bytes) else {
@@ -287,9 +234,8 @@ impl<'a> Parser<'a> {
 
     // Takes sorts, and the parenthesis behind them.
     fn sorts(&mut self, alloc: Global) -> Result<Names, Stop>
-        ensures goes { Takes result self.old self.new (λ k. Sorts ∷ k) (λ x k. k) }
+        ensures goes { Consumes result self.old self.new (λ k. Sorts ∷ k) (λ x k. k) }
         ensures read { IfOk result (λ sorts. self.old ≡ at self.new (sort_list sorts (Is Sign.Right ∷ self.new.rest))) }
-        ensures shorter { OnOk result (length self.new.rest < length self.old.rest) }
     {
         let mut sorts = Names::new(alloc);
         if self.takes(Sign::Right) {
@@ -305,26 +251,13 @@ impl<'a> Parser<'a> {
         Ok(sorts)
     }
 
-    // Counts a point, unless there are too many.
-    fn count_point(&mut self) -> bool
-        ensures yes { result ≡ true → (nat_le 256 self.old.count ≡ false)
-            × (self.new ≡ back_at self.old (self.old.count + 1) self.old.rest) }
-        ensures no { result ≡ false → (nat_le 256 self.old.count ≡ true) × (self.old ≡ self.new) }
-    {
-        if self.count >= 256 {
-            return false;
-        }
-        self.count += 1;
-        true
-    }
-
     // Takes one receiver of a message, which makes a point. These stand before it.
     fn receiver(&mut self, sender: RoleId, before: &[RoleId]) -> Result<RoleId, Stop>
         ensures goes { Takes result self.old self.new (λ k. Receiver sender before.now ∷ k)
             (λ r k. MoreReceivers sender (before.now ++ r ∷ []) ∷ k) }
         ensures read { IfOk result (λ r. IsReceived self.old self.new sender before.now r) }
     {
-        let Some((bytes, after)) = self.word() else {
+        let Some((Lexeme::Word(bytes), after)) = self.next() else {
             return Err(Stop::Refused(Fault::Token));
         };
         let Some(place) = self.place_of(bytes) else {
@@ -337,18 +270,20 @@ impl<'a> Parser<'a> {
         if receiver == sender {
             return Err(Stop::Refused(Fault::SelfMessage));
         }
-        if !self.count_point() {
+        if self.count >= 256 {
             return Err(Stop::Refused(Fault::TooMany));
         }
+        self.count += 1;
         self.go_to(after);
         Ok(receiver)
     }
 
-    // Takes all receivers of a message, and the mark behind them.
-    fn receivers(&mut self, alloc: Global, sender: RoleId) -> Result<Receivers, Stop>
-        ensures goes { Takes result self.old self.new (λ k. Receiver sender [] ∷ k) (λ x k. k) }
-        ensures read { IfOk result (λ rs. AreReceived self.old self.new sender (rs.others ++ rs.last ∷ [])) }
-        ensures shorter { OnOk result (length self.new.rest < length self.old.rest) }
+    // Takes all receivers of a message, and the mark behind them. The last one is apart.
+    #[tactic(auto, using(crate::proofs::Reading::receivers_first, crate::proofs::Reading::receivers_next))]
+    fn receivers(&mut self, alloc: Global, sender: RoleId) -> Result<(Roles, RoleId), Stop>
+        ensures goes { Consumes result self.old self.new (λ k. Receiver sender [] ∷ k) (λ x k. k) }
+        ensures read { IfOk result (λ rs. AreReceived self.old (at self.new (Is Sign.Semicolon ∷ self.new.rest)) sender
+            (rs.0 ++ rs.1 ∷ [])) }
     {
         let mut others = Roles::new(alloc);
         let mut last = self.receiver(sender, others.as_slice())?;
@@ -357,7 +292,7 @@ impl<'a> Parser<'a> {
             last = self.receiver(sender, others.as_slice())?;
         }
         self.expect(Sign::Semicolon)?;
-        Ok(Receivers { others, last })
+        Ok((others, last))
     }
 
     // The number of points, for which there is a place.
@@ -369,10 +304,9 @@ impl<'a> Parser<'a> {
 
     // Takes a message.
     fn message(&mut self, alloc: Global, block: &mut Block) -> Result<(), Stop>
-        ensures goes { Takes result self.old self.new
+        ensures goes { Consumes result self.old self.new
             (λ k. AnyName ∷ This (Is Sign.Left) ∷ Sorts ∷ This (Is Sign.From) ∷ Sender ∷ k) (λ x k. k) }
         ensures read { OnOk result (TakesSome self.old self.new [] (statements block.old) (statements block.new)) }
-        ensures shorter { OnOk result (length self.new.rest < length self.old.rest) }
     {
         let label = self.name(alloc)?;
         self.expect(Sign::Left)?;
@@ -380,43 +314,38 @@ impl<'a> Parser<'a> {
         self.expect(Sign::From)?;
         let sender = self.role()?;
         self.expect(Sign::To)?;
-        let heading = Heading {
+        let before = self.points();
+        let (others, last) = self.receivers(alloc, sender)?;
+        let now = self.points();
+        add_copies(
+            alloc,
+            &label,
+            &sorts,
+            sender,
+            others.as_slice(),
+            before,
+            block,
+        )?;
+        block.push(Stmt::Message {
             label,
             sorts,
             sender,
-        };
-        let before = self.points();
-        let receivers = self.receivers(alloc, sender)?;
-        let now = self.points();
-        add_copies(alloc, &heading, receivers.others.as_slice(), before, block)?;
-        block.push(Stmt::Message {
-            label: heading.label,
-            sorts: heading.sorts,
-            sender,
-            receiver: receivers.last,
+            receiver: last,
             point: Point(now),
         })?;
         Ok(())
     }
 
-    // Whether the name is that of an enclosing recursion.
-    fn encloses(&self, name: &[u8]) -> bool
-        ensures { result ≡ is_among name.now self.now.recs }
-    {
-        holds(name, self.recs.as_slice())
-    }
-
     // Takes the name behind `continue`, which is that of an enclosing recursion, and the mark behind it.
     fn again(&mut self, alloc: Global, spot: Spot, block: &mut Block) -> Result<(), Stop>
-        ensures goes { Takes result self.old self.new (λ k. AgainName (place_of_spot self.old spot) ∷ k) (λ x k. k) }
+        ensures goes { Consumes result self.old self.new (λ k. AgainName (place_of_spot self.old spot) ∷ k) (λ x k. k) }
         ensures read { OnOk result (TakesSome self.old self.new (Is Sign.Continue ∷ [])
             (statements block.old) (statements block.new)) }
-        ensures shorter { OnOk result (length self.new.rest < length self.old.rest) }
     {
-        let Some((bytes, after)) = self.word() else {
+        let Some((Lexeme::Word(bytes), after)) = self.next() else {
             return Err(Stop::Refused(Fault::Token));
         };
-        if !self.encloses(bytes) {
+        if !holds(bytes, self.recs.as_slice()) {
             return Err(Stop::Refused(Fault::NoName));
         }
         self.go_to(after);
@@ -432,7 +361,7 @@ impl<'a> Parser<'a> {
             (λ x k. First (inside (place_of_spot self.old spot)) ∷ k) }
         ensures read { OnOk result ((self.old ≡ at self.new (Is Sign.Open ∷ self.new.rest)) × (spot.depth < 32)) }
     {
-        let Some(after) = self.sign(Sign::Open) else {
+        let Some((Lexeme::Is(Sign::Open), after)) = self.next() else {
             return Err(Stop::Refused(Fault::Token));
         };
         if spot.depth >= 32 {
@@ -442,19 +371,17 @@ impl<'a> Parser<'a> {
         Ok(())
     }
 
-    // What begins here.
-    fn begin(&self) -> Begin<'a>
-        ensures next { IsNext result self.now }
-        ensures ended { (p : Place) (k : List Item) → p.ended ≡ true
-            → answers self.now (First p ∷ k) ≡ Refuses (ended_fault result) self.now.rest }
+    // What speaks against what is next behind a `continue`.
+    fn ended_fault(&self) -> Fault
+        ensures { (p : Place) (k : List Item) → p.ended ≡ true
+            → answers self.now (First p ∷ k) ≡ Refuses result self.now.rest }
     {
         match self.next() {
-            Some((Lexeme::Word(_), _)) => Begin::Message,
-            Some((Lexeme::Is(Sign::Choice), after)) => Begin::Choice(after),
-            Some((Lexeme::Is(Sign::Rec), after)) => Begin::Rec(after),
-            Some((Lexeme::Is(Sign::Continue), after)) => Begin::Continue(after),
-            Some((Lexeme::Is(Sign::Par | Sign::Do), _)) => Begin::NotYet,
-            _ => Begin::Nothing,
+            Some((Lexeme::Word(_), _)) => Fault::AfterContinue,
+            Some(
+                (Lexeme::Is(Sign::Choice | Sign::Rec | Sign::Continue | Sign::Par | Sign::Do), _),
+            ) => { Fault::AfterContinue }
+            _ => Fault::Token,
         }
     }
 
@@ -491,12 +418,11 @@ impl<'a> Parser<'a> {
     #[cycle(descent)]
     fn recursion(&mut self, alloc: Global, spot: Spot, block: &mut Block) -> Result<(), Stop>
         requires comes { spot.comes ≤ length self.old.recs }
-        ensures goes { Takes result self.old self.new (λ k. RecName (place_of_spot self.old spot) ∷ k) (λ x k. k) }
+        ensures goes { Consumes result self.old self.new (λ k. RecName (place_of_spot self.old spot) ∷ k) (λ x k. k) }
         ensures read { OnOk result (TakesSome self.old self.new (Is Sign.Rec ∷ [])
             (statements block.old) (statements block.new)) }
-        ensures shorter { OnOk result (length self.new.rest < length self.old.rest) }
     {
-        let Some((bytes, after)) = self.word() else {
+        let Some((Lexeme::Word(bytes), after)) = self.next() else {
             return Err(Stop::Refused(Fault::Token));
         };
         let name = Name::of(alloc, bytes)?;
@@ -518,11 +444,10 @@ impl<'a> Parser<'a> {
     fn choice(&mut self, alloc: Global, spot: Spot, block: &mut Block) -> Result<(), Stop>
         requires comes { spot.comes ≤ length self.old.recs }
         ensures goes { let p = place_of_spot self.old spot in
-            Takes result self.old self.new (λ k. This (Is Sign.At) ∷ Subject ∷ Opening p ∷ More p ∷ k)
+            Consumes result self.old self.new (λ k. This (Is Sign.At) ∷ Subject ∷ Opening p ∷ More p ∷ k)
             (λ x k. Rest (behind (place_of_spot self.new spot) false) ∷ k) }
         ensures read { OnOk result (TakesSome self.old self.new (Is Sign.Choice ∷ [])
             (statements block.old) (statements block.new)) }
-        ensures shorter { OnOk result (length self.new.rest < length self.old.rest) }
     {
         self.expect(Sign::At)?;
         let subject = self.role()?;
@@ -536,10 +461,9 @@ impl<'a> Parser<'a> {
     fn branches(&mut self, alloc: Global, spot: Spot) -> Result<Blocks, Stop>
         requires comes { spot.comes ≤ length self.old.recs }
         ensures goes { let p = place_of_spot self.old spot in
-            Takes result self.old self.new (λ k. Opening p ∷ More p ∷ k)
+            Consumes result self.old self.new (λ k. Opening p ∷ More p ∷ k)
             (λ x k. Rest (behind (place_of_spot self.new spot) false) ∷ k) }
         ensures read { IfOk result (λ bs. TakesBranches self.old self.new bs) }
-        ensures shorter { OnOk result (length self.new.rest < length self.old.rest) }
     {
         let mut branches = Blocks::new(alloc);
         let first = self.block(alloc, spot)?;
@@ -555,9 +479,8 @@ impl<'a> Parser<'a> {
     #[cycle(descent)]
     fn block(&mut self, alloc: Global, spot: Spot) -> Result<Block, Stop>
         requires comes { spot.comes ≤ length self.old.recs }
-        ensures goes { Takes result self.old self.new (λ k. Opening (place_of_spot self.old spot) ∷ k) (λ x k. k) }
+        ensures goes { Consumes result self.old self.new (λ k. Opening (place_of_spot self.old spot) ∷ k) (λ x k. k) }
         ensures read { IfOk result (λ b. TakesBlock self.old self.new b) }
-        ensures shorter { OnOk result (length self.new.rest < length self.old.rest) }
     {
         self.open(spot)?;
         let inner = Spot {
@@ -578,11 +501,11 @@ impl<'a> Parser<'a> {
 
     /// Takes the other statements of a block, and its last brace.
     #[cycle(descent)]
+    #[tactic(auto, using(crate::proofs::Blocks::no_stmts))]
     pub fn stmts(&mut self, alloc: Global, spot: Spot, block: &mut Block) -> Result<(), Stop>
         requires comes { spot.comes ≤ length self.old.recs }
-        ensures goes { Takes result self.old self.new (λ k. Rest (place_of_spot self.old spot) ∷ k) (λ x k. k) }
+        ensures goes { Consumes result self.old self.new (λ k. Rest (place_of_spot self.old spot) ∷ k) (λ x k. k) }
         ensures read { OnOk result (TakesAll self.old self.new (statements block.old) (statements block.new)) }
-        ensures shorter { OnOk result (length self.new.rest < length self.old.rest) }
     {
         let mut here = spot;
         while !self.takes(Sign::Close) {
@@ -600,31 +523,29 @@ impl<'a> Parser<'a> {
     #[cycle(descent)]
     fn stmt(&mut self, alloc: Global, spot: Spot, block: &mut Block) -> Result<bool, Stop>
         requires comes { spot.comes ≤ length self.old.recs }
-        ensures goes { Takes result self.old self.new (λ k. First (place_of_spot self.old spot) ∷ k)
+        ensures goes { Consumes result self.old self.new (λ k. First (place_of_spot self.old spot) ∷ k)
             (λ ended k. Rest (behind (place_of_spot self.new spot) ended) ∷ k) }
         ensures read { OnOk result (TakesSome self.old self.new [] (statements block.old) (statements block.new)) }
-        ensures shorter { OnOk result (length self.new.rest < length self.old.rest) }
     {
-        let begin = self.begin();
         if spot.ended {
-            return Err(Stop::Refused(ended_fault(&begin)));
+            return Err(Stop::Refused(self.ended_fault()));
         }
-        match begin {
-            Begin::Message => {
+        match self.next() {
+            Some((Lexeme::Word(_), _)) => {
                 self.message(alloc, block)?;
                 Ok(false)
             }
-            Begin::Choice(after) => {
+            Some((Lexeme::Is(Sign::Choice), after)) => {
                 self.go_to(after);
                 self.choice(alloc, spot, block)?;
                 Ok(false)
             }
-            Begin::Rec(after) => {
+            Some((Lexeme::Is(Sign::Rec), after)) => {
                 self.go_to(after);
                 self.recursion(alloc, spot, block)?;
                 Ok(false)
             }
-            Begin::Continue(after) => {
+            Some((Lexeme::Is(Sign::Continue), after)) => {
                 if self.is_unguarded(spot, &after) {
                     return Err(Stop::Refused(Fault::Unguarded));
                 }
@@ -632,8 +553,8 @@ impl<'a> Parser<'a> {
                 self.again(alloc, spot, block)?;
                 Ok(true)
             }
-            Begin::NotYet => Err(Stop::Refused(Fault::NotYet)),
-            Begin::Nothing => Err(Stop::Refused(Fault::Token)),
+            Some((Lexeme::Is(Sign::Par | Sign::Do), _)) => Err(Stop::Refused(Fault::NotYet)),
+            _ => Err(Stop::Refused(Fault::Token)),
         }
     }
 }

@@ -22,20 +22,12 @@ use rcv_tree::refusal::Refusal;
 use rcv_tree::statement::Block;
 use std::alloc::Global;
 
-// What stands before the body, but for the roles.
-#[derive(Drop)]
-struct Head {
-    module: Names,
-    decls: Decls,
-    name: Name,
-}
-
 impl<'a> Parser<'a> {
-    // Takes what stands before the body, with its first brace.
-    fn head(&mut self, alloc: Global) -> Result<Head, Stop>
+    // Takes what stands before the body, with its first brace. The roles are kept.
+    fn head(&mut self, alloc: Global) -> Result<(Names, Decls, Name), Stop>
         requires none { self.old.roles ≡ [] }
         ensures goes { Takes result self.old self.new in_head (λ x k. k) }
-        ensures read { IfOk result (λ h. IsHead h.«module» (declarations h.decls) h.name self.old self.new) }
+        ensures read { IfOk result (λ h. IsHead h.0 (declarations h.1) h.2 self.old self.new) }
     {
         self.expect(Sign::Module)?;
         let module = self.modules(alloc)?;
@@ -46,11 +38,7 @@ impl<'a> Parser<'a> {
         self.expect(Sign::Role)?;
         self.role_names(alloc)?;
         self.expect(Sign::Open)?;
-        Ok(Head {
-            module,
-            decls,
-            name,
-        })
+        Ok((module, decls, name))
     }
 
     // Nothing may stand behind the protocol.
@@ -68,11 +56,10 @@ impl<'a> Parser<'a> {
     // Takes a whole protocol.
     fn protocol(&mut self, alloc: Global) -> Result<Protocol, Stop>
         requires fresh { self.old ≡ at_first self.old.rest }
-        ensures ok { IfOk result (IsRead self.old.rest) }
-        ensures form { IfOk result (λ p. HasForm (body_of p.body) (length p.roles)) }
+        ensures ok { IfOk result (λ p. IsRead self.old.rest p × HasForm (body_of p.body) (length p.roles)) }
         ensures err { IfErr result (λ e. Ends e self.old.rest self.new.rest) }
     {
-        let head = self.head(alloc)?;
+        let (module, decls, name) = self.head(alloc)?;
         let mut body = Block::new(alloc);
         let spot = Spot {
             depth: 1,
@@ -83,9 +70,9 @@ impl<'a> Parser<'a> {
         self.end()?;
         let roles = self.into_roles(alloc);
         Ok(Protocol {
-            module: head.module,
-            decls: head.decls,
-            name: head.name,
+            module,
+            decls,
+            name,
             roles,
             body,
         })
@@ -94,13 +81,13 @@ impl<'a> Parser<'a> {
 
 /// The protocol that the tokens of a part of the bundle spell. `last` is the line of the part's end.
 ///
-/// Read exactly where the grammar derives the tokens and no code holds at any of them. Else refused at the first token, or
-/// the end, at which a code holds, with the least one that holds there and the line of the token or of the part's end:
-/// 11 where the grammar doesn't have the token or the end there, 12 at the brace of the 33rd nested block, 13 at a role
-/// that isn't declared or the name of no enclosing recursion, 14 at a role, an alias or a receiver that stands before,
-/// 15 at a receiver that is the sender, 16 at a statement behind a `continue`, 17 at a `continue` to which a walk comes
-/// without a message, 18 at the ninth role or the receiver that makes the 257th point, 19 at what isn't read yet: `par`,
-/// `do` and a second protocol. `Memory` where no memory is left.
+/// Read exactly where the grammar derives the tokens and no code holds at any of them. Else refused at the first token,
+/// or the end, at which a code holds, with the least one that holds there and the line of the token or of the part's
+/// end: 11 where the grammar doesn't have the token or the end there, 12 at the brace of the 33rd nested block, 13 at a
+/// role that isn't declared or the name of no enclosing recursion, 14 at a role, an alias or a receiver that stands
+/// before, 15 at a receiver that is the sender, 16 at a statement behind a `continue`, 17 at a `continue` to which a
+/// walk comes without a message, 18 at the ninth role or the receiver that makes the 257th point, 19 at what isn't read
+/// yet: `par`, `do` and a second protocol. `Memory` where no memory is left.
 pub fn read_protocol(
     alloc: Global,
     bundle: &[u8],

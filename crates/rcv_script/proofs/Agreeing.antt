@@ -84,10 +84,8 @@ first_word kinds.Pick = codes "pick"
 first_word kinds.On = codes "on"
 
 word_of_kind : (w : List ℕ) (c : LineKind) → kind_of w ≡ Some c → first_word c ≡ w
-word_of_kind w kinds.Var e = sym ((bytes_eq-Decides w (codes "var")).0 (grind (arith, nat_tests)))
-word_of_kind w kinds.Send e = sym ((bytes_eq-Decides w (codes "send")).0 (grind (arith, nat_tests)))
-word_of_kind w kinds.Pick e = sym ((bytes_eq-Decides w (codes "pick")).0 (grind (arith, nat_tests)))
-word_of_kind w kinds.On e = sym ((bytes_eq-Decides w (codes "on")).0 (grind (arith, nat_tests)))
+word_of_kind w kinds.Var e = sym ((bytes_eq-Decides w _).0 (grind (arith, nat_tests)))
+word_of_kind w _ e = sym ((bytes_eq-Decides w _).0 (grind (arith, nat_tests)))
 
 behind_agrees : (s : Writing) (k : List (List ℕ) × Line → Item) (c : LineKind)
     → Agrees (On (line_behind s c k)) (ALine s k) (Word (first_word c))

@@ -23,7 +23,7 @@ moved label front all place (OnLine other to expr ∷ lines) value vars =
 moved label front all place (_ ∷ lines) value vars = moved label front all (suc place) lines value vars
 
 -- the lines of a label do what all lines do
-do_all : (label : List ℕ) (lines : List Line) (value : ℤ) (vars : List ℤ)
+pub do_all : (label : List ℕ) (lines : List Line) (value : ℤ) (vars : List ℤ)
     → set_by_all lines (on_places label 0 lines) value vars ≡ carry_out label value lines vars
 do_all label [] value vars = refl
 do_all label (OnLine other to expr ∷ lines) value vars =
@@ -32,10 +32,6 @@ do_all label (OnLine other to expr ∷ lines) value vars =
     grind (arith, nat_tests, here, later)
 do_all label (x ∷ lines) value vars = moved label x lines 0 lines value vars ∙ do_all label lines value vars
 
-pub sets_them : (label : List ℕ) (script lines : List Line) (on : List ℕ) (acts : ActsView) (value : ℤ) (vars : List ℤ)
-    → script ≡ lines → on ≡ acts.on → acts ≡ acts_on label lines → set_by_all script on value vars ≡ carry_out label value lines vars
-sets_them label script lines on acts value vars same kept found = rw (same, kept, found) (do_all label lines value vars)
-
 -- ---- the line that sends
 
 moved_send : (label : List ℕ) (place : ℕ) (lines : List Line) → send_place label (suc place) lines ≡ suc (send_place label place lines)
@@ -43,18 +39,13 @@ moved_send label place [] = refl
 moved_send label place (SendLine other expr ∷ lines) = let later = moved_send label (suc place) lines in grind (arith, nat_tests, later)
 moved_send label place (_ ∷ lines) = moved_send label (suc place) lines
 
-send_all : (label : List ℕ) (lines : List Line) (vars : List ℤ) (attempt : ℕ)
+pub send_all : (label : List ℕ) (lines : List Line) (vars : List ℤ) (attempt : ℕ)
     → sent_by (slice_get lines (send_place label 0 lines)) vars attempt ≡ number_for label lines vars attempt
 send_all label [] vars attempt = refl
 send_all label (SendLine other expr ∷ lines) vars attempt =
     let behind = moved_send label 0 lines in let later = send_all label lines vars attempt in grind (arith, nat_tests, behind, later)
 send_all label (x ∷ lines) vars attempt =
     ap (λ (n : ℕ). sent_by (slice_get (x ∷ lines) n) vars attempt) (moved_send label 0 lines) ∙ send_all label lines vars attempt
-
-pub sends_that : (label : List ℕ) (script lines : List Line) (send : ℕ) (acts : ActsView) (vars : List ℤ) (attempt : ℕ)
-    → script ≡ lines → send ≡ acts.send → acts ≡ acts_on label lines
-    → sent_by (slice_get script send) vars attempt ≡ number_for label lines vars attempt
-sends_that label script lines send acts vars attempt same kept found = rw (same, kept, found) (send_all label lines vars attempt)
 
 -- ---- what is filed for a role and a point
 

@@ -1,5 +1,5 @@
 -- The least code that holds at a symbol.
-use Rattle.std.proofs.Common.{◌≡◌, ℕ, ◌≤◌, Bool, cond, List, arith}
+use Rattle.std.proofs.Common.{◌≡◌, ℕ, ◌≤◌, cond, List, arith}
 use Rattle.std.proofs.lemmas.Bool.Decides.{nat_tests}
 use Rattle.std.specs.Prelude.{Option, Some, None}
 use Rattle.rcv_points.specs.Follow.{PointView}
@@ -15,14 +15,11 @@ pub record Frame : Type 0 where
   pub messages : List PointView
 
 -- the first code from 31 on of which the test holds, and 37 where there is none
-abbrev first_code : (role label variable attempt bare many : Bool) → ℕ
-first_code role label variable attempt bare many =
-    cond role 31 (cond label 32 (cond variable 33 (cond attempt 34 (cond bare 35 (cond many 36 37)))))
-
 abbrev pub least_code : Frame → List Symbol → Symbol → ℕ
 least_code frame back t =
-    first_code (is_role frame.roles back t) (is_label frame.roles frame.messages back t) (is_variable back t)
-    (is_attempt_in_state back t) (is_without_payload frame.roles frame.messages back t) (is_too_many back t)
+    cond (is_role frame.roles back t) 31 (cond (is_label frame.roles frame.messages back t) 32
+    (cond (is_variable back t) 33 (cond (is_attempt_in_state back t) 34
+    (cond (is_without_payload frame.roles frame.messages back t) 35 (cond (is_too_many back t) 36 37)))))
 
 -- the code of what speaks against a symbol
 abbrev pub code_or : Option Fault → ℕ

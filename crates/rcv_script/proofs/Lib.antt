@@ -2,8 +2,7 @@ pub mod Values
 pub mod Blindness
 pub mod Stops
 pub mod Going
-pub mod Written
-pub mod Whole
+pub mod Building
 pub mod Least
 pub mod Deriving
 pub mod Viewing
@@ -16,5 +15,4 @@ pub mod Answering
 pub mod Once
 pub mod Examples
 pub mod Cases
-pub mod Settings
 pub mod Carrying

@@ -2,7 +2,7 @@
 use Rattle.std.proofs.Common.{◌≡◌, ℕ, Bool, true, false, codes, List, [], ◌∷◌, ◌++◌, length, refl, sym, ap, subst, ◌∙◌, arith, append_assoc, append-nil, length-append}
 use Rattle.std.proofs.lemmas.Bool.Decides.{nat_tests}
 use Rattle.std.proofs.lemmas.List.Folds.{list_any-append}
-use Rattle.std.specs.Prelude.{◌||◌, ◌==◌, Option, Some, None}
+use Rattle.std.specs.Prelude.{◌||◌, ◌==◌, Option, Some, None, is_some, unwrap_or}
 use Rattle.std.specs.Str.{bytes_eq}
 use Rattle.rcv_model.specs.Script.{Test, Less, Line, VarLine, SendLine}
 use Rattle.rcv_script.specs.declared.sign.Sign.TheVariants as signs
@@ -11,7 +11,7 @@ use Rattle.rcv_script.specs.declared.words.LineKind.TheVariants as kinds
 use Rattle.rcv_script.specs.Symbols.{Symbol, Is, Word, Number}
 use Rattle.rcv_script.specs.Grammar.{WrittenLine, VarText, SendText, PickText, WhenText, OnText, WrittenScript, test_mark, number_text, line_text, lines_text, scripts_text, sum_text}
 use Rattle.rcv_script.specs.Meaning.{line_says, names_behind, lines_say, scripts_say}
-use Rattle.rcv_script.specs.Machine.{Writing, Known, Item, Scripts, Lines, This, ASigned, ATest, var_line, send_line, pick_line, on_line, line_fault, label_fault, deciding, remembering, with_line, with_script, begun, var_fault, set_fault, role_fault, new_role, place_of, place_in, or_zero, is_some, is_listed, Taken, has_send, is_send_of}
+use Rattle.rcv_script.specs.Machine.{Writing, Known, Item, Scripts, Lines, This, ASigned, ATest, var_line, send_line, pick_line, on_line, line_fault, label_fault, deciding, remembering, with_line, with_script, begun, var_fault, set_fault, role_fault, new_role, place_of, place_in, is_listed, Taken, has_send, is_send_of}
 use Rattle.rcv_script.specs.Table.{is_among, line_so_far, variables, labels_sent, lines_over, given, role_name, begins_an_atom, parentheses, minuses, role_of}
 use Rattle.rcv_script.proofs.Deriving.{AllLines}
 use Rattle.rcv_script.proofs.Agreeing.{first_word}
@@ -216,9 +216,9 @@ module _ (frame : Frame) (ss : AllLines) where
   has_more known back n h ok m q e = rw h.roles_are (go (place_of frame.roles n) refl (rw h.roles_are at ok))
     where
       go : (o : Option ℕ) → place_of frame.roles n ≡ o → new_role known.given o ≡ None
-          → is_listed q (known.given ++ or_zero o ∷ []) ≡ is_among m (given back ++ n ∷ [])
+          → is_listed q (known.given ++ unwrap_or o 0 ∷ []) ≡ is_among m (given back ++ n ∷ [])
       go None f g = absurd cc
-      go (Some r) f g = list_any-append (λ other. q == other) known.given (r ∷ [])
+      go (Some r) f g = list_any-append (λ other. other == q) known.given (r ∷ [])
           ∙ rw (h.has m q e, same_place frame.roles m n q r e f) (sym (list_any-append (bytes_eq m) (given back) (n ∷ [])))
 
   pub scripts_told : (ws : List WrittenScript) (known : Known) (back : List Symbol) → Between frame known back

@@ -26,9 +26,6 @@ cuts (x ∷ xs) ys (u ∷ us) vs e = more (cc) (cuts xs ys us vs cc)
     more same (inr (inl h)) = inr (inl (h.0, h.1, cc, h.3))
     more same (inr (inr h)) = inr (inr (h.0, h.1, cc, h.3))
 
-fault_of : (f g : Fault) → code_of f ≡ code_of g → f ≡ g
-fault_of f g e = grind (arith, e)
-
 one_least : (roles : List (List ℕ)) (messages : List PointView) (f g : Fault) (front left : List Symbol)
     → HoldsAt roles messages f front left → HoldsAt roles messages g front left
     → ((h : Fault) → code_of h < code_of f → HoldsAt roles messages h front left → ⊥)
@@ -36,7 +33,8 @@ one_least : (roles : List (List ℕ)) (messages : List PointView) (f g : Fault) 
 one_least roles messages f g front left a b c d =
     let up : code_of f < code_of g → ⊥ = λ less. d f less a in
     let down : code_of g < code_of f → ⊥ = λ less. c g less b in
-    fault_of f g (omega arith)
+    let same : code_of f ≡ code_of g = omega arith in
+    grind (arith, same)
 
 one_first : (roles : List (List ℕ)) (messages : List PointView) (symbols : List Symbol) (f g : Fault) (left other : List Symbol)
     → IsFirst roles messages symbols f left → IsFirst roles messages symbols g other → (f ≡ g) × (left ≡ other)

@@ -1,7 +1,7 @@
 -- The machine goes through expressions of the grammar.
-use Rattle.std.proofs.Common.{◌≡◌, ℕ, Bool, true, false, cond, codes, List, [], ◌∷◌, refl, sym, ap, subst, ◌∙◌, arith}
+use Rattle.std.proofs.Common.{◌≡◌, ℕ, Bool, true, false, cond, codes, List, ◌∷◌, refl, sym, ap, subst, ◌∙◌, arith}
 use Rattle.std.proofs.lemmas.Bool.Decides.{nat_tests}
-use Rattle.std.specs.Prelude.{drop, Option, Some, None}
+use Rattle.std.specs.Prelude.{drop, Option, Some, None, is_some}
 use Rattle.std.specs.Str.{bytes_eq}
 use Rattle.std.proofs.lemmas.Slice.Eq.{bytes_eq-Decides}
 use Rattle.rcv_model.specs.Script.{Expr, TheValue, TheAttempt, Variable, Negated, Times, Plus, Minus}
@@ -9,7 +9,7 @@ use Rattle.rcv_script.specs.declared.sign.Sign.TheVariants as signs
 use Rattle.rcv_script.specs.Symbols.{Symbol, Is, Word, Number}
 use Rattle.rcv_script.specs.Grammar.{WrittenAtom, Digits, Named, Signed, Inside, MoreAtoms, NoAtom, TimesAtom, MoreProducts, NoProduct, PlusProduct, MinusProduct, WrittenSum, SumOf, atom_text, atoms_text, products_text, sum_text}
 use Rattle.rcv_script.specs.Meaning.{word_says, atom_says, product_says, terms_say, sum_says}
-use Rattle.rcv_script.specs.Machine.{Place, Item, This, AnAtom, Factors, Terms, On, unless, deeper, a_product, a_sum, variable, place_of, is_some}
+use Rattle.rcv_script.specs.Machine.{Place, Item, This, AnAtom, Factors, Terms, On, unless, deeper, a_product, a_sum, variable, place_of}
 use Rattle.rcv_script.specs.Table.{is_among, line_so_far, variables, begins_an_atom, minuses, parentheses, with_signs, nesting}
 use Rattle.rcv_script.proofs.Deriving.{AllLines}
 use Rattle.rcv_script.proofs.Least.{Frame}
@@ -119,17 +119,15 @@ module _ (frame : Frame) (ss : AllLines) where
 
   no_factor : (p : Place) (left : Expr) (k : Expr → Item) (back us : List Symbol) → ends_product us
       → Told frame (k left) back us ss → Told frame (Factors p left k) back us ss
-  no_factor p left k back [] e h = h
   no_factor p left k back (Is signs.Times ∷ us) e h = absurd e
-  no_factor p left k back (t ∷ us) e h = h
+  no_factor p left k back us e h = h
 
   no_term : (p : Place) (left : Expr) (k : Expr → Item) (back us : List Symbol) → ends_sum us
       → Told frame (k left) back us ss → Told frame (Terms p left k) back us ss
-  no_term p left k back [] e h = h
   no_term p left k back (Is signs.Times ∷ us) e h = absurd e
   no_term p left k back (Is signs.Plus ∷ us) e h = absurd e
   no_term p left k back (Is signs.Minus ∷ us) e h = absurd e
-  no_term p left k back (t ∷ us) e h = h
+  no_term p left k back us e h = h
 
   mutual
     atom_told : (a : WrittenAtom) → AtomTold a

@@ -1,7 +1,7 @@
 -- Which lines of a script are for a label: their places in text order, the first line's place being 0.
-use Rattle.std.specs.Prelude.{◌≡◌, ℕ, suc, Option, Some, None, List, [], ◌∷◌, ℤ, pos, map, if◌then◌else◌, slice_get, slice_set}
+use Rattle.std.specs.Prelude.{◌≡◌, ℕ, suc, Option, Some, List, [], ◌∷◌, ℤ, pos, map, if◌then◌else◌, slice_get, slice_set}
 use Rattle.std.specs.Str.{bytes_eq}
-use Rattle.rcv_model.specs.Script.{Line, VarLine, SendLine, PickLine, OnLine, calculate}
+use Rattle.rcv_model.specs.Script.{Line, SendLine, OnLine, calculate}
 use Rattle.rcv_points.specs.Follow.{PointView}
 
 -- Of a label: the places of the lines that set a variable, and that of the line that says which number is sent.
@@ -12,19 +12,15 @@ pub record ActsView : Type 0 where
 -- The places of the lines that set a variable on a label, where the first of all lines stands at this place.
 abbrev pub on_places : List ℕ → ℕ → List Line → List ℕ
 on_places label place [] = []
-on_places label place (VarLine first ∷ lines) = on_places label (suc place) lines
-on_places label place (SendLine other expr ∷ lines) = on_places label (suc place) lines
-on_places label place (PickLine other when ∷ lines) = on_places label (suc place) lines
 on_places label place (OnLine other to expr ∷ lines) =
     if bytes_eq other label then place ∷ on_places label (suc place) lines else on_places label (suc place) lines
+on_places label place (_ ∷ lines) = on_places label (suc place) lines
 
 -- The place of the first line that sends with a label; that behind the last line where none does.
 abbrev pub send_place : List ℕ → ℕ → List Line → ℕ
 send_place label place [] = place
-send_place label place (VarLine first ∷ lines) = send_place label (suc place) lines
-send_place label place (PickLine other when ∷ lines) = send_place label (suc place) lines
-send_place label place (OnLine other to expr ∷ lines) = send_place label (suc place) lines
 send_place label place (SendLine other expr ∷ lines) = if bytes_eq other label then place else send_place label (suc place) lines
+send_place label place (_ ∷ lines) = send_place label (suc place) lines
 
 -- The lines of a script that are for a label.
 abbrev pub acts_on : List ℕ → List Line → ActsView
@@ -40,11 +36,8 @@ pub record IsIndex (scripts : List (List Line)) (messages : List PointView) (act
 
 -- The variables behind a line that sets one; other lines, or none, set nothing.
 abbrev pub set_by : Option Line → ℤ → List ℤ → List ℤ
-set_by None value vars = vars
-set_by (Some (VarLine first)) value vars = vars
-set_by (Some (SendLine label expr)) value vars = vars
-set_by (Some (PickLine label when)) value vars = vars
 set_by (Some (OnLine label place expr)) value vars = slice_set vars place (calculate expr vars value 0)
+set_by _ value vars = vars
 
 -- The variables behind the lines at these places, each seeing the changes of the earlier ones.
 abbrev pub set_by_all : List Line → List ℕ → ℤ → List ℤ → List ℤ
@@ -53,8 +46,5 @@ set_by_all lines (place ∷ places) value vars = set_by_all lines places value (
 
 -- The number that a line sends; 0 of other lines, and of none.
 abbrev pub sent_by : Option Line → List ℤ → ℕ → ℤ
-sent_by None vars attempt = pos 0
-sent_by (Some (VarLine first)) vars attempt = pos 0
-sent_by (Some (PickLine label when)) vars attempt = pos 0
-sent_by (Some (OnLine label place expr)) vars attempt = pos 0
 sent_by (Some (SendLine label expr)) vars attempt = calculate expr vars (pos 0) attempt
+sent_by _ vars attempt = pos 0

@@ -1,21 +1,18 @@
 -- What the functions of the descent say: how the machine goes on with what was read, or stops.
-use Rattle.std.specs.Prelude.{◌≡◌, ℕ, ◌-◌, ◌*◌, Bool, true, false, List, ◌++◌, Option, Result, Ok, Err}
+use Rattle.std.specs.Prelude.{◌≡◌, ℕ, ◌-◌, ◌*◌, Bool, true, false, List, ◌∷◌, Result, Ok, Err}
 use Rattle.rcv_model.specs.Script as script
 use Rattle.rcv_points.specs.Follow.{PointView}
 use Rattle.rcv_script.specs.declared.fault.Fault.{Fault}
 use Rattle.rcv_script.specs.declared.fault.ScriptError.{ScriptError}
 use Rattle.rcv_script.specs.declared.fault.ScriptError.TheVariants as errors
-use Rattle.rcv_script.specs.declared.line.Condition.{Condition}
-use Rattle.rcv_script.specs.declared.expression.Step.{Step}
+use Rattle.rcv_script.specs.declared.expression.Operand.{Operand}
 use Rattle.rcv_script.specs.declared.formula.Banned.{Banned}
 use Rattle.rcv_script.specs.declared.sign.Sign.{Sign}
 use Rattle.rcv_script.specs.declared.sign.Sign.TheVariants as signs
-use Rattle.rcv_script.specs.declared.words.LineKind.{LineKind}
-use Rattle.rcv_script.specs.Expressions.{steps_of, operand, FitsIn}
-use Rattle.rcv_script.specs.Lines.{test_of}
+use Rattle.rcv_script.specs.Expressions.{operand_expr}
 use Rattle.rcv_script.specs.Symbols.{Symbol}
-use Rattle.rcv_script.specs.Machine.{Item, AWord, Place, Writing, label_fault, with_line, word_atom, reading}
-use Rattle.rcv_script.specs.Machine.{Taken, Refuses, On, Wrong, answer}
+use Rattle.rcv_script.specs.Machine.{Item, Place, Writing, with_line, word_atom, reading}
+use Rattle.rcv_script.specs.Machine.{Refuses, On, Wrong, answer}
 
 -- The machine stops at what is left, whatever is awaited behind.
 abbrev pub Halts : {Y : Type 0} → ScriptError → ((Y → Item) → Item) → List Symbol → List Symbol → Type 0
@@ -28,17 +25,9 @@ abbrev pub Goes :
 Goes {X} {Y} (Ok x) front said old new = (k : Y → Item) → answer (front k) old ≡ answer (k (said x)) new
 Goes {X} {Y} (Err e) front said old new = Halts e front old new
 
--- a place in an expression
-abbrev pub place_at : List (List ℕ) → Option Fault → Option Fault → ℕ → Place
-place_at names value attempt depth = record { names = names; value = value; attempt = attempt; depth = depth }
-
 -- a place inside so many parentheses and signs
 abbrev pub at_depth : List (List ℕ) → Banned → ℕ → Place
-at_depth names banned depth = place_at names banned.value banned.attempt depth
-
--- the label of a line of this kind
-abbrev pub a_label : LineKind → Writing → (List ℕ → Item) → Item
-a_label kind s k = AWord (label_fault kind s.messages s.role s.lines) k
+at_depth names banned depth = record { names = names; value = banned.value; attempt = banned.attempt; depth = depth }
 
 -- a line was read and added to what is written, or it stops
 abbrev pub Adds :
@@ -62,20 +51,12 @@ term_sign false = signs.Plus
 term_sign true = signs.Minus
 
 -- a word is that atom, or there is that fault
-abbrev pub IsWordAtom : Place → List ℕ → Step → Type 0
-IsWordAtom p w s = (k : script.Expr → Item) → word_atom p w k ≡ On (k (operand s))
+abbrev pub IsWordAtom : Place → List ℕ → Operand → Type 0
+IsWordAtom p w o = (last : script.Expr) (k : script.Expr → Item) → word_atom p w k ≡ On (k (operand_expr o last))
 
 -- that fault speaks against the word
 abbrev pub IsNoWordAtom : Place → List ℕ → Fault → Type 0
 IsNoWordAtom p w fault = (k : script.Expr → Item) → word_atom p w k ≡ Wrong fault
-
--- a condition as the machine gives it on
-abbrev pub parts_of : Condition → script.Expr × script.Test × script.Expr
-parts_of c = (c.left, test_of c.comparison, c.right)
-
--- it comes to the end of all scripts, with these lines of each role
-abbrev pub Comes : List (List ℕ) → List PointView → List Symbol → List (List script.Line) → Type 0
-Comes roles messages symbols scripts = reading roles messages symbols ≡ Taken scripts
 
 -- it stops at this fault, with these symbols left
 abbrev pub Ceases : List (List ℕ) → List PointView → ScriptError → List Symbol → List Symbol → Type 0
@@ -86,16 +67,16 @@ Ceases roles messages (errors.Refused fault) old new = reading roles messages ol
 abbrev pub rooms : ℕ → ℕ
 rooms depth = 2 * (33 - depth)
 
--- The steps of an expression were written behind others. It fits so many places, and the machine comes to what is awaited
--- behind it.
-pub record Written (before after : List Step) (room : ℕ) (front : (script.Expr → Item) → Item) (old new : List Symbol) : Type 0 where
+-- An expression was built behind what was, and the machine comes to what is awaited behind it.
+pub record Written (front : (script.Expr → Item) → Item) (behind : script.Expr → (script.Expr → Item) → Item)
+    (was built : script.Expr × List script.Expr) (old new : List Symbol) : Type 0 where
   pub expr : script.Expr
-  pub spelled : (rest : List Step) → after ++ rest ≡ before ++ steps_of expr rest
-  pub fits : FitsIn expr room
-  pub goes : (k : script.Expr → Item) → answer (front k) old ≡ answer (k expr) new
+  pub is : built ≡ (expr, was.0 ∷ was.1)
+  pub goes : (k : script.Expr → Item) → answer (front k) old ≡ answer (behind expr k) new
 
--- they were, or the machine stops
+-- it was, or the machine stops
 abbrev pub Writes :
-    {X : Type 0} → Result X ScriptError → List Step → List Step → ℕ → ((script.Expr → Item) → Item) → List Symbol → List Symbol → Type 0
-Writes (Ok x) before after room front old new = Written before after room front old new
-Writes (Err e) before after room front old new = Halts e front old new
+    {X : Type 0} → Result X ScriptError → (was built : script.Expr × List script.Expr) → ((script.Expr → Item) → Item)
+    → List Symbol → List Symbol → Type 0
+Writes (Ok x) was built front old new = Written front (λ e k. k e) was built old new
+Writes (Err e) was built front old new = Halts e front old new

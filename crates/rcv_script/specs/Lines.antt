@@ -1,5 +1,5 @@
 -- What the lines of the program say.
-use Rattle.std.specs.Prelude.{◌≤◌, length, ℕ, List, [], Option, Some, None, slice_index_or}
+use Rattle.std.specs.Prelude.{ℕ, List, [], Option, Some, None, slice_index_or}
 use Rattle.rcv_model.specs.Script as script
 use Rattle.rcv_model.specs.Script.{Expr, Test}
 use Rattle.rcv_script.specs.declared.line.Comparison.{Comparison}
@@ -7,7 +7,6 @@ use Rattle.rcv_script.specs.declared.line.Comparison.TheVariants.{Less, AtMost, 
 use Rattle.rcv_script.specs.declared.line.Condition.{Condition}
 use Rattle.rcv_script.specs.declared.line.Line.{Line}
 use Rattle.rcv_script.specs.declared.line.Line.TheVariants.{Var, Send, Pick, On}
-use Rattle.rcv_points.specs.Follow.{PointsView}
 
 -- how a line compares
 abbrev pub test_of : Comparison → Test
@@ -37,7 +36,3 @@ line_of (On label place number) = script.OnLine label place number
 -- the lines of role r; a role without a script has none
 abbrev pub lines_at : List (List script.Line) → ℕ → List script.Line
 lines_at scripts r = slice_index_or scripts r []
-
--- a point of the text
-abbrev pub IsPointOf : PointsView → ℕ → Type 0
-IsPointOf points p = (1 ≤ p) × (p ≤ length points.messages)

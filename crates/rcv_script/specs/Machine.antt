@@ -1,7 +1,8 @@
 -- Reading one symbol after another, for the contracts of the descent alone: what is awaited says itself what is awaited behind
 -- it, and what was read. That it reads by grammar and table is a lemma, and no contract of a public function cites it.
-use Rattle.std.specs.Prelude.{ℕ, ◌+◌, ◌==◌, ◌||◌, not, nat_le, Bool, true, false, cond, if◌then◌else◌, codes, List, [], ◌∷◌, ◌++◌, length, Option, Some, None, slice_set, ℤ, pos, neg_ℤ}
+use Rattle.std.specs.Prelude.{ℕ, ◌+◌, ◌==◌, ◌||◌, not, nat_le, Bool, true, false, cond, if◌then◌else◌, codes, List, [], ◌∷◌, ◌++◌, length, Option, Some, None, is_some, slice_set, ℤ, pos, neg_ℤ}
 use Rattle.std.specs.List.{list_any}
+use Rattle.std.specs.Option.{option_or}
 use Rattle.std.specs.Str.{bytes_eq}
 use Rattle.rcv_model.specs.Script.{Condition, Expr, Literal, TheValue, TheAttempt, Variable, Negated, Plus, Minus, Times, Test, Less, AtMost, Same, Differ, More, AtLeast, Line, VarLine, SendLine, PickLine, OnLine}
 use Rattle.rcv_points.specs.Follow.{PointView}
@@ -13,7 +14,7 @@ use Rattle.rcv_script.specs.declared.words.LineKind.{LineKind}
 use Rattle.rcv_script.specs.declared.words.LineKind.TheVariants as kinds
 use Rattle.rcv_script.specs.Symbols.{Symbol, Is, Word, Number, Text}
 pub use Rattle.rcv_script.specs.Meaning.{no_lines}
-pub use Rattle.rcv_script.specs.Labels.{place_of, or_zero, place_in, is_sent, is_part, sends, takes_part, sends_bare, takes_bare}
+pub use Rattle.rcv_script.specs.Labels.{place_of, place_in, sends, takes_part, sends_bare, takes_bare}
 
 -- ---- what is known
 
@@ -70,21 +71,11 @@ unless (Some fault) next = Wrong fault
 abbrev pub fault_if : Bool → Fault → Option Fault
 fault_if test fault = cond test (Some fault) None
 
--- the first of two faults
-abbrev pub or_fault : Option Fault → Option Fault → Option Fault
-or_fault None other = other
-or_fault (Some fault) other = Some fault
-
 -- ---- names of roles, labels and variables
-
--- a place was found
-abbrev pub is_some : Option ℕ → Bool
-is_some None = false
-is_some (Some n) = true
 
 -- the number is one of these
 abbrev pub is_listed : ℕ → List ℕ → Bool
-is_listed n ns = list_any (λ other. n == other) ns
+is_listed n ns = list_any (λ other. other == n) ns
 
 -- a role that isn't declared, or has a script before
 abbrev pub new_role : List ℕ → Option ℕ → Option Fault
@@ -98,9 +89,7 @@ role_fault roles given name = new_role given (place_of roles name)
 -- a send line with this label
 abbrev pub is_send_of : List ℕ → Line → Bool
 is_send_of label (SendLine other expr) = bytes_eq other label
-is_send_of label (VarLine first) = false
-is_send_of label (PickLine other when) = false
-is_send_of label (OnLine other place expr) = false
+is_send_of label _ = false
 
 -- one of these lines is a send line with this label
 abbrev pub has_send : List ℕ → List Line → Bool
@@ -109,8 +98,8 @@ has_send label lines = list_any (is_send_of label) lines
 -- what speaks against the label of a send line behind these lines
 abbrev pub send_fault : List PointView → ℕ → List Line → List ℕ → Option Fault
 send_fault messages role before label =
-    or_fault (fault_if (not (sends messages role label)) faults.Label)
-    (or_fault (fault_if (has_send label before) faults.Label) (fault_if (sends_bare messages role label) faults.NoPayload))
+    option_or (fault_if (not (sends messages role label) || has_send label before) faults.Label)
+    (fault_if (sends_bare messages role label) faults.NoPayload)
 
 -- of one of a pick line
 abbrev pub pick_fault : List PointView → ℕ → List ℕ → Option Fault
@@ -130,8 +119,8 @@ label_fault kinds.Var messages role before label = None
 -- a variable is declared once, and isn't called as what expressions read otherwise
 abbrev pub var_fault : List (List ℕ) → List ℕ → Option Fault
 var_fault names name =
-    or_fault (fault_if (bytes_eq name (codes "value") || bytes_eq name (codes "attempt")) faults.Variable)
-    (fault_if (is_some (place_of names name)) faults.Variable)
+    fault_if ((bytes_eq name (codes "value") || bytes_eq name (codes "attempt")) || is_some (place_of names name))
+    faults.Variable
 
 -- a variable that is set is declared before
 abbrev pub set_fault : List (List ℕ) → List ℕ → Option Fault
@@ -211,22 +200,27 @@ abbrev pub send_line : Writing → (List (List ℕ) × Line → Item) → Item
 send_line s k = AWord (label_fault kinds.Send s.messages s.role s.lines) (λ l. with_expr (deciding s.names) (λ e. k (s.names, SendLine l e)))
 
 -- expr, a mark that compares, expr ";"
-abbrev pub condition : Place → (Expr × Test × Expr → Item) → Item
-condition p k = a_sum p (λ a. ATest (λ t. a_sum p (λ b. This (Is signs.Semicolon) (k (a, t, b)))))
+abbrev pub condition : Place → (Condition → Item) → Item
+condition p k =
+    a_sum p (λ a. ATest (λ t. a_sum p (λ b. This (Is signs.Semicolon) (k (record { left = a; test = t; right = b })))))
 
 -- what is awaited behind the label of a pick line
 abbrev pub rest_of_pick : Place → (Option Condition → Item) → Item
-rest_of_pick p k = AnEnd (k None) (condition p (λ c. k (Some (record { left = c.0; test = c.1; right = c.2 }))))
+rest_of_pick p k = AnEnd (k None) (condition p (λ c. k (Some c)))
 
 -- what is awaited behind the word pick
 abbrev pub pick_line : Writing → (List (List ℕ) × Line → Item) → Item
 pick_line s k = AWord (label_fault kinds.Pick s.messages s.role s.lines) (λ l. rest_of_pick (deciding s.names) (λ when. k (s.names, PickLine l when)))
 
+-- the word set, and a variable
+abbrev pub to_set : List (List ℕ) → (List ℕ → Item) → Item
+to_set names k = This (Word (codes "set")) (AWord (set_fault names) k)
+
 -- what is awaited behind the word on
 abbrev pub on_line : Writing → (List (List ℕ) × Line → Item) → Item
 on_line s k =
-    AWord (label_fault kinds.On s.messages s.role s.lines) (λ l. This (Word (codes "set")) (AWord (set_fault s.names) (λ n.
-    with_expr (remembering s l) (λ e. k (s.names, OnLine l (place_in s.names n) e)))))
+    AWord (label_fault kinds.On s.messages s.role s.lines) (λ l. to_set s.names (λ n.
+    with_expr (remembering s l) (λ e. k (s.names, OnLine l (place_in s.names n) e))))
 
 -- what a line does, by its first word
 abbrev pub kind_of : List ℕ → Option LineKind
@@ -257,9 +251,7 @@ line_by s (Some kind) k = unless (line_fault s.names s.lines kind) (On (line_beh
 -- the first symbol of a line
 abbrev pub line : Writing → Symbol → (List (List ℕ) × Line → Item) → Outcome
 line s (Word w) k = line_by s (kind_of w) k
-line s (Is sign) k = Wrong faults.Token
-line s (Number n) k = Wrong faults.Token
-line s (Text q) k = Wrong faults.Token
+line s _ k = Wrong faults.Token
 
 -- one more line of the role, with the variables behind it
 abbrev pub with_line : Writing → List (List ℕ) × Line → Writing
@@ -293,9 +285,7 @@ script_of known = script known.roles known.given known.messages (λ x. Scripts (
 -- the word role
 abbrev pub scripts : Known → Symbol → Outcome
 scripts known (Word w) = cond (bytes_eq w (codes "role")) (On (script_of known)) (Wrong faults.Token)
-scripts known (Is sign) = Wrong faults.Token
-scripts known (Number n) = Wrong faults.Token
-scripts known (Text q) = Wrong faults.Token
+scripts known _ = Wrong faults.Token
 
 -- ---- one step, and all of them
 

@@ -1,5 +1,5 @@
 -- The tokens of scripts by what they say. No word is reserved, and a number has 63 bits.
-use Rattle.std.specs.Prelude.{ℕ, codes, List, Option, Some, None, if◌then◌else◌, nat_le, unwrap_or}
+use Rattle.std.specs.Prelude.{ℕ, codes, List, if◌then◌else◌, nat_le}
 use Rattle.std.specs.Str.{bytes_eq}
 use Rattle.rcv_lexer.specs.declared.token.Kind.{Kind}
 use Rattle.rcv_lexer.specs.declared.token.Kind.TheVariants as kinds
@@ -13,38 +13,25 @@ pub use Rattle.rcv_scan.specs.Symbols.{Is, Word, Number, Text, IsNotNext, NoWord
 abbrev pub Symbol : Type 0
 Symbol = scan.Symbol Sign
 
--- the marks of blocks and of lines
-abbrev pub block_mark : List ℕ → Option Sign
-block_mark m =
-    if bytes_eq m (codes "{") then Some Open
-    else (if bytes_eq m (codes "}") then Some Close
-    else (if bytes_eq m (codes "(") then Some Left
-    else (if bytes_eq m (codes ")") then Some Right
-    else (if bytes_eq m (codes ";") then Some Semicolon
-    else (if bytes_eq m (codes "=") then Some Equals
-    else None)))))
-
--- the marks that compare
-abbrev pub comparing_mark : List ℕ → Option Sign
-comparing_mark m =
-    if bytes_eq m (codes "<") then Some Less
-    else (if bytes_eq m (codes "<=") then Some AtMost
-    else (if bytes_eq m (codes "==") then Some Same
-    else (if bytes_eq m (codes "!=") then Some Differ
-    else (if bytes_eq m (codes ">") then Some More
-    else (if bytes_eq m (codes ">=") then Some AtLeast
-    else None)))))
-
--- the marks that compute, and any other one
-abbrev pub computing_mark : List ℕ → Sign
-computing_mark m =
-    if bytes_eq m (codes "+") then Plus
+-- the marks of the grammar, and any other one
+abbrev pub mark : List ℕ → Sign
+mark m =
+    if bytes_eq m (codes "{") then Open
+    else (if bytes_eq m (codes "}") then Close
+    else (if bytes_eq m (codes "(") then Left
+    else (if bytes_eq m (codes ")") then Right
+    else (if bytes_eq m (codes ";") then Semicolon
+    else (if bytes_eq m (codes "=") then Equals
+    else (if bytes_eq m (codes "<") then Less
+    else (if bytes_eq m (codes "<=") then AtMost
+    else (if bytes_eq m (codes "==") then Same
+    else (if bytes_eq m (codes "!=") then Differ
+    else (if bytes_eq m (codes ">") then More
+    else (if bytes_eq m (codes ">=") then AtLeast
+    else (if bytes_eq m (codes "+") then Plus
     else (if bytes_eq m (codes "-") then Minus
     else (if bytes_eq m (codes "*") then Times
-    else Foreign))
-
-abbrev pub mark : List ℕ → Sign
-mark m = unwrap_or (block_mark m) (unwrap_or (comparing_mark m) (computing_mark m))
+    else Foreign))))))))))))))
 
 -- the greatest number of a script
 abbrev pub greatest : ℕ

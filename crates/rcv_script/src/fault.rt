@@ -10,19 +10,19 @@ use std::alloc::{AllocError, AllocFailed};
 #[derive(Clone, Copy, Debug, PartialEq, Eq)]
 pub enum Fault {
     /// The grammar doesn't have it there, or a number above 9223372036854775807.
-    Token,
+    Token = 30,
     /// A role that isn't declared or has a script before.
-    Role,
+    Role = 31,
     /// A label that the role never sends, or for `on` neither sends nor receives, or that has a `send` line before.
-    Label,
+    Label = 32,
     /// A variable that isn't declared before, a declaration of a name that is known, or `value` outside an `on` line.
-    Variable,
+    Variable = 33,
     /// The word `attempt` in an `on` line.
-    AttemptInState,
+    AttemptInState = 34,
     /// A number for a message without sorts, or of one.
-    NoPayload,
+    NoPayload = 35,
     /// The 17th variable, the 257th line or the 33rd nested expression.
-    TooMany,
+    TooMany = 36,
 }
 
 impl Fault {
@@ -30,15 +30,7 @@ impl Fault {
     pub fn code(self) -> u8
         ensures { result ≡ code_of self }
     {
-        match self {
-            Fault::Token => 30,
-            Fault::Role => 31,
-            Fault::Label => 32,
-            Fault::Variable => 33,
-            Fault::AttemptInState => 34,
-            Fault::NoPayload => 35,
-            Fault::TooMany => 36,
-        }
+        self as u8
     }
 }
 

@@ -1,21 +1,22 @@
 // A descent over expressions, with one token of look-ahead, which writes their steps.
 
-ghost use Rattle.std.specs.Prelude.{◌≡◌, ◌<◌, ◌≤◌, ◌∷◌, ◌+◌, ◌-◌, ℕ, length, true, false};
+ghost use Rattle.std.specs.Prelude.{◌≡◌, ◌<◌, ◌≤◌, ◌∷◌, ◌+◌, ◌-◌, ℕ, List, length, true, false};
 ghost use Rattle.std.specs.Prelude.{Option, IfSome, IfNone, IfOk, IfErr};
-ghost use Rattle.rcv_model.specs.Script.{Negated};
-ghost use Rattle.rcv_script.specs.Symbols.{Is, Word, IsNotNext};
+ghost use Rattle.rcv_model.specs.Script.{Negated, Test};
+ghost use Rattle.rcv_script.specs.Symbols.{Symbol, Is, Word, IsNotNext};
 ghost use Rattle.rcv_script.specs.Expressions.{IsOperand};
-ghost use Rattle.rcv_script.specs.Lines.{test_of};
+ghost use Rattle.rcv_script.specs.Lines.{condition_of, test_of};
 ghost use Rattle.rcv_script.specs.Machine.{This, ATest, AnAtom, a_product, a_sum, with_expr, condition, place_of};
+ghost use Rattle.rcv_script.specs.Machine.{Item, Refuses, answer};
 ghost use Rattle.rcv_script.specs.Descent.{Goes, Passes, Writes, IsWordAtom, IsNoWordAtom};
-ghost use Rattle.rcv_script.specs.Descent.{at_depth, rooms, term_sign, parts_of};
+ghost use Rattle.rcv_script.specs.Descent.{at_depth, rooms, term_sign};
 
-use crate::expression::{Formula, Step};
+use crate::expression::{Formula, Operand, Operator, Steps};
 use crate::fault::{Fault, ScriptError};
 use crate::line::{Comparison, Condition};
 use crate::parser::Parser;
 use crate::sign::Sign;
-use rcv_scan::is;
+use rcv_scan::{Lexeme, is};
 use rcv_tree::name::{Name, Names};
 use std::alloc::Global;
 
@@ -34,31 +35,32 @@ pub fn place_of(names: &[Name], name: &[u8]) -> Option<usize>
 }
 
 // What a word is in an expression, or what speaks against it.
-fn word_atom(names: &Names, banned: Banned, word: &[u8]) -> Result<Step, Fault>
+fn word_atom(names: &Names, banned: Banned, word: &[u8]) -> Result<Operand, Fault>
     ensures ok { (depth : ℕ) → IfOk result (IsWordAtom (at_depth names.now banned depth) word.now) }
     ensures operand { IfOk result IsOperand }
     ensures err { (depth : ℕ) → IfErr result (IsNoWordAtom (at_depth names.now banned depth) word.now) }
 {
     if is(word, b"value") {
         return match banned.value {
-            None => Ok(Step::Value),
+            None => Ok(Operand::Value),
             Some(fault) => Err(fault),
         };
     }
     if is(word, b"attempt") {
         return match banned.attempt {
-            None => Ok(Step::Attempt),
+            None => Ok(Operand::Attempt),
             Some(fault) => Err(fault),
         };
     }
     match place_of(names.as_slice(), word) {
-        Some(place) => Ok(Step::Variable(place)),
+        Some(place) => Ok(Operand::Variable(place)),
         None => Err(Fault::Variable),
     }
 }
 
 impl<'a> Parser<'a> {
     /// Takes this mark.
+    #[tactic(auto, using(crate::proofs::Stops::no_sign))]
     pub fn expect(&mut self, sign: Sign) -> Result<(), ScriptError>
         ensures goes { Passes result (λ k. This (Is sign) k) self.old.rest self.new.rest }
         ensures shorter { length self.new.rest ≤ length self.old.rest }
@@ -75,7 +77,7 @@ impl<'a> Parser<'a> {
         ensures goes { Passes result (λ k. This (Word word.now) k) self.old.rest self.new.rest }
         ensures shorter { length self.new.rest ≤ length self.old.rest }
     {
-        let Some((found, after)) = self.rest.word() else {
+        let Some((Lexeme::Word(found), after)) = self.rest.next() else {
             return Err(ScriptError::Refused(Fault::Token));
         };
         if !is(found, word) {
@@ -125,23 +127,24 @@ impl<'a> Parser<'a> {
         names: &Names,
         banned: Banned,
         depth: u32,
-        steps: &mut Vec<Step>,
+        steps: &mut Steps,
     ) -> Result<(), ScriptError>
-        requires { depth ≤ 32 }
-        ensures goes { Writes result steps.old.items steps.new.items (rooms depth - 1)
+        requires depth { depth ≤ 32 }
+        requires room { length steps.old.1 + rooms depth ≤ 68 }
+        ensures goes { Writes result steps.old steps.new
             (λ k. AnAtom (at_depth names.now banned depth) k) self.old.rest self.new.rest }
         ensures shorter { length self.new.rest ≤ length self.old.rest }
     {
         if let Some((number, after)) = self.rest.number() {
             self.rest = after;
-            steps.push(Step::Number(number as i64))?;
+            steps.add(Operator::Push, Operand::Number(number as i64))?;
             return Ok(());
         }
         if let Some((word, after)) = self.rest.word() {
             return match word_atom(names, banned, word) {
-                Ok(step) => {
+                Ok(operand) => {
                     self.rest = after;
-                    steps.push(step)?;
+                    steps.add(Operator::Push, operand)?;
                     Ok(())
                 }
                 Err(fault) => Err(ScriptError::Refused(fault)),
@@ -159,7 +162,9 @@ impl<'a> Parser<'a> {
                 return Err(ScriptError::Refused(Fault::TooMany));
             }
             self.rest = after;
-            return self.group(names, banned, depth + 1, steps);
+            self.sum(names, banned, depth + 1, steps)?;
+            self.expect(Sign::Right)?;
+            return Ok(());
         }
         Err(ScriptError::Refused(Fault::Token))
     }
@@ -171,35 +176,16 @@ impl<'a> Parser<'a> {
         names: &Names,
         banned: Banned,
         depth: u32,
-        steps: &mut Vec<Step>,
+        steps: &mut Steps,
     ) -> Result<(), ScriptError>
-        requires { depth ≤ 32 }
-        ensures goes { Writes result steps.old.items steps.new.items (rooms depth + 1)
+        requires depth { depth ≤ 32 }
+        requires room { length steps.old.1 + rooms depth ≤ 66 }
+        ensures goes { Writes result steps.old steps.new
             (λ k. AnAtom (at_depth names.now banned depth) (λ e. k (Negated e))) self.old.rest self.new.rest }
         ensures shorter { length self.new.rest ≤ length self.old.rest }
     {
         self.atom(names, banned, depth, steps)?;
-        steps.push(Step::Negate)?;
-        Ok(())
-    }
-
-    // Takes the sum behind a parenthesis, and the parenthesis behind it.
-    #[cycle(descent)]
-    fn group(
-        &mut self,
-        names: &Names,
-        banned: Banned,
-        depth: u32,
-        steps: &mut Vec<Step>,
-    ) -> Result<(), ScriptError>
-        requires { depth ≤ 32 }
-        ensures goes { Writes result steps.old.items steps.new.items (rooms depth + 1)
-            (λ k. a_sum (at_depth names.now banned depth) (λ e. This (Is Sign.Right) (k e)))
-            self.old.rest self.new.rest }
-        ensures shorter { length self.new.rest ≤ length self.old.rest }
-    {
-        self.sum(names, banned, depth, steps)?;
-        self.expect(Sign::Right)?;
+        steps.add(Operator::Negate, Operand::Top)?;
         Ok(())
     }
 
@@ -210,17 +196,18 @@ impl<'a> Parser<'a> {
         names: &Names,
         banned: Banned,
         depth: u32,
-        steps: &mut Vec<Step>,
+        steps: &mut Steps,
     ) -> Result<(), ScriptError>
-        requires { depth ≤ 32 }
-        ensures goes { Writes result steps.old.items steps.new.items (rooms depth)
+        requires depth { depth ≤ 32 }
+        requires room { length steps.old.1 + rooms depth ≤ 67 }
+        ensures goes { Writes result steps.old steps.new
             (λ k. a_product (at_depth names.now banned depth) k) self.old.rest self.new.rest }
         ensures shorter { length self.new.rest ≤ length self.old.rest }
     {
         self.atom(names, banned, depth, steps)?;
         while self.takes(Sign::Times) {
             self.atom(names, banned, depth, steps)?;
-            steps.push(Step::Multiply)?;
+            steps.add(Operator::Multiply, Operand::Top)?;
         }
         Ok(())
     }
@@ -232,17 +219,23 @@ impl<'a> Parser<'a> {
         names: &Names,
         banned: Banned,
         depth: u32,
-        steps: &mut Vec<Step>,
+        steps: &mut Steps,
     ) -> Result<(), ScriptError>
-        requires { depth ≤ 32 }
-        ensures goes { Writes result steps.old.items steps.new.items (rooms depth + 1)
+        requires depth { depth ≤ 32 }
+        requires room { length steps.old.1 + rooms depth ≤ 66 }
+        ensures goes { Writes result steps.old steps.new
             (λ k. a_sum (at_depth names.now banned depth) k) self.old.rest self.new.rest }
         ensures shorter { length self.new.rest ≤ length self.old.rest }
     {
         self.product(names, banned, depth, steps)?;
         while let Some(minus) = self.takes_term() {
             self.product(names, banned, depth, steps)?;
-            steps.push(if minus { Step::Subtract } else { Step::Add })?;
+            let operator = if minus {
+                Operator::Subtract
+            } else {
+                Operator::Add
+            };
+            steps.add(operator, Operand::Top)?;
         }
         Ok(())
     }
@@ -257,9 +250,9 @@ impl<'a> Parser<'a> {
         ensures goes { Goes result (λ k. a_sum (at_depth names.now banned 0) k) (λ e. e) self.old.rest self.new.rest }
         ensures shorter { length self.new.rest ≤ length self.old.rest }
     {
-        let mut steps = Vec::new(alloc);
+        let mut steps = Steps::new(alloc);
         self.sum(names, banned, 0, &mut steps)?;
-        Ok(Formula::of(steps))
+        Ok(steps.finish())
     }
 
     /// Takes what a line computes: the mark `=`, an expression, and the mark `;`.
@@ -286,7 +279,7 @@ impl<'a> Parser<'a> {
         names: &Names,
         banned: Banned,
     ) -> Result<Condition, ScriptError>
-        ensures goes { Goes result (λ k. condition (at_depth names.now banned 0) k) parts_of
+        ensures goes { Goes result (λ k. condition (at_depth names.now banned 0) k) condition_of
             self.old.rest self.new.rest }
         ensures shorter { length self.new.rest ≤ length self.old.rest }
     {
@@ -306,20 +299,31 @@ impl<'a> Parser<'a> {
         ensures goes { Goes result (λ k. ATest k) test_of self.old.rest self.new.rest }
         ensures shorter { length self.new.rest ≤ length self.old.rest }
     {
-        if self.takes(Sign::Less) {
-            Ok(Comparison::Less)
-        } else if self.takes(Sign::AtMost) {
-            Ok(Comparison::AtMost)
-        } else if self.takes(Sign::Same) {
-            Ok(Comparison::Same)
-        } else if self.takes(Sign::Differ) {
-            Ok(Comparison::Differ)
-        } else if self.takes(Sign::More) {
-            Ok(Comparison::More)
-        } else if self.takes(Sign::AtLeast) {
-            Ok(Comparison::AtLeast)
-        } else {
-            Err(ScriptError::Refused(Fault::Token))
-        }
+        let Some((Lexeme::Is(sign), after)) = self.rest.next() else {
+            return Err(ScriptError::Refused(Fault::Token));
+        };
+        let Some(comparison) = comparison_of(sign) else {
+            return Err(ScriptError::Refused(Fault::Token));
+        };
+        self.rest = after;
+        Ok(comparison)
+    }
+}
+
+// How a mark compares, if it does.
+fn comparison_of(sign: Sign) -> Option<Comparison>
+    ensures some { IfSome result (λ found. (k : Test → Item) (after : List Symbol)
+        → answer (ATest k) (Is sign ∷ after) ≡ answer (k (test_of found)) after) }
+    ensures none { IfNone result ((k : Test → Item) (after : List Symbol)
+        → answer (ATest k) (Is sign ∷ after) ≡ Refuses Fault.Token (Is sign ∷ after)) }
+{
+    match sign {
+        Sign::Less => Some(Comparison::Less),
+        Sign::AtMost => Some(Comparison::AtMost),
+        Sign::Same => Some(Comparison::Same),
+        Sign::Differ => Some(Comparison::Differ),
+        Sign::More => Some(Comparison::More),
+        Sign::AtLeast => Some(Comparison::AtLeast),
+        _ => None,
     }
 }

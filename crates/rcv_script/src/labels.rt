@@ -1,10 +1,12 @@
 // What speaks against a label in a line of a role's script.
 
-ghost use Rattle.std.specs.Prelude.{◌≡◌, ◌&&◌, not, map, Option};
+ghost use Rattle.std.specs.List.{list_any};
+ghost use Rattle.std.specs.Prelude.{◌≡◌, map, Option};
 ghost use Rattle.rcv_points.specs.Follow.{message_at};
-ghost use Rattle.rcv_script.specs.Lines.{line_of, IsPointOf};
-ghost use Rattle.rcv_script.specs.Machine.{is_sent, is_part, sends, takes_part, sends_bare, takes_bare, has_send};
-ghost use Rattle.rcv_script.specs.Machine.{send_fault, pick_fault, on_fault};
+ghost use Rattle.rcv_script.specs.Lines.{line_of};
+ghost use Rattle.rcv_script.specs.Scripts.{HasPoint};
+ghost use Rattle.rcv_script.specs.Labels.{is_end, is_meant, sends, takes_part, sends_bare, takes_bare};
+ghost use Rattle.rcv_script.specs.Machine.{has_send, send_fault, pick_fault, on_fault};
 
 use crate::fault::Fault;
 use crate::line::Line;
@@ -16,101 +18,71 @@ use rcv_tree::point::Point;
 pub fn send_fault(points: &Points, role: usize, lines: &[Line], label: &[u8]) -> Option<Fault>
     ensures { result ≡ send_fault points.now.messages role (map line_of lines.now) label.now }
 {
-    if !sends(points, role, label) {
+    if !sends(points, role, label) || has_send(label, lines) {
         return Some(Fault::Label);
     }
-    if has_send(label, lines) {
-        return Some(Fault::Label);
-    }
-    if sends_bare(points, role, label) {
-        return Some(Fault::NoPayload);
-    }
-    None
+    sends_bare(points, role, label).then_some(Fault::NoPayload)
 }
 
 /// What speaks against the label of a `pick` line.
 pub fn pick_fault(points: &Points, role: usize, label: &[u8]) -> Option<Fault>
     ensures { result ≡ pick_fault points.now.messages role label.now }
 {
-    if sends(points, role, label) {
-        None
-    } else {
-        Some(Fault::Label)
-    }
+    (!sends(points, role, label)).then_some(Fault::Label)
 }
 
 /// What speaks against the label of an `on` line.
 pub fn on_fault(points: &Points, role: usize, label: &[u8]) -> Option<Fault>
     ensures { result ≡ on_fault points.now.messages role label.now }
 {
-    if takes_part(points, role, label) {
-        None
-    } else {
-        Some(Fault::Label)
-    }
+    (!takes_part(points, role, label)).then_some(Fault::Label)
 }
 
 /// Whether a message without sorts has this label and is sent or received by the role.
 pub fn takes_bare(points: &Points, role: usize, label: &[u8]) -> bool
     ensures { result ≡ takes_bare points.now.messages role label.now }
 {
-    for number in 0..points.count() {
-        let point = Point(number + 1);
-        if is_part(points, point, role, label) && !points.has_payload(point) {
-            return true;
-        }
-    }
-    false
+    has_message(points, role, label, true, true)
 }
 
 fn takes_part(points: &Points, role: usize, label: &[u8]) -> bool
     ensures { result ≡ takes_part points.now.messages role label.now }
 {
-    for number in 0..points.count() {
-        if is_part(points, Point(number + 1), role, label) {
-            return true;
-        }
-    }
-    false
+    has_message(points, role, label, true, false)
 }
 
 fn sends(points: &Points, role: usize, label: &[u8]) -> bool
     ensures { result ≡ sends points.now.messages role label.now }
 {
-    for number in 0..points.count() {
-        if is_sent(points, Point(number + 1), role, label) {
-            return true;
-        }
-    }
-    false
+    has_message(points, role, label, false, false)
 }
 
 fn sends_bare(points: &Points, role: usize, label: &[u8]) -> bool
     ensures { result ≡ sends_bare points.now.messages role label.now }
 {
+    has_message(points, role, label, false, true)
+}
+
+// Whether the role sends a message with this label, or receives it where that counts too. `bare` asks for one without
+// sorts.
+fn has_message(points: &Points, role: usize, label: &[u8], received: bool, bare: bool) -> bool
+    ensures { result ≡ list_any (is_meant role label.now received bare) points.now.messages }
+{
     for number in 0..points.count() {
         let point = Point(number + 1);
-        if is_sent(points, point, role, label) && !points.has_payload(point) {
+        let meant = is_end(points, point, role, received) && is(points.label(point), label);
+        if meant && !(bare && points.has_payload(point)) {
             return true;
         }
     }
     false
 }
 
-fn is_sent(points: &Points, point: Point, role: usize, label: &[u8]) -> bool
-    requires { IsPointOf points.now point }
-    ensures { result ≡ is_sent role label.now (message_at points.now point) }
+fn is_end(points: &Points, point: Point, role: usize, received: bool) -> bool
+    requires { HasPoint points.now.messages point }
+    ensures { result ≡ is_end role received (message_at points.now point) }
 {
-    points.sender(point).0 as usize == role && is(points.label(point), label)
-}
-
-fn is_part(points: &Points, point: Point, role: usize, label: &[u8]) -> bool
-    requires { IsPointOf points.now point }
-    ensures { result ≡ is_part role label.now (message_at points.now point) }
-{
-    let is_end = points.sender(point).0 as usize == role
-        || points.receiver(point).0 as usize == role;
-    is_end && is(points.label(point), label)
+    points.sender(point).0 as usize == role || received && points.receiver(point).0 as usize == role
 }
 
 fn has_send(label: &[u8], lines: &[Line]) -> bool

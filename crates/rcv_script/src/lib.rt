@@ -26,6 +26,7 @@ pub use words::LineKind;
 
 /// Scripts are read or refused, never both: what is written by the grammar and has no code is read as what it says, and
 /// all else has one first and least code.
+#[tactic(auto, using(crate::proofs::Once::scripts_have_one_answer))]
 pub fn scripts_have_one_answer()
     ensures { ScriptsHaveOneAnswer }
 {}

@@ -5,8 +5,8 @@ ghost use Rattle.std.specs.List.{All};
 ghost use Rattle.rcv_lexer.specs.Parts.{LiesIn};
 ghost use Rattle.rcv_script.specs.Symbols.{Word, IsNotNext, symbols_of};
 ghost use Rattle.rcv_script.specs.Lines.{line_of};
-ghost use Rattle.rcv_script.specs.Machine.{AWord, is_listed, role_fault, script, place_in, no_lines};
-ghost use Rattle.rcv_script.specs.Descent.{Goes, Comes, Ceases};
+ghost use Rattle.rcv_script.specs.Machine.{Taken, script, no_lines, reading};
+ghost use Rattle.rcv_script.specs.Descent.{Goes, Ceases};
 ghost use Rattle.rcv_script.specs.Scripts.{AreScriptsOf, AreRefusedFor};
 
 use crate::fault::{Fault, ScriptError};
@@ -16,7 +16,7 @@ use crate::scripts::{Script, Scripts};
 use rcv_accept::accepted::Accepted;
 use rcv_lexer::token::{TextError, Token};
 use rcv_points::points::Points;
-use rcv_scan::{Ahead, is, line_before};
+use rcv_scan::{Ahead, Lexeme, is, line_before};
 use rcv_tree::name::Names;
 use rcv_tree::refusal::Refusal;
 use std::alloc::Global;
@@ -46,26 +46,6 @@ impl<'a> Parser<'a> {
         true
     }
 
-    // Takes the name of a role that has no script yet: its place.
-    fn role(&mut self, roles: &Names, given: &[usize]) -> Result<usize, ScriptError>
-        ensures goes { Goes result (λ k. AWord (role_fault roles.now given.now) (λ n. k (place_in roles.now n)))
-            (λ role. role) self.old.rest self.new.rest }
-        ensures declared { IfOk result (λ role. role < length roles.now) }
-        ensures shorter { length self.new.rest ≤ length self.old.rest }
-    {
-        let Some((word, after)) = self.rest.word() else {
-            return Err(ScriptError::Refused(Fault::Token));
-        };
-        let Some(role) = place_of(roles.as_slice(), word) else {
-            return Err(ScriptError::Refused(Fault::Role));
-        };
-        if is_listed(role, given) {
-            return Err(ScriptError::Refused(Fault::Role));
-        }
-        self.rest = after;
-        Ok(role)
-    }
-
     // Takes what stands behind the word `role`.
     fn script(
         &mut self,
@@ -79,7 +59,16 @@ impl<'a> Parser<'a> {
         ensures declared { IfOk result (λ x. x.role < length roles.now) }
         ensures shorter { length self.new.rest ≤ length self.old.rest }
     {
-        let role = self.role(roles, given)?;
+        let Some((Lexeme::Word(word), after)) = self.rest.next() else {
+            return Err(ScriptError::Refused(Fault::Token));
+        };
+        let Some(role) = place_of(roles.as_slice(), word) else {
+            return Err(ScriptError::Refused(Fault::Role));
+        };
+        if given.contains(&role) {
+            return Err(ScriptError::Refused(Fault::Role));
+        }
+        self.rest = after;
         let lines = self.lines(alloc, points, role)?;
         Ok(Given {
             role,
@@ -88,13 +77,14 @@ impl<'a> Parser<'a> {
     }
 
     // Takes all scripts.
+    #[tactic(auto, using(crate::proofs::Stops::no_script))]
     fn scripts(
         &mut self,
         alloc: Global,
         roles: &Names,
         points: &Points,
     ) -> Result<Vec<Script>, ScriptError>
-        ensures ok { IfOk result (λ scripts. Comes roles.now points.now.messages self.old.rest scripts.items) }
+        ensures ok { IfOk result (λ found. reading roles.now points.now.messages self.old.rest ≡ Taken found.items) }
         ensures all { IfOk result (λ scripts. length scripts.items ≡ length roles.now) }
         ensures err { IfErr result (λ e. Ceases roles.now points.now.messages e self.old.rest self.new.rest) }
     {
@@ -111,13 +101,6 @@ impl<'a> Parser<'a> {
             Err(ScriptError::Refused(Fault::Token))
         }
     }
-}
-
-// Whether the role is one of these.
-fn is_listed(role: usize, given: &[usize]) -> bool
-    ensures { result ≡ is_listed role given.now }
-{
-    given.iter().any(|other| role == *other)
 }
 
 // A script without lines for each role.

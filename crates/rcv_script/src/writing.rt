@@ -1,6 +1,6 @@
 // The script of a role while it is read.
 
-ghost use Rattle.std.specs.Prelude.{◌≡◌, ◌∷◌, ◌++◌, [], map, Option, IfOk};
+ghost use Rattle.std.specs.Prelude.{◌≡◌, ◌∷◌, ◌++◌, [], map, Option, IfOk, MatchResult};
 ghost use Rattle.rcv_model.specs.Script.{VarLine};
 ghost use Rattle.rcv_script.specs.Lines.{line_of};
 ghost use Rattle.rcv_script.specs.Machine.{begun, with_line, var_fault, line_fault, label_fault, remembering};
@@ -76,13 +76,9 @@ impl<'a> Writing<'a> {
     pub fn var_fault(&self, name: &[u8]) -> Option<Fault>
         ensures { result ≡ var_fault self.now.names name.now }
     {
-        if is(name, b"value") || is(name, b"attempt") {
-            return Some(Fault::Variable);
-        }
-        match place_of(self.names.as_slice(), name) {
-            Some(_) => Some(Fault::Variable),
-            None => None,
-        }
+        let is_own_word = is(name, b"value") || is(name, b"attempt");
+        let is_known = is_own_word || place_of(self.names.as_slice(), name).is_some();
+        is_known.then_some(Fault::Variable)
     }
 
     /// What speaks against one more line of this kind.
@@ -93,9 +89,9 @@ impl<'a> Writing<'a> {
         let lines = self.lines.as_slice();
         let many = match kind {
             LineKind::Var => lines.len() >= 256 || names.len() >= 16,
-            LineKind::Send | LineKind::Pick | LineKind::On => lines.len() >= 256,
+            _ => lines.len() >= 256,
         };
-        if many { Some(Fault::TooMany) } else { None }
+        many.then_some(Fault::TooMany)
     }
 
     /// What speaks against the label of a line of this kind. A `var` line has none.
@@ -114,22 +110,22 @@ impl<'a> Writing<'a> {
     pub fn remembering(&self, label: &[u8]) -> Banned
         ensures { at_depth self.now.names result 0 ≡ remembering self.now label.now }
     {
-        let bare = takes_bare(self.points, self.role, label);
         Banned {
-            value: if bare { Some(Fault::NoPayload) } else { None },
+            value: takes_bare(self.points, self.role, label).then_some(Fault::NoPayload),
             attempt: Some(Fault::AttemptInState),
         }
     }
 
     /// Adds a line.
     pub fn add(&mut self, line: Line) -> Result<(), AllocError>
-        ensures { IfOk result (λ _. self.new ≡ with_line self.old (self.old.names, line_of line)) }
+        ensures { MatchResult result (λ _. self.new ≡ with_line self.old (self.old.names, line_of line))
+            (λ _. self.new ≡ self.old) }
     {
         self.lines.push(line)?;
         Ok(())
     }
 
-    /// Adds a variable and its line.
+    /// Adds a variable and its line. Where no memory is left, the name may stand there without its line.
     pub fn add_variable(&mut self, name: Name, first: i64) -> Result<(), AllocError>
         ensures { IfOk result (λ _. self.new ≡ with_line self.old (self.old.names ++ name ∷ [], VarLine first)) }
     {

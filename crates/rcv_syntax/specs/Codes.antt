@@ -1,6 +1,6 @@
 -- The codes from 12 on, each by the symbols alone. Everywhere back are the symbols before, the nearest first, t is the
 -- symbol at which the code is to hold, and ts are the symbols behind it.
-use Rattle.std.specs.Prelude.{◌≡◌, ℕ, nat_le, Bool, true, false, not, cond, List, [], ◌∷◌, ◌++◌, length, drop}
+use Rattle.std.specs.Prelude.{◌≡◌, ℕ, ◌==◌, nat_le, Bool, true, false, not, cond, List, [], ◌∷◌, ◌++◌, length, drop}
 use Rattle.std.specs.List.{list_any}
 use Rattle.std.specs.Str.{bytes_eq}
 use Rattle.rcv_syntax.specs.declared.sign.Sign.TheVariants.{Global, Role, From, To, Choice, At, Or, Rec, Continue, Par, Do, Open, Close, Comma, Semicolon}
@@ -109,43 +109,23 @@ pub data Comes : List ℕ → List Symbol → Type 0 where
 
 -- ---- the table
 
--- 12: a { that begins the 33rd nested block
-abbrev pub is_deep : List Symbol → Symbol → Bool
-is_deep back (Is Open) = nat_le 32 (length (open_braces back))
-is_deep back _ = false
-
+-- The codes at a name, by what it stands as.
+abbrev pub is_at_name : Fault → Standing → List Symbol → List ℕ → Bool
 -- 13: a role that isn't declared, or the name of a continue with no enclosing rec of that name
-abbrev pub lacks : Standing → List Symbol → List ℕ → Bool
-lacks AsActor back n = not (is_among n (roles_before back))
-lacks AsReceiver back n = not (is_among n (roles_before back))
-lacks AsTarget back n = not (is_among n (recs_of (open_braces back)))
-lacks _ back n = false
-
-abbrev pub is_unknown : List Symbol → Symbol → Bool
-is_unknown back (Word n) = lacks (standing back) back n
-is_unknown back _ = false
-
+is_at_name NoName AsActor back n = not (is_among n (roles_before back))
+is_at_name NoName AsReceiver back n = not (is_among n (roles_before back))
+is_at_name NoName AsTarget back n = not (is_among n (recs_of (open_braces back)))
 -- 14: a role declared before, an alias declared before, a receiver that stands before in the same list
-abbrev pub repeats : Standing → List Symbol → List ℕ → Bool
-repeats AsNewRole back n = is_among n (roles_before back)
-repeats AsAlias back n = is_among n (aliases_before back)
-repeats AsReceiver back n = is_among n (listed back)
-repeats _ back n = false
-
-abbrev pub is_repeated : List Symbol → Symbol → Bool
-is_repeated back (Word n) = repeats (standing back) back n
-is_repeated back _ = false
-
+is_at_name Twice AsNewRole back n = is_among n (roles_before back)
+is_at_name Twice AsAlias back n = is_among n (aliases_before back)
+is_at_name Twice AsReceiver back n = is_among n (listed back)
 -- 15: a receiver that is the sender
-abbrev pub sends_itself : Standing → List Symbol → List ℕ → Bool
-sends_itself AsReceiver back n = bytes_eq n (sender back)
-sends_itself _ back n = false
+is_at_name SelfMessage AsReceiver back n = bytes_eq n (sender back)
+-- 18: the name of the ninth role, or the receiver that makes the 257th point
+is_at_name TooMany AsNewRole back n = nat_le 8 (length (roles_before back))
+is_at_name TooMany AsReceiver back n = nat_le 256 (points_before back)
+is_at_name _ _ back n = false
 
-abbrev pub is_sender : List Symbol → Symbol → Bool
-is_sender back (Word n) = sends_itself (standing back) back n
-is_sender back _ = false
-
--- 16: the first symbol of a statement behind a continue in the same block
 abbrev pub is_behind_continue : List Symbol → Bool
 is_behind_continue (Is Semicolon ∷ Word x ∷ Is Continue ∷ back) = true
 is_behind_continue _ = false
@@ -159,47 +139,31 @@ begins_a_statement (Is Par) = true
 begins_a_statement (Is Do) = true
 begins_a_statement _ = false
 
-abbrev pub is_never_reached : List Symbol → Symbol → Bool
-is_never_reached back t = cond (begins_a_statement t) (is_behind_continue back) false
+abbrev pub is_behind_all : List Symbol → Bool
+is_behind_all (Is Close ∷ back) = length (open_braces (Is Close ∷ back)) == 0
+is_behind_all _ = false
+
+-- The codes that hold at a symbol, whatever stands behind it.
+abbrev pub is_at : Fault → List Symbol → Symbol → Bool
+-- 12: a { that begins the 33rd nested block
+is_at Deep back (Is Open) = nat_le 32 (length (open_braces back))
+-- 16: the first symbol of a statement behind a continue in the same block
+is_at AfterContinue back t = cond (begins_a_statement t) (is_behind_continue back) false
+-- 19: the words par and do; the word global of a second protocol, which is behind the first one's last }
+is_at NotYet back (Is Par) = true
+is_at NotYet back (Is Do) = true
+is_at NotYet back (Is Global) = is_behind_all back
+-- 13, 14, 15 and 18
+is_at f back (Word n) = is_at_name f (standing back) back n
+is_at f back _ = false
 
 -- 17: the word continue where a walk comes from the start of the body of its rec to it without a message
 abbrev pub IsUnguarded : List Symbol → Symbol → List Symbol → Type 0
 IsUnguarded back (Is Continue) (Word x ∷ ts) = Comes x back
 IsUnguarded back _ _ = ⊥
 
--- 18: the name of the ninth role, or the receiver that makes the 257th point
-abbrev pub exceeds : Standing → List Symbol → Bool
-exceeds AsNewRole back = nat_le 8 (length (roles_before back))
-exceeds AsReceiver back = nat_le 256 (points_before back)
-exceeds _ back = false
-
-abbrev pub is_too_many : List Symbol → Symbol → Bool
-is_too_many back (Word n) = exceeds (standing back) back
-is_too_many back _ = false
-
--- 19: the words par and do; the word global of a second protocol, which is behind the first one's last }
-abbrev pub are_none : List (List Symbol) → Bool
-are_none [] = true
-are_none (b ∷ bs) = false
-
-abbrev pub is_behind_all : List Symbol → Bool
-is_behind_all (Is Close ∷ back) = are_none (open_braces (Is Close ∷ back))
-is_behind_all _ = false
-
-abbrev pub is_not_yet : List Symbol → Symbol → Bool
-is_not_yet back (Is Par) = true
-is_not_yet back (Is Do) = true
-is_not_yet back (Is Global) = is_behind_all back
-is_not_yet back _ = false
-
 -- The code holds at t. (Code 11 is that of the grammar.)
 abbrev pub Holds : Fault → List Symbol → Symbol → List Symbol → Type 0
 Holds Token back t ts = ⊥
-Holds Deep back t ts = is_deep back t ≡ true
-Holds NoName back t ts = is_unknown back t ≡ true
-Holds Twice back t ts = is_repeated back t ≡ true
-Holds SelfMessage back t ts = is_sender back t ≡ true
-Holds AfterContinue back t ts = is_never_reached back t ≡ true
 Holds Unguarded back t ts = IsUnguarded back t ts
-Holds TooMany back t ts = is_too_many back t ≡ true
-Holds NotYet back t ts = is_not_yet back t ≡ true
+Holds f back t ts = is_at f back t ≡ true

@@ -1,7 +1,7 @@
 // What a token says: a reserved word or a mark, a name, or what stands between quotes.
 
 ghost use Rattle.std.specs.Prelude.{◌≡◌, Option, None};
-ghost use Rattle.rcv_syntax.specs.Symbols.{head_word, stmt_word, reserved, mark};
+ghost use Rattle.rcv_syntax.specs.Symbols.{reserved, mark};
 
 use crate::sign::Sign;
 use rcv_lexer::token::Kind;
@@ -32,22 +32,14 @@ impl Alphabet for Sign {
     }
 }
 
-fn head_word(word: &[u8]) -> Option<Sign>
-    ensures { result ≡ head_word word.now }
+fn reserved(word: &[u8]) -> Option<Sign>
+    ensures { result ≡ reserved word.now }
 {
     match word {
         _ if is(word, b"module") => Some(Sign::Module),
         _ if is(word, b"global") => Some(Sign::Global),
         _ if is(word, b"protocol") => Some(Sign::Protocol),
         _ if is(word, b"role") => Some(Sign::Role),
-        _ => None,
-    }
-}
-
-fn stmt_word(word: &[u8]) -> Option<Sign>
-    ensures { result ≡ stmt_word word.now }
-{
-    match word {
         _ if is(word, b"from") => Some(Sign::From),
         _ if is(word, b"to") => Some(Sign::To),
         _ if is(word, b"choice") => Some(Sign::Choice),
@@ -59,15 +51,6 @@ fn stmt_word(word: &[u8]) -> Option<Sign>
         _ if is(word, b"and") => Some(Sign::And),
         _ if is(word, b"do") => Some(Sign::Do),
         _ => None,
-    }
-}
-
-fn reserved(word: &[u8]) -> Option<Sign>
-    ensures { result ≡ reserved word.now }
-{
-    match head_word(word) {
-        Some(sign) => Some(sign),
-        None => stmt_word(word),
     }
 }
 

@@ -5,5 +5,5 @@ use Rattle.rcv_reader.proofs.parser.add_copies.Given as goal
 
 abbrev pub invariant-loop-receiver : goal.invariant-loop-receiver
 invariant-loop-receiver l =
-    (statements l.block ≡ statements l.fn.block ++ messages l.heading.label l.heading.sorts l.heading.sender (take l.receiver-index l.receivers) l.points)
+    (statements l.block ≡ statements l.fn.block ++ messages l.label l.sorts l.sender (take l.receiver-index l.receivers) l.points)
     × (l.point ≡ l.points + l.receiver-index)

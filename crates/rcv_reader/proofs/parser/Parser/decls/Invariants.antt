@@ -1,6 +1,6 @@
 use Rattle.std.proofs.Common.{length}
 use Rattle.rcv_tree.specs.Lists.{declarations}
-use Rattle.rcv_reader.proofs.Heading.{DeclsSoFar}
+use Rattle.rcv_reader.proofs.Reading.{DeclsSoFar}
 use Rattle.rcv_reader.proofs.parser.Parser.decls.Given as goal
 
 abbrev pub invariant-loop-alloc : goal.invariant-loop-alloc

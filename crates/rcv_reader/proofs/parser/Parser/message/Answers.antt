@@ -5,7 +5,7 @@ use Rattle.rcv_reader.proofs.parser.Parser.message.Goals as goal
 
 pub returns-clause-read : goal.returns-clause-read
 returns-clause-read c =
-    let received = c.in_ok-receivers.ensures.read in
+    let received = c.in_ok-others.ensures.read in
     let before = rw c.points-before.ensures.0 at c.in_ok-add_copies.ensures in
     message_read _ _ _ _ _ _ _ _ c.in_ok-label.label c.in_ok-sorts.sorts c.in_ok-sender.sender _ _ _ c.in_ok-label.ensures.read
     c.in_ok-expect.ensures.read c.in_ok-sorts.ensures.read c.in_ok-expect-2.ensures.read c.in_ok-sender.ensures.read

@@ -1,4 +1,4 @@
-use Rattle.rcv_reader.proofs.Heading.{roles_next}
+use Rattle.rcv_reader.proofs.Reading.{roles_next}
 use Rattle.rcv_reader.proofs.parser.Parser.role_names.Goals as goal
 
 pub loop-alloc-preserved : goal.loop-alloc-preserved

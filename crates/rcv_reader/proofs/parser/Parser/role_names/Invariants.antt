@@ -1,5 +1,5 @@
 use Rattle.std.proofs.Common.{length}
-use Rattle.rcv_reader.proofs.Heading.{RolesSoFar}
+use Rattle.rcv_reader.proofs.Reading.{RolesSoFar}
 use Rattle.rcv_reader.proofs.parser.Parser.role_names.Given as goal
 
 abbrev pub invariant-loop-alloc : goal.invariant-loop-alloc

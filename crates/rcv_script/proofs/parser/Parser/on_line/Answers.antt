@@ -1,50 +1,33 @@
-use Rattle.std.proofs.Common.{ℕ, List, ap, sym, ◌∙◌, codes}
+use Rattle.std.proofs.Common.{ℕ, List, ap, sym, ◌∙◌}
 use Rattle.rcv_model.specs.Script.{OnLine}
-use Rattle.rcv_script.specs.Symbols.{Word}
-use Rattle.rcv_script.specs.Machine.{Item, Writing, This, AWord, with_expr, with_line, remembering, set_fault, place_in, answer}
-use Rattle.rcv_script.proofs.Going.{fails, stops}
+use Rattle.rcv_script.specs.Machine.{Item, Writing, to_set, with_expr, with_line, remembering, place_in, answer}
+use Rattle.rcv_script.proofs.Going.{fails}
 use Rattle.rcv_script.proofs.parser.Parser.on_line.Goals as goal
 
--- what is awaited behind the variable, behind the word set, and behind the label
+-- what is awaited behind the variable
 abbrev to_place : Writing → List ℕ → (Writing → Item) → ℕ → Item
 to_place s l k n = with_expr (remembering s l) (λ e. k (with_line s (s.names, OnLine l n e)))
-
-abbrev set : Writing → List ℕ → (Writing → Item) → Item
-set s l k = AWord (set_fault s.names) (λ n. to_place s l k (place_in s.names n))
-
-abbrev to_set : Writing → (Writing → Item) → List ℕ → Item
-to_set s k l = This (Word (codes "set")) (set s l k)
-
-pub returns-in_err-expect_word-clause-goes : goal.returns-in_err-expect_word-clause-goes
-returns-in_err-expect_word-clause-goes c =
-    let s = c.args.writing.now in
-    stops (set s c.in_ok-label.label) _ _ _ _ _ _ _ _ c.from_residual-in_err-expect_word.ensures.1 c.in_err-expect_word.ensures.goes
-    (λ k. c.in_ok-label.ensures.goes (to_set s k))
 
 pub returns-in_err-place-clause-goes : goal.returns-in_err-place-clause-goes
 returns-in_err-place-clause-goes c =
     let s = c.args.writing.now in
-    let l = c.in_ok-label.label in
-    fails (to_place s l) _ _ _ (λ k. AWord (set_fault s.names) (λ n. k (place_in s.names n))) _ _ _ _
-    c.from_residual-in_err-place.ensures.1 (rw c.names.ensures at c.in_err-place.ensures.goes)
-    (λ k. c.in_ok-label.ensures.goes (to_set s k) ∙ c.in_ok-expect_word.ensures.goes (set s l k))
+    fails (to_place s c.in_ok-label.label) _ _ _ (λ k. to_set s.names (λ n. k (place_in s.names n))) _ _ _ _
+    c.from_residual-in_err-place.ensures.1 c.in_err-place.ensures.goes (λ k. c.in_ok-label.ensures.goes _)
 
 pub returns-in_err-number-clause-goes : goal.returns-in_err-number-clause-goes
 returns-in_err-number-clause-goes c =
     let s = c.args.writing.now in
     let l = c.in_ok-label.label in
-    let place = rw c.names.ensures at c.in_ok-place.ensures.goes in
     fails (λ (k : Writing → Item) e. k (with_line s (s.names, OnLine l c.in_ok-place.place e))) _ _ _ _ _ _ _ _
     c.from_residual-in_err-number.ensures.1
-    (rw (c.names-2.ensures, c.remembering-banned.ensures, c.as_slice.ensures) at c.in_err-number.ensures.goes)
-    (λ k. c.in_ok-label.ensures.goes (to_set s k) ∙ c.in_ok-expect_word.ensures.goes (set s l k) ∙ place (to_place s l k))
+    (rw (c.names.ensures, c.remembering-banned.ensures, c.as_slice.ensures) at c.in_err-number.ensures.goes)
+    (λ k. c.in_ok-label.ensures.goes _ ∙ c.in_ok-place.ensures.goes (to_place s l k))
 
 pub returns-clause-goes : goal.returns-clause-goes
 returns-clause-goes c =
     let s = c.args.writing.now in
     let l = c.in_ok-label.label in
-    let place = rw c.names.ensures at c.in_ok-place.ensures.goes in
-    let number = rw (c.names-2.ensures, c.remembering-banned.ensures, c.as_slice.ensures) at c.in_ok-number.ensures.goes in
-    λ k. c.in_ok-label.ensures.goes (to_set s k) ∙ c.in_ok-expect_word.ensures.goes (set s l k) ∙ place (to_place s l k)
+    let number = rw (c.names.ensures, c.remembering-banned.ensures, c.as_slice.ensures) at c.in_ok-number.ensures.goes in
+    λ k. c.in_ok-label.ensures.goes _ ∙ c.in_ok-place.ensures.goes (to_place s l k)
     ∙ number (λ e. k (with_line s (s.names, OnLine l c.in_ok-place.place e)))
     ∙ ap (λ (x : Writing). answer (k x) c.number_set.new.self.rest) (sym c.in_ok-add.ensures)

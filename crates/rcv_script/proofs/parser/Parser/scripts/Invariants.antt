@@ -1,9 +1,17 @@
-use Rattle.std.proofs.Common.{length}
-use Rattle.rcv_script.proofs.Whole.{ScriptsSoFar}
+use Rattle.std.proofs.Common.{◌≡◌, length}
+use Rattle.rcv_script.specs.Machine.{Scripts, awaited, answer}
 use Rattle.rcv_script.proofs.parser.Parser.scripts.Given as goal
 
 abbrev pub invariant-loop-alloc : goal.invariant-loop-alloc
-invariant-loop-alloc l = ScriptsSoFar l.roles l.points.messages l.scripts.items l.given.items l.fn.self.rest l.self.rest
+invariant-loop-alloc l = record {
+  goes : answer (awaited l.roles l.points.messages) l.fn.self.rest ≡ answer (Scripts (record {
+    roles = l.roles;
+    messages = l.points.messages;
+    scripts = l.scripts.items;
+    given = l.given.items;
+  })) l.self.rest;
+  sized : length l.scripts.items ≡ length l.roles;
+}
 
 abbrev pub decreases-loop-alloc : goal.decreases-loop-alloc
 decreases-loop-alloc l = length l.self.rest

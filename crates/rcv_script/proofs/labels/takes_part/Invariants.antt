@@ -1,7 +1,0 @@
-use Rattle.std.proofs.Common.{◌≡◌, drop}
-use Rattle.std.specs.List.{list_any}
-use Rattle.rcv_script.specs.Machine.{is_part}
-use Rattle.rcv_script.proofs.labels.takes_part.Given as goal
-
-abbrev pub invariant-loop-number : goal.invariant-loop-number
-invariant-loop-number l = list_any (is_part l.role l.label) (drop l.number l.points.messages) ≡ list_any (is_part l.role l.label) l.points.messages

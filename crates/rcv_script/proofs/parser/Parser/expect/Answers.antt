@@ -1,6 +1,0 @@
-use Rattle.rcv_script.specs.Symbols.{Is}
-use Rattle.rcv_script.proofs.Stops.{no_sign}
-use Rattle.rcv_script.proofs.parser.Parser.expect.Goals as goal
-
-pub returns-in_default-clause-goes : goal.returns-in_default-clause-goes
-returns-in_default-clause-goes c = no_sign (Is c.args.sign) _ c.in_default.ensures.none
