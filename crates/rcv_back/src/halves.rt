@@ -69,7 +69,8 @@ fn move_from<'a>(
 ) -> Result<(), AllocError>
     requires { place < length half.old.items }
     ensures others { StayBut half.old.items half.new.items place }
-    ensures moved { OnOk result ((c : CellView) → Has half.old.items place c → lanes.new.items ≡ lanes.old.items ++ c ∷ []) }
+    ensures moved { OnOk result ((c : CellView) → Has half.old.items place c
+        → lanes.new.items ≡ lanes.old.items ++ c ∷ []) }
     ensures none { OnOk result (Lacks half.old.items place → lanes.new.items ≡ lanes.old.items) }
 {
     if let Some(lane) = take_out(half, place) {

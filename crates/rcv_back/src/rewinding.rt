@@ -4,7 +4,8 @@ ghost use Rattle.std.specs.Prelude.{◌≡◌, ◌+◌, ◌<◌, length};
 ghost use Rattle.rcv_session.specs.Session.{roles_of};
 ghost use Rattle.rcv_role.specs.Cell.{CellView, HaveRewound, HasRewoundAlone};
 ghost use Rattle.rcv_back.specs.Halves.{Has, Lacks};
-ghost use Rattle.rcv_back.specs.Going.{StayBut, CanRewind, CanRewindAlone, HasSender, HasRewoundChannel, AreGoing, HaveMoved};
+ghost use Rattle.rcv_back.specs.Going.{StayBut, CanRewind, CanRewindAlone, HasSender, HasRewoundChannel, AreGoing};
+ghost use Rattle.rcv_back.specs.Going.{HaveMoved};
 
 use crate::halves::Half;
 use crate::places::{put_in, take_out};
@@ -34,7 +35,8 @@ fn rewind_to<'a>(half: &mut Half<'a>, receiver: &mut Lane<'a>, from: u8, keep: u
     requires pair { (a : CellView) → Has half.old.items from a → CanRewind a receiver.old keep drop_from }
     requires alone { Lacks half.old.items from → CanRewindAlone receiver.old from keep }
     ensures others { StayBut half.old.items half.new.items from }
-    ensures pair { (a : CellView) → Has half.old.items from a → HasSender half.new.items from a receiver.old receiver.new keep drop_from }
+    ensures pair { (a : CellView) → Has half.old.items from a
+        → HasSender half.new.items from a receiver.old receiver.new keep drop_from }
     ensures empty { Lacks half.old.items from → Lacks half.new.items from }
     ensures alone { Lacks half.old.items from → HasRewoundAlone receiver.old receiver.new from keep }
 {
@@ -51,7 +53,8 @@ fn rewind_between<'a>(half: &mut Half<'a>, from: u8, to: u8, keep: u32, drop_fro
     requires from { from < length half.old.items }
     requires to { to < length half.old.items }
     requires apart { from ≡ to → ⊥ }
-    requires pair { (a b : CellView) → Has half.old.items from a → Has half.old.items to b → CanRewind a b keep drop_from }
+    requires pair { (a b : CellView) → Has half.old.items from a → Has half.old.items to b
+        → CanRewind a b keep drop_from }
     requires alone { (b : CellView) → Has half.old.items to b → Lacks half.old.items from → CanRewindAlone b from keep }
     ensures { HasRewoundChannel half.old.items half.new.items from to keep drop_from }
 {

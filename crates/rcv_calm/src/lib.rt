@@ -1,7 +1,8 @@
 // Laws: the crash lines may be taken out of a text, and what is left is the session without them.
 #![tactic(auto)]
 
-ghost use Rattle.rcv_calm.specs.Laws.{PlansWithoutCrashLinesAreRead, SameBytesSayTheSame, TextsWithoutCrashLinesAreCalm};
+ghost use Rattle.rcv_calm.specs.Laws.{PlansWithoutCrashLinesAreRead, SameBytesSayTheSame};
+ghost use Rattle.rcv_calm.specs.Laws.{TextsWithoutCrashLinesAreCalm};
 
 /// Where a text is taken as a session, the text without its crash lines is taken as the session without them.
 pub fn texts_without_crash_lines_are_calm()

@@ -45,8 +45,8 @@ impl Lanes {
         self.lanes.len()
     }
 
-    /// Puts a wire between these heights into the first lane with room, and answers which that is. Fails where memory runs
-    /// out.
+    /// Puts a wire between these heights into the first lane with room, and answers which that is. Fails where memory
+    /// runs out.
     pub fn put(&mut self, alloc: Global, one: Pixels, other: Pixels) -> Result<usize, AllocError> {
         let span = Span {
             top: one.min(other) - Pixels(2),

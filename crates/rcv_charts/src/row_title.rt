@@ -51,7 +51,8 @@ fn write_concerned(
     requires other { other < roles_of accepted.now }
     requires few { other < 8 }
     requires row { length (row_at table.now role point).restarts ≡ 8 }
-    ensures { OnOk result (text.new ≡ text.old ++ concerned_text accepted.now.protocol.roles (row_at table.now role point) other) }
+    ensures { OnOk result (text.new ≡ text.old
+        ++ concerned_text accepted.now.protocol.roles (row_at table.now role point) other) }
 {
     if !table.concerned(role, point).has(other) {
         return Ok(());
@@ -74,7 +75,8 @@ fn write_roles(
     requires point { point < length (rows_at table.now role) }
     requires row { length (row_at table.now role point).restarts ≡ 8 }
     requires few { roles_of accepted.now ≤ 8 }
-    ensures { OnOk result (text.new ≡ text.old ++ roles_text accepted.now.protocol.roles (row_at table.now role point)) }
+    ensures { OnOk result (text.new ≡ text.old
+        ++ roles_text accepted.now.protocol.roles (row_at table.now role point)) }
 {
     for number in 0..accepted.roles() {
         write_concerned(text, accepted, table, role, point, RoleId(number))?;
@@ -95,7 +97,8 @@ pub fn row_title(
     requires point { point < length (rows_at table.now role) }
     requires row { length (row_at table.now role point).restarts ≡ 8 }
     requires few { roles_of accepted.now ≤ 8 }
-    ensures value { IfOk result (λ title. title.items ≡ row_title accepted.now.protocol.roles role point (row_at table.now role point)) }
+    ensures value { IfOk result (λ title. title.items
+        ≡ row_title accepted.now.protocol.roles role point (row_at table.now role point)) }
     ensures titled { IfOk result (λ title. IsTrue (is_titled title.items)) }
 {
     let mut text = Writer::new(alloc);

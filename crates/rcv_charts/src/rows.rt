@@ -101,8 +101,8 @@ fn row_height(table: &Table, role: RoleId, point: Point, roles: u8) -> Pixels
     pixels(most) * 16 + Pixels(8)
 }
 
-// Adds the cells of a start: where each concerned role restarts, and a line for each that goes on. Fails where memory runs
-// out.
+// Adds the cells of a start: where each concerned role restarts, and a line for each that goes on. Fails where memory
+// runs out.
 fn draw_cells(
     alloc: Global,
     shapes: &mut Vec<Shape>,
@@ -163,7 +163,8 @@ fn draw_row(
     requires point { point < length (rows_at table.now role) }
     requires row { length (row_at table.now role point).restarts ≡ 8 }
     requires few { roles_of accepted.now ≤ 8 }
-    ensures { OnOk result (drawing.new ≡ drawing.old ++ row_title accepted.now.protocol.roles role point (row_at table.now role point) ∷ []) }
+    ensures { OnOk result (drawing.new ≡ drawing.old
+        ++ row_title accepted.now.protocol.roles role point (row_at table.now role point) ∷ []) }
 {
     let top = drawing.down();
     let roles = accepted.roles();
@@ -204,7 +205,8 @@ fn draw_start(
     requires first { 1 ≤ point }
     requires last { point ≤ length points.now.messages }
     requires table { IsTable (net_in points.now) (roles_of accepted.now) table.now }
-    ensures { OnOk result (drawing.new ≡ drawing.old ++ start_titles (net_in points.now) accepted.now.protocol.roles table.now role point) }
+    ensures { OnOk result (drawing.new ≡ drawing.old
+        ++ start_titles (net_in points.now) accepted.now.protocol.roles table.now role point) }
 {
     if owns(points, role, point) {
         draw_row(
@@ -278,7 +280,8 @@ fn draw_starts(
     requires role { role < roles_of accepted.now }
     requires few { roles_of accepted.now ≤ 8 }
     requires table { IsTable (net_in points.now) (roles_of accepted.now) table.now }
-    ensures { OnOk result (drawing.new ≡ drawing.old ++ role_titles (net_in points.now) accepted.now.protocol.roles table.now role) }
+    ensures { OnOk result (drawing.new ≡ drawing.old
+        ++ role_titles (net_in points.now) accepted.now.protocol.roles table.now role) }
 {
     for before in 0..points.count() {
         draw_start(
@@ -314,7 +317,8 @@ fn draw_role(
     requires role { role < roles_of accepted.now }
     requires few { roles_of accepted.now ≤ 8 }
     requires table { IsTable (net_in points.now) (roles_of accepted.now) table.now }
-    ensures { OnOk result (drawing.new ≡ drawing.old ++ role_titles (net_in points.now) accepted.now.protocol.roles table.now role) }
+    ensures { OnOk result (drawing.new ≡ drawing.old
+        ++ role_titles (net_in points.now) accepted.now.protocol.roles table.now role) }
 {
     if has_any(points, role) {
         draw_heading(alloc, drawing, headings, columns, accepted.roles(), role)?;
@@ -334,7 +338,8 @@ pub fn draw_rows(
 ) -> Result<(), AllocError>
     requires few { roles_of accepted.now ≤ 8 }
     requires table { IsTable (net_in points.now) (roles_of accepted.now) table.now }
-    ensures { OnOk result (drawing.new ≡ drawing.old ++ table_titles (net_in points.now) accepted.now.protocol.roles table.now) }
+    ensures { OnOk result (drawing.new ≡ drawing.old
+        ++ table_titles (net_in points.now) accepted.now.protocol.roles table.now) }
 {
     for number in 0..accepted.roles() {
         draw_role(

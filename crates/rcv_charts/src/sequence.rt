@@ -172,7 +172,8 @@ fn draw_stmt<'t>(
     inset: Pixels,
     stmt: &'t Stmt,
 ) -> Result<(), AllocError>
-    ensures { OnOk result ((rest : Body) → drawing.new ++ message_titles chart.now.roles.now rest ≡ drawing.old ++ message_titles chart.now.roles.now (stmt_body stmt.now rest)) }
+    ensures { OnOk result ((rest : Body) → drawing.new ++ message_titles chart.now.roles.now rest ≡ drawing.old
+        ++ message_titles chart.now.roles.now (stmt_body stmt.now rest)) }
 {
     match stmt {
         Stmt::Message {

@@ -161,7 +161,8 @@ pub fn states_of(
     accepted: &Accepted,
 ) -> Result<Vec<State>, AllocError>
     requires { IsLocalOf (net_for accepted.now) local.now.role local.now }
-    ensures { IfOk result (λ states. AreStatesTo (net_for accepted.now) local.now.role (net_for accepted.now).count states.items) }
+    ensures { IfOk result (λ states. AreStatesTo (net_for accepted.now) local.now.role
+        (net_for accepted.now).count states.items) }
 {
     let role = local.role();
     let mut states = Vec::new(alloc);

@@ -91,7 +91,8 @@ fn drawn(
 ) -> Result<Drawing, AllocError>
     requires few { roles_of accepted.now ≤ 8 }
     requires table { IsTable (net_in points.now) (roles_of accepted.now) table.now }
-    ensures { IfOk result (λ drawing. drawing ≡ table_titles (net_in points.now) accepted.now.protocol.roles table.now) }
+    ensures { IfOk result (λ drawing. drawing
+        ≡ table_titles (net_in points.now) accepted.now.protocol.roles table.now) }
 {
     let mut drawing = Drawing::new(alloc);
     drawing.skip(Pixels(52));
@@ -144,7 +145,8 @@ pub fn table_picture(
     accepted: &Accepted,
 ) -> Result<Picture, AllocError>
     requires { IsTable (net_for accepted.now) (roles_of accepted.now) table.now }
-    ensures { IfOk result (λ picture. titles_of picture ≡ table_titles (net_for accepted.now) accepted.now.protocol.roles table.now) }
+    ensures { IfOk result (λ picture. titles_of picture
+        ≡ table_titles (net_for accepted.now) accepted.now.protocol.roles table.now) }
 {
     let protocol = accepted.protocol();
     let points = accepted.points();

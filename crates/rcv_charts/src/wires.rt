@@ -21,8 +21,8 @@ pub struct Frame {
     pub height: Pixels,
 }
 
-// A step: the heights at which its wire starts and ends, and its lane. A wire goes back where it doesn't lead to a state
-// further down.
+// A step: the heights at which its wire starts and ends, and its lane. A wire goes back where it doesn't lead to a
+// state further down.
 #[derive(Clone, Copy, Drop)]
 struct Wire {
     start: Pixels,

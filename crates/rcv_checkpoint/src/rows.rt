@@ -18,8 +18,8 @@ const BLOCK: usize = 64;
 const VARS: usize = 16;
 
 /// For each event its point and how many variables it changed, 3 bytes; for each such change the variable's place and
-/// what it was changed to, 9 bytes; and at each 64th count a full state and where the changes behind it begin, 144 bytes.
-/// An event that changes two variables costs 23 bytes and a quarter; a full state for each event would cost 136.
+/// what it was changed to, 9 bytes; and at each 64th count a full state and where the changes behind it begin, 144
+/// bytes. An event that changes two variables costs 23 bytes and a quarter; a full state for each event would cost 136.
 #[derive(Drop)]
 pub struct Rows {
     pub points: Vec<u16>,

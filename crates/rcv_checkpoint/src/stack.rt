@@ -1,6 +1,7 @@
 // A stack of states: the state of a role after each count of its events.
 
-ghost use Rattle.std.specs.Prelude.{◌≡◌, ◌+◌, ◌*◌, ◌^◌, ◌<◌, ◌≤◌, ℕ, Some, [], ◌∷◌, ◌++◌, length, take, slice_get, IfOk, IsOk, OnOk, OnErr};
+ghost use Rattle.std.specs.Prelude.{◌≡◌, ◌+◌, ◌*◌, ◌^◌, ◌<◌, ◌≤◌, ℕ, Some, [], ◌∷◌, ◌++◌, length, take, slice_get};
+ghost use Rattle.std.specs.Prelude.{IfOk, IsOk, OnOk, OnErr};
 ghost use Rattle.rcv_checkpoint.specs.Stack.{StackView, held, with_states, IsDurable, last_vars};
 ghost use Rattle.rcv_checkpoint.specs.Changed.{IsChange};
 
@@ -55,7 +56,8 @@ impl Stack {
     pub fn save(&mut self, k: u16, vars: &Vars, change: Changed) -> Result<(), AllocError>
         requires few { held self.old + 1 < 2 ^ 32 }
         requires change { IsChange change (last_vars self.old) vars.now }
-        ensures ok { OnOk result (self.new ≡ with_states self.old (self.old.states ++ record { k = k; vars = vars.now } ∷ [])) }
+        ensures ok { OnOk result (self.new ≡ with_states self.old
+            (self.old.states ++ record { k = k; vars = vars.now } ∷ [])) }
         ensures err { OnErr result (self.new ≡ self.old) }
         ensures room { held self.old < self.old.room → IsOk result }
     {

@@ -25,8 +25,10 @@ impl Cuts {
         requires role { role < length protocol.now.roles }
         requires few { length protocol.now.roles ≤ 8 }
         requires differ { AreDifferent protocol.now.roles }
-        requires below { HasRead (bare protocol.now) (map view pairs.now) role self.old.read self.old.concerned.0 self.old.kept }
-        ensures { HasRead (bare protocol.now) (map view pairs.now) (role + 1) self.new.read self.new.concerned.0 self.new.kept }
+        requires below { HasRead (bare protocol.now)
+            (map view pairs.now) role self.old.read self.old.concerned.0 self.old.kept }
+        ensures { HasRead (bare protocol.now) (map view pairs.now)
+            (role + 1) self.new.read self.new.concerned.0 self.new.kept }
     {
         let Some(pair) = pairs.get(self.read) else {
             return;
@@ -63,7 +65,8 @@ pub(crate) fn read_cuts(protocol: &Protocol, value: &Value) -> Option<Cuts>
     requires few { length protocol.now.roles ≤ 8 }
     requires differ { AreDifferent protocol.now.roles }
     ensures some { IfSome result (λ cuts. SaysCuts (bare protocol.now) (view value.now) cuts.concerned.0 cuts.kept) }
-    ensures none { IfNone result ((concerned : ℕ) (kept : List ℕ) → SaysCuts (bare protocol.now) (view value.now) concerned kept → ⊥) }
+    ensures none { IfNone result ((concerned : ℕ) (kept : List ℕ)
+        → SaysCuts (bare protocol.now) (view value.now) concerned kept → ⊥) }
 {
     let pairs = items(value)?;
     let mut cuts = Cuts {

@@ -22,8 +22,10 @@ use serde_json::Value;
 // Which role a Crash of two parts names.
 fn crash(accepted: &Accepted, parts: &[Value]) -> Option<RoleId>
     requires { length parts.now ≡ 2 }
-    ensures some { IfSome result (λ p. SaysEntry (bare accepted.now.protocol) (list_of (map view parts.now)) (Crash p)) }
-    ensures none { IfNone result ((p : ℕ) → SaysEntry (bare accepted.now.protocol) (list_of (map view parts.now)) (Crash p) → ⊥) }
+    ensures some { IfSome result (λ p. SaysEntry (bare accepted.now.protocol) (list_of (map view parts.now))
+        (Crash p)) }
+    ensures none { IfNone result ((p : ℕ) → SaysEntry (bare accepted.now.protocol) (list_of (map view parts.now))
+        (Crash p) → ⊥) }
 {
     if !is_text(&parts[0], b"crash") {
         return None;
@@ -48,7 +50,8 @@ fn read_recovery(
 ) -> Option<Recovery>
     requires few { length protocol.now.roles ≤ 8 }
     requires differ { AreDifferent protocol.now.roles }
-    ensures some { IfSome result (SaysRecovery (bare protocol.now) (view failed.now) (view number.now) (view pairs.now)) }
+    ensures some { IfSome result (SaysRecovery (bare protocol.now) (view failed.now) (view number.now)
+        (view pairs.now)) }
     ensures none { IfNone result ((r : Recovery)
         → SaysRecovery (bare protocol.now) (view failed.now) (view number.now) (view pairs.now) r → ⊥) }
 {
@@ -62,7 +65,8 @@ fn read_recovery(
 // The Recover that four parts say.
 fn recover(accepted: &Accepted, parts: &[Value]) -> Option<Recovery>
     requires { length parts.now ≡ 4 }
-    ensures some { IfSome result (λ r. SaysEntry (bare accepted.now.protocol) (list_of (map view parts.now)) (recovered r)) }
+    ensures some { IfSome result (λ r. SaysEntry (bare accepted.now.protocol) (list_of (map view parts.now))
+        (recovered r)) }
     ensures none { IfNone result ((r : Recovery)
         → SaysEntry (bare accepted.now.protocol) (list_of (map view parts.now)) (recovered r) → ⊥) }
 {

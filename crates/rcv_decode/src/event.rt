@@ -38,7 +38,8 @@ fn point(accepted: &Accepted, value: &Value) -> Option<Point>
     ensures first { IfSome result (λ p. 1 ≤ p) }
     ensures last { IfSome result (λ p. p ≤ (net_for (bare accepted.now.protocol)).count) }
     ensures some { IfSome result (λ p. view value.now ≡ count p) }
-    ensures none { IfNone result ((p : ℕ) → 1 ≤ p → p ≤ (net_for (bare accepted.now.protocol)).count → view value.now ≡ count p → ⊥) }
+    ensures none { IfNone result ((p : ℕ) → 1 ≤ p → p ≤ (net_for (bare accepted.now.protocol)).count
+        → view value.now ≡ count p → ⊥) }
 {
     let number = count(value)?;
     if number == 0 || number > points(accepted) as u64 {
@@ -82,7 +83,8 @@ fn event(accepted: &Accepted, dir: Dir, said: &Said<'_>) -> Option<Event>
 pub(crate) fn send(accepted: &Accepted, parts: &[Value]) -> Option<Event>
     requires { length parts.now ≡ 6 }
     ensures some { IfSome result (λ e. SaysEntry (bare accepted.now.protocol) (list_of (map view parts.now)) (Send e)) }
-    ensures none { IfNone result ((e : Event) → SaysEntry (bare accepted.now.protocol) (list_of (map view parts.now)) (Send e) → ⊥) }
+    ensures none { IfNone result ((e : Event)
+        → SaysEntry (bare accepted.now.protocol) (list_of (map view parts.now)) (Send e) → ⊥) }
 {
     if !is_text(&parts[0], b"send") {
         return None;
@@ -102,7 +104,8 @@ pub(crate) fn send(accepted: &Accepted, parts: &[Value]) -> Option<Event>
 pub(crate) fn recv(accepted: &Accepted, parts: &[Value]) -> Option<Event>
     requires { length parts.now ≡ 7 }
     ensures some { IfSome result (λ e. SaysEntry (bare accepted.now.protocol) (list_of (map view parts.now)) (Recv e)) }
-    ensures none { IfNone result ((e : Event) → SaysEntry (bare accepted.now.protocol) (list_of (map view parts.now)) (Recv e) → ⊥) }
+    ensures none { IfNone result ((e : Event)
+        → SaysEntry (bare accepted.now.protocol) (list_of (map view parts.now)) (Recv e) → ⊥) }
 {
     if !is_text(&parts[0], b"recv") {
         return None;

@@ -1,6 +1,7 @@
 // Texts, numbers and lists of a value that was read.
 
-ghost use Rattle.std.specs.Prelude.{◌≡◌, ◌<◌, ◌≤◌, ◌^◌, ℕ, ℤ, List, [], length, slice_index_or, true, false, FitsSigned, map, IfSome, IfNone};
+ghost use Rattle.std.specs.Prelude.{◌≡◌, ◌<◌, ◌≤◌, ◌^◌, ℕ, ℤ, List, [], length, slice_index_or, true, false};
+ghost use Rattle.std.specs.Prelude.{FitsSigned, map, IfSome, IfNone};
 ghost use Rattle.serde_json.specs.Data.{Data, number, string};
 ghost use Rattle.serde_json.specs.Find.{of_integer};
 ghost use Rattle.serde_json.specs.View.{view};

@@ -47,7 +47,8 @@ pub(crate) fn read_lines(
 ) -> Result<Vec<RoleLine>, JsonError>
     requires few { length protocol.now.roles ≤ 8 }
     ensures ok { IfOk result (λ found. SaysLines (bare protocol.now) (view value.now) found.items) }
-    ensures shape { IfErr result (λ e. e ≡ Shape → (lines : List RoleLine) → SaysLines (bare protocol.now) (view value.now) lines → ⊥) }
+    ensures shape { IfErr result (λ e. e ≡ Shape → (lines : List RoleLine)
+        → SaysLines (bare protocol.now) (view value.now) lines → ⊥) }
 {
     let parts = items(value).ok_or(JsonError::Shape)?;
     if parts.len() != protocol.roles.as_slice().len() {

@@ -18,7 +18,8 @@ pub(crate) struct JournalMembers<'a> {
 
 // The value of the next member, where that has this key.
 fn next<'a>(members: &mut Iter<'a, String, Value>, key: &[u8]) -> Option<&'a Value>
-    ensures some { IfSome result (λ v. members_view members.old ≡ member key.now (view v.now) (members_view members.new)) }
+    ensures some { IfSome result (λ v. members_view members.old
+        ≡ member key.now (view v.now) (members_view members.new)) }
     ensures none { IfNone result ((d : Data) (rest : Members) → members_view members.old ≡ member key.now d rest → ⊥) }
 {
     let (name, value) = members.next()?;
@@ -31,8 +32,10 @@ fn next<'a>(members: &mut Iter<'a, String, Value>, key: &[u8]) -> Option<&'a Val
 
 // The values of the members `entries`, `limited` and `roles`, where the value is an object of these alone.
 pub(crate) fn members(value: &Value) -> Option<JournalMembers<'_>>
-    ensures some { IfSome result (λ m. view value.now ≡ three_data (view m.entries.now) (view m.limited.now) (view m.roles.now)) }
-    ensures none { IfNone result ((entries limited roles : Data) → view value.now ≡ three_data entries limited roles → ⊥) }
+    ensures some { IfSome result (λ m. view value.now
+        ≡ three_data (view m.entries.now) (view m.limited.now) (view m.roles.now)) }
+    ensures none { IfNone result ((entries limited roles : Data) → view value.now ≡ three_data entries limited roles
+        → ⊥) }
 {
     let mut all = value.as_object()?.iter();
     // In order of their keys, as an object has them.

@@ -7,8 +7,8 @@ use crate::explanation::Explanation;
 use crate::{plans, rules, scripts, texts};
 use std::alloc::{AllocError, Global};
 
-/// The explanation of a code: of those that docs/FORMATS.md lists, which are 10 to 27, 30 to 36 and 40 to 43, and of 50,
-/// which a journal has that isn't of the form. None of any other number.
+/// The explanation of a code: of those that docs/FORMATS.md lists, which are 10 to 27, 30 to 36 and 40 to 43, and of
+/// 50, which a journal has that isn't of the form. None of any other number.
 pub fn explain(code: u8) -> Option<Explanation>
     ensures some { IfSome result (λ e. IsNamed code e.name.now) }
     ensures none { IfNone result (HasRule code → ⊥) }

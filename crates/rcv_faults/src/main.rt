@@ -1,5 +1,5 @@
-// Tries the whole program over memory with each kind of fault: an input that is cut, calls of the source and of the sink
-// that fail, and roles that crash. Prints what differs.
+// Tries the whole program over memory with each kind of fault: an input that is cut, calls of the source and of the
+// sink that fail, and roles that crash. Prints what differs.
 #![tactic(auto)]
 
 mod call;

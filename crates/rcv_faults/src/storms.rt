@@ -31,8 +31,8 @@ const ROLES: [Role; 3] = [
 // In the plan of many crash lines each role has one at each count up to this one.
 const MOST: u32 = 20;
 
-/// Prints each plan of crashes with which this session doesn't complete, or some role doesn't keep what it keeps in this
-/// journal.
+/// Prints each plan of crashes with which this session doesn't complete, or some role doesn't keep what it keeps in
+/// this journal.
 pub fn try_storms<R: AllocGlobal + Print + Threads + Sync>(
     rt: &R,
     session: &[u8],

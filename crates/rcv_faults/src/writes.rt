@@ -8,8 +8,8 @@ use std::thread::Threads;
 // So many calls are tried, which are more than the session's journal needs.
 const CALLS: u64 = 60;
 
-/// Prints each call of the sink that fails, where the answer isn't: status 5 and the pieces of this journal of the session
-/// before that call if it is made, else the journal.
+/// Prints each call of the sink that fails, where the answer isn't: status 5 and the pieces of this journal of the
+/// session before that call if it is made, else the journal.
 pub fn try_writes<R: AllocGlobal + Print + Threads + Sync>(
     rt: &R,
     session: &[u8],

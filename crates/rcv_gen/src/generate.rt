@@ -1,7 +1,8 @@
 // A ring of eight roles that passes a value round and round, with two crashes.
 
 ghost use Rattle.std.specs.Prelude.{◌≡◌, ◌≤◌, ◌<◌, ◌+◌, ◌++◌, codes, decimal, length, string_bytes, IfOk, OnOk};
-ghost use Rattle.rcv_gen.specs.Generated.{first_script, generated, head, message_line, messages, plan, protocol, script_line, scripts};
+ghost use Rattle.rcv_gen.specs.Generated.{first_script, generated, head, message_line, messages, plan, protocol};
+ghost use Rattle.rcv_gen.specs.Generated.{script_line, scripts};
 
 use std::alloc::{AllocError, Global};
 use std::fmt::Write;
@@ -92,9 +93,9 @@ fn push_plan(text: &mut String) -> Result<(), AllocError>
     text.push_str("%% plan\nevery R3 64\ncrash R3 101\ncrash R6 250\n")
 }
 
-/// The generated input with this number, which is at most 4,000: a value goes `200 + number` times round a ring of eight
-/// roles, and its plan has a crash line for R3 and for R6. An input of this length may be read. It fails where memory
-/// runs out.
+/// The generated input with this number, which is at most 4,000: a value goes `200 + number` times round a ring of
+/// eight roles, and its plan has a crash line for R3 and for R6. An input of this length may be read. It fails where
+/// memory runs out.
 #[tactic(auto, using(crate::proofs::Lengths::generated_fits))]
 pub fn generate(alloc: Global, number: u32) -> Result<Vec<u8>, AllocError>
     requires { number ≤ 4000 }

@@ -1,7 +1,8 @@
 // What a session comes to, in numbers.
 
 ghost use Rattle.std.specs.Prelude.{◌≡◌, ℕ, ◌+◌, ◌-◌, ◌^◌, ◌++◌, List, length, string_bytes, IfOk, OnOk};
-ghost use Rattle.rcv_gen.specs.Summary.{CountsWithin, counted, counts_of, events_line, failures_line, number_line, size_line, summary_text};
+ghost use Rattle.rcv_gen.specs.Summary.{CountsWithin, counted, counts_of, events_line, failures_line, number_line};
+ghost use Rattle.rcv_gen.specs.Summary.{size_line, summary_text};
 
 use rcv_tree::entry::Entry;
 use std::alloc::{AllocError, Global};

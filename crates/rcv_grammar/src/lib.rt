@@ -1,7 +1,8 @@
 // Laws of the grammar and of the machine that reads it, which no crate below cites.
 #![tactic(auto)]
 
-ghost use Rattle.rcv_grammar.specs.Laws.{CanonicalSourcesAreRead, PartsHaveOneAnswer, ReadTextsAreFull, ReadTextsHaveNames, TextsHaveOneTree};
+ghost use Rattle.rcv_grammar.specs.Laws.{CanonicalSourcesAreRead, PartsHaveOneAnswer, ReadTextsAreFull};
+ghost use Rattle.rcv_grammar.specs.Laws.{ReadTextsHaveNames, TextsHaveOneTree};
 
 /// The canonical source of a protocol that was read, with one receiver for each message, is read as this protocol.
 pub fn canonical_sources_are_read()

@@ -45,8 +45,8 @@ fn name_of(code: u8) -> &'static [u8]
     }
 }
 
-/// What is written for a refusal, as `refused 11 Token line 2`, `refused 24 NotEnabled C 0` or `refused 27 NoRole`, and a
-/// line end. It fails where memory runs out.
+/// What is written for a refusal, as `refused 11 Token line 2`, `refused 24 NotEnabled C 0` or `refused 27 NoRole`, and
+/// a line end. It fails where memory runs out.
 pub fn refusal_line(alloc: Global, refused: &Refused) -> Result<Vec<u8>, AllocError>
     ensures { IfOk result (λ text. text.items ≡ refusal_line refused.now) }
 {

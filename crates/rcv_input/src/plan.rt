@@ -24,7 +24,8 @@ pub fn read_part(
     requires short { length input.now + 1 < 2 ^ 32 }
     requires inside { LiesIn input.now part }
     requires part { part ≡ (parts_of input.now).plan }
-    ensures read { MatchResult result (IsPlanOf input.now accepted.now.protocol) (IsUnplanned input.now accepted.now.protocol) }
+    ensures read { MatchResult result (IsPlanOf input.now accepted.now.protocol)
+        (IsUnplanned input.now accepted.now.protocol) }
     ensures planned { IfOk result (IsPlanned (length accepted.now.protocol.roles)) }
 {
     let list = tokens(alloc, input, part)?;

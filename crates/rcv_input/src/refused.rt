@@ -50,7 +50,8 @@ impl<T: Drop> From<AllocFailed<T>> for InputError {
 /// An error that has a line, where it is a refusal.
 pub fn at_line(error: TextError) -> InputError
     requires { IsTextError error }
-    ensures refused { (code line : ℕ) → error ≡ errors.Refused (Text code line) → result ≡ InputError.Refused (Refused.Line code line) }
+    ensures refused { (code line : ℕ) → error ≡ errors.Refused (Text code line)
+        → result ≡ InputError.Refused (Refused.Line code line) }
     ensures memory { error ≡ errors.Memory → result ≡ InputError.Memory }
 {
     match error {

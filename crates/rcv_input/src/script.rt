@@ -25,7 +25,8 @@ pub fn read_part(
     requires inside { LiesIn input.now part }
     requires part { part ≡ (parts_of input.now).scripts }
     ensures read { MatchResult result
-        (λ scripts. AreScriptsOf input.now accepted.now.protocol scripts.lines) (IsUnscripted input.now accepted.now.protocol) }
+        (λ scripts. AreScriptsOf input.now accepted.now.protocol scripts.lines)
+        (IsUnscripted input.now accepted.now.protocol) }
     ensures belong { IfOk result (AreScriptsFor accepted.now.protocol) }
 {
     let list = tokens(alloc, input, part)?;

@@ -1,5 +1,6 @@
 // A source over bytes in memory, which may give them in small pieces and fail at chosen calls.
-ghost use Rattle.std.specs.Prelude.{◌≡◌, ◌↔◌, ◌<◌, ◌≤◌, ◌++◌, [], Some, min, length, take, drop, IsErr, IfOk, OnOk, OnErr};
+ghost use Rattle.std.specs.Prelude.{◌≡◌, ◌↔◌, ◌<◌, ◌≤◌, ◌++◌, [], Some, min, length, take, drop, IsErr, IfOk, OnOk};
+ghost use Rattle.std.specs.Prelude.{OnErr};
 ghost use Rattle.rcv_io.specs.Causes.{HasCause};
 ghost use Rattle.rcv_io.specs.Memory.{SourceFails, after_read, after_failed_read};
 

@@ -20,7 +20,8 @@ pub trait Sink {
 
     /// Writes some bytes from the front of `piece`, and answers how many: 0 only where `piece` is empty.
     ///
-    /// `Failed` comes only where the count of faults rose, and nothing was written then. `Ok` leaves the count as it was.
+    /// `Failed` comes only where the count of faults rose, and nothing was written then. `Ok` leaves the count as it
+    /// was.
     fn write(&mut self, piece: &[u8]) -> Result<usize, Failed>
         ensures bound { WritesAtMost result piece.now }
         ensures some { IfOk result (λ n. 0 < length piece.now → 0 < n) }

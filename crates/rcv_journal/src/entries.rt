@@ -20,7 +20,8 @@ use rcv_tree::role::{RoleId, RoleSet};
 // What a Send and a Recv have in common behind how they begin: `VALUE @STAMP`.
 #[inline(always)]
 fn write_rest<K: Sink>(page: &mut Page, sink: &mut K, event: &Event)
-    ensures { Adds (at K.written K.faults sink.old page.old) (at K.written K.faults sink.new page.new) (rest_text event.now) }
+    ensures { Adds (at K.written K.faults sink.old page.old) (at K.written K.faults sink.new page.new)
+        (rest_text event.now) }
 {
     page.signed_number(sink, event.value);
     page.word(sink, b" @");
@@ -32,7 +33,8 @@ fn write_rest<K: Sink>(page: &mut Page, sink: &mut K, event: &Event)
 fn write_send<K: Sink>(page: &mut Page, sink: &mut K, setup: &Setup, heads: &[Head], event: &Event)
     requires heads { AreHeads setup.now heads.now }
     requires named { IsNamed setup.now (Send event.now) }
-    ensures { Adds (at K.written K.faults sink.old page.old) (at K.written K.faults sink.new page.new) (entry_line setup.now (Send event.now)) }
+    ensures { Adds (at K.written K.faults sink.old page.old) (at K.written K.faults sink.new page.new)
+        (entry_line setup.now (Send event.now)) }
 {
     let head = &heads[event.point.0 as usize - 1];
     page.word(sink, head.send.as_slice());
@@ -45,7 +47,8 @@ fn write_send<K: Sink>(page: &mut Page, sink: &mut K, setup: &Setup, heads: &[He
 fn write_recv<K: Sink>(page: &mut Page, sink: &mut K, setup: &Setup, heads: &[Head], event: &Event)
     requires heads { AreHeads setup.now heads.now }
     requires named { IsNamed setup.now (Recv event.now) }
-    ensures { Adds (at K.written K.faults sink.old page.old) (at K.written K.faults sink.new page.new) (entry_line setup.now (Recv event.now)) }
+    ensures { Adds (at K.written K.faults sink.old page.old) (at K.written K.faults sink.new page.new)
+        (entry_line setup.now (Recv event.now)) }
 {
     let head = &heads[event.point.0 as usize - 1];
     page.word(sink, head.recv.as_slice());
@@ -58,7 +61,8 @@ fn write_recv<K: Sink>(page: &mut Page, sink: &mut K, setup: &Setup, heads: &[He
 // The line of a Crash.
 fn write_crash<K: Sink>(page: &mut Page, sink: &mut K, setup: &Setup, role: RoleId)
     requires { role < roles_of setup.now }
-    ensures { Adds (at K.written K.faults sink.old page.old) (at K.written K.faults sink.new page.new) (entry_line setup.now (Crash role)) }
+    ensures { Adds (at K.written K.faults sink.old page.old) (at K.written K.faults sink.new page.new)
+        (entry_line setup.now (Crash role)) }
 {
     page.word(sink, b"crash ");
     page.word(sink, name_of(setup, role));
@@ -132,7 +136,8 @@ fn write_recover<K: Sink>(
 fn write_entry<K: Sink>(page: &mut Page, sink: &mut K, setup: &Setup, heads: &[Head], entry: &Entry)
     requires heads { AreHeads setup.now heads.now }
     requires named { IsNamed setup.now entry.now }
-    ensures { Adds (at K.written K.faults sink.old page.old) (at K.written K.faults sink.new page.new) (entry_line setup.now entry.now) }
+    ensures { Adds (at K.written K.faults sink.old page.old) (at K.written K.faults sink.new page.new)
+        (entry_line setup.now entry.now) }
 {
     match entry {
         Entry::Send(event) => write_send(page, sink, setup, heads, event),

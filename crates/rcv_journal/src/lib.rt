@@ -19,8 +19,8 @@ pub use fault::TextError;
 /// Want of memory, where nothing else can fail.
 pub use std::alloc::AllocError as Memory;
 
-/// Each role and each point in a legal journal of an accepted protocol has a name, and its events are made by the ends of
-/// their points.
+/// Each role and each point in a legal journal of an accepted protocol has a name, and its events are made by the ends
+/// of their points.
 pub fn legal_journals_are_named()
     ensures { LegalJournalsAreNamed }
 {}

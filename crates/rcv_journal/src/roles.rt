@@ -26,7 +26,8 @@ fn text_of_word(word: RoleWord) -> &'static [u8]
 // The line of a role.
 fn write_role<K: Sink>(page: &mut Page, sink: &mut K, setup: &Setup, line: &RoleLine)
     requires { line.now.role < roles_of setup.now }
-    ensures { Adds (at K.written K.faults sink.old page.old) (at K.written K.faults sink.new page.new) (role_line setup.now line.now) }
+    ensures { Adds (at K.written K.faults sink.old page.old) (at K.written K.faults sink.new page.new)
+        (role_line setup.now line.now) }
 {
     page.word(sink, b"role ");
     page.word(sink, name_of(setup, line.role));
@@ -60,7 +61,8 @@ fn are_done(lines: &[RoleLine]) -> bool
 // The name of the role if it is at the limit.
 fn write_if_limited<K: Sink>(page: &mut Page, sink: &mut K, setup: &Setup, line: &RoleLine)
     requires { line.now.role < roles_of setup.now }
-    ensures { Adds (at K.written K.faults sink.old page.old) (at K.written K.faults sink.new page.new) (limit_text setup.now line.now) }
+    ensures { Adds (at K.written K.faults sink.old page.old) (at K.written K.faults sink.new page.new)
+        (limit_text setup.now line.now) }
 {
     if line.word != RoleWord::Limit {
         return;
@@ -83,7 +85,8 @@ fn write_limited<K: Sink>(page: &mut Page, sink: &mut K, setup: &Setup, lines: &
 // How the session ended.
 pub fn write_last<K: Sink>(page: &mut Page, sink: &mut K, setup: &Setup, lines: &[RoleLine])
     requires { HaveRoles setup.now lines.now }
-    ensures { Adds (at K.written K.faults sink.old page.old) (at K.written K.faults sink.new page.new) (last_line setup.now lines.now) }
+    ensures { Adds (at K.written K.faults sink.old page.old) (at K.written K.faults sink.new page.new)
+        (last_line setup.now lines.now) }
 {
     if are_done(lines) {
         return page.word(sink, b"completed\n");

@@ -115,8 +115,8 @@ fn write_more(
     Ok(())
 }
 
-/// The text goes on with the entries, with commas between them. The roles and points that they name are declared, and the
-/// ends of a point make its events. Fails where memory runs out.
+/// The text goes on with the entries, with commas between them. The roles and points that they name are declared, and
+/// the ends of a point make its events. Fails where memory runs out.
 pub fn write_entries(
     alloc: Global,
     text: &mut Writer,

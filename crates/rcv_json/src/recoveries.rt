@@ -60,8 +60,8 @@ fn cuts(
     Ok(list)
 }
 
-/// A recovery of a declared role: `["recover",ROLE,UNDONE,[[ROLE,KEPT],..]]`, with a pair for each concerned role. Fails
-/// where memory runs out.
+/// A recovery of a declared role: `["recover",ROLE,UNDONE,[[ROLE,KEPT],..]]`, with a pair for each concerned role.
+/// Fails where memory runs out.
 pub fn recovery_value(
     alloc: Global,
     setup: &Setup,

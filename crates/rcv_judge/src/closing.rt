@@ -1,6 +1,7 @@
 // The lines behind the entries of a journal: what its roles did, and how the session ended.
 
-ghost use Rattle.std.specs.Prelude.{◌≡◌, ◌<◌, ◌^◌, ◌↔◌, ℕ, false, length, slice_get, IsTrue, [], ◌∷◌, ◌++◌, IfOk, OnOk, IfSome, IfNone};
+ghost use Rattle.std.specs.Prelude.{◌≡◌, ◌<◌, ◌^◌, ◌↔◌, ℕ, false, length, slice_get, IsTrue, [], ◌∷◌, ◌++◌, IfOk, OnOk};
+ghost use Rattle.std.specs.Prelude.{IfSome, IfNone};
 ghost use Rattle.rcv_session.specs.Session.{rules_of};
 ghost use Rattle.rcv_core.specs.Book.{state_of, HasMore};
 ghost use Rattle.rcv_journal.specs.Lines.{AreLinesOf};
@@ -73,13 +74,14 @@ fn is_ended(book: &Book<'_>) -> bool
     }
 }
 
-// Whether the last line of a journal says how the session ended, where the lines of the roles are found there, and these
-// roles are at the limit.
+// Whether the last line of a journal says how the session ended, where the lines of the roles are found there, and
+// these roles are at the limit.
 fn closes(book: &Book<'_>, journal: &Journal, lines: &[RoleLine], limited: &[RoleId]) -> bool
     requires lines { AreLinesOf (rules_of book.now.setup) (state_of book.now) lines.now }
     requires found { (r : ℕ) → r < length lines.now → slice_get journal.now.roles r ≡ slice_get lines.now r }
     requires limited { limited.now ≡ limited_in lines.now }
-    ensures { IsTrue result ↔ Closes (rules_of book.now.setup) (state_of book.now) journal.now.roles journal.now.limited }
+    ensures { IsTrue result ↔ Closes (rules_of book.now.setup)
+        (state_of book.now) journal.now.roles journal.now.limited }
 {
     if journal.roles.len() != lines.len() {
         return false;
@@ -90,8 +92,8 @@ fn closes(book: &Book<'_>, journal: &Journal, lines: &[RoleLine], limited: &[Rol
     is_ended(book)
 }
 
-/// The first closing line that isn't what the entries of a book leave: the lines of the roles have the numbers from 0 on,
-/// and the last line has the number behind them. None where all are right, and the session is at its end.
+/// The first closing line that isn't what the entries of a book leave: the lines of the roles have the numbers from 0
+/// on, and the last line has the number behind them. None where all are right, and the session is at its end.
 ///
 /// The error comes where no memory was left.
 pub fn wrong_closing(

@@ -34,8 +34,8 @@ fn reached_by(book: &Book<'_>, known: &[Option<Reached>; 8], role: RoleId) -> Re
     }
 }
 
-// Whether an event of a declared role that isn't the role's step is a Send that may come all the same: its channel has no
-// room. The role's script is asked with the variables behind all that the role did, which are known then.
+// Whether an event of a declared role that isn't the role's step is a Send that may come all the same: its channel has
+// no room. The role's script is asked with the variables behind all that the role did, which are known then.
 fn may_send_beyond(book: &Book<'_>, known: &mut [Option<Reached>; 8], event: &Event) -> bool
     requires declared { event.now.role < roles_of book.now.setup }
     requires known { AreReached book.now known.old }

@@ -33,13 +33,15 @@ impl From<AllocError> for JudgeError {
     }
 }
 
-/// The book of a session with these entries, of which there are fewer than 2^32: a legal journal, whatever the room of its
-/// channels. `Entry` comes exactly where one of them may not come behind those before it. `Memory` where memory runs out.
+/// The book of a session with these entries, of which there are fewer than 2^32: a legal journal, whatever the room of
+/// its channels. `Entry` comes exactly where one of them may not come behind those before it. `Memory` where memory
+/// runs out.
 pub fn judge<'a>(alloc: Global, setup: &'a Setup, entries: &[Entry]) -> Result<Book<'a>, JudgeError>
     requires { length entries.now < 2 ^ 32 }
     ensures ok { IfOk result (λ book. book ≡ record { setup = setup.now; entries = entries.now }) }
     ensures legal { IfOk result (λ _. IsLegal (rules_of setup.now) entries.now) }
-    ensures wrong { IfErr result (λ e. (k : ℕ) → e ≡ JudgeError.Entry k → IsFirstWrong (rules_of setup.now) entries.now k) }
+    ensures wrong { IfErr result (λ e. (k : ℕ) → e ≡ JudgeError.Entry k
+        → IsFirstWrong (rules_of setup.now) entries.now k) }
 {
     let mut book = Book::new(alloc, setup)?;
     book.stop_choosing();

@@ -78,7 +78,8 @@ fn place(book: &Book<'_>, role: RoleId) -> u16
 fn is_stamped(book: &Book<'_>, event: &Event) -> bool
     requires { event.now.role < roles_of book.now.setup }
     ensures { IsTrue result ↔ ((event.now.dir ≡ Sent)
-        × (event.now.stamp ≡ slice_index (state_of book.now).clocks event.now.role + 1) × (event.now.sent ≡ event.now.stamp)) }
+        × (event.now.stamp ≡ slice_index (state_of book.now).clocks event.now.role + 1)
+        × (event.now.sent ≡ event.now.stamp)) }
 {
     if event.dir != Dir::Sent {
         return false;
@@ -96,7 +97,8 @@ fn is_chosen(book: &Book<'_>, event: &Event, vars: &Vars, offered: &[Point]) -> 
     requires declared { event.now.role < roles_of book.now.setup }
     requires free { IsFree (rules_of book.now.setup) (state_of book.now) event.now.role }
     requires vars { vars.now ≡ vars_in book.now event.now.role }
-    requires next { AreNext (net_for book.now.setup) event.now.role (place (state_of book.now) event.now.role) offered.now }
+    requires next { AreNext (net_for book.now.setup) event.now.role
+        (place (state_of book.now) event.now.role) offered.now }
     ensures { IsTrue result ↔ MaySend (rules_of book.now.setup) (state_of book.now) event.now }
 {
     // Tells the proof that the journal is legal, and the protocol accepted.
@@ -121,7 +123,8 @@ fn is_chosen(book: &Book<'_>, event: &Event, vars: &Vars, offered: &[Point]) -> 
     is_stamped(book, event)
 }
 
-/// Whether an event of a declared role with these variables is a Send that may come, whether or not its channel has room.
+/// Whether an event of a declared role with these variables is a Send that may come, whether or not its channel has
+/// room.
 pub fn may_send(book: &Book<'_>, event: &Event, vars: &Vars) -> bool
     requires declared { event.now.role < roles_of book.now.setup }
     requires vars { vars.now ≡ vars_in book.now event.now.role }

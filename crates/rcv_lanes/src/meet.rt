@@ -23,7 +23,8 @@ fn meet_at<'a>(lanes: &mut Vec<Lane<'a>>, place: usize, sender: &mut Lane<'a>)
     requires place { place < length lanes.old.items }
     requires pair { (d : CellView) → CanMeet (cell_at lanes.old.items place d) sender.old }
     ensures count { length lanes.new.items ≡ length lanes.old.items }
-    ensures others { (k : ℕ) (d : CellView) → (k ≡ place → ⊥) → cell_at lanes.new.items k d ≡ cell_at lanes.old.items k d }
+    ensures others { (k : ℕ) (d : CellView) → (k ≡ place → ⊥)
+        → cell_at lanes.new.items k d ≡ cell_at lanes.old.items k d }
     ensures receiver { (d : CellView) → HasMet (cell_at lanes.old.items place d) (cell_at lanes.new.items place d) }
     ensures sender { HasMet sender.old sender.new }
     ensures begun { (d : CellView) → HasBegun (cell_at lanes.old.items place d) sender.old }
@@ -37,7 +38,8 @@ fn meet_rest<'a>(lanes: &mut Vec<Lane<'a>>, sender: &mut Lane<'a>)
     requires { (k : ℕ) (d : CellView) → k < length lanes.old.items → CanMeet (cell_at lanes.old.items k d) sender.old }
     ensures met { AllMet lanes.old.items lanes.new.items }
     ensures sender { HasMet sender.old sender.new }
-    ensures begun { (k : ℕ) (d : CellView) → k < length lanes.old.items → HasBegun (cell_at lanes.old.items k d) sender.old }
+    ensures begun { (k : ℕ) (d : CellView) → k < length lanes.old.items
+        → HasBegun (cell_at lanes.old.items k d) sender.old }
 {
     for place in 0..lanes.len() {
         meet_at(lanes, place, sender);

@@ -3,7 +3,8 @@
 ghost use Rattle.std.specs.Prelude.{◌≡◌, ◌+◌, ◌<◌, ◌≤◌, ◌↔◌, ℕ, IsTrue, [], ◌∷◌, ◌++◌, length, IfOk, OnOk};
 ghost use Rattle.rcv_session.specs.Session.{roles_of, net_for, rules_of};
 ghost use Rattle.rcv_lanes.specs.Home.{AreHome};
-ghost use Rattle.rcv_lanes.specs.Making.{ArePointsBetween, IsSetBetween, IsNewChannel, AreOpen, AreOpenTo, AreFirst, with_ends, no_ends};
+ghost use Rattle.rcv_lanes.specs.Making.{ArePointsBetween, IsSetBetween, IsNewChannel, AreOpen, AreOpenTo, AreFirst};
+ghost use Rattle.rcv_lanes.specs.Making.{with_ends, no_ends};
 
 use crate::lanes::Lane;
 use rcv_core::setup::Setup;

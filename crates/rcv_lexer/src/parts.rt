@@ -1,7 +1,8 @@
 // The parts of a bundle.
 
 ghost use Rattle.std.specs.Prelude.{◌≡◌, ◌+◌, ◌^◌, ◌≤◌, ◌<◌, length, IfSome, true};
-ghost use Rattle.rcv_lexer.specs.Parts.{LiesIn, line_end, line_of, scripts_word, plan_word, here, plan_here, first_from, parts_of, span};
+ghost use Rattle.rcv_lexer.specs.Parts.{LiesIn, line_end, line_of, scripts_word, plan_word, here, plan_here};
+ghost use Rattle.rcv_lexer.specs.Parts.{first_from, parts_of, span};
 
 use crate::token::Span;
 
@@ -42,7 +43,8 @@ fn line_of(word: &[u8], text: &[u8]) -> Option<usize>
 fn here(scripts: bool, fresh: bool, place: usize, text: &[u8]) -> Option<Separator>
     requires { place + length text.now < 2 ^ 63 }
     ensures is { result ≡ here scripts fresh place text.now }
-    ensures within { IfSome result (λ s. (s.place ≡ place) × (s.place ≤ s.behind) × (s.behind ≤ place + length text.now)) }
+    ensures within { IfSome result (λ s. (s.place ≡ place) × (s.place ≤ s.behind)
+        × (s.behind ≤ place + length text.now)) }
 {
     if !fresh {
         return None;
@@ -62,7 +64,8 @@ fn here(scripts: bool, fresh: bool, place: usize, text: &[u8]) -> Option<Separat
 fn first_from(scripts: bool, place: usize, text: &[u8]) -> Option<Separator>
     requires { place + length text.now < 2 ^ 63 }
     ensures is { result ≡ first_from scripts true place text.now }
-    ensures within { IfSome result (λ s. (place ≤ s.place) × (s.place ≤ s.behind) × (s.behind ≤ place + length text.now)) }
+    ensures within { IfSome result (λ s. (place ≤ s.place) × (s.place ≤ s.behind)
+        × (s.behind ≤ place + length text.now)) }
 {
     let mut rest = text;
     let mut at = place;

@@ -1,6 +1,7 @@
 // The tokens of a part.
 
-ghost use Rattle.std.specs.Prelude.{◌≡◌, ◌+◌, ◌^◌, ◌≤◌, ◌<◌, ◌==◌, ◌++◌, length, count_by, IfOk, IfErr, OnOk, MatchResult};
+ghost use Rattle.std.specs.Prelude.{◌≡◌, ◌+◌, ◌^◌, ◌≤◌, ◌<◌, ◌==◌, ◌++◌, length, count_by, IfOk, IfErr, OnOk};
+ghost use Rattle.std.specs.Prelude.{MatchResult};
 ghost use Rattle.std.specs.List.{All};
 ghost use Rattle.rcv_lexer.specs.Parts.{LiesIn};
 ghost use Rattle.rcv_lexer.specs.Tokens.{AreTokens, IsRefused, token_at};

@@ -58,8 +58,10 @@ fn point(accepted: &Accepted, field: &[u8]) -> Option<Point>
     ensures first { IfSome result (λ p. 1 ≤ p) }
     ensures last { IfSome result (λ p. p ≤ (net_for (bare accepted.now.protocol)).count) }
     ensures some { IfSome result (λ p. field.now ≡ decimal p) }
-    ensures only { IfSome result (λ p. (q : ℕ) → q ≤ (net_for (bare accepted.now.protocol)).count → field.now ≡ decimal q → q ≡ p) }
-    ensures none { IfNone result ((p : ℕ) → 1 ≤ p → p ≤ (net_for (bare accepted.now.protocol)).count → field.now ≡ decimal p → ⊥) }
+    ensures only { IfSome result (λ p. (q : ℕ) → q ≤ (net_for (bare accepted.now.protocol)).count
+        → field.now ≡ decimal q → q ≡ p) }
+    ensures none { IfNone result ((p : ℕ) → 1 ≤ p → p ≤ (net_for (bare accepted.now.protocol)).count
+        → field.now ≡ decimal p → ⊥) }
 {
     let count = count(accepted);
     let number = short_number(field)?;
@@ -98,7 +100,8 @@ fn event_of(
     })
 }
 
-// The event that the six fields say, of which the first is its kind; a Send's, or a Recv's without the stamp of its Send.
+// The event that the six fields say, of which the first is its kind; a Send's, or a Recv's without the stamp of its
+// Send.
 fn event(accepted: &Accepted, dir: Dir, kind: &[u8], fields: &[&[u8]]) -> Option<Event>
     ensures formed { IfSome result (λ e. IsFormedEvent (bare accepted.now.protocol) dir e) }
     ensures sent { IfSome result (λ e. e.sent ≡ e.stamp) }
@@ -121,7 +124,8 @@ fn event(accepted: &Accepted, dir: Dir, kind: &[u8], fields: &[&[u8]]) -> Option
 pub fn send(accepted: &Accepted, fields: &[&[u8]]) -> Option<Event>
     ensures formed { IfSome result (λ e. IsFormedEvent (bare accepted.now.protocol) Sent e) }
     ensures sent { IfSome result (λ e. e.sent ≡ e.stamp) }
-    ensures some { IfSome result (λ e. texts fields.now ≡ event_fields (bare accepted.now.protocol) (codes "send") e []) }
+    ensures some { IfSome result (λ e. texts fields.now
+        ≡ event_fields (bare accepted.now.protocol) (codes "send") e []) }
     ensures none { IfNone result (SayNoEvent (bare accepted.now.protocol) Sent (codes "send") (texts fields.now)) }
 {
     event(accepted, Dir::Sent, b"send", fields)

@@ -3,7 +3,8 @@
 
 ghost use Rattle.rcv_lines.specs.FinalTexts.{FinalTextsAreReadBack};
 ghost use Rattle.rcv_lines.specs.Laws.{LinesEndInFeeds, LinesSayOneThing};
-ghost use Rattle.rcv_lines.specs.ReadingLaws.{JournalsAreReadBack, OneLineIsFirstWrong, TextsHaveOneJournal, WrongTextsHaveNoJournal};
+ghost use Rattle.rcv_lines.specs.ReadingLaws.{JournalsAreReadBack, OneLineIsFirstWrong, TextsHaveOneJournal};
+ghost use Rattle.rcv_lines.specs.ReadingLaws.{WrongTextsHaveNoJournal};
 ghost use Rattle.rcv_lines.specs.SmallScripts.{ValuesFit};
 
 mod entries;

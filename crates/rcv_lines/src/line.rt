@@ -22,16 +22,18 @@ pub enum Line {
     End(Vec<RoleId>),
 }
 
-/// What a line of a journal of this protocol says, which is given with its line feed; none where no line of the form has
-/// this text. It fails where memory runs out.
+/// What a line of a journal of this protocol says, which is given with its line feed; none where no line of the form
+/// has this text. It fails where memory runs out.
 #[tactic(auto, using(crate::proofs::Texts::other_end, crate::proofs::Texts::no_end))]
 pub fn read_line(
     alloc: Global,
     accepted: &Accepted,
     line: &[u8],
 ) -> Result<Option<Line>, AllocError>
-    ensures some { IfOk result (λ read. IfSome read (λ said. SaysLine (bare accepted.now.protocol) line.now (view_of said))) }
-    ensures none { IfOk result (λ read. IfNone read ((said : LineView) → SaysLine (bare accepted.now.protocol) line.now said → ⊥)) }
+    ensures some { IfOk result (λ read. IfSome read
+        (λ said. SaysLine (bare accepted.now.protocol) line.now (view_of said))) }
+    ensures none { IfOk result (λ read. IfNone read
+        ((said : LineView) → SaysLine (bare accepted.now.protocol) line.now said → ⊥)) }
 {
     // Tells the proof that the protocol is accepted.
     let _protocol = accepted.protocol();

@@ -1,6 +1,7 @@
 // Fields that are numbers.
 
-ghost use Rattle.std.specs.Prelude.{◌≡◌, ◌<◌, ◌≤◌, ◌^◌, ◌++◌, ℕ, ℤ, [], ◌∷◌, decimal, true, false, FitsSigned, IfSome, IfNone};
+ghost use Rattle.std.specs.Prelude.{◌≡◌, ◌<◌, ◌≤◌, ◌^◌, ◌++◌, ℕ, ℤ, [], ◌∷◌, decimal, true, false, FitsSigned, IfSome};
+ghost use Rattle.std.specs.Prelude.{IfNone};
 ghost use Rattle.std.specs.Fmt.{signed_decimal};
 ghost use mir.Syntax.{w64};
 

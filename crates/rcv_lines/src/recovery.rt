@@ -1,6 +1,7 @@
 // What fields say of the roles that a recovery concerns.
 
-ghost use Rattle.std.specs.Prelude.{◌≡◌, ◌≤◌, ◌<◌, ◌^◌, ◌==◌, ◌||◌, ◌++◌, ℕ, List, length, slice_index, slice_set, Option, Some, None, IfSome, IfNone};
+ghost use Rattle.std.specs.Prelude.{◌≡◌, ◌≤◌, ◌<◌, ◌^◌, ◌==◌, ◌||◌, ◌++◌, ℕ, List, length, slice_index, slice_set};
+ghost use Rattle.std.specs.Prelude.{Option, Some, None, IfSome, IfNone};
 ghost use Rattle.rcv_tree.specs.Bits.{has_bit};
 ghost use Rattle.rcv_model.specs.Names.{AreDifferent};
 ghost use Rattle.rcv_lines.specs.Cutting.{texts};
@@ -81,7 +82,8 @@ pub fn read_cuts(names: &[Name], fields: &[&[u8]]) -> Option<Cuts>
     requires few { length names.now ≤ 8 }
     requires differ { AreDifferent names.now }
     ensures cuts { IfSome result (λ read. AreCuts names.now read.concerned.0 read.kept) }
-    ensures some { IfSome result (λ read. texts fields.now ≡ cuts_fields names.now read.concerned.0 read.kept (length names.now)) }
+    ensures some { IfSome result (λ read. texts fields.now
+        ≡ cuts_fields names.now read.concerned.0 read.kept (length names.now)) }
     ensures none { IfNone result (SayNoCuts names.now (texts fields.now)) }
 {
     if fields.is_empty() {

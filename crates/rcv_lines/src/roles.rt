@@ -43,7 +43,8 @@ fn line_of(
     ended: &[u8],
 ) -> Option<RoleLine>
     ensures formed { IfSome result (λ line. IsFormedRoleLine (bare accepted.now.protocol) line) }
-    ensures says { IfSome result (λ line. SaysRole (bare accepted.now.protocol) line of.now kept.now raw.now ended.now) }
+    ensures says { IfSome result (λ line. SaysRole
+        (bare accepted.now.protocol) line of.now kept.now raw.now ended.now) }
     ensures none { IfNone result ((line : RoleLine) → IsFormedRoleLine (bare accepted.now.protocol) line
         → SaysRole (bare accepted.now.protocol) line of.now kept.now raw.now ended.now → ⊥) }
 {
@@ -94,7 +95,8 @@ fn limited(
     fields: &[&[u8]],
 ) -> Result<Option<Vec<RoleId>>, AllocError>
     ensures formed { IfOk result (λ read. IfSome read (λ roles. AreLimited (bare accepted.now.protocol) roles.items)) }
-    ensures some { IfOk result (λ read. IfSome read (λ roles. SaysLimited (bare accepted.now.protocol) roles.items (texts fields.now))) }
+    ensures some { IfOk result (λ read. IfSome read
+        (λ roles. SaysLimited (bare accepted.now.protocol) roles.items (texts fields.now))) }
     ensures none { IfOk result (λ read. IfNone read (SayNoLimited (bare accepted.now.protocol) (texts fields.now))) }
 {
     let Some((kind, rest)) = fields.split_first() else {
@@ -118,7 +120,8 @@ pub fn end(
     fields: &[&[u8]],
 ) -> Result<Option<Vec<RoleId>>, AllocError>
     ensures formed { IfOk result (λ read. IfSome read (λ roles. AreLimited (bare accepted.now.protocol) roles.items)) }
-    ensures some { IfOk result (λ read. IfSome read (λ roles. texts fields.now ≡ end_fields (bare accepted.now.protocol) roles.items)) }
+    ensures some { IfOk result (λ read. IfSome read
+        (λ roles. texts fields.now ≡ end_fields (bare accepted.now.protocol) roles.items)) }
     ensures none { IfOk result (λ read. IfNone read (SayNoEnd (bare accepted.now.protocol) (texts fields.now))) }
 {
     if is_completed(fields) {

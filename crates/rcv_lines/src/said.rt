@@ -20,8 +20,10 @@ pub fn said(
     accepted: &Accepted,
     fields: &[&[u8]],
 ) -> Result<Option<Line>, AllocError>
-    ensures formed { IfOk result (λ read. IfSome read (λ said. IsFormedLine (bare accepted.now.protocol) (view_of said))) }
-    ensures some { IfOk result (λ read. IfSome read (λ said. texts fields.now ≡ line_fields (bare accepted.now.protocol) (view_of said))) }
+    ensures formed { IfOk result (λ read. IfSome read
+        (λ said. IsFormedLine (bare accepted.now.protocol) (view_of said))) }
+    ensures some { IfOk result (λ read. IfSome read
+        (λ said. texts fields.now ≡ line_fields (bare accepted.now.protocol) (view_of said))) }
     ensures none { IfOk result (λ read. IfNone read (SayNothing (bare accepted.now.protocol) (texts fields.now))) }
 {
     if let Some(entry) = entry(accepted, fields) {

@@ -14,8 +14,8 @@ pub use listing::{Listing, points_text};
 pub use rcv_input::{InputError, Refused};
 pub use std::alloc::AllocError as Memory;
 
-/// Where the tokens of a protocol part are read as a protocol, those that are receivers name the receivers of its points,
-/// one for each, in order; and the lines of a listing are those of their first bytes.
+/// Where the tokens of a protocol part are read as a protocol, those that are receivers name the receivers of its
+/// points, one for each, in order; and the lines of a listing are those of their first bytes.
 pub fn lines_are_those_of_receivers()
     ensures { LinesAreThoseOfReceivers }
 {}

@@ -18,8 +18,8 @@ pub fn is_at_place(code: u8) -> bool
     21 <= code && code <= 25
 }
 
-/// The next points of the role at the place where the rule with this code fails, or the point that is wrong. Fails where
-/// memory runs out.
+/// The next points of the role at the place where the rule with this code fails, or the point that is wrong. Fails
+/// where memory runs out.
 pub fn shown(
     alloc: Global,
     points: &Points,

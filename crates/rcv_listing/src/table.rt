@@ -45,7 +45,8 @@ impl Table<'_> {
     pub fn write_point(&self, text: &mut Writer, point: Point) -> Result<(), AllocError>
         requires first { 1 ≤ point }
         requires last { point ≤ length self.now.points.now.messages }
-        ensures { OnOk result (text.new ≡ text.old ++ point_text self.now.roles.now (net_in self.now.points.now) self.now.lines.now point) }
+        ensures { OnOk result (text.new ≡ text.old
+            ++ point_text self.now.roles.now (net_in self.now.points.now) self.now.lines.now point) }
     {
         text.number(point.0)?;
         text.word(b" line ")?;
@@ -62,7 +63,8 @@ impl Table<'_> {
     /// Writes the lines of these points. Fails where memory runs out.
     pub fn write_points(&self, text: &mut Writer, points: &[Point]) -> Result<(), AllocError>
         requires { AreInText (net_in self.now.points.now) points.now }
-        ensures { OnOk result (text.new ≡ text.old ++ points_text self.now.roles.now (net_in self.now.points.now) self.now.lines.now points.now) }
+        ensures { OnOk result (text.new ≡ text.old
+            ++ points_text self.now.roles.now (net_in self.now.points.now) self.now.lines.now points.now) }
     {
         for point in points {
             self.write_point(text, *point)?;
@@ -72,7 +74,8 @@ impl Table<'_> {
 
     /// Writes the lines of all points. Fails where memory runs out.
     pub fn write_all(&self, text: &mut Writer) -> Result<(), AllocError>
-        ensures { OnOk result (text.new ≡ text.old ++ all_text self.now.roles.now (net_in self.now.points.now) self.now.lines.now) }
+        ensures { OnOk result (text.new ≡ text.old
+            ++ all_text self.now.roles.now (net_in self.now.points.now) self.now.lines.now) }
     {
         for before in 0..self.points.count() {
             self.write_point(text, Point(before + 1))?;

@@ -5,7 +5,8 @@ ghost use Rattle.rcv_points.specs.Follow.{net_in};
 ghost use Rattle.rcv_input.specs.Line.{refusal_line};
 ghost use Rattle.rcv_input.specs.declared.refused.Refused.TheVariants.{Rule};
 ghost use Rattle.rcv_explain.specs.Explained.{HasRule};
-ghost use Rattle.rcv_listing.specs.Lines.{name_of, rule_text, stand_text, place_text, subject_text, unreached_text, where_text};
+ghost use Rattle.rcv_listing.specs.Lines.{name_of, rule_text, stand_text, place_text, subject_text, unreached_text};
+ghost use Rattle.rcv_listing.specs.Lines.{where_text};
 ghost use Rattle.rcv_listing.specs.Lines as lines;
 ghost use Rattle.rcv_listing.specs.Lines.{IsNumberIn, IsRuleIn, AddsTold, AddsRefusal};
 
@@ -22,7 +23,9 @@ use std::alloc::{AllocError, Global};
 
 // Where a role is that stands behind a point.
 fn write_behind(text: &mut Writer, table: &Table<'_>, point: Point) -> Result<(), AllocError>
-    ensures { OnOk result (text.new ≡ text.old ++ (codes " is behind its point " ++ decimal point ++ codes ", line " ++ decimal (lines.line_of table.now.lines.now point))) }
+    ensures { OnOk result (text.new ≡ text.old
+        ++ (codes " is behind its point " ++ decimal point ++ codes ", line "
+        ++ decimal (lines.line_of table.now.lines.now point))) }
 {
     text.word(b" is behind its point ")?;
     text.number(point.0)?;
@@ -130,7 +133,8 @@ fn write_told(
 ) -> Result<(), AllocError>
     requires rule { HasRule code }
     requires number { IsNumberIn (net_in table.now.points.now) code number }
-    ensures { OnOk result (AddsTold table.now.roles.now (net_in table.now.points.now) table.now.lines.now code role number text.old text.new) }
+    ensures { OnOk result (AddsTold table.now.roles.now
+        (net_in table.now.points.now) table.now.lines.now code role number text.old text.new) }
 {
     let Some(explanation) = explain(code) else {
         unreachable!();
@@ -154,7 +158,8 @@ pub fn write_refusal(
     refusal: Refusal,
 ) -> Result<(), AllocError>
     requires { IsRuleIn (net_in table.now.points.now) refusal }
-    ensures { OnOk result (AddsRefusal table.now.roles.now (net_in table.now.points.now) table.now.lines.now refusal text.old text.new) }
+    ensures { OnOk result (AddsRefusal table.now.roles.now
+        (net_in table.now.points.now) table.now.lines.now refusal text.old text.new) }
 {
     match refusal {
         Refusal::Rule { code, role, point } => write_told(alloc, text, table, code, role, point),

@@ -70,7 +70,8 @@ fn drawn(alloc: Global, picture: &Picture) -> Result<Output, AllocError>
 
 // Draws the recovery table of a protocol.
 fn draw_table(alloc: Global, accepted: &Accepted) -> Result<Output, AllocError>
-    ensures { IfOk result (λ output. (output.status ≡ Status.Drawn) × IsTableDrawing accepted.now.protocol output.bytes.items) }
+    ensures { IfOk result (λ output. (output.status ≡ Status.Drawn)
+        × IsTableDrawing accepted.now.protocol output.bytes.items) }
 {
     let table = table(alloc, accepted)?;
     let picture = table_picture(alloc, &table, accepted)?;
@@ -93,7 +94,8 @@ fn draw_role(alloc: Global, accepted: &Accepted, name: &[u8]) -> Result<Output, 
 
 // Draws a protocol.
 fn draw_protocol(alloc: Global, protocol: &Protocol) -> Result<Output, AllocError>
-    ensures { IfOk result (λ output. (output.status ≡ Status.Drawn) × IsProtocolDrawing protocol.now output.bytes.items) }
+    ensures { IfOk result (λ output. (output.status ≡ Status.Drawn)
+        × IsProtocolDrawing protocol.now output.bytes.items) }
 {
     let picture = protocol_picture(alloc, protocol)?;
     drawn(alloc, &picture)

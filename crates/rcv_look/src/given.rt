@@ -58,7 +58,8 @@ impl<'a> Given<'a> {
     // A role, and no other option.
     fn role(&self) -> Option<&'a str>
         ensures some { IfSome result (λ role. ((given_of self.now).role ≡ Some role.now) × (self.now.code ≡ None)) }
-        ensures none { IfNone result ((role : List ℕ) → (given_of self.now).role ≡ Some role → self.now.code ≡ None → ⊥) }
+        ensures none { IfNone result ((role : List ℕ) → (given_of self.now).role ≡ Some role → self.now.code ≡ None
+            → ⊥) }
     {
         if self.code.is_none() { self.role } else { None }
     }
@@ -76,7 +77,8 @@ impl<'a> Given<'a> {
         requires { IfSome self.now.code (λ number. number ≤ 255) }
         ensures command { IfOk result (λ command. Says (given_of self.now) (view_of command)) }
         ensures within { IfOk result (λ command. IsWithin (view_of command)) }
-        ensures usage { IfErr result (λ error. error ≡ Usage → (command : CommandView) → Says (given_of self.now) command → ⊥) }
+        ensures usage { IfErr result (λ error. error ≡ Usage → (command : CommandView)
+            → Says (given_of self.now) command → ⊥) }
     {
         match self.command.ok_or(WordsError::Usage)? {
             "journal" => self.alone(Command::Journal).ok_or(WordsError::Usage),

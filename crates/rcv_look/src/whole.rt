@@ -26,7 +26,8 @@ pub fn read_whole<S: Source>(
     ensures end { OnOk result (IsAtEnd (S.rest source.new)) }
     ensures fault { IsErrOf result ReadError.ReadFault → Rose (S.faults source.old) (S.faults source.new) }
     ensures fault_always { S.faults source.old < S.faults source.new → IsErrOf result ReadError.ReadFault }
-    ensures taken { ReadsWhole (S.rest source.old) (S.rest source.new) (S.given source.old) (S.given source.new) most result }
+    ensures taken { ReadsWhole (S.rest source.old) (S.rest source.new) (S.given source.old)
+        (S.given source.new) most result }
     ensures later { S.faults source.old ≤ S.faults source.new }
 {
     let mut bytes = Vec::new(alloc);

@@ -1,5 +1,6 @@
-// A machine that takes one symbol after another. It is no part of what a reader promises: its laws say that it takes and
-// refuses what the grammar and the table of the codes say, and a reader whose steps are the machine's is right by them.
+// A machine that takes one symbol after another. It is no part of what a reader promises: its laws say that it takes
+// and refuses what the grammar and the table of the codes say, and a reader whose steps are the machine's is right by
+// them.
 #![tactic(auto)]
 
 ghost use Rattle.rcv_machine.specs.Laws.{CodesAreFair, TextsAreTakenExactly, TextsAreRefusedExactly};
@@ -16,8 +17,8 @@ pub fn texts_are_taken_exactly()
     ensures { TextsAreTakenExactly }
 {}
 
-/// A text is refused with a code exactly at the first token, or the end, at which a code of the table holds, and where this
-/// is the least that holds there.
+/// A text is refused with a code exactly at the first token, or the end, at which a code of the table holds, and where
+/// this is the least that holds there.
 pub fn texts_are_refused_exactly()
     ensures { TextsAreRefusedExactly }
 {}

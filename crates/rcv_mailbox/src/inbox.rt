@@ -5,7 +5,8 @@ ghost use Rattle.std.specs.Prelude.{take as first_of};
 ghost use Rattle.rcv_ring.specs.Points.{CanPass};
 ghost use Rattle.rcv_ring.specs.Lists.{Begins};
 ghost use Rattle.rcv_ring.specs.Shown.{HasLooked};
-ghost use Rattle.rcv_mailbox.specs.Ends.{End, IsChannel, IsSamePlace, IsUncut, Knows, WasEmpty, ReceivesAgain, TakesFront};
+ghost use Rattle.rcv_mailbox.specs.Ends.{End, IsChannel, IsSamePlace, IsUncut, Knows, WasEmpty, ReceivesAgain};
+ghost use Rattle.rcv_mailbox.specs.Ends.{TakesFront};
 ghost use Rattle.rcv_mailbox.specs.Ends.{put, received, taken, through};
 
 use crate::post::Post;

@@ -3,7 +3,8 @@
 ghost use Rattle.std.specs.Prelude.{◌≡◌, ◌<◌, ◌+◌, ◌↔◌, IsTrue, true, length, slice_index, slice_set, replicate};
 ghost use Rattle.std.specs.Prelude.{All, MatchOption, IfOk, IfSome};
 ghost use Rattle.rcv_theory.specs.Round.{NeverFalls};
-ghost use Rattle.rcv_merge.specs.Merge.{lists_in, next_at, AreWithin, HasLeft, HasNext, AreDone, IsFirst, ComesBefore, IsMergeOf};
+ghost use Rattle.rcv_merge.specs.Merge.{lists_in, next_at, AreWithin, HasLeft, HasNext, AreDone, IsFirst, ComesBefore};
+ghost use Rattle.rcv_merge.specs.Merge.{IsMergeOf};
 
 use rcv_tree::entry::{Entry, Timed};
 use std::alloc::{AllocError, Global};
@@ -11,8 +12,8 @@ use std::alloc::{AllocError, Global};
 /// One log for each role, in order of declaration.
 pub type TimedLogs = Vec<Vec<Timed>>;
 
-/// The entries of all logs, in none of which stamps fall, each once: by stamp, then role, then position in the role's log.
-/// Fails where memory runs out.
+/// The entries of all logs, in none of which stamps fall, each once: by stamp, then role, then position in the role's
+/// log. Fails where memory runs out.
 pub fn merge_round(alloc: Global, logs: &TimedLogs) -> Result<Vec<Entry>, AllocError>
     requires { All NeverFalls (lists_in logs.now.items) }
     ensures { IfOk result (λ merged. IsMergeOf (lists_in logs.now.items) merged.items) }
@@ -51,7 +52,8 @@ fn take(logs: &TimedLogs, heads: &mut Vec<usize>, role: usize) -> Entry
     entry
 }
 
-// The role whose next entry is the first of all that are left, each log being done up to its head. None where all are done.
+// The role whose next entry is the first of all that are left, each log being done up to its head. None where all are
+// done.
 fn first(logs: &TimedLogs, heads: &Vec<usize>) -> Option<usize>
     requires { AreWithin (lists_in logs.now.items) heads.now.items }
     ensures { MatchOption result (AreDone (lists_in logs.now.items) heads.now.items)

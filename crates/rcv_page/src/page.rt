@@ -73,7 +73,8 @@ impl Page {
     /// The text goes on with a number in decimal.
     #[inline(always)]
     pub fn number<K: Sink>(&mut self, sink: &mut K, number: u64)
-        ensures { Adds (at K.written K.faults sink.old self.old) (at K.written K.faults sink.new self.new) (decimal number) }
+        ensures { Adds (at K.written K.faults sink.old self.old) (at K.written K.faults sink.new self.new)
+            (decimal number) }
     {
         // One or two digits, as many numbers have, need no buffer.
         if number < 10 {
@@ -90,7 +91,8 @@ impl Page {
     /// The text goes on with a number in decimal, with a minus in front where it is below 0.
     #[inline(always)]
     pub fn signed_number<K: Sink>(&mut self, sink: &mut K, number: i64)
-        ensures { Adds (at K.written K.faults sink.old self.old) (at K.written K.faults sink.new self.new) (signed_decimal number) }
+        ensures { Adds (at K.written K.faults sink.old self.old) (at K.written K.faults sink.new self.new)
+            (signed_decimal number) }
     {
         if number >= 0 {
             self.number(sink, number as u64);

@@ -3,7 +3,8 @@
 ghost use Rattle.std.specs.Prelude.{◌≡◌, [], ◌+◌, ◌++◌, OnOk, codes, flat_map};
 ghost use Rattle.rcv_picture.specs.Tree.{escaped, attributes_text, spelled, all_spelled, nodes};
 ghost use Rattle.rcv_picture.specs.declared.group.Says.TheVariants.{Entry, Fold, Arrow};
-ghost use Rattle.rcv_picture.specs.Drawn.{tag_of, words_in, run_words, event_words, crash_words, undone_words, fold_words, title_nodes, titles_of, tagged, group_line};
+ghost use Rattle.rcv_picture.specs.Drawn.{tag_of, words_in, run_words, event_words, crash_words, undone_words};
+ghost use Rattle.rcv_picture.specs.Drawn.{fold_words, title_nodes, titles_of, tagged, group_line};
 
 use crate::group::{Counts, Group, Says};
 use crate::markup::{put_attribute, put_digits, put_words_in};

@@ -37,8 +37,8 @@ pub fn pictures_stand_alone()
     ensures { PicturesStandAlone }
 {}
 
-/// The text of a picture is at most as long as so many bytes for each shape, each place of a path and each group, and six
-/// times the bytes of all titles and texts.
+/// The text of a picture is at most as long as so many bytes for each shape, each place of a path and each group, and
+/// six times the bytes of all titles and texts.
 pub fn pictures_are_short()
     ensures { PicturesAreShort }
 {}

@@ -3,7 +3,8 @@
 ghost use Rattle.std.specs.Prelude.{◌≡◌, ◌++◌, OnOk, codes, flat_map};
 ghost use Rattle.rcv_picture.specs.declared.shape.Shape.TheVariants.{Line, Rect, Circle};
 ghost use Rattle.rcv_picture.specs.Tree.{escaped, attribute_text, attributes_text, spelled};
-ghost use Rattle.rcv_picture.specs.Drawn.{anchor_word, attribute, place_text, way, path_node, text_attributes, text_node, shape_node, shape_text};
+ghost use Rattle.rcv_picture.specs.Drawn.{anchor_word, attribute, place_text, way, path_node, text_attributes};
+ghost use Rattle.rcv_picture.specs.Drawn.{text_node, shape_node, shape_text};
 
 use crate::look::Look;
 use crate::markup::{put_attribute, put_class, put_digits, put_number, put_words};

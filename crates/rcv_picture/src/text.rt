@@ -2,7 +2,8 @@
 
 ghost use Rattle.std.specs.Prelude.{◌≡◌, [], ◌++◌, IfOk, OnOk, codes};
 ghost use Rattle.rcv_picture.specs.Tree.{attribute_text, attributes_text, spelled};
-ghost use Rattle.rcv_picture.specs.Drawn.{words_in, style, view_box, root_attributes, head_sizes, head_shape, arrow_head, arrow_heads, background, drawn, tree_of};
+ghost use Rattle.rcv_picture.specs.Drawn.{words_in, style, view_box, root_attributes, head_sizes, head_shape};
+ghost use Rattle.rcv_picture.specs.Drawn.{arrow_head, arrow_heads, background, drawn, tree_of};
 
 use crate::group::Group;
 use crate::groups::put_groups;

@@ -158,7 +158,8 @@ impl<'a> Reader<'a> {
         members: &mut Roles,
     ) -> Result<(), ReadError>
         requires { length roles.now ≤ 8 }
-        ensures goes { Goes result (λ _. members.new) self.new.rest (next_member roles.now known.now members.old self.old.rest) }
+        ensures goes { Goes result (λ _. members.new) self.new.rest
+            (next_member roles.now known.now members.old self.old.rest) }
         ensures shorter { length self.new.rest ≤ length self.old.rest }
     {
         let Some((name, after)) = self.rest.word() else {
@@ -184,7 +185,8 @@ impl<'a> Reader<'a> {
         members: &mut Roles,
     ) -> Result<(), ReadError>
         requires { length roles.now ≤ 8 }
-        ensures goes { Goes result (λ _. members.new) self.new.rest (next_members roles.now known.now members.old self.old.rest) }
+        ensures goes { Goes result (λ _. members.new) self.new.rest
+            (next_members roles.now known.now members.old self.old.rest) }
         ensures shorter { length self.new.rest ≤ length self.old.rest }
     {
         while self.takes_comma() {

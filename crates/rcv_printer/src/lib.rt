@@ -1,7 +1,8 @@
 // Prints a protocol as its canonical text.
 #![tactic(auto)]
 
-ghost use Rattle.rcv_printer.specs.Laws.{CanonicalTextsAreSpelled, ReadProtocolsArePrintable, CanonicalTextsReadBack, CanonicalTextsStay};
+ghost use Rattle.rcv_printer.specs.Laws.{CanonicalTextsAreSpelled, ReadProtocolsArePrintable, CanonicalTextsReadBack};
+ghost use Rattle.rcv_printer.specs.Laws.{CanonicalTextsStay};
 
 mod head;
 mod names;

@@ -49,7 +49,8 @@ fn put_blocks(
     between: &[u8],
     blocks: &Blocks,
 ) -> Result<(), AllocError>
-    ensures { OnOk result (Puts text.old text.new (blocks_text roles.now margin.now before.now between.now (bodies_of blocks.now))) }
+    ensures { OnOk result (Puts text.old text.new
+        (blocks_text roles.now margin.now before.now between.now (bodies_of blocks.now))) }
 {
     let further = inner(alloc, margin)?;
     let mut word = before;

@@ -32,7 +32,7 @@ use std::mem;
 
 /// A place in a block: how many blocks are open, for how many of the innermost recursions a walk comes from the start
 /// of their body without a message, and whether a `continue` of this block stands before.
-#[derive(Clone, Copy, Debug, PartialEq, Eq)]
+#[derive(Clone, Copy)]
 pub struct Spot {
     pub depth: u32,
     pub comes: usize,

@@ -7,7 +7,7 @@ use rcv_syntax::Fault;
 use std::alloc::AllocError;
 
 /// Why the descent stopped.
-#[derive(Clone, Copy, Debug, PartialEq, Eq)]
+#[derive(Clone, Copy)]
 pub enum Stop {
     /// The fault is at the token that is next, or at the end.
     Refused(Fault),

@@ -80,8 +80,8 @@ impl End {
         Ok(End { table, seat })
     }
 
-    /// Sends the message in this slot: so many are sent now. The slot is plain memory, so this writes one word alone: each
-    /// write of a word is an exchange, which waits until all that was written before is seen by all.
+    /// Sends the message in this slot: so many are sent now. The slot is plain memory, so this writes one word alone:
+    /// each write of a word is an exchange, which waits until all that was written before is seen by all.
     pub(crate) fn send(&mut self, slot: usize, put: u64, message: Message)
         requires pushes { Pushing self.old.seat.me.0 }
         requires between { self.old.seat.me.0.out ≡ [] }
@@ -123,7 +123,8 @@ impl End {
         self.table.shared.load::<SeesPut>(&mut self.seat, PUT)
     }
 
-    /// Takes the message of this slot, and gives the slot free: so many are taken now. This, too, writes one word alone.
+    /// Takes the message of this slot, and gives the slot free: so many are taken now. This, too, writes one word
+    /// alone.
     pub(crate) fn take(&mut self, slot: usize, got: u64) -> Message
         requires pulls { Pulling self.old.seat.me.0 }
         requires between { self.old.seat.me.0.out ≡ [] }

@@ -38,9 +38,9 @@ impl Model for Puller {
 }
 
 impl Puller {
-    /// Takes the front message. Where a look of this call found the ring empty it is None, and nothing is taken; where the
-    /// call before it was in vain, too, it lasts some microseconds longer. It never waits for the other end, and takes no
-    /// memory.
+    /// Takes the front message. Where a look of this call found the ring empty it is None, and nothing is taken; where
+    /// the call before it was in vain, too, it lasts some microseconds longer. It never waits for the other end, and
+    /// takes no memory.
     pub fn pull(&mut self) -> Option<Message>
         ensures some { IfSome result (λ m. self.new.taken ≡ self.old.taken ++ m ∷ []) }
         ensures passes { IfSome result (λ m. CanPass self.old.points m) }

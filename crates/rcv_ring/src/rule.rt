@@ -1,4 +1,5 @@
-// The ring as a table of two counts and a slot for each message: what each seat knows, the rule, and what each step tells.
+// The ring as a table of two counts and a slot for each message: what each seat knows, the rule, and what each step
+// tells.
 use atomic_table::{Join, Play, Split, TableRule};
 use rcv_tree::event::Message;
 use std::collections::LinkedList;

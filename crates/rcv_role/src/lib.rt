@@ -23,14 +23,14 @@ pub fn runs_are_fenced_exactly()
     ensures { RunsAreFencedExactly }
 {}
 
-/// Where a session's state has of a role what its cell has, the cell's entries are a log of the role there, and behind them
-/// the state has what the cell has then.
+/// Where a session's state has of a role what its cell has, the cell's entries are a log of the role there, and behind
+/// them the state has what the cell has then.
 pub fn cells_follow_the_session()
     ensures { CellsFollowTheSession }
 {}
 
-/// Where the ends of a channel hold what the events of both roles say, and go back by the counts of the first events, they
-/// hold what those say.
+/// Where the ends of a channel hold what the events of both roles say, and go back by the counts of the first events,
+/// they hold what those say.
 pub fn rewinds_hold_first_events()
     ensures { RewindsHoldFirstEvents }
 {}

@@ -1,6 +1,7 @@
 // What one role did in a session, and what it does next.
 
-ghost use Rattle.std.specs.Prelude.{◌≡◌, ◌≢◌, ◌+◌, ◌^◌, ◌<◌, ◌≤◌, ◌==◌, ◌↔◌, ◌∷◌, ◌++◌, [], true, false, if◌then◌else◌, length, slice_get, IfOk, IfSome, IsTrue, MatchOption};
+ghost use Rattle.std.specs.Prelude.{◌≡◌, ◌≢◌, ◌+◌, ◌^◌, ◌<◌, ◌≤◌, ◌==◌, ◌↔◌, ◌∷◌, ◌++◌, [], true, false, if◌then◌else◌};
+ghost use Rattle.std.specs.Prelude.{length, slice_get, IfOk, IfSome, IsTrue, MatchOption};
 ghost use Rattle.rcv_tree.specs.Bits.{IsPoint};
 ghost use Rattle.rcv_tables.specs.Starts.{IsOwnPoint};
 ghost use Rattle.rcv_model.specs.Net.{IsIn};
@@ -11,7 +12,8 @@ ghost use Rattle.rcv_checkpoint.specs.Stack.{held, with_states};
 ghost use Rattle.rcv_ledger.specs.Ledger.{state_behind};
 ghost use Rattle.rcv_core.specs.Setup.{vars_by};
 ghost use Rattle.rcv_role.specs.Part.{PartView, IsOwn, IsOwnSend, IsRecvOf, Offers, AllSends, AllRecvs, IsBelow};
-ghost use Rattle.rcv_role.specs.Part.{HasNoStrangers, HoldsStates, first_part, with_event, with_crash, entry_of, first_lost, point_in};
+ghost use Rattle.rcv_role.specs.Part.{HasNoStrangers, HoldsStates, first_part, with_event, with_crash, entry_of};
+ghost use Rattle.rcv_role.specs.Part.{first_lost, point_in};
 ghost use Rattle.rcv_role.specs.Part.{IsReached, cleared, gone_back, cut_back};
 
 use rcv_checkpoint::changed::Changed;
@@ -28,8 +30,8 @@ use std::marker::Model;
 // How many entries a log can hold.
 const LOG: usize = 65;
 
-/// A role's own events and numbers, the states behind its first events, and the entries that it has made since its log was
-/// cleared.
+/// A role's own events and numbers, the states behind its first events, and the entries that it has made since its log
+/// was cleared.
 #[derive(Drop)]
 pub struct Part<'a> {
     setup: &'a Setup,
@@ -67,8 +69,8 @@ impl<'a> Model for Part<'a> {
 }
 
 impl<'a> Part<'a> {
-    /// A declared role before its first event, with room for all that it may come to. Fails where memory runs out; later
-    /// calls take none.
+    /// A declared role before its first event, with room for all that it may come to. Fails where memory runs out;
+    /// later calls take none.
     pub fn new(alloc: Global, setup: &'a Setup, role: RoleId) -> Result<Part<'a>, AllocError>
         requires { role < roles_of setup.now }
         ensures { IfOk result (λ part. part ≡ first_part setup.now role) }
@@ -128,8 +130,8 @@ impl<'a> Part<'a> {
         self.log.clear();
     }
 
-    /// What holds of every part: no event is a Recv from a stranger; the role made each of its events once, and no more than
-    /// the limit allows; and the states are held that it may go back to.
+    /// What holds of every part: no event is a Recv from a stranger; the role made each of its events once, and no more
+    /// than the limit allows; and the states are held that it may go back to.
     pub fn known(&self)
         ensures states { HoldsStates self.now }
         ensures strangers { HasNoStrangers self.now }
@@ -166,7 +168,8 @@ impl<'a> Part<'a> {
         setup.next(self.role, self.stack.top().k)
     }
 
-    /// The role that all next points are to be received from, the first of them being this one. None where all are sends.
+    /// The role that all next points are to be received from, the first of them being this one. None where all are
+    /// sends.
     pub fn partner(&self, offered: &[Point], first: Point) -> Option<RoleId>
         requires offers { Offers self.now offered.now }
         requires among { IsIn first offered.now }

@@ -13,8 +13,8 @@ use rcv_core::book::Book;
 use rcv_picture::group::Says;
 use std::alloc::{AllocError, Global};
 
-/// The rows of a book's journal: each entry that is shown has a row, and each longest run of others is one fold. `shown`
-/// has a mark for each entry. Fails where memory runs out.
+/// The rows of a book's journal: each entry that is shown has a row, and each longest run of others is one fold.
+/// `shown` has a mark for each entry. Fails where memory runs out.
 pub fn rows(alloc: Global, book: &Book<'_>, shown: &[bool]) -> Result<Vec<Says>, AllocError>
     requires { length shown.now ≡ length book.now.entries }
     ensures rows { IfOk result (λ rows. AreRows (state_of book.now).kept book.now.entries rows.items) }

@@ -13,8 +13,8 @@ use rcv_fates::{Arrow, arrows};
 use rcv_picture::group::Says;
 use std::alloc::{AllocError, Global};
 
-/// The messages of a book's journal that were received, each as an arrow, where its Send or its Recv is shown. `shown` has
-/// a mark for each entry. Fails where memory runs out.
+/// The messages of a book's journal that were received, each as an arrow, where its Send or its Recv is shown. `shown`
+/// has a mark for each entry. Fails where memory runs out.
 pub fn wires(alloc: Global, book: &Book<'_>, shown: &[bool]) -> Result<Vec<Says>, AllocError>
     requires { length shown.now ≡ length book.now.entries }
     ensures { IfOk result (λ wires.

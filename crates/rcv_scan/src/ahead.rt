@@ -3,7 +3,8 @@
 ghost use Rattle.std.specs.Prelude.{◌≡◌, ◌≤◌, ◌∷◌, [], length, IfSome, IfNone, true, false};
 ghost use Rattle.std.specs.List.{All};
 ghost use Rattle.rcv_lexer.specs.Parts.{LiesIn};
-ghost use Rattle.rcv_scan.specs.Symbols.{Is, Word, Number, Text, IsNotNext, NoWord, NoNumber, NoText, IsWithin, symbol_in, symbols_of};
+ghost use Rattle.rcv_scan.specs.Symbols.{Is, Word, Number, Text, IsNotNext, NoWord, NoNumber, NoText, IsWithin};
+ghost use Rattle.rcv_scan.specs.Symbols.{symbol_in, symbols_of};
 
 use crate::alphabet::Alphabet;
 use crate::lexeme::Lexeme;

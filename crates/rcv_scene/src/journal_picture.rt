@@ -120,8 +120,8 @@ fn groups_of(
 }
 
 /// The picture of a book's journal: what its roles did, from above to below, with an arrow for each of these wires and
-/// a row for each of these entries and folds. `lines` says how the roles ended, and `story` is that of the journal. Fails
-/// where memory runs out.
+/// a row for each of these entries and folds. `lines` says how the roles ended, and `story` is that of the journal.
+/// Fails where memory runs out.
 #[tactic(auto, using(crate::proofs::Telling::from_none, crate::proofs::Telling::titled_from_none))]
 pub fn journal_picture(
     alloc: Global,

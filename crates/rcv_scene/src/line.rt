@@ -124,7 +124,8 @@ fn line_of(alloc: Global, setup: &Setup, entry: &Entry) -> Result<Vec<u8>, Alloc
     Ok(text.finish())
 }
 
-/// The line of the entry of a book at a place, without its line feed; empty where there is none. Fails where memory runs out.
+/// The line of the entry of a book at a place, without its line feed; empty where there is none. Fails where memory
+/// runs out.
 pub fn line_at(alloc: Global, book: &Book<'_>, at: u32) -> Result<Vec<u8>, AllocError>
     ensures { IfOk result (λ line. IsLineAt book.now at line.items) }
 {

@@ -181,7 +181,8 @@ fn add_entry(
     }
 }
 
-/// The mark of the entry at a place, and whether it is an event that isn't kept at the end. Fails where memory runs out.
+/// The mark of the entry at a place, and whether it is an event that isn't kept at the end. Fails where memory runs
+/// out.
 pub fn mark_shapes(
     layout: &Layout<'_>,
     routes: &Routes,

@@ -189,7 +189,8 @@ fn routes_of(alloc: Global, layout: &Layout<'_>, wires: &[Says]) -> Result<Vec<R
     Ok(routes)
 }
 
-// The numbers of these routes in the order of their Sends: each as the Send in the upper half, and the number in the lower.
+// The numbers of these routes in the order of their Sends: each as the Send in the upper half, and the number in the
+// lower.
 fn order_of(alloc: Global, routes: &[Route]) -> Result<Vec<u64>, AllocError> {
     let mut order = Vec::new(alloc);
     let mut number: u32 = 0;
@@ -264,7 +265,8 @@ pub fn find_routes(
 }
 
 impl Routes {
-    /// How far from the middle of a role's column a text begins at this side and this height, so that no lane crosses it.
+    /// How far from the middle of a role's column a text begins at this side and this height, so that no lane crosses
+    /// it.
     pub fn text_from(&self, role: u8, side: Side, y: Pixels) -> Pixels {
         let mut far = Pixels(8);
         if let Some(lanes) = self.lanes.get(number_of(role, side)) {

@@ -149,8 +149,8 @@ pub fn loose_title(alloc: Global, route: &Route) -> Result<Vec<u8>, AllocError> 
     }
 }
 
-/// The wire of a message that isn't received: to a cross where it was dropped, to a ring where it waits at the end. Fails
-/// where memory runs out.
+/// The wire of a message that isn't received: to a cross where it was dropped, to a ring where it waits at the end.
+/// Fails where memory runs out.
 pub fn loose_shapes(layout: &Layout<'_>, route: &Route) -> Result<Vec<Shape>, AllocError> {
     let mut shapes = Shapes::new(layout.alloc);
     let lane = route.side.beside(layout.x(route.receiver), route.lane);

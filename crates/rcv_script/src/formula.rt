@@ -21,7 +21,7 @@ use rcv_tree::name::{Name, Names};
 use std::alloc::Global;
 
 /// What speaks against the words `value` and `attempt` in an expression.
-#[derive(Clone, Copy, Debug, PartialEq, Eq)]
+#[derive(Clone, Copy)]
 pub struct Banned {
     pub value: Option<Fault>,
     pub attempt: Option<Fault>,

@@ -14,8 +14,6 @@ mod read;
 pub mod scripts;
 mod setting;
 mod sign;
-#[cfg(test)]
-mod tests;
 mod words;
 mod writing;
 

@@ -10,7 +10,7 @@ use rcv_tree::name::Name;
 use rcv_tree::variables::Vars;
 
 /// How two numbers compare.
-#[derive(Clone, Copy, Debug, PartialEq, Eq)]
+#[derive(Clone, Copy)]
 pub enum Comparison {
     Less,
     AtMost,

@@ -1,7 +1,7 @@
 // Marks of the grammar.
 
 /// A mark of the grammar, or what it has nowhere.
-#[derive(Clone, Copy, Debug, PartialEq, Eq, Drop)]
+#[derive(Clone, Copy, Drop)]
 pub enum Sign {
     Open,
     Close,

@@ -9,7 +9,7 @@ use rcv_lexer::token::Kind;
 use rcv_scan::{Alphabet, Lexeme, is, number_of, unquoted};
 
 /// What a line does.
-#[derive(Clone, Copy, Debug, PartialEq, Eq)]
+#[derive(Clone, Copy)]
 pub enum LineKind {
     Var,
     Send,

@@ -39,7 +39,8 @@ fn reveal_around(shown: &mut [bool], place: u32, before: u32, behind: u32) {
     reveal(shown, from, end);
 }
 
-// Shows what is around a Recover: the end of what it undid with its Crash, what follows, and where each role goes back to.
+// Shows what is around a Recover: the end of what it undid with its Crash, what follows, and where each role goes back
+// to.
 fn reveal_recovery(shown: &mut [bool], recovery: &Recovery) {
     reveal_around(shown, recovery.place, NEAR, FAR);
     if let Some(crash) = recovery.crash {
@@ -70,8 +71,8 @@ fn reveal_short_runs(shown: &mut [bool]) {
 }
 
 /// For each entry of a legal journal with this story whether it is shown; the others are folded. A journal of up to 160
-/// entries is shown whole. Of a longer one its beginning and its end are shown, and what is around recoveries: around all,
-/// or around the first four and the last two. Fails where memory runs out.
+/// entries is shown whole. Of a longer one its beginning and its end are shown, and what is around recoveries: around
+/// all, or around the first four and the last two. Fails where memory runs out.
 pub fn shown_entries(
     alloc: Global,
     entries: &[Entry],

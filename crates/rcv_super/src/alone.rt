@@ -90,7 +90,8 @@ pub fn bring_home<'a>(
     lanes: &mut Vec<Lane<'a>>,
     alone: bool,
 ) -> Result<(), AllocError>
-    requires ahead { alone ≡ true → AreSteps (rules_of book.old.setup) (start (roles_of book.old.setup)) book.old.entries
+    requires ahead { alone ≡ true → AreSteps (rules_of book.old.setup)
+        (start (roles_of book.old.setup)) book.old.entries
         × AreHome (record { setup = book.old.setup; entries = [] }) lanes.old.items }
     requires home { alone ≡ false → AreHome book.old lanes.old.items }
     ensures same { book.new ≡ book.old }

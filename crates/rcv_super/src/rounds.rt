@@ -22,8 +22,8 @@ use std::alloc::{AllocError, Global};
 use std::thread::Threads;
 
 // To start threads costs some ten microseconds. Where one role at a time has something to do, each round would pay that
-// for a few entries. So behind a round on threads that added fewer than FEW entries, REST rounds are made on this thread
-// alone before threads are started again.
+// for a few entries. So behind a round on threads that added fewer than FEW entries, REST rounds are made on this
+// thread alone before threads are started again.
 const FEW: usize = 8;
 
 const REST: u32 = 16;
@@ -43,7 +43,8 @@ pub fn go<'a, G: Gate, R: Threads + Sync>(
     gate: &G,
 ) -> Result<(), AllocError>
     requires workers { 1 ≤ workers }
-    requires ahead { alone ≡ true → AreSteps (rules_of book.old.setup) (start (roles_of book.old.setup)) book.old.entries
+    requires ahead { alone ≡ true → AreSteps (rules_of book.old.setup)
+        (start (roles_of book.old.setup)) book.old.entries
         × AreHome (record { setup = book.old.setup; entries = [] }) lanes.old.items }
     requires home { alone ≡ false → AreHome book.old lanes.old.items }
     requires more { HasMore book.old }
@@ -79,7 +80,8 @@ pub fn recover_home<'a>(
     alone: bool,
     role: RoleId,
 ) -> Result<(), AllocError>
-    requires ahead { alone ≡ true → AreSteps (rules_of book.old.setup) (start (roles_of book.old.setup)) book.old.entries
+    requires ahead { alone ≡ true → AreSteps (rules_of book.old.setup)
+        (start (roles_of book.old.setup)) book.old.entries
         × AreHome (record { setup = book.old.setup; entries = [] }) lanes.old.items }
     requires home { alone ≡ false → AreHome book.old lanes.old.items }
     requires crashed { IsCrashed (state_of book.old) role }

@@ -108,8 +108,8 @@ impl<'a> Session<'a> {
     /// the threads, while the cells that aren't concerned run on the others, and its Recover is added before what they
     /// did.
     ///
-    /// The gate is called before each step that a role attempts and before a recovery moves anything, on the thread that
-    /// does it.
+    /// The gate is called before each step that a role attempts and before a recovery moves anything, on the thread
+    /// that does it.
     ///
     /// A session at its end stays as it is, and the answer says at which. Behind `Memory` the session is closed: its
     /// book has, with several workers, some of the first of the turn's entries, and with one worker its entry or none.
@@ -160,8 +160,8 @@ impl<'a> Session<'a> {
         Ok(Turn::More)
     }
 
-    /// Turns with so many workers, from 1 to 8, until the session is at its end. One worker that has made all entries so
-    /// far makes the others in one go.
+    /// Turns with so many workers, from 1 to 8, until the session is at its end. One worker that has made all entries
+    /// so far makes the others in one go.
     ///
     /// Behind `Memory` the session is closed, and its book has some of the entries. `Closed` comes exactly where an
     /// earlier call on this session answered `Memory`, and changes nothing.

@@ -1,5 +1,5 @@
-// What a protocol's text is: the words and marks of the grammar, what it derives, the tree of that, and the codes by which a
-// text is refused, each by the tokens alone.
+// What a protocol's text is: the words and marks of the grammar, what it derives, the tree of that, and the codes by
+// which a text is refused, each by the tokens alone.
 #![tactic(auto)]
 
 mod fault;

@@ -31,8 +31,8 @@ use rcv_words::command::Command;
 use std::alloc::{AllocError, Global};
 use std::thread::Threads;
 
-/// Writes what a command answers to the text of at most 1,048,576 bytes that it works on, and says how that ended: the first
-/// refusal of the text, or what the command makes of its protocol, its scripts and its plan.
+/// Writes what a command answers to the text of at most 1,048,576 bytes that it works on, and says how that ended: the
+/// first refusal of the text, or what the command makes of its protocol, its scripts and its plan.
 ///
 /// The error comes where no memory was left; then nothing was written.
 pub fn answer<R: Threads + Sync, K: Sink, G: Gate>(
@@ -66,7 +66,8 @@ pub fn answer<R: Threads + Sync, K: Sink, G: Gate>(
 
 // Writes the canonical text of a protocol.
 fn check(alloc: Global, protocol: &Protocol) -> Result<Output, AllocError>
-    ensures { IfOk result (λ output. (output.status ≡ Status.Completed) × (output.bytes.items ≡ canonical protocol.now)) }
+    ensures { IfOk result (λ output. (output.status ≡ Status.Completed)
+        × (output.bytes.items ≡ canonical protocol.now)) }
 {
     Ok(Output {
         status: Status::Completed,
@@ -76,7 +77,8 @@ fn check(alloc: Global, protocol: &Protocol) -> Result<Output, AllocError>
 
 // Writes the recovery table of a protocol.
 fn write_tables(alloc: Global, accepted: &Accepted) -> Result<Output, AllocError>
-    ensures { IfOk result (λ output. (output.status ≡ Status.Completed) × IsTableText accepted.now.protocol output.bytes.items) }
+    ensures { IfOk result (λ output. (output.status ≡ Status.Completed)
+        × IsTableText accepted.now.protocol output.bytes.items) }
 {
     let table = table(alloc, accepted)?;
     Ok(Output {

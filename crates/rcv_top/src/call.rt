@@ -19,11 +19,12 @@ use std::thread::Threads;
 const USAGE: &[u8] =
     b"usage: rcv run|check|project|table|gen [--workers N] [--json] [--role R] [--number N]\n";
 
-/// Does what the program does: reads the words, then the whole source unless the command is `gen`, and writes the answer.
+/// Does what the program does: reads the words, then the whole source unless the command is `gen`, and writes the
+/// answer.
 ///
-/// `words` are those behind the program's name, as `clap` takes them: one of the words `run`, `check`, `project`, `table`
-/// and `gen`, with the options `--workers N` and `--json` of `run`, `--role R` of `project` and `--number N` of `gen`
-/// before or behind it. The answer says how the call ended:
+/// `words` are those behind the program's name, as `clap` takes them: one of the words `run`, `check`, `project`,
+/// `table` and `gen`, with the options `--workers N` and `--json` of `run`, `--role R` of `project` and `--number N` of
+/// `gen` before or behind it. The answer says how the call ended:
 /// - `Completed`: under `run` the session of the input completed, and its journal was written; under `check` the
 ///   input's protocol was written as its canonical text; under `table` its recovery table was written; under `project`
 ///   what the role does was written; under `gen` the summary of the generated session was written.
@@ -41,13 +42,13 @@ const USAGE: &[u8] =
 ///
 /// `gen` reads nothing from the source, however the call ends.
 ///
-/// `run` without `--workers` asks for one worker. One worker writes the one journal of the session that one thread makes;
-/// several ones run the roles on as many threads, and which journal of the session they write may differ from call to
-/// call. Under `run`, `gate` is called before each step that a role attempts, and with a failed
+/// `run` without `--workers` asks for one worker. One worker writes the one journal of the session that one thread
+/// makes; several ones run the roles on as many threads, and which journal of the session they write may differ from
+/// call to call. Under `run`, `gate` is called before each step that a role attempts, and with a failed
 /// role before its recovery; the other commands don't call it.
 ///
-/// Where the session completed and no script reads the attempt, what each role kept and each channel carried is, but for
-/// stamps, what one thread makes of the session without its crash lines, which completes, too.
+/// Where the session completed and no script reads the attempt, what each role kept and each channel carried is, but
+/// for stamps, what one thread makes of the session without its crash lines, which completes, too.
 pub fn recover<R: Threads + Sync, S: Source, K: Sink, G: Gate>(
     rt: &R,
     alloc: Global,
@@ -60,7 +61,8 @@ pub fn recover<R: Threads + Sync, S: Source, K: Sink, G: Gate>(
         (around S.rest S.given S.faults source.old source.new K.written K.faults sink.old sink.new) result }
     ensures headline { (workers : ℕ) (json : Bool) → IsCommand (texts_of words.now) (Run workers json)
         → (result ≡ Status.Completed) ⊎ (result ≡ Status.Limited)
-        → WritesLegalJournal json (around S.rest S.given S.faults source.old source.new K.written K.faults sink.old sink.new) result }
+        → WritesLegalJournal json
+        (around S.rest S.given S.faults source.old source.new K.written K.faults sink.old sink.new) result }
     ensures source_faults { TellsFault (S.faults source.old) (S.faults source.new) Status.ReadFault result }
     ensures sink_faults { TellsFault (K.faults sink.old) (K.faults sink.new) Status.WriteFault result }
 {

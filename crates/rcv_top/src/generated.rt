@@ -20,8 +20,8 @@ use rcv_journal::role_lines::lines_of;
 use rcv_journal::text::last_line_of;
 use std::alloc::{AllocError, Global};
 
-/// Runs the session of the generated input with this number by one thread, and writes the summary of its journal. A book
-/// alone does that: no cell is needed.
+/// Runs the session of the generated input with this number by one thread, and writes the summary of its journal. A
+/// book alone does that: no cell is needed.
 pub fn run_generated(alloc: Global, taken: Input, number: u32) -> Result<Output, AllocError>
     requires belong { AreScriptsFor taken.accepted.protocol taken.scripts }
     requires planned { IsPlanned (length taken.accepted.protocol.roles) taken.plan }

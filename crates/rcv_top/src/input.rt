@@ -26,11 +26,12 @@ fn generated_number(command: &Command) -> Option<u32>
     }
 }
 
-/// The text that a command works on: `gen` on the generated one, and nothing is read; any other on what the source gives
-/// to its end.
+/// The text that a command works on: `gen` on the generated one, and nothing is read; any other on what the source
+/// gives to its end.
 ///
-/// `ReadFault` comes only where the source's count of faults rose, and always where it is greater than before. `TooLong`
-/// comes exactly where more than 1,048,576 bytes were taken from the source. `Memory` says that no memory was left.
+/// `ReadFault` comes only where the source's count of faults rose, and always where it is greater than before.
+/// `TooLong` comes exactly where more than 1,048,576 bytes were taken from the source. `Memory` says that no memory was
+/// left.
 pub fn input_of<S: Source>(
     alloc: Global,
     command: &Command,

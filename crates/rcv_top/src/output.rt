@@ -17,7 +17,8 @@ pub struct Output {
 /// Writes bytes whole, and answers this status, or that the sink failed.
 pub fn write<K: Sink>(sink: &mut K, bytes: &[u8], status: Status) -> Status
     ensures later { K.faults sink.old ≤ K.faults sink.new }
-    ensures wrote { Wrote (K.written sink.old) (K.written sink.new) (K.faults sink.old) (K.faults sink.new) bytes.now status result }
+    ensures wrote { Wrote (K.written sink.old) (K.written sink.new) (K.faults sink.old)
+        (K.faults sink.new) bytes.now status result }
 {
     match write_all_of(sink, bytes) {
         Ok(()) => status,

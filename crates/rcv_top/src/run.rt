@@ -23,8 +23,8 @@ use rcv_super::session::Session;
 use std::alloc::{AllocError, Global};
 use std::thread::Threads;
 
-/// Runs a session to its end with so many workers, from 1 to 8, and writes its journal, as JSON or as lines. Says how the
-/// session ended, or that the sink failed.
+/// Runs a session to its end with so many workers, from 1 to 8, and writes its journal, as JSON or as lines. Says how
+/// the session ended, or that the sink failed.
 ///
 /// The error comes where no memory was left; then nothing was written.
 pub fn run<R: Threads + Sync, K: Sink, G: Gate>(

@@ -5,7 +5,8 @@ ghost use Rattle.std.specs.List.{All};
 ghost use Rattle.rcv_tree.specs.Words.{IsWord};
 ghost use Rattle.rcv_model.specs.Form.{HasForm};
 ghost use Rattle.rcv_model.specs.Places.{IsFull, singles};
-ghost use Rattle.rcv_model.specs.Text.{Body, End, Single, Choose, Loop, Again, Or, NoMore, body_of, bodies_of, stmt_body};
+ghost use Rattle.rcv_model.specs.Text.{Body, End, Single, Choose, Loop, Again, Or, NoMore, body_of, bodies_of};
+ghost use Rattle.rcv_model.specs.Text.{stmt_body};
 ghost use Rattle.rcv_points.specs.Follow.{ArePointsOf};
 
 use rcv_accept::accept;
@@ -45,7 +46,8 @@ pub fn message(
     receiver: RoleId,
     point: u16,
 ) -> Result<Stmt, AllocError>
-    ensures { IfOk result (λ stmt. (rest : Body) → stmt_body stmt rest ≡ Single label.now [] sender receiver point rest) }
+    ensures { IfOk result (λ stmt. (rest : Body)
+        → stmt_body stmt rest ≡ Single label.now [] sender receiver point rest) }
 {
     with_sorts(alloc, label, Names::new(alloc), sender, receiver, point)
 }
@@ -59,7 +61,8 @@ pub fn with_sorts(
     receiver: RoleId,
     point: u16,
 ) -> Result<Stmt, AllocError>
-    ensures { IfOk result (λ stmt. (rest : Body) → stmt_body stmt rest ≡ Single label.now sorts sender receiver point rest) }
+    ensures { IfOk result (λ stmt. (rest : Body)
+        → stmt_body stmt rest ≡ Single label.now sorts sender receiver point rest) }
 {
     Ok(Stmt::Message {
         label: Name::of(alloc, label)?,
@@ -131,7 +134,8 @@ pub fn branches(alloc: Global, left: Block, right: Block) -> Result<Blocks, Allo
 
 /// A choice of two branches.
 pub fn choice(alloc: Global, subject: RoleId, left: Block, right: Block) -> Result<Stmt, AllocError>
-    ensures { IfOk result (λ stmt. (rest : Body) → stmt_body stmt rest ≡ Choose subject (Or (body_of left) (Or (body_of right) NoMore)) rest) }
+    ensures { IfOk result (λ stmt. (rest : Body)
+        → stmt_body stmt rest ≡ Choose subject (Or (body_of left) (Or (body_of right) NoMore)) rest) }
 {
     Ok(Stmt::Choice {
         subject,

@@ -5,7 +5,8 @@ ghost use Rattle.rcv_session.specs.Session.{roles_of};
 ghost use Rattle.rcv_mailbox.specs.Ends.{End};
 ghost use Rattle.rcv_role.specs.Part.{gone_back, cut_back};
 ghost use Rattle.rcv_role.specs.Ends.{slot, end_at};
-ghost use Rattle.rcv_role.specs.Cell.{cell_of, IsSettled, IsSettledAt, post_to, inbox_from, AreJoined, HaveRewound, HasRewoundAlone};
+ghost use Rattle.rcv_role.specs.Cell.{cell_of, IsSettled, IsSettledAt, post_to, inbox_from, AreJoined, HaveRewound};
+ghost use Rattle.rcv_role.specs.Cell.{HasRewoundAlone};
 
 use crate::cell::Cell;
 use crate::ends::{rewind_alone_at, rewind_at, slot};
@@ -13,8 +14,8 @@ use rcv_tree::role::RoleId;
 
 impl<'a> Cell<'a> {
     /// The channel from another cell of the session to this one goes back: of what was put on it the first `drop_from`
-    /// messages stay, all of them taken, and of those the first `keep` are received. Until the parts go back, too, neither
-    /// cell is settled. It takes no memory.
+    /// messages stay, all of them taken, and of those the first `keep` are received. Until the parts go back, too,
+    /// neither cell is settled. It takes no memory.
     pub fn rewind_from(&mut self, sender: &mut Cell<'a>, keep: u32, drop_from: u32)
         requires setup { sender.old.part.setup ≡ self.old.part.setup }
         requires apart { sender.old.part.role ≡ self.old.part.role → ⊥ }
@@ -36,8 +37,8 @@ impl<'a> Cell<'a> {
         );
     }
 
-    /// The inbox from another declared role goes back alone: the first `keep` messages stay received, and those behind them
-    /// will be received again. It takes no memory.
+    /// The inbox from another declared role goes back alone: the first `keep` messages stay received, and those behind
+    /// them will be received again. It takes no memory.
     pub fn rewind_alone_from(&mut self, sender: RoleId, keep: u32)
         requires declared { sender < roles_of self.old.part.setup }
         requires apart { sender ≡ self.old.part.role → ⊥ }
@@ -48,8 +49,8 @@ impl<'a> Cell<'a> {
         rewind_alone_at(&mut self.inboxes, at, keep);
     }
 
-    /// Goes back to so many of the role's first events, to which its ends were rewound and whose state is held, and sets the
-    /// clock. The attempt is one more where an event was lost, and a crashed role runs on. It takes no memory.
+    /// Goes back to so many of the role's first events, to which its ends were rewound and whose state is held, and
+    /// sets the clock. The attempt is one more where an event was lost, and a crashed role runs on. It takes no memory.
     pub fn back_to(&mut self, keep: u32, clock: u64)
         requires held { keep ≤ self.old.part.held }
         requires settled { IsSettledAt self.old (take keep self.old.part.own.events) }
@@ -60,8 +61,8 @@ impl<'a> Cell<'a> {
         self.part.back_to(keep, clock);
     }
 
-    /// The same of a crashed role, which another role's recovery concerns: it stays crashed, and of the states behind its
-    /// events those that are still held stay, up to so many events. It takes no memory.
+    /// The same of a crashed role, which another role's recovery concerns: it stays crashed, and of the states behind
+    /// its events those that are still held stay, up to so many events. It takes no memory.
     pub fn cut_to(&mut self, keep: u32, clock: u64)
         requires crashed { self.old.part.own.crashed ≡ true }
         requires made { keep ≤ length self.old.part.own.events }

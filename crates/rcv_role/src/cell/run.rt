@@ -10,10 +10,10 @@ use crate::poll::{Poll, Stop};
 use rcv_fence::Watch;
 
 impl<'a> Cell<'a> {
-    /// Polls a role that isn't crashed until it can't go on, or a look at the watch shows a failure that reaches it, or so
-    /// many turns, at least one, are made. Before each poll it looks at the watch once and then calls the gate. Where the
-    /// role crashes with an event to be undone it raises the watch. The log has room for as many entries as turns, of 65
-    /// in all. It takes no memory.
+    /// Polls a role that isn't crashed until it can't go on, or a look at the watch shows a failure that reaches it, or
+    /// so many turns, at least one, are made. Before each poll it looks at the watch once and then calls the gate.
+    /// Where the role crashes with an event to be undone it raises the watch. The log has room for as many entries as
+    /// turns, of 65 in all. It takes no memory.
     pub fn run<G: Gate>(&mut self, watch: &mut Watch, gate: &G, turns: u32) -> Stop
         requires running { self.old.part.own.crashed ≡ false }
         requires turns { 1 ≤ turns }
