@@ -31,7 +31,8 @@ fn push_apart<'a>(
     lane: Lane<'a>,
     is_concerned: bool,
 ) -> Result<(), AllocError>
-    ensures { OnOk result (ArePushedApart back.old.items back.new.items beside.old.items beside.new.items lane.entry is_concerned) }
+    ensures { OnOk result (ArePushedApart back.old.items back.new.items beside.old.items beside.new.items
+        lane.entry is_concerned) }
 {
     if is_concerned {
         push_to(back, beside, lane)

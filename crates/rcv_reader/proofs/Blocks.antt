@@ -1,5 +1,5 @@
 -- What statements, blocks and branches say, read one after another.
-use Rattle.std.proofs.Common.{◌≡◌, ℕ, ◌+◌, ◌<◌, ◌≤◌, Bool, true, false, List, [], ◌∷◌, ◌++◌, length, map, drop, refl, sym, ap, subst, ◌∙◌, arith}
+use Rattle.std.proofs.Common.{◌≡◌, ℕ, ◌+◌, ◌-◌, ◌<◌, ◌≤◌, Bool, true, false, Some, Result, Ok, Err, OnOk, IfOk, List, [], ◌∷◌, ◌++◌, length, map, drop, refl, sym, ap, subst, ◌∙◌, arith, length-append}
 use Rattle.std.proofs.lemmas.List.{length-map}
 use Rattle.rcv_tree.specs.Lists.{statements, blocks}
 use Rattle.rcv_tree.specs.declared.statement.Stmt.{Stmt}
@@ -12,11 +12,13 @@ use Rattle.rcv_syntax.specs.declared.sign.Sign.TheVariants.{Open, Close, Or, Cho
 use Rattle.rcv_syntax.specs.Symbols.{Symbol, Is, Word}
 use Rattle.rcv_syntax.specs.Grammar as grammar
 use Rattle.rcv_syntax.specs.Grammar.{Written, NoStmt, AMessage, AChoice, ARec, AContinue, NoBlock, ABlock, stmts, sort_list, blocks_behind, IsBegun}
-use Rattle.rcv_syntax.specs.Trees.{or_first, role_at, points, points_of, singles, MayReceive}
-use Rattle.rcv_machine.specs.Machine.{Item, Opening, First, Rest, More}
+use Rattle.rcv_syntax.specs.Trees.{or_first, place_of, role_at, points, points_of, singles, MayReceive}
+use Rattle.rcv_machine.specs.Machine.{Item, This, Subject, Opening, First, Rest, More, behind}
 use Rattle.rcv_reader.specs.declared.parser.Spot.{Spot}
+use Rattle.rcv_reader.specs.declared.stop.Stop.{Stop}
 use Rattle.rcv_reader.specs.Standing.{Standing, at, back_at, within, answers, IsOver}
-use Rattle.rcv_reader.specs.Descent.{place_of_spot, IsRoleName, messages, in_front, branches_in_front, AreReceived, AreStmts, AreBlocks, IsBehind, Adds, TakesSome, TakesAll, TakesBlock, TakesBranches}
+use Rattle.rcv_reader.specs.Descent.{place_at, place_of_spot, messages, in_front, branches_in_front, AreReceived, AreStmts, AreBlocks, IsBehind, Adds, Consumes, TakesSome, TakesAll, TakesBlock}
+use Rattle.rcv_reader.proofs.Stops.{halts_behind}
 
 -- ---- one statement
 
@@ -43,20 +45,22 @@ added_by roles n n' added block block' old new is more = record {
   };
 }
 
-pub message_read : (p0 p1 p2 p3 p4 p5 p6 new : Standing) (label : List ℕ) (sorts : List (List ℕ)) (sender : ℕ) (receivers : List ℕ)
-    (block block' : List Stmt) → p0 ≡ at p1 (Word label ∷ p1.rest) → p1 ≡ at p2 (Is Left ∷ p2.rest)
-    → p2 ≡ at p3 (sort_list sorts (Is Right ∷ p3.rest)) → p3 ≡ at p4 (Is From ∷ p4.rest) → IsRoleName p4 p5 sender
-    → p5 ≡ at p6 (Is To ∷ p6.rest) → AreReceived p6 (at new (Is Semicolon ∷ new.rest)) sender receivers
-    → block' ≡ block ++ messages label sorts sender receivers p6.count
-    → TakesSome p0 new [] block block'
-message_read p0 p1 p2 p3 p4 p5 p6 new label sorts sender receivers block block' e0 e1 e2 e3 role e5 are added =
-    let is_role = rw (role.2, e5, are.spelled) at role.1 in
+pub message_read : (p p1 p2 p3 p4 new : Standing) (label : List ℕ) (sorts : List (List ℕ)) (sender : ℕ) (others : List ℕ)
+    (last points : ℕ) (block block' : List Stmt) → p ≡ at p1 (Is Left ∷ p1.rest)
+    → p1 ≡ at p2 (sort_list sorts (Is Right ∷ p2.rest)) → ((n : List ℕ) × (place_of p3.roles n ≡ Some sender) × (p2 ≡ at p3 (Is From ∷ Word n ∷ p3.rest)))
+    → p3 ≡ at p4 (Is To ∷ p4.rest) → AreReceived p4 (at new (Is Semicolon ∷ new.rest)) sender (others ++ last ∷ [])
+    → points ≡ new.count → block' ≡ block ++ messages label sorts sender (others ++ last ∷ []) (points - (length others + 1))
+    → TakesSome p new (Word label ∷ []) block block'
+message_read p p1 p2 p3 p4 new label sorts sender others last points block block' e1 e2 role e4 are all is =
+    let receivers = others ++ last ∷ [] in
+    let before : points - (length others + 1) ≡ p4.count = omega (arith, all, are.counted, length-append others (last ∷ [])) in
+    let is_role = rw (e4, are.spelled) at role.1 in
     let place : role_at new.roles role.0 ≡ sender = ap or_first is_role in
     let long = ap length are.places ∙ length-map (are.first ∷ are.others) (role_at new.roles) in
-    let count : new.count ≡ p6.count + (1 + length are.others) = omega (arith, are.counted, long) in
-    rw (e0, e1, e2, e3, role.2, e5, are.spelled) (
+    let count : new.count ≡ p4.count + (1 + length are.others) = omega (arith, are.counted, long) in
+    rw (e1, e2, role.2, e4, are.spelled) (
       refl,
-      added_by new.roles p6.count new.count _ block block' _ _ added (λ m body next w. (
+      added_by new.roles p4.count new.count _ block block' _ _ (rw before at is) (λ m body next w. (
         record {
           written = AMessage label sorts role.0 are.first are.others w.written;
           sound = (
@@ -65,7 +69,7 @@ message_read p0 p1 p2 p3 p4 p5 p6 new label sorts sender receivers block block' 
           );
           spelled = rw w.spelled refl;
           counted = omega (arith, count, w.counted);
-          tree = messages_in_front label sorts sender receivers p6.count body ∙ rw (w.tree, ← place, are.places, count) refl;
+          tree = messages_in_front label sorts sender receivers p4.count body ∙ rw (w.tree, ← place, are.places, count) refl;
         },
         tt,
       )),
@@ -87,12 +91,12 @@ again_read p0 p1 new name block block' e f is = rw (e, f) (
   )),
 )
 
-pub rec_read : (p m q r new : Standing) (name : List ℕ) (after : List Symbol) (body : Block) (block block' : List Stmt)
-    → p ≡ at p (Word name ∷ after) → m ≡ within p (p.recs ++ name ∷ []) → q ≡ at m after → TakesBlock q r body
+pub rec_read : (p q r new : Standing) (name : List ℕ) (body : Block) (block block' : List Stmt)
+    → p ≡ at p (Word name ∷ q.rest) → q ≡ within (at p q.rest) (p.recs ++ name ∷ []) → TakesBlock q r body
     → ((recs : List (List ℕ)) (n : List ℕ) → r.recs ≡ recs ++ n ∷ [] → new ≡ within r recs) → block' ≡ block ++ stmt.Rec name body ∷ []
     → TakesSome p new (Is Rec ∷ []) block block'
-rec_read p m q r new name after body block block' e entered there takes leaves is =
-    let (kept, inner, opened, b, begun) = rw (rw entered at there) at takes in
+rec_read p q r new name body block block' e entered takes leaves is =
+    let (kept, inner, opened, b, begun) = rw entered at takes in
     let spelled = ap (λ (x : Standing). x.rest) e in
     rw (leaves p.recs name (sym (ap (λ (x : Standing). x.recs) kept))) (
       ap (λ (x : Standing). at (within x p.recs) p.rest) kept,
@@ -114,18 +118,20 @@ first_of : (os : grammar.Blocks) (ts next : List Symbol) → Is Or ∷ ts ≡ bl
 first_of NoBlock ts next e lt = let long = ap length e in absurd (omega (arith, long, lt))
 first_of (ABlock first others) ts next e lt = (first, others, refl)
 
-pub choice_read : (p q r new : Standing) (subject : ℕ) (bs : Blocks) (block block' : List Stmt) → p ≡ at q (Is At ∷ q.rest)
-    → IsRoleName q r subject → TakesBranches r new bs → length new.rest < length r.rest → block' ≡ block ++ stmt.Choice subject bs ∷ []
-    → TakesSome p new (Is Choice ∷ []) block block'
-choice_read p q r new subject bs block block' e role b lt is =
-    let is_role = rw (role.2, b.0) at role.1 in
+-- a choice more at the end of a block
+choice_added : (p r new : Standing) (subject : ℕ) (bs : Blocks) (block block' : List Stmt)
+    → ((n : List ℕ) × (place_of r.roles n ≡ Some subject) × (p ≡ at r (Is At ∷ Word n ∷ r.rest))) → r ≡ back_at new r.count r.rest
+    → AreBlocks new.roles r.count new.count (trees.bodies_of bs) (Is Or ∷ r.rest) new.rest → length new.rest < length r.rest
+    → block' ≡ block ++ stmt.Choice subject bs ∷ [] → TakesSome p new (Is Choice ∷ []) block block'
+choice_added p r new subject bs block block' role kept b lt is =
+    let is_role = rw kept at role.1 in
     let place : role_at new.roles role.0 ≡ subject = ap or_first is_role in
-    let (first, others, both) = first_of b.1.written r.rest new.rest b.1.spelled lt in
-    let sound = rw both at b.1.sound in
-    let spelled : r.rest ≡ Is Open ∷ stmts first (Is Close ∷ blocks_behind Or others new.rest) = ap (drop 1) (rw both at b.1.spelled) in
-    let counted : new.count ≡ r.count + (points first + points_of others) = rw both at b.1.counted in
-    let tree = rw both at b.1.tree in
-    rw (e, role.2, b.0) (
+    let (first, others, both) = first_of b.written r.rest new.rest b.spelled lt in
+    let sound = rw both at b.sound in
+    let spelled : r.rest ≡ Is Open ∷ stmts first (Is Close ∷ blocks_behind Or others new.rest) = ap (drop 1) (rw both at b.spelled) in
+    let counted : new.count ≡ r.count + (points first + points_of others) = rw both at b.counted in
+    let tree = rw both at b.tree in
+    rw (role.2, kept) (
       refl,
       added_by new.roles r.count new.count _ block block' _ _ is (λ m body next w. (
         record {
@@ -139,6 +145,21 @@ choice_read p q r new subject bs block block' e role b lt is =
         tt,
       )),
     )
+
+-- What stands behind the first symbol of a statement was taken, and so the statement was.
+pub statement : (r : Result Bool Stop) (ended : Bool) (p q new : Standing) (spot : Spot) (t : Symbol)
+    (item over last : List Item → List Item) (block block' : List Stmt) → IfOk r (λ e. e ≡ ended) → Consumes r q new item (λ x k. last k)
+    → p ≡ at q (t ∷ q.rest)
+    → ((k : List Item) → answers (at q (t ∷ q.rest)) (First (place_of_spot q spot) ∷ k) ≡ answers q (item (over k)))
+    → OnOk r (TakesSome q new (t ∷ []) block block')
+    → (q.recs ≡ new.recs → (k : List Item) → last (over k) ≡ Rest (behind (place_of_spot new spot) ended) ∷ k)
+    → Consumes r p new (λ k. First (place_of_spot p spot) ∷ k) (λ e k. Rest (behind (place_of_spot new spot) e) ∷ k)
+    × OnOk r (TakesSome p new [] block block')
+statement (Ok e) ended p q new spot t item over last block block' is goes taken first takes same =
+    let on = λ (k : List Item). first k ∙ goes.0 (over k) ∙ ap (answers new) (same (ap (λ (x : Standing). x.recs) takes.0) k) in
+    rw (taken, is) ((on, omega (arith, goes.1)), (ap (λ (x : Standing). at x (t ∷ q.rest)) takes.0, takes.1))
+statement (Err e) ended p q new spot t item over last block block' is goes taken first takes same =
+    (halts_behind {X = Bool} (Err e) e p q new _ item over (λ x k. Rest (behind (place_of_spot new spot) x) ∷ k) refl goes.0 (rw taken first), tt)
 
 -- ---- statements, one after another
 
@@ -219,60 +240,72 @@ block_in_front roles n k m body bodies ts inner us next opened b begun others = 
   tree = rw (b.tree, others.tree, b.counted) refl;
 }
 
-pub record BranchesSoFar (old now : Standing) (spot : Spot) (bs : List Block) : Type 0 where
-  pub goes : (k : List Item)
-      → answers old (Opening (place_of_spot old spot) ∷ More (place_of_spot old spot) ∷ k) ≡ answers now (More (place_of_spot now spot) ∷ k)
-  pub kept : old ≡ back_at now old.count old.rest
+-- The subject was read, and the first blocks.
+pub record ChoiceSoFar (old now : Standing) (spot : Spot) (subject : ℕ) (bs : List Block) : Type 0 where
+  pub start : Standing  -- in front of the first block
+  pub role : (n : List ℕ) × (place_of start.roles n ≡ Some subject) × (old ≡ at start (Is At ∷ Word n ∷ start.rest))
+  pub goes : (k : List Item) → answers old (This (Is At) ∷ Subject ∷ Opening (place_of_spot old spot) ∷ More (place_of_spot old spot) ∷ k)
+      ≡ answers now (More (place_of_spot now spot) ∷ k)
+  pub kept : start ≡ back_at now start.count start.rest
   pub reads : (m : ℕ) (bodies : trees.Bodies) (next : List Symbol) → AreBlocks now.roles now.count m bodies now.rest next
-      → AreBlocks now.roles old.count m (branches_in_front bs bodies) (Is Or ∷ old.rest) next
-  pub shorter : length now.rest < length old.rest
+      → AreBlocks now.roles start.count m (branches_in_front bs bodies) (Is Or ∷ start.rest) next
+  pub within : spot.comes ≤ length now.recs
+  pub shorter : (length now.rest < length start.rest) × (length now.rest < length old.rest)
 
-pub branches_first : (old new : Standing) (spot : Spot) (bs : List Block) (b : Block)
-    → ((k : List Item) → answers old (Opening (place_of_spot old spot) ∷ k) ≡ answers new k)
-    → TakesBlock old new b → bs ≡ [] ++ b ∷ [] → length new.rest < length old.rest → BranchesSoFar old new spot bs
-branches_first old new spot bs b goes (kept, inner, opened, is, begun) e lt = record {
-  goes = λ k. goes (More (place_of_spot old spot) ∷ k) ∙ ap (λ (x : Standing). answers new (More (place_of_spot x spot) ∷ k)) kept;
-  kept = kept;
-  reads = λ m bodies next w. rw e (block_in_front new.roles old.count new.count m _ bodies old.rest inner new.rest next opened is begun w);
-  shorter = lt;
-}
+pub choice_first : (old start new : Standing) (spot : Spot) (subject : ℕ) (bs : List Block) (b : Block)
+    → ((n : List ℕ) × (place_of start.roles n ≡ Some subject) × (old ≡ at start (Is At ∷ Word n ∷ start.rest)))
+    → ((k : List Item) → answers old (This (Is At) ∷ Subject ∷ k) ≡ answers start k)
+    → ((k : List Item) → answers start (Opening (place_of_spot start spot) ∷ k) ≡ answers new k) → spot.comes ≤ length old.recs
+    → TakesBlock start new b → bs ≡ [] ++ b ∷ [] → length new.rest < length start.rest → ChoiceSoFar old new spot subject bs
+choice_first old start new spot subject bs b role found goes within (kept, inner, opened, is, begun) pushed lt =
+    let same : old.recs ≡ start.recs = ap (λ (x : Standing). x.recs) role.2 in
+    record {
+      start = start;
+      role = role;
+      goes = λ k. found (Opening (place_of_spot old spot) ∷ More (place_of_spot old spot) ∷ k)
+          ∙ ap (λ (x : List (List ℕ)). let p = place_at x spot.depth spot.comes spot.ended in answers start (Opening p ∷ More p ∷ k)) same
+          ∙ goes (More (place_of_spot start spot) ∷ k) ∙ ap (λ (x : Standing). answers new (More (place_of_spot x spot) ∷ k)) kept;
+      kept = kept;
+      reads = λ m bodies next w.
+          rw pushed (block_in_front new.roles start.count new.count m _ bodies start.rest inner new.rest next opened is begun w);
+      within = subst (λ (x : List (List ℕ)). spot.comes ≤ length x) (same ∙ ap (λ (x : Standing). x.recs) kept) within;
+      shorter = (lt, rw role.2 (omega (arith, lt)));
+    }
 
 branches-push : (bs : List Block) (b : Block) (others : trees.Bodies)
     → branches_in_front (bs ++ b ∷ []) others ≡ branches_in_front bs (trees.Or (trees.body_of b) others)
 branches-push [] b others = refl
 branches-push (x ∷ bs) b others = ap (trees.Or (trees.body_of x)) (branches-push bs b others)
 
-pub branches_next : (old p q new : Standing) (spot : Spot) (bs bs' : List Block) (b : Block) → BranchesSoFar old p spot bs
-    → p ≡ at q (Is Or ∷ q.rest) → ((k : List Item) → answers q (Opening (place_of_spot q spot) ∷ k) ≡ answers new k)
-    → TakesBlock q new b → bs' ≡ bs ++ b ∷ [] → length new.rest < length q.rest → BranchesSoFar old new spot bs'
-branches_next old p q new spot bs bs' b so_far e goes (kept, inner, opened, block, begun) is lt =
+pub choice_next : (old p q new : Standing) (spot : Spot) (subject : ℕ) (bs bs' : List Block) (b : Block)
+    → ChoiceSoFar old p spot subject bs → p ≡ at q (Is Or ∷ q.rest)
+    → ((k : List Item) → answers q (Opening (place_of_spot q spot) ∷ k) ≡ answers new k)
+    → TakesBlock q new b → bs' ≡ bs ++ b ∷ [] → length new.rest < length q.rest → ChoiceSoFar old new spot subject bs'
+choice_next old p q new spot subject bs bs' b so_far e goes (kept, inner, opened, block, begun) is lt =
     let here = rw e at so_far in
     let so = rw kept at here in
     record {
+      start = so.start;
+      role = so.role;
       goes = λ k. here.goes k ∙ goes (More (place_of_spot q spot) ∷ k)
           ∙ ap (λ (x : Standing). answers new (More (place_of_spot x spot) ∷ k)) kept;
       kept = so.kept;
       reads = λ m bodies next w. rw (is, branches-push) (so.reads m _ next
           (block_in_front new.roles q.count new.count m _ bodies q.rest inner new.rest next opened block begun w));
-      shorter = omega (arith, here.shorter);
+      within = so.within;
+      shorter = (omega (arith, so.shorter.0, lt), omega (arith, so.shorter.1, lt));
     }
 
 alternatives-in_front : (bs : List Block) → branches_in_front bs trees.NoMore ≡ trees.alternatives (map trees.body_of bs)
 alternatives-in_front [] = refl
 alternatives-in_front (b ∷ bs) = ap (trees.Or (trees.body_of b)) (alternatives-in_front bs)
 
-pub branches_read : (old p new : Standing) (spot : Spot) (bs : Blocks) → BranchesSoFar old p spot (blocks bs) → p ≡ new
-    → TakesBranches old new bs
-branches_read old p new spot bs so_far e =
-    let so = rw e at so_far in
-    let none : AreBlocks new.roles new.count new.count trees.NoMore new.rest new.rest = record {
-      written = NoBlock;
-      sound = (tt, tt);
-      spelled = refl;
-      counted = omega arith;
-      tree = refl;
-    } in (
-      so.kept,
-      subst (λ (x : trees.Bodies). AreBlocks new.roles old.count new.count x (Is Or ∷ old.rest) new.rest)
-          (alternatives-in_front (blocks bs) ∙ sym (bodies_of_lem bs)) (so.reads new.count trees.NoMore new.rest none),
-    )
+pub choice_read : (p new : Standing) (spot : Spot) (subject : ℕ) (bs : Blocks) (block block' : List Stmt)
+    → ChoiceSoFar p new spot subject (blocks bs) → block' ≡ block ++ stmt.Choice subject bs ∷ []
+    → TakesSome p new (Is Choice ∷ []) block block'
+choice_read p new spot subject bs block block' so is =
+    let none : AreBlocks new.roles new.count new.count trees.NoMore new.rest new.rest =
+    record { written = NoBlock; sound = (tt, tt); spelled = refl; counted = omega arith; tree = refl } in
+    let all = subst (λ (x : trees.Bodies). AreBlocks new.roles so.start.count new.count x (Is Or ∷ so.start.rest) new.rest)
+    (alternatives-in_front (blocks bs) ∙ sym (bodies_of_lem bs)) (so.reads new.count trees.NoMore new.rest none) in
+    choice_added p so.start new subject bs block block' so.role so.kept all so.shorter.0 is

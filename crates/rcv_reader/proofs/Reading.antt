@@ -1,5 +1,5 @@
 -- The loops over names: modules, sorts, roles and receivers; and over the declarations.
-use Rattle.std.proofs.Common.{◌≡◌, ℕ, ◌+◌, ◌<◌, true, false, Some, List, [], ◌∷◌, ◌++◌, length, refl, sym, ap, ◌∙◌, arith, append_assoc, append-nil, length-append, take, slice_index_or}
+use Rattle.std.proofs.Common.{◌≡◌, ℕ, ◌+◌, ◌<◌, true, false, Some, Result, Ok, Err, OnOk, List, [], ◌∷◌, ◌++◌, length, refl, sym, ap, ◌∙◌, arith, append_assoc, append-nil, length-append, take, slice_index_or}
 use Rattle.std.proofs.lemmas.List.{length-take-le, map-append, take_more}
 use Rattle.std.specs.Prelude.{◌≢◌, ◌==◌}
 use Rattle.std.specs.Borrow.{Bor}
@@ -157,14 +157,14 @@ may_push roles sender before [] n r is first apart may =
 may_push roles sender before (m ∷ names) n r is first apart may =
     (may.0, may.1, may.2, may_push roles sender (before ++ role_at roles m ∷ []) names n r is (rw append_assoc first) apart may.3)
 
-pub receivers_first : (old new : Standing) (sender role : ℕ) (handed : List ℕ) → handed ≡ []
+pub receivers_first : (old new : Standing) (sender role : ℕ) (none handed : List ℕ) → none ≡ [] → handed ≡ none
     → ((k : List Item) → answers old (Receiver sender handed ∷ k) ≡ answers new (MoreReceivers sender (handed ++ role ∷ []) ∷ k))
-    → IsReceived old new sender handed role → ReceiversSoFar old new sender (role ∷ [])
-receivers_first old new sender role handed empty goes received =
-    let is = rw empty at received in
+    → IsReceived old new sender handed role → ReceiversSoFar old new sender (none ++ role ∷ [])
+receivers_first old new sender role none handed empty same goes received =
+    let is = rw (same, empty) at received in
     let place : role_at new.roles is.name ≡ role = ap or_first is.is_role in
-    record {
-      goes = rw empty at goes;
+    rw empty (record {
+      goes = rw (same, empty) at goes;
       received = record {
         first = is.name;
         others = [];
@@ -174,20 +174,20 @@ receivers_first old new sender role handed empty goes received =
         spelled = is.spelled;
       };
       shorter = rw is.spelled (omega arith);
-    }
+    })
 
-pub receivers_next : (old p q new : Standing) (sender : ℕ) (before handed after : List ℕ) (role : ℕ)
-    → ReceiversSoFar old p sender before → p ≡ at q (Is Comma ∷ q.rest) → handed ≡ before → after ≡ before ++ role ∷ []
+pub receivers_next : (old p q new : Standing) (sender : ℕ) (before after handed : List ℕ) (role : ℕ)
+    → ReceiversSoFar old p sender before → p ≡ at q (Is Comma ∷ q.rest) → after ≡ before → handed ≡ after
     → ((k : List Item) → answers q (Receiver sender handed ∷ k) ≡ answers new (MoreReceivers sender (handed ++ role ∷ []) ∷ k))
-    → IsReceived q new sender handed role → ReceiversSoFar old new sender after
-receivers_next old p q new sender before handed after role so_far e pushed joined goes' received =
-    let is = rw pushed at received in
-    let goes = rw pushed at goes' in
+    → IsReceived q new sender handed role → ReceiversSoFar old new sender (after ++ role ∷ [])
+receivers_next old p q new sender before after handed role so_far e pushed same goes' received =
+    let is = rw (same, pushed) at received in
+    let goes = rw (same, pushed) at goes' in
     let here = rw e at so_far in
     let so = rw is.spelled at here in
     let had = so.received in
     let place : role_at new.roles is.name ≡ role = ap or_first is.is_role in
-    rw joined (record {
+    rw pushed (record {
       goes = λ k. here.goes k ∙ goes k;
       received = record {
         first = had.first;
@@ -211,20 +211,21 @@ messages_push label sorts sender (q ∷ rs) r n =
     rw (messages_push label sorts sender rs r (n + 1), place) refl
 
 -- a message more at the end of a block
-pub message_added : (label : List ℕ) (sorts : List (List ℕ)) (sender : ℕ) (rs handed : List ℕ) (r n m : ℕ) (block now new : List Stmt)
-    → handed ≡ rs → now ≡ block ++ messages label sorts sender handed n → m ≡ n + length (rs ++ r ∷ [])
-    → new ≡ now ++ statements.Message label sorts sender r m ∷ [] → new ≡ block ++ messages label sorts sender (rs ++ r ∷ []) n
-message_added label sorts sender rs handed r n m block now new same so_far place is =
-    rw (is, so_far, same, place, messages_push label sorts sender rs r n, append_assoc) refl
+pub message_added : {E : Type 0} (made : Result Unit E) (label : List ℕ) (sorts : List (List ℕ)) (sender : ℕ) (rs : List ℕ) (r n m : ℕ)
+    (block now new : List Stmt) → now ≡ block ++ messages label sorts sender rs n → m ≡ n + length (rs ++ r ∷ [])
+    → OnOk made (new ≡ now ++ statements.Message label sorts sender r m ∷ [])
+    → OnOk made (new ≡ block ++ messages label sorts sender (rs ++ r ∷ []) n)
+message_added (Ok x) label sorts sender rs r n m block now new so_far place is =
+    rw (is, so_far, place, messages_push label sorts sender rs r n, append_assoc) refl
+message_added (Err e) label sorts sender rs r n m block now new so_far place is = tt
 
 pub copy_added : (label label' : List ℕ) (sorts sorts' : List (List ℕ)) (sender : ℕ) (rs : List ℕ) (r i n m : ℕ) (block now new : List Stmt)
-    → i < length rs → slice_index_or rs i r ≡ r → (now ≡ block ++ messages label sorts sender (take i rs) n) × (m ≡ n + i) → label' ≡ label
-    → sorts' ≡ sorts → new ≡ now ++ statements.Message label' sorts' sender r (m + 1) ∷ []
-    → (new ≡ block ++ messages label sorts sender (take (i + 1) rs) n) × (m + 1 ≡ n + (i + 1))
+    → i < length rs → slice_index_or rs i r ≡ r → (now ≡ block ++ messages label sorts sender (take i rs) n) × (m ≡ n + (i + 1))
+    → label' ≡ label → sorts' ≡ sorts → new ≡ now ++ statements.Message label' sorts' sender r m ∷ []
+    → (new ≡ block ++ messages label sorts sender (take (i + 1) rs) n) × (m + 1 ≡ n + (i + 1 + 1))
 copy_added label label' sorts sorts' sender rs r i n m block now new lt at so_far one two is =
     let long = length-take-le i rs (omega (arith, lt)) in
     let taken : take (i + 1) rs ≡ take i rs ++ r ∷ [] = take_more rs i r lt ∙ ap (λ (x : ℕ). take i rs ++ x ∷ []) at in
-    let place : m + 1 ≡ n + length (take i rs ++ r ∷ []) = omega (arith, so_far.1, long, length-append (take i rs) (r ∷ [])) in
-    let said = message_added label sorts sender (take i rs) (take i rs) r n (m + 1) block now new refl so_far.0 place (rw (one, two) at is)
-    in
+    let place : m ≡ n + length (take i rs ++ r ∷ []) = omega (arith, so_far.1, long, length-append (take i rs) (r ∷ [])) in
+    let said = message_added {E = ℕ} (Ok tt) label sorts sender (take i rs) r n m block now new so_far.0 place (rw (one, two) at is) in
     (rw taken said, omega (arith, so_far.1))

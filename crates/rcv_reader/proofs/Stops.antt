@@ -10,16 +10,16 @@ use Rattle.rcv_machine.proofs.Heads.{meets_only}
 use Rattle.rcv_reader.specs.declared.stop.Stop.{Stop}
 use Rattle.rcv_reader.specs.declared.stop.Stop.TheVariants as errors
 use Rattle.rcv_reader.specs.Standing.{Standing, answers, going_on, IsOver}
-use Rattle.rcv_reader.specs.Descent.{Halts, Takes}
+use Rattle.rcv_reader.specs.Descent.{Halts, Consumes}
 
 -- What halts behind others halts in front of them.
 pub halts_behind : {X : Type 0} (r : Result X Stop) (e : Stop) (p q new : Standing) (front item over : List Item → List Item)
     (behind : X → List Item → List Item)
     → IsErrAnd r (λ f. f ≡ e) → Halts e q new item → ((k : List Item) → answers p (front k) ≡ answers q (item (over k)))
-    → Takes r p new front behind
+    → Consumes r p new front behind
 halts_behind (Ok x) e p q new front item over behind is halts goes = absurd is
-halts_behind (Err f) errors.Memory p q new front item over behind is halts goes = rw is tt
-halts_behind (Err f) (errors.Refused fault) p q new front item over behind is halts goes = rw is (λ k. goes k ∙ halts (over k))
+halts_behind (Err f) errors.Memory p q new front item over behind is halts goes = rw is (tt, tt)
+halts_behind (Err f) (errors.Refused fault) p q new front item over behind is halts goes = rw is (λ k. goes k ∙ halts (over k), tt)
 
 -- ---- an outcome decides the answer
 

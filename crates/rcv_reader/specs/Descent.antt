@@ -3,7 +3,6 @@ use Rattle.std.specs.Prelude.{◌≡◌, ℕ, ◌+◌, ◌==◌, Bool, true, fal
 use Rattle.rcv_tree.specs.declared.statement.Stmt.{Stmt}
 use Rattle.rcv_tree.specs.declared.statement.Stmt.TheVariants as statements
 use Rattle.rcv_tree.specs.declared.statement.Block.{Block}
-use Rattle.rcv_tree.specs.declared.statement.Blocks.{Blocks}
 use Rattle.rcv_tree.specs.declared.protocol.Decl.{Decl}
 use Rattle.rcv_model.specs.Text as trees
 use Rattle.rcv_syntax.specs.declared.sign.Sign.TheVariants.{Module, Global, Protocol, Role, Left, Right, Open, Close, Or, Semicolon}
@@ -37,10 +36,6 @@ Takes (Err e) old new front behind = Halts e old new front
 -- The same, with at least one symbol read.
 abbrev pub Consumes : {X : Type 0} → Result X Stop → Standing → Standing → (List Item → List Item) → (X → List Item → List Item) → Type 0
 Consumes result old new front behind = Takes result old new front behind × OnOk result (length new.rest < length old.rest)
-
--- the name of a role was read
-abbrev pub IsRoleName : Standing → Standing → ℕ → Type 0
-IsRoleName old new r = (n : List ℕ) × (place_of old.roles n ≡ Some r) × (old ≡ at new (Word n ∷ new.rest))
 
 -- the messages of one statement, behind n points
 abbrev pub messages : List ℕ → List (List ℕ) → ℕ → List ℕ → ℕ → List Stmt
@@ -113,14 +108,10 @@ abbrev pub TakesSome : Standing → Standing → List Symbol → List Stmt → L
 TakesSome old new sign block block' = (old ≡ back_at new old.count old.rest)
     × Adds true new.roles old.count new.count block block' (sign ++ old.rest) new.rest
 
--- A block was read, with its braces; or the blocks of a choice, as if the first stood behind the word or.
+-- A block was read, with its braces.
 abbrev pub TakesBlock : Standing → Standing → Block → Type 0
 TakesBlock old new b = (old ≡ back_at new old.count old.rest) × (inner : List Symbol) × (old.rest ≡ Is Open ∷ inner)
     × (w : AreStmts new.roles old.count new.count (trees.body_of b) inner (Is Close ∷ new.rest)) × IsBegun w.written
-
-abbrev pub TakesBranches : Standing → Standing → Blocks → Type 0
-TakesBranches old new bs = (old ≡ back_at new old.count old.rest)
-    × AreBlocks new.roles old.count new.count (trees.bodies_of bs) (Is Or ∷ old.rest) new.rest
 
 -- ---- the head
 

@@ -20,11 +20,12 @@ use std::alloc::Global;
 use std::collections::BTreeSet;
 
 impl<'a> Parser<'a> {
-    // Takes what stands between two quotes.
-    fn quoted(&mut self, alloc: Global) -> Result<Name, Stop>
-        ensures goes { Takes result self.old self.new (λ k. AnyQuoted ∷ k) (λ x k. k) }
-        ensures read { IfOk result (λ q. self.old ≡ at self.new (Text q ∷ self.new.rest)) }
+    // Takes this word or mark, and what stands between the two quotes behind it.
+    fn quoted(&mut self, alloc: Global, sign: Sign) -> Result<Name, Stop>
+        ensures goes { Takes result self.old self.new (λ k. This (Is sign) ∷ AnyQuoted ∷ k) (λ x k. k) }
+        ensures read { IfOk result (λ q. self.old ≡ at self.new (Is sign ∷ Text q ∷ self.new.rest)) }
     {
+        self.expect(sign)?;
         let Some((Lexeme::Text(bytes), after)) = self.next() else {
             return Err(Stop::Refused(Fault::Token));
         };
@@ -40,11 +41,9 @@ impl<'a> Parser<'a> {
             (Is Sign.Semicolon ∷ self.new.rest)))) }
     {
         let mut names = Names::new(alloc);
-        let first = self.name(alloc)?;
-        names.push(first)?;
+        names.push(self.name(alloc)?)?;
         while self.takes(Sign::Dot) {
-            let name = self.name(alloc)?;
-            names.push(name)?;
+            names.push(self.name(alloc)?)?;
         }
         self.expect(Sign::Semicolon)?;
         Ok(names)
@@ -62,8 +61,7 @@ impl<'a> Parser<'a> {
             self.expect(Sign::Role)?;
             self.add_role(alloc)?;
         }
-        self.expect(Sign::Right)?;
-        Ok(())
+        self.expect(Sign::Right)
     }
 
     // Takes the word `as`.
@@ -81,18 +79,20 @@ impl<'a> Parser<'a> {
         Ok(())
     }
 
-    // Takes the alias of a declaration, and keeps it, to find it without going through all of them.
+    // Takes the alias of a declaration, with what stands around it. Keeps it, to find it without going through all.
     fn alias(
         &mut self,
         alloc: Global,
         aliases: &mut BTreeSet<&'a [u8], Global>,
     ) -> Result<Name, Stop>
         ensures goes { (names : List (List ℕ)) → HasThese aliases.old names → Takes result self.old self.new
-            (λ k. Alias names ∷ k) (λ n k. This (Is Sign.Semicolon) ∷ Declaring (names ++ n ∷ []) ∷ k) }
+            (λ k. This (Word (codes "as")) ∷ Alias names ∷ k) (λ n k. Declaring (names ++ n ∷ []) ∷ k) }
         ensures kept { IfOk result (λ n. (names : List (List ℕ)) → HasThese aliases.old names
             → HasThese aliases.new (names ++ n ∷ [])) }
-        ensures read { IfOk result (λ n. self.old ≡ at self.new (Word n ∷ self.new.rest)) }
+        ensures read { IfOk result (λ n. self.old
+            ≡ at self.new (Word (codes "as") ∷ Word n ∷ Is Sign.Semicolon ∷ self.new.rest)) }
     {
+        self.word_as()?;
         let Some((Lexeme::Word(bytes), after)) = self.next() else {
             return Err(Stop::Refused(Fault::Token));
         };
@@ -102,9 +102,9 @@ impl<'a> Parser<'a> {
         let Ok(_) = aliases.insert(bytes) else {
             return Err(Stop::Memory);
         };
-        let alias = Name::of(alloc, bytes)?;
         self.go_to(after);
-        Ok(alias)
+        self.expect(Sign::Semicolon)?;
+        Ok(Name::of(alloc, bytes)?)
     }
 
     // Takes the word that begins a declaration.
@@ -141,15 +141,10 @@ impl<'a> Parser<'a> {
         ensures shorter { OnOk result (length self.new.rest < length self.old.rest) }
     {
         let word = self.decl_word(alloc)?;
-        self.expect(Sign::Less)?;
-        let schema = self.name(alloc)?;
-        self.expect(Sign::Greater)?;
-        let extern_name = self.quoted(alloc)?;
-        self.expect(Sign::From)?;
-        let file = self.quoted(alloc)?;
-        self.word_as()?;
+        let schema = self.name_behind(alloc, Sign::Less)?;
+        let extern_name = self.quoted(alloc, Sign::Greater)?;
+        let file = self.quoted(alloc, Sign::From)?;
         let alias = self.alias(alloc, aliases)?;
-        self.expect(Sign::Semicolon)?;
         Ok(Decl {
             word,
             schema,
@@ -168,8 +163,7 @@ impl<'a> Parser<'a> {
         let mut list = Decls::new(alloc);
         let mut aliases = BTreeSet::new(alloc);
         while !self.takes(Sign::Global) {
-            let decl = self.decl(alloc, &mut aliases)?;
-            list.push(decl)?;
+            list.push(self.decl(alloc, &mut aliases)?)?;
         }
         Ok(list)
     }

@@ -2,8 +2,9 @@
 
 ghost use Rattle.std.specs.List.{All};
 ghost use Rattle.std.specs.Prelude.{◌≡◌, ◌<◌, ◌≤◌, ◌+◌, ◌-◌, ◌^◌, ◌++◌, ◌∷◌, [], length, ℕ, List};
-ghost use Rattle.std.specs.Prelude.{drop, IfSome, IfNone, OnOk, IfOk, IfErr, true, false, Option};
+ghost use Rattle.std.specs.Prelude.{drop, IfSome, IfNone, OnOk, IfOk, IfErr, true, false, Some};
 ghost use Rattle.rcv_tree.specs.Lists.{statements};
+ghost use Rattle.rcv_tree.specs.declared.statement.Stmt.TheVariants as tree;
 ghost use Rattle.rcv_lexer.specs.Parts.{LiesIn};
 ghost use Rattle.rcv_scan.specs.Symbols.{symbol_in};
 ghost use Rattle.rcv_syntax.specs.Symbols.{Symbol, Is, Word, symbols_of};
@@ -14,9 +15,8 @@ ghost use Rattle.rcv_machine.specs.Machine.{Place, Item, This, AnyName, RoleName
 ghost use Rattle.rcv_machine.specs.Machine.{Sender, Receiver, MoreReceivers, RecName, AgainName, Opening};
 ghost use Rattle.rcv_machine.specs.Machine.{First, Rest, More, Refuses, inside, behind, is_open};
 ghost use Rattle.rcv_reader.specs.Standing.{IsSmall, at, within, answers, IsOver};
-ghost use Rattle.rcv_reader.specs.Descent.{AddsName, IsReceived, AreReceived};
-ghost use Rattle.rcv_reader.specs.Descent.{IsRoleName, messages, Takes, Consumes, TakesSome, TakesAll, TakesBlock};
-ghost use Rattle.rcv_reader.specs.Descent.{TakesBranches, place_of_spot, at_first};
+ghost use Rattle.rcv_reader.specs.Descent.{AddsName, IsReceived, AreReceived, messages, Takes, Consumes, TakesSome};
+ghost use Rattle.rcv_reader.specs.Descent.{TakesAll, TakesBlock, place_at, place_of_spot, at_first};
 
 use crate::stop::Stop;
 use rcv_lexer::token::Token;
@@ -74,33 +74,50 @@ fn is_listed(role: RoleId, before: &[RoleId]) -> bool
     before.iter().any(|other| role == *other)
 }
 
-// Adds a message for each of these receivers, behind so many points, with a copy of the label and the same list of
-// sorts.
-fn add_copies(
+// Adds a message with a copy of this label.
+fn add_message(
     alloc: Global,
-    label: &Name,
-    sorts: &Names,
+    label: &[u8],
+    sorts: Names,
     sender: RoleId,
-    receivers: &[RoleId],
+    receiver: RoleId,
+    point: u16,
+    block: &mut Block,
+) -> Result<(), AllocError>
+    ensures { OnOk result (statements block.new ≡ statements block.old
+        ++ tree.Message label.now sorts sender receiver point ∷ []) }
+{
+    block.push(Stmt::Message {
+        label: Name::of(alloc, label)?,
+        sorts,
+        sender,
+        receiver,
+        point: Point(point),
+    })
+}
+
+// Adds one for each of these receivers, and for the last one, which makes so many points in all. They share the sorts.
+fn add_messages(
+    alloc: Global,
+    label: &[u8],
+    sorts: Names,
+    sender: RoleId,
+    others: &[RoleId],
+    last: RoleId,
     points: u16,
     block: &mut Block,
 ) -> Result<(), AllocError>
-    requires few { points + length receivers.now ≤ 256 }
+    requires few { (length others.now < points) × (points ≤ 256) }
     ensures { OnOk result (statements block.new ≡ statements block.old
-        ++ messages label.now sorts.now sender receivers.now points) }
+        ++ messages label.now sorts sender (others.now ++ last ∷ []) (points - (length others.now + 1))) }
 {
-    let mut point = points;
-    for receiver in receivers {
+    let mut point = points - others.len() as u16;
+    for receiver in others {
+        let sorts = sorts.share()?;
+        add_message(alloc, label, sorts, sender, *receiver, point, block)?;
         point += 1;
-        block.push(Stmt::Message {
-            label: Name::of(alloc, label.as_slice())?,
-            sorts: sorts.share()?,
-            sender,
-            receiver: *receiver,
-            point: Point(point),
-        })?;
     }
-    Ok(())
+    add_message(alloc, label, sorts, sender, last, points, block)
 }
 
 impl<'a> Parser<'a> {
@@ -177,6 +194,15 @@ impl<'a> Parser<'a> {
         Ok(name)
     }
 
+    /// Takes this word or mark, and the name behind it.
+    pub fn name_behind(&mut self, alloc: Global, sign: Sign) -> Result<Name, Stop>
+        ensures goes { Takes result self.old self.new (λ k. This (Is sign) ∷ AnyName ∷ k) (λ x k. k) }
+        ensures read { IfOk result (λ n. self.old ≡ at self.new (Is sign ∷ Word n ∷ self.new.rest)) }
+    {
+        self.expect(sign)?;
+        self.name(alloc)
+    }
+
     /// Takes the name of one more role.
     pub fn add_role(&mut self, alloc: Global) -> Result<(), Stop>
         ensures goes { Takes result self.old self.new (λ k. RoleName ∷ k) (λ x k. MoreRoles ∷ k) }
@@ -215,13 +241,15 @@ impl<'a> Parser<'a> {
             .position(|role| role.as_slice() == name)
     }
 
-    // Takes the name of a role: the subject of a choice, or a sender.
-    fn role(&mut self) -> Result<RoleId, Stop>
-        ensures subject { Takes result self.old self.new (λ k. Subject ∷ k) (λ r k. k) }
-        ensures sender { Takes result self.old self.new (λ k. Sender ∷ k)
+    // Takes this word, and the name of a role behind it: the subject of a choice, or a sender.
+    fn role(&mut self, sign: Sign) -> Result<RoleId, Stop>
+        ensures subject { Takes result self.old self.new (λ k. This (Is sign) ∷ Subject ∷ k) (λ r k. k) }
+        ensures sender { Takes result self.old self.new (λ k. This (Is sign) ∷ Sender ∷ k)
             (λ r k. This (Is Sign.To) ∷ Receiver r [] ∷ k) }
-        ensures read { IfOk result (λ r. IsRoleName self.old self.new r) }
+        ensures read { IfOk result (λ r. (n : List ℕ) × (place_of self.new.roles n ≡ Some r)
+            × (self.old ≡ at self.new (Is sign ∷ Word n ∷ self.new.rest))) }
     {
+        self.expect(sign)?;
         let Some((Lexeme::Word(bytes), after)) = self.next() else {
             return Err(Stop::Refused(Fault::Token));
         };
@@ -241,11 +269,9 @@ impl<'a> Parser<'a> {
         if self.takes(Sign::Right) {
             return Ok(sorts);
         }
-        let first = self.name(alloc)?;
-        sorts.push(first)?;
+        sorts.push(self.name(alloc)?)?;
         while self.takes(Sign::Comma) {
-            let sort = self.name(alloc)?;
-            sorts.push(sort)?;
+            sorts.push(self.name(alloc)?)?;
         }
         self.expect(Sign::Right)?;
         Ok(sorts)
@@ -279,7 +305,6 @@ impl<'a> Parser<'a> {
     }
 
     // Takes all receivers of a message, and the mark behind them. The last one is apart.
-    #[tactic(auto, using(crate::proofs::Reading::receivers_first, crate::proofs::Reading::receivers_next))]
     fn receivers(&mut self, alloc: Global, sender: RoleId) -> Result<(Roles, RoleId), Stop>
         ensures goes { Consumes result self.old self.new (λ k. Receiver sender [] ∷ k) (λ x k. k) }
         ensures read { IfOk result (λ rs. AreReceived self.old (at self.new (Is Sign.Semicolon ∷ self.new.rest)) sender
@@ -302,43 +327,37 @@ impl<'a> Parser<'a> {
         self.count
     }
 
-    // Takes a message.
-    fn message(&mut self, alloc: Global, block: &mut Block) -> Result<(), Stop>
+    // Takes a message, of which the label is taken. Like each statement it answers whether it ends its block.
+    fn message(&mut self, alloc: Global, label: &[u8], block: &mut Block) -> Result<bool, Stop>
         ensures goes { Consumes result self.old self.new
-            (λ k. AnyName ∷ This (Is Sign.Left) ∷ Sorts ∷ This (Is Sign.From) ∷ Sender ∷ k) (λ x k. k) }
-        ensures read { OnOk result (TakesSome self.old self.new [] (statements block.old) (statements block.new)) }
+            (λ k. This (Is Sign.Left) ∷ Sorts ∷ This (Is Sign.From) ∷ Sender ∷ k) (λ x k. k) }
+        ensures ends { IfOk result (λ ended. ended ≡ false) }
+        ensures read { OnOk result (TakesSome self.old self.new (Word label.now ∷ [])
+            (statements block.old) (statements block.new)) }
     {
-        let label = self.name(alloc)?;
         self.expect(Sign::Left)?;
         let sorts = self.sorts(alloc)?;
-        self.expect(Sign::From)?;
-        let sender = self.role()?;
+        let sender = self.role(Sign::From)?;
         self.expect(Sign::To)?;
-        let before = self.points();
         let (others, last) = self.receivers(alloc, sender)?;
-        let now = self.points();
-        add_copies(
+        let points = self.points();
+        add_messages(
             alloc,
-            &label,
-            &sorts,
-            sender,
-            others.as_slice(),
-            before,
-            block,
-        )?;
-        block.push(Stmt::Message {
             label,
             sorts,
             sender,
-            receiver: last,
-            point: Point(now),
-        })?;
-        Ok(())
+            others.as_slice(),
+            last,
+            points,
+            block,
+        )?;
+        Ok(false)
     }
 
     // Takes the name behind `continue`, which is that of an enclosing recursion, and the mark behind it.
-    fn again(&mut self, alloc: Global, spot: Spot, block: &mut Block) -> Result<(), Stop>
+    fn again(&mut self, alloc: Global, spot: Spot, block: &mut Block) -> Result<bool, Stop>
         ensures goes { Consumes result self.old self.new (λ k. AgainName (place_of_spot self.old spot) ∷ k) (λ x k. k) }
+        ensures ends { IfOk result (λ ended. ended ≡ true) }
         ensures read { OnOk result (TakesSome self.old self.new (Is Sign.Continue ∷ [])
             (statements block.old) (statements block.new)) }
     {
@@ -352,7 +371,7 @@ impl<'a> Parser<'a> {
         self.expect(Sign::Semicolon)?;
         let name = Name::of(alloc, bytes)?;
         block.push(Stmt::Continue { name })?;
-        Ok(())
+        Ok(true)
     }
 
     // Takes the brace that begins a block.
@@ -397,13 +416,22 @@ impl<'a> Parser<'a> {
         holds(name, &recs[recs.len() - spot.comes..])
     }
 
-    // Enters the body of a recursion.
-    fn enter(&mut self, name: Name) -> Result<(), AllocError>
-        ensures entered { OnOk result (self.new ≡ within self.old (self.old.recs ++ name ∷ [])) }
+    // Takes the name of a recursion, and enters its body.
+    fn enter(&mut self, alloc: Global, spot: Spot) -> Result<&'a [u8], Stop>
+        ensures goes { Takes result self.old self.new (λ k. RecName (place_of_spot self.old spot) ∷ k)
+            (λ n k. Opening (place_at self.new.recs spot.depth (spot.comes + 1) false) ∷ k) }
+        ensures read { IfOk result (λ n. self.old ≡ at self.old (Word n.now ∷ self.new.rest)) }
+        ensures inner { IfOk result (λ n. self.new ≡ within (at self.old self.new.rest) (self.old.recs ++ n.now ∷ [])) }
         ensures room { OnOk result (length self.new.recs < 2 ^ 63) }
     {
-        self.recs.push(name)?;
-        Ok(())
+        let Some((Lexeme::Word(name), after)) = self.next() else {
+            return Err(Stop::Refused(Fault::Token));
+        };
+        let Ok(_) = self.recs.push(Name::of(alloc, name)?) else {
+            return Err(Stop::Memory);
+        };
+        self.go_to(after);
+        Ok(name)
     }
 
     // Leaves the body of the innermost recursion.
@@ -416,18 +444,14 @@ impl<'a> Parser<'a> {
 
     // Takes a recursion, of which the word is taken.
     #[cycle(descent)]
-    fn recursion(&mut self, alloc: Global, spot: Spot, block: &mut Block) -> Result<(), Stop>
+    fn recursion(&mut self, alloc: Global, spot: Spot, block: &mut Block) -> Result<bool, Stop>
         requires comes { spot.comes ≤ length self.old.recs }
         ensures goes { Consumes result self.old self.new (λ k. RecName (place_of_spot self.old spot) ∷ k) (λ x k. k) }
+        ensures ends { IfOk result (λ ended. ended ≡ false) }
         ensures read { OnOk result (TakesSome self.old self.new (Is Sign.Rec ∷ [])
             (statements block.old) (statements block.new)) }
     {
-        let Some((Lexeme::Word(bytes), after)) = self.next() else {
-            return Err(Stop::Refused(Fault::Token));
-        };
-        let name = Name::of(alloc, bytes)?;
-        self.enter(Name::of(alloc, bytes)?)?;
-        self.go_to(after);
+        let name = self.enter(alloc, spot)?;
         let inner = Spot {
             depth: spot.depth,
             comes: spot.comes + 1,
@@ -435,44 +459,30 @@ impl<'a> Parser<'a> {
         };
         let body = self.block(alloc, inner)?;
         self.leave();
+        let name = Name::of(alloc, name)?;
         block.push(Stmt::Rec { name, body })?;
-        Ok(())
+        Ok(false)
     }
 
     // Takes a choice, of which the word is taken.
     #[cycle(descent)]
-    fn choice(&mut self, alloc: Global, spot: Spot, block: &mut Block) -> Result<(), Stop>
+    fn choice(&mut self, alloc: Global, spot: Spot, block: &mut Block) -> Result<bool, Stop>
         requires comes { spot.comes ≤ length self.old.recs }
         ensures goes { let p = place_of_spot self.old spot in
             Consumes result self.old self.new (λ k. This (Is Sign.At) ∷ Subject ∷ Opening p ∷ More p ∷ k)
             (λ x k. Rest (behind (place_of_spot self.new spot) false) ∷ k) }
+        ensures ends { IfOk result (λ ended. ended ≡ false) }
         ensures read { OnOk result (TakesSome self.old self.new (Is Sign.Choice ∷ [])
             (statements block.old) (statements block.new)) }
     {
-        self.expect(Sign::At)?;
-        let subject = self.role()?;
-        let branches = self.branches(alloc, spot)?;
-        block.push(Stmt::Choice { subject, branches })?;
-        Ok(())
-    }
-
-    // Takes the blocks of a choice.
-    #[cycle(descent)]
-    fn branches(&mut self, alloc: Global, spot: Spot) -> Result<Blocks, Stop>
-        requires comes { spot.comes ≤ length self.old.recs }
-        ensures goes { let p = place_of_spot self.old spot in
-            Consumes result self.old self.new (λ k. Opening p ∷ More p ∷ k)
-            (λ x k. Rest (behind (place_of_spot self.new spot) false) ∷ k) }
-        ensures read { IfOk result (λ bs. TakesBranches self.old self.new bs) }
-    {
+        let subject = self.role(Sign::At)?;
         let mut branches = Blocks::new(alloc);
-        let first = self.block(alloc, spot)?;
-        branches.push(first)?;
+        branches.push(self.block(alloc, spot)?)?;
         while self.takes(Sign::Or) {
-            let branch = self.block(alloc, spot)?;
-            branches.push(branch)?;
+            branches.push(self.block(alloc, spot)?)?;
         }
-        Ok(branches)
+        block.push(Stmt::Choice { subject, branches })?;
+        Ok(false)
     }
 
     // Takes a block of at least one statement, with its braces.
@@ -483,19 +493,15 @@ impl<'a> Parser<'a> {
         ensures read { IfOk result (λ b. TakesBlock self.old self.new b) }
     {
         self.open(spot)?;
-        let inner = Spot {
+        let mut here = Spot {
             depth: spot.depth + 1,
             comes: spot.comes,
             ended: false,
         };
         let mut block = Block::new(alloc);
-        let ended = self.stmt(alloc, inner, &mut block)?;
-        let behind = Spot {
-            depth: inner.depth,
-            comes: 0,
-            ended,
-        };
-        self.stmts(alloc, behind, &mut block)?;
+        here.ended = self.stmt(alloc, here, &mut block)?;
+        here.comes = 0;
+        self.stmts(alloc, here, &mut block)?;
         Ok(block)
     }
 
@@ -509,12 +515,8 @@ impl<'a> Parser<'a> {
     {
         let mut here = spot;
         while !self.takes(Sign::Close) {
-            let ended = self.stmt(alloc, here, block)?;
-            here = Spot {
-                depth: here.depth,
-                comes: 0,
-                ended,
-            };
+            here.ended = self.stmt(alloc, here, block)?;
+            here.comes = 0;
         }
         Ok(())
     }
@@ -531,27 +533,24 @@ impl<'a> Parser<'a> {
             return Err(Stop::Refused(self.ended_fault()));
         }
         match self.next() {
-            Some((Lexeme::Word(_), _)) => {
-                self.message(alloc, block)?;
-                Ok(false)
+            Some((Lexeme::Word(label), after)) => {
+                self.go_to(after);
+                self.message(alloc, label, block)
             }
             Some((Lexeme::Is(Sign::Choice), after)) => {
                 self.go_to(after);
-                self.choice(alloc, spot, block)?;
-                Ok(false)
+                self.choice(alloc, spot, block)
             }
             Some((Lexeme::Is(Sign::Rec), after)) => {
                 self.go_to(after);
-                self.recursion(alloc, spot, block)?;
-                Ok(false)
+                self.recursion(alloc, spot, block)
             }
             Some((Lexeme::Is(Sign::Continue), after)) => {
                 if self.is_unguarded(spot, &after) {
                     return Err(Stop::Refused(Fault::Unguarded));
                 }
                 self.go_to(after);
-                self.again(alloc, spot, block)?;
-                Ok(true)
+                self.again(alloc, spot, block)
             }
             Some((Lexeme::Is(Sign::Par | Sign::Do), _)) => Err(Stop::Refused(Fault::NotYet)),
             _ => Err(Stop::Refused(Fault::Token)),

@@ -52,7 +52,7 @@ term_sign true = signs.Minus
 
 -- a word is that atom, or there is that fault
 abbrev pub IsWordAtom : Place → List ℕ → Operand → Type 0
-IsWordAtom p w o = (last : script.Expr) (k : script.Expr → Item) → word_atom p w k ≡ On (k (operand_expr o last))
+IsWordAtom p w o = (k : script.Expr → Item) → word_atom p w k ≡ On (k (operand_expr o))
 
 -- that fault speaks against the word
 abbrev pub IsNoWordAtom : Place → List ℕ → Fault → Type 0

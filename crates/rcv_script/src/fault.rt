@@ -7,7 +7,7 @@ ghost use Rattle.rcv_script.specs.Refusals.{code_of};
 use std::alloc::{AllocError, AllocFailed};
 
 /// What is wrong at a token or at the end.
-#[derive(Clone, Copy, Debug, PartialEq, Eq)]
+#[derive(Clone, Copy)]
 pub enum Fault {
     /// The grammar doesn't have it there, or a number above 9223372036854775807.
     Token = 30,
@@ -35,7 +35,7 @@ impl Fault {
 }
 
 /// Why the reader stopped.
-#[derive(Clone, Copy, Debug, PartialEq, Eq)]
+#[derive(Clone, Copy)]
 pub enum ScriptError {
     /// The fault is at the token that is next, or at the end.
     Refused(Fault),

@@ -4,7 +4,6 @@ ghost use Rattle.std.specs.Prelude.{◌≡◌, ◌<◌, ◌≤◌, ◌∷◌, �
 ghost use Rattle.std.specs.Prelude.{Option, IfSome, IfNone, IfOk, IfErr};
 ghost use Rattle.rcv_model.specs.Script.{Negated, Test};
 ghost use Rattle.rcv_script.specs.Symbols.{Symbol, Is, Word, IsNotNext};
-ghost use Rattle.rcv_script.specs.Expressions.{IsOperand};
 ghost use Rattle.rcv_script.specs.Lines.{condition_of, test_of};
 ghost use Rattle.rcv_script.specs.Machine.{This, ATest, AnAtom, a_product, a_sum, with_expr, condition, place_of};
 ghost use Rattle.rcv_script.specs.Machine.{Item, Refuses, answer};
@@ -37,7 +36,6 @@ pub fn place_of(names: &[Name], name: &[u8]) -> Option<usize>
 // What a word is in an expression, or what speaks against it.
 fn word_atom(names: &Names, banned: Banned, word: &[u8]) -> Result<Operand, Fault>
     ensures ok { (depth : ℕ) → IfOk result (IsWordAtom (at_depth names.now banned depth) word.now) }
-    ensures operand { IfOk result IsOperand }
     ensures err { (depth : ℕ) → IfErr result (IsNoWordAtom (at_depth names.now banned depth) word.now) }
 {
     if is(word, b"value") {
@@ -137,14 +135,14 @@ impl<'a> Parser<'a> {
     {
         if let Some((number, after)) = self.rest.number() {
             self.rest = after;
-            steps.add(Operator::Push, Operand::Number(number as i64))?;
+            steps.push(Operand::Number(number as i64))?;
             return Ok(());
         }
         if let Some((word, after)) = self.rest.word() {
             return match word_atom(names, banned, word) {
                 Ok(operand) => {
                     self.rest = after;
-                    steps.add(Operator::Push, operand)?;
+                    steps.push(operand)?;
                     Ok(())
                 }
                 Err(fault) => Err(ScriptError::Refused(fault)),
@@ -185,7 +183,7 @@ impl<'a> Parser<'a> {
         ensures shorter { length self.new.rest ≤ length self.old.rest }
     {
         self.atom(names, banned, depth, steps)?;
-        steps.add(Operator::Negate, Operand::Top)?;
+        steps.join(Operator::Negate)?;
         Ok(())
     }
 
@@ -207,7 +205,7 @@ impl<'a> Parser<'a> {
         self.atom(names, banned, depth, steps)?;
         while self.takes(Sign::Times) {
             self.atom(names, banned, depth, steps)?;
-            steps.add(Operator::Multiply, Operand::Top)?;
+            steps.join(Operator::Multiply)?;
         }
         Ok(())
     }
@@ -235,7 +233,7 @@ impl<'a> Parser<'a> {
             } else {
                 Operator::Add
             };
-            steps.add(operator, Operand::Top)?;
+            steps.join(operator)?;
         }
         Ok(())
     }

@@ -14,6 +14,7 @@ mod read;
 pub mod scripts;
 mod setting;
 mod sign;
+mod value;
 mod words;
 mod writing;
 

@@ -1,13 +1,10 @@
 use Rattle.std.proofs.Common.{◌+◌, ◌*◌, length}
 use Rattle.rcv_tree.specs.Lists.{statements, blocks}
-use Rattle.rcv_reader.proofs.Blocks.{StmtsSoFar, BranchesSoFar}
+use Rattle.rcv_reader.proofs.Blocks.{StmtsSoFar, ChoiceSoFar}
 use Rattle.rcv_reader.proofs.parser.Parser.+descent.Given as goal
 
 abbrev pub decreases-block : goal.decreases-block
 decreases-block l = 3 * length l.self.now.rest
-
-abbrev pub decreases-branches : goal.decreases-branches
-decreases-branches l = 3 * length l.self.now.rest + 1
 
 abbrev pub decreases-choice : goal.decreases-choice
 decreases-choice l = 3 * length l.self.now.rest + 2
@@ -27,8 +24,8 @@ invariant-stmts-loop-alloc l = StmtsSoFar l.fn.self l.self l.fn.spot l.here (sta
 abbrev pub decreases-stmts-loop-alloc : goal.decreases-stmts-loop-alloc
 decreases-stmts-loop-alloc l = length l.self.rest
 
-abbrev pub invariant-branches-loop-alloc : goal.invariant-branches-loop-alloc
-invariant-branches-loop-alloc l = BranchesSoFar l.fn.self l.self l.spot (blocks l.branches)
+abbrev pub invariant-choice-loop-alloc : goal.invariant-choice-loop-alloc
+invariant-choice-loop-alloc l = ChoiceSoFar l.fn.self l.self l.spot l.subject (blocks l.branches)
 
-abbrev pub decreases-branches-loop-alloc : goal.decreases-branches-loop-alloc
-decreases-branches-loop-alloc l = length l.self.rest
+abbrev pub decreases-choice-loop-alloc : goal.decreases-choice-loop-alloc
+decreases-choice-loop-alloc l = length l.self.rest

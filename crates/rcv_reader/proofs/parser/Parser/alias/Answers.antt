@@ -1,4 +1,5 @@
-use Rattle.std.proofs.Common.{◌≡◌, ℕ, Bool, true, false, List, [], ◌∷◌, ◌++◌, Bor, refl, ◌∙◌, ap, sym}
+use Rattle.std.proofs.Common.{◌≡◌, ℕ, Bool, true, false, List, [], ◌∷◌, ◌++◌, Bor, refl, ◌∙◌, ap, sym, arith}
+use Rattle.std.proofs.lemmas.Grind.{common_steps}
 use Rattle.std.proofs.lemmas.List.Folds.{list_any-append}
 use Rattle.std.proofs.lemmas.Map.Text.{is_eq-slice_cmp}
 use Rattle.std.specs.BTreeSet.{BTreeSet, contains_by, Updates}
@@ -7,6 +8,10 @@ use Rattle.std.specs.Ordering.{nat_cmp}
 use Rattle.std.specs.Prelude.{cond, ◌||◌}
 use Rattle.std.specs.Str.{bytes_eq}
 use Rattle.rcv_syntax.specs.Codes.{is_among}
+use Rattle.rcv_syntax.specs.declared.sign.Sign.TheVariants.{Semicolon}
+use Rattle.rcv_syntax.specs.Symbols.{Is}
+use Rattle.rcv_machine.specs.Machine.{This, Decls}
+use Rattle.rcv_reader.proofs.Stops.{halts_behind}
 use Rattle.rcv_machine.proofs.Naming.{bytes_sym}
 use Rattle.rcv_reader.specs.Aliases.{HasThese}
 use Rattle.rcv_reader.proofs.parser.Parser.alias.Goals as goal
@@ -27,7 +32,13 @@ found_more name names before now has updates q =
     ∙ either (bytes_eq q name.now) (is_among q names)
     ∙ sym (list_any-append (bytes_eq q) names (name.now ∷ []))
 
+pub returns-in_err-expect-clause-goes : goal.returns-in_err-expect-clause-goes
+returns-in_err-expect-clause-goes c = λ names has.
+    (halts_behind _ _ _ _ _ _ (λ k. This (Is Semicolon) ∷ k) (λ k. Decls (names ++ c.in-Some-Word-default.bytes.now ∷ []) ∷ k) _
+    c.from_residual-in_err-expect.ensures.1 c.in_err-expect.ensures.goes
+    (λ k. c.in_ok-word_as.ensures.goes _ ∙ grind (arith, common_steps))).0
+
 pub returns-clause-kept : goal.returns-clause-kept
 returns-clause-kept c = λ names has.
-    rw c.in_ok-alias.ensures
+    rw c.in_ok-of.ensures
     (found_more c.in-Some-Word-default.bytes names c.args.aliases.now c.insert.new.self has c.in-Ok.ensures.updates)

@@ -3,10 +3,10 @@ use Rattle.rcv_script.proofs.Going.{word_stops}
 use Rattle.rcv_script.proofs.Building.{operand_written, word_goes, all_written}
 use Rattle.rcv_script.proofs.parser.Parser.+descent.Goals as goal
 
-pub atom-returns-in_ok-add-in-Ok-clause-goes : goal.atom-returns-in_ok-add-in-Ok-clause-goes
-atom-returns-in_ok-add-in-Ok-clause-goes t c =
-    operand_written _ c.in-Ok.operand _ _ _ _ c.in-Ok.ensures.operand c.in_ok-add-in-Ok.ensures
-    (word_goes _ _ c.in-Ok.operand _ _ c.args.steps.now.0 c.in-Some-word.ensures.some (c.in-Ok.ensures.ok c.args.depth))
+pub atom-returns-in_ok-push-in-Ok-clause-goes : goal.atom-returns-in_ok-push-in-Ok-clause-goes
+atom-returns-in_ok-push-in-Ok-clause-goes t c =
+    operand_written _ c.in-Ok.operand _ _ _ _ c.in_ok-push-in-Ok.ensures
+    (word_goes _ _ c.in-Ok.operand _ _ c.in-Some-word.ensures.some (c.in-Ok.ensures.ok c.args.depth))
 
 pub atom-returns-in-Err-clause-goes : goal.atom-returns-in-Err-clause-goes
 atom-returns-in-Err-clause-goes t c = word_stops _ _ c.in-Err.fault _ _ c.in-Some-word.ensures.some (c.in-Err.ensures.err c.args.depth)

@@ -1,0 +1,10 @@
+use Rattle.std.proofs.Common.{◌≡◌, ◌+◌, ◌-◌, ◌++◌, take, length}
+use Rattle.rcv_tree.specs.Lists.{statements}
+use Rattle.rcv_reader.specs.Descent.{messages}
+use Rattle.rcv_reader.proofs.parser.add_messages.Given as goal
+
+abbrev pub invariant-loop-receiver : goal.invariant-loop-receiver
+invariant-loop-receiver l =
+    (statements l.block ≡ statements l.fn.block
+    ++ messages l.label l.fn.sorts l.sender (take l.receiver-index l.others) (l.points - (length l.others + 1)))
+    × (l.point ≡ l.points - (length l.others + 1) + (l.receiver-index + 1))
