@@ -183,7 +183,7 @@ impl<'a> Parser<'a> {
         ensures shorter { length self.new.rest ≤ length self.old.rest }
     {
         self.atom(names, banned, depth, steps)?;
-        steps.join(Operator::Negate)?;
+        steps.negate()?;
         Ok(())
     }
 

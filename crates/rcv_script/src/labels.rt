@@ -5,7 +5,7 @@ ghost use Rattle.std.specs.Prelude.{◌≡◌, map, Option};
 ghost use Rattle.rcv_points.specs.Follow.{message_at};
 ghost use Rattle.rcv_script.specs.Lines.{line_of};
 ghost use Rattle.rcv_script.specs.Scripts.{HasPoint};
-ghost use Rattle.rcv_script.specs.Labels.{is_end, is_meant, sends, takes_part, sends_bare, takes_bare};
+ghost use Rattle.rcv_script.specs.Labels.{is_end, is_meant, takes_bare};
 ghost use Rattle.rcv_script.specs.Machine.{has_send, send_fault, pick_fault, on_fault};
 
 use crate::fault::Fault;
@@ -18,24 +18,24 @@ use rcv_tree::point::Point;
 pub fn send_fault(points: &Points, role: usize, lines: &[Line], label: &[u8]) -> Option<Fault>
     ensures { result ≡ send_fault points.now.messages role (map line_of lines.now) label.now }
 {
-    if !sends(points, role, label) || has_send(label, lines) {
+    if !has_message(points, role, label, false, false) || has_send(label, lines) {
         return Some(Fault::Label);
     }
-    sends_bare(points, role, label).then_some(Fault::NoPayload)
+    has_message(points, role, label, false, true).then_some(Fault::NoPayload)
 }
 
 /// What speaks against the label of a `pick` line.
 pub fn pick_fault(points: &Points, role: usize, label: &[u8]) -> Option<Fault>
     ensures { result ≡ pick_fault points.now.messages role label.now }
 {
-    (!sends(points, role, label)).then_some(Fault::Label)
+    (!has_message(points, role, label, false, false)).then_some(Fault::Label)
 }
 
 /// What speaks against the label of an `on` line.
 pub fn on_fault(points: &Points, role: usize, label: &[u8]) -> Option<Fault>
     ensures { result ≡ on_fault points.now.messages role label.now }
 {
-    (!takes_part(points, role, label)).then_some(Fault::Label)
+    (!has_message(points, role, label, true, false)).then_some(Fault::Label)
 }
 
 /// Whether a message without sorts has this label and is sent or received by the role.
@@ -43,24 +43,6 @@ pub fn takes_bare(points: &Points, role: usize, label: &[u8]) -> bool
     ensures { result ≡ takes_bare points.now.messages role label.now }
 {
     has_message(points, role, label, true, true)
-}
-
-fn takes_part(points: &Points, role: usize, label: &[u8]) -> bool
-    ensures { result ≡ takes_part points.now.messages role label.now }
-{
-    has_message(points, role, label, true, false)
-}
-
-fn sends(points: &Points, role: usize, label: &[u8]) -> bool
-    ensures { result ≡ sends points.now.messages role label.now }
-{
-    has_message(points, role, label, false, false)
-}
-
-fn sends_bare(points: &Points, role: usize, label: &[u8]) -> bool
-    ensures { result ≡ sends_bare points.now.messages role label.now }
-{
-    has_message(points, role, label, false, true)
 }
 
 // Whether the role sends a message with this label, or receives it where that counts too. `bare` asks for one without

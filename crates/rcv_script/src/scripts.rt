@@ -176,12 +176,10 @@ impl Scripts {
     fn some_reads_attempt(&self) -> bool
         ensures { result ≡ scripts_read self.now.lines }
     {
-        for script in self.roles.as_slice() {
-            if script.reads_attempt() {
-                return true;
-            }
-        }
-        false
+        self.roles
+            .as_slice()
+            .iter()
+            .any(|script| script.reads_attempt())
     }
 
     // The script of a role; none where no line is known.
