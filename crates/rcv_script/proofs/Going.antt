@@ -7,7 +7,7 @@ use Rattle.rcv_script.specs.declared.fault.ScriptError.TheVariants as errors
 use Rattle.rcv_script.specs.declared.fault.Fault.{Fault}
 use Rattle.rcv_script.specs.Symbols.{Symbol, Word}
 use Rattle.rcv_script.specs.Machine.{Item, AnAtom, Place, Outcome, after, Refuses, answer}
-use Rattle.rcv_script.specs.Descent.{Halts, Goes, Stops, IsNoWordAtom}
+use Rattle.rcv_script.specs.Descent.{Halts, Goes, IsNoWordAtom}
 
 -- at the exit of a `?`
 pub fails : {X Y Z : Type 0} (to : (Y → Item) → (Z → Item)) (r : Result X ScriptError) (e : ScriptError) (front : (Y → Item) → Item)
@@ -17,13 +17,12 @@ fails to (Ok x) e front mid said start between new h halts goes = absurd h
 fails to (Err y) errors.Memory front mid said start between new h halts goes = rw h tt
 fails to (Err y) (errors.Refused fault) front mid said start between new h halts goes = rw h (λ k. goes k ∙ halts (to k))
 
--- the same behind what says nothing
-pub stops : {X Y : Type 0} (to : (Y → Item) → Item) (r : Result X ScriptError) (e : ScriptError) (front : (Y → Item) → Item)
-    (mid : Item → Item) (said : X → Y) (start between new : List Symbol) → IsErrAnd r (λ y. y ≡ e) → Stops e mid between new
-    → ((k : Y → Item) → answer (front k) start ≡ answer (mid (to k)) between) → Goes r front said start new
-stops to (Ok x) e front mid said start between new h halts goes = absurd h
-stops to (Err y) errors.Memory front mid said start between new h halts goes = rw h tt
-stops to (Err y) (errors.Refused fault) front mid said start between new h halts goes = rw h (λ k. goes k ∙ halts (to k))
+-- at a call whose answer is the function's own
+pub goes_on : {X Y : Type 0} (r : Result X ScriptError) (front mid : (Y → Item) → Item) (said : X → Y) (start between new : List Symbol)
+    → Goes r mid said between new → ((k : Y → Item) → answer (front k) start ≡ answer (mid k) between) → Goes r front said start new
+goes_on (Ok x) front mid said start between new h goes = λ k. goes k ∙ h k
+goes_on (Err errors.Memory) front mid said start between new h goes = tt
+goes_on (Err (errors.Refused fault)) front mid said start between new h goes = λ k. goes k ∙ h k
 
 -- ---- atoms
 

@@ -1,14 +1,20 @@
 -- Where the machine stops at a symbol that isn't awaited, or goes on with what is awaited behind.
-use Rattle.std.proofs.Common.{◌≡◌, Bool, true, false, List, [], ◌∷◌, refl, sym, ap, ◌∙◌, cond, codes, arith}
+use Rattle.std.proofs.Common.{◌≡◌, ℕ, ℤ, Bool, true, false, List, [], ◌∷◌, refl, sym, ap, ◌∙◌, cond, codes, arith}
 use Rattle.std.proofs.lemmas.Bool.Decides.{nat_tests}
+use Rattle.std.specs.Str.{bytes_eq}
 use Rattle.std.proofs.lemmas.Slice.Eq.{bytes_eq-Decides}
 use Rattle.rcv_model.specs.Script.{Expr, Line}
+use Rattle.std.specs.Prelude.{Option, pos}
 use Rattle.rcv_script.specs.declared.sign.Sign.{Sign}
 use Rattle.rcv_script.specs.declared.sign.Sign.TheVariants as signs
+use Rattle.rcv_script.specs.declared.fault.Fault.{Fault}
 use Rattle.rcv_script.specs.declared.fault.Fault.TheVariants.{Token}
 use Rattle.rcv_script.specs.Symbols.{Symbol, Is, Word, Number, Text, IsNotNext, NoWord, NoNumber}
-use Rattle.rcv_script.specs.Machine.{Item, Scripts, Known, script_of, Lines, ALine, This, AnEnd, AnAtom, Factors, Terms, Place, Writing, On, Wrong}
+use Rattle.rcv_script.specs.Machine.{Item, Scripts, Known, script_of, Lines, ALine, This, AWord, ASigned, ANumber, AnEnd, AnAtom, Factors, Terms, Place, Writing, On, Wrong}
 use Rattle.rcv_script.specs.Machine.{same, meets, with_line, after, Refuses, answer}
+
+pub same_word : (a b : List ℕ) → bytes_eq a b ≡ true → a ≡ b
+same_word a b e = (bytes_eq-Decides a b).0 e
 
 same_only : (a b : Sign) → same a b ≡ true → a ≡ b
 same_only signs.Open signs.Open e = refl
@@ -17,7 +23,7 @@ same_only _ _ e = cc
 
 pub meets_only : (t m : Symbol) → meets t m ≡ true → t ≡ m
 meets_only (Is a) (Is b) e = ap Is (same_only a b e)
-meets_only (Word a) (Word b) e = ap Word ((bytes_eq-Decides a b).0 e)
+meets_only (Word a) (Word b) e = ap Word (same_word a b e)
 meets_only (Number a) (Number b) e = ap Number (grind (arith, nat_tests))
 meets_only (Text a) (Text b) e = ap Text ((bytes_eq-Decides a b).0 e)
 meets_only _ _ e = absurd cc
@@ -31,6 +37,27 @@ no_sign m (t ∷ ts) h k = go (meets t m) refl
         → after (cond b (On k) (Wrong Token)) (t ∷ ts) (λ next. answer next ts) ≡ Refuses Token (t ∷ ts)
     go true e = absurd (h ts (ap (λ (x : Symbol). x ∷ ts) (meets_only t m e)))
     go false e = refl
+
+-- a word or a number that isn't next
+
+pub no_word : (ts : List Symbol) → NoWord ts → (fault : List ℕ → Option Fault) (k : List ℕ → Item) → answer (AWord fault k) ts ≡ Refuses Token ts
+no_word (Word w ∷ ts) h fault k = absurd (h w ts refl)
+no_word _ h fault k = refl
+
+pub no_line : (ts : List Symbol) → NoWord ts → (s : Writing) (k : List (List ℕ) × Line → Item) → answer (ALine s k) ts ≡ Refuses Token ts
+no_line (Word w ∷ ts) h s k = absurd (h w ts refl)
+no_line _ h s k = refl
+
+pub to_number : (now new : List Symbol) → (new ≡ now) × IsNotNext (Is signs.Minus) now → (k : ℤ → Item)
+    → answer (ASigned k) now ≡ answer (ANumber (λ n. k (pos n))) new
+to_number (Is signs.Minus ∷ ts) new h k = absurd (h.1 ts refl)
+to_number now new h k = ap (answer (ANumber (λ n. k (pos n)))) (sym h.0)
+
+pub no_signed : (below : Bool) (now new : List Symbol) → (below ≡ true → now ≡ Is signs.Minus ∷ new)
+    → (below ≡ false → (new ≡ now) × IsNotNext (Is signs.Minus) now) → NoNumber new → (k : ℤ → Item) → answer (ASigned k) now ≡ Refuses Token new
+no_signed below now (Number n ∷ ts) f g h k = absurd (h n ts refl)
+no_signed true now new f g h k = ap (answer (ASigned k)) (f refl)
+no_signed false now new f g h k = to_number now new (g refl) k
 
 pub no_atom : (p : Place) (ts : List Symbol) → NoNumber ts → NoWord ts → IsNotNext (Is signs.Minus) ts → IsNotNext (Is signs.Left) ts
     → (k : Expr → Item) → answer (AnAtom p k) ts ≡ Refuses Token ts
@@ -59,10 +86,12 @@ pub to_line : (s : Writing) (now new : List Symbol) → (new ≡ now) × IsNotNe
 to_line s (Is signs.Close ∷ ts) new h k = absurd (h.1 ts refl)
 to_line s now new h k = ap (answer (ALine s (λ x. Lines (with_line s x) k))) (sym h.0)
 
-pub to_when : (now new : List Symbol) → (new ≡ now) × IsNotNext (Is signs.Semicolon) now → (plain when : Item)
-    → answer (AnEnd plain when) now ≡ answer (This (Word (codes "when")) when) new
-to_when (Is signs.Semicolon ∷ ts) new h plain when = absurd (h.1 ts refl)
-to_when now new h plain when = ap (answer (This (Word (codes "when")) when)) (sym h.0)
+pub to_end : (now new : List Symbol) → (new ≡ now) × IsNotNext (Word (codes "when")) now → (plain when : Item)
+    → answer (AnEnd plain when) now ≡ answer (This (Is signs.Semicolon) plain) new
+to_end (Word w ∷ ts) new h plain when =
+    no_sign (Word (codes "when")) (Word w ∷ ts) h.1 when ∙ ap (answer (This (Is signs.Semicolon) plain)) (sym h.0)
+to_end (Is signs.Semicolon ∷ ts) new h plain when = ap (answer (This (Is signs.Semicolon) plain)) (sym h.0)
+to_end now new h plain when = ap (answer (This (Is signs.Semicolon) plain)) (sym h.0)
 
 pub no_script : (k : Known) (now new : List Symbol) → (new ≡ now) × IsNotNext (Word (codes "role")) now → (new ≡ [] → ⊥)
     → answer (Scripts k) now ≡ Refuses Token new

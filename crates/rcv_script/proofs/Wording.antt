@@ -1,7 +1,7 @@
 -- The machine goes through expressions of the grammar.
 use Rattle.std.proofs.Common.{◌≡◌, ℕ, Bool, true, false, cond, codes, List, ◌∷◌, refl, sym, ap, subst, ◌∙◌, arith}
 use Rattle.std.proofs.lemmas.Bool.Decides.{nat_tests}
-use Rattle.std.specs.Prelude.{drop, Option, Some, None, is_some}
+use Rattle.std.specs.Prelude.{◌&&◌, ◌||◌, not, drop, Option, Some, None, is_some}
 use Rattle.std.specs.Str.{bytes_eq}
 use Rattle.std.proofs.lemmas.Slice.Eq.{bytes_eq-Decides}
 use Rattle.rcv_model.specs.Script.{Expr, TheValue, TheAttempt, Variable, Negated, Times, Plus, Minus}
@@ -9,10 +9,10 @@ use Rattle.rcv_script.specs.declared.sign.Sign.TheVariants as signs
 use Rattle.rcv_script.specs.Symbols.{Symbol, Is, Word, Number}
 use Rattle.rcv_script.specs.Grammar.{WrittenAtom, Digits, Named, Signed, Inside, MoreAtoms, NoAtom, TimesAtom, MoreProducts, NoProduct, PlusProduct, MinusProduct, WrittenSum, SumOf, atom_text, atoms_text, products_text, sum_text}
 use Rattle.rcv_script.specs.Meaning.{word_says, atom_says, product_says, terms_say, sum_says}
-use Rattle.rcv_script.specs.Machine.{Place, Item, This, AnAtom, Factors, Terms, On, unless, deeper, a_product, a_sum, variable, place_of}
-use Rattle.rcv_script.specs.Table.{is_among, line_so_far, variables, begins_an_atom, minuses, parentheses, with_signs, nesting}
+use Rattle.rcv_script.specs.Machine.{Place, Item, This, AnAtom, Factors, Terms, On, unless, deeper, a_product, a_sum, variable, place_of, takes_bare}
+use Rattle.rcv_script.specs.Table.{is_among, is_own_word, is_deciding, role_of, label, line_so_far, variables, begins_an_atom, minuses, parentheses, with_signs, nesting}
 use Rattle.rcv_script.proofs.Deriving.{AllLines}
-use Rattle.rcv_script.proofs.Least.{Frame}
+use Rattle.rcv_script.proofs.Least.{Frame, least_code}
 use Rattle.rcv_script.proofs.Viewing.{view, word_joins, IsLonger, is_longer, stays}
 use Rattle.rcv_script.proofs.Knowing.{Told, ToldBy, tell, Computes, Over, onward}
 use Rattle.rcv_script.proofs.Named.{some_name}
@@ -63,6 +63,16 @@ module _ (frame : Frame) (ss : AllLines) where
       line : IsLonger (line_so_far back)
       line = is_longer (line_so_far back) h.0.0
 
+      either : (d : Bool) → (d || not d) ≡ true
+      either true = refl
+      either false = refl
+
+      least : least_code frame back (Word w) ≡ cond ((not (is_own_word w) && true && not (is_among w (variables back)))
+          || (is_deciding back && bytes_eq w (codes "value"))) 33 (cond (not (is_deciding back) && bytes_eq w (codes "attempt")) 34
+          (cond (not (is_deciding back) && bytes_eq w (codes "value") && takes_bare frame.messages (role_of frame.roles back) (label back)) 35 37))
+      least = rw (h.0.0, h.1, line.one (codes "role"), line.one (codes "send"), line.one (codes "pick"))
+          (rw (line.one (codes "on"), line.one (codes "var"), line.three, line.none, either (is_deciding back)) refl)
+
       named : (o : Option ℕ) → place_of p.names w ≡ o → is_among w (variables back) ≡ is_some o
       named o eo = ap (is_among w) (sym h.0.1) ∙ sym (some_name w p.names) ∙ ap is_some eo
 
@@ -77,17 +87,12 @@ module _ (frame : Frame) (ss : AllLines) where
           let value = (bytes_eq-Decides w (codes "value")).0 ev in
           let other : bytes_eq w (codes "attempt") ≡ false = rw value refl in
           tell frame p.value (k TheValue) back (Word w) (λ j. Told frame j (Word w ∷ back) us ss)
-          (simp (h.0.2, line.one, line.three, line.none, ev, other) (grind (arith, nat_tests, h.0.0)))
-          (λ ok. said TheValue (rw ev refl))
+          (least ∙ rw (h.0.2, ev, other) (grind (arith, nat_tests))) (λ ok. said TheValue (rw ev refl))
       go false true o ev ea eo = tell frame p.attempt (k TheAttempt) back (Word w) (λ j. Told frame j (Word w ∷ back) us ss)
-          (simp (h.0.3, line.one, line.three, line.none, ev, ea) (grind (arith, nat_tests, h.0.0)))
-          (λ ok. said TheAttempt (rw (ev, ea) refl))
-      go false false None ev ea eo =
-          let unknown = named None eo in simp (line.one, line.three, line.none, ev, ea, unknown) (grind (arith, nat_tests, h.0.0, h.1))
-      go false false (Some n) ev ea eo = let known = named (Some n) eo in (
-        simp (line.one, line.three, line.none, ev, ea, known) (grind (arith, nat_tests, h.0.0, h.1)),
-        said (Variable n) (rw (ev, ea, eo) refl),
-      )
+          (least ∙ rw (h.0.3, ev, ea) (grind (arith, nat_tests))) (λ ok. said TheAttempt (rw (ev, ea) refl))
+      go false false None ev ea eo = least ∙ rw (ev, ea, named None eo) refl
+      go false false (Some n) ev ea eo =
+          (least ∙ rw (ev, ea, named (Some n) eo) (grind (arith, nat_tests)), said (Variable n) (rw (ev, ea, eo) refl))
 
   abbrev AtomTold : WrittenAtom → Type 0
   AtomTold a = (p : Place) (k : Expr → Item) (back us : List Symbol) → Opens p back → Follows (k (atom_says p.names a)) back us

@@ -11,7 +11,7 @@ use Rattle.rcv_script.specs.declared.sign.Sign.{Sign}
 use Rattle.rcv_script.specs.declared.sign.Sign.TheVariants as signs
 use Rattle.rcv_script.specs.Expressions.{operand_expr}
 use Rattle.rcv_script.specs.Symbols.{Symbol}
-use Rattle.rcv_script.specs.Machine.{Item, Place, Writing, with_line, word_atom, reading}
+use Rattle.rcv_script.specs.Machine.{Item, ATest, Place, Writing, a_sum, with_line, word_atom, reading}
 use Rattle.rcv_script.specs.Machine.{Refuses, On, Wrong, answer}
 
 -- The machine stops at what is left, whatever is awaited behind.
@@ -29,6 +29,10 @@ Goes {X} {Y} (Err e) front said old new = Halts e front old new
 abbrev pub at_depth : List (List ℕ) → Banned → ℕ → Place
 at_depth names banned depth = record { names = names; value = banned.value; attempt = banned.attempt; depth = depth }
 
+-- a condition, without the mark behind it
+abbrev pub compared : Place → (script.Condition → Item) → Item
+compared p k = a_sum p (λ a. ATest (λ t. a_sum p (λ b. k (record { left = a; test = t; right = b }))))
+
 -- a line was read and added to what is written, or it stops
 abbrev pub Adds :
     {X : Type 0} → Result X ScriptError → (Writing → (List (List ℕ) × script.Line → Item) → Item) → Writing → Writing
@@ -36,14 +40,10 @@ abbrev pub Adds :
 Adds result front was now old new = Goes result (λ (k : Writing → Item). front was (λ x. k (with_line was x))) (λ _. now) old new
 
 -- the same for what says nothing
-abbrev pub Stops : ScriptError → (Item → Item) → List Symbol → List Symbol → Type 0
-Stops errors.Memory front old new = Unit {0}
-Stops (errors.Refused fault) front old new = (k : Item) → answer (front k) old ≡ Refuses fault new
-
--- it comes to what is awaited behind, or stops
 abbrev pub Passes : {X : Type 0} → Result X ScriptError → (Item → Item) → List Symbol → List Symbol → Type 0
 Passes (Ok x) front old new = (k : Item) → answer (front k) old ≡ answer k new
-Passes (Err e) front old new = Stops e front old new
+Passes (Err errors.Memory) front old new = Unit {0}
+Passes (Err (errors.Refused fault)) front old new = (k : Item) → answer (front k) old ≡ Refuses fault new
 
 -- the mark in front of a term
 abbrev pub term_sign : Bool → Sign

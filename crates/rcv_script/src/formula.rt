@@ -1,14 +1,13 @@
 // A descent over expressions, with one token of look-ahead, which writes their steps.
 
-ghost use Rattle.std.specs.Prelude.{◌≡◌, ◌<◌, ◌≤◌, ◌∷◌, ◌+◌, ◌-◌, ℕ, List, length, true, false};
+ghost use Rattle.std.specs.Prelude.{◌≡◌, ◌<◌, ◌≤◌, ◌∷◌, ◌+◌, ℕ, List, length, true, false};
 ghost use Rattle.std.specs.Prelude.{Option, IfSome, IfNone, IfOk, IfErr};
-ghost use Rattle.rcv_model.specs.Script.{Negated, Test};
+ghost use Rattle.rcv_model.specs.Script.{Test};
 ghost use Rattle.rcv_script.specs.Symbols.{Symbol, Is, Word, IsNotNext};
 ghost use Rattle.rcv_script.specs.Lines.{condition_of, test_of};
-ghost use Rattle.rcv_script.specs.Machine.{This, ATest, AnAtom, a_product, a_sum, with_expr, condition, place_of};
-ghost use Rattle.rcv_script.specs.Machine.{Item, Refuses, answer};
+ghost use Rattle.rcv_script.specs.Machine.{This, ATest, AnAtom, a_product, a_sum, place_of, Item, Refuses, answer};
 ghost use Rattle.rcv_script.specs.Descent.{Goes, Passes, Writes, IsWordAtom, IsNoWordAtom};
-ghost use Rattle.rcv_script.specs.Descent.{at_depth, rooms, term_sign};
+ghost use Rattle.rcv_script.specs.Descent.{at_depth, rooms, term_sign, compared};
 
 use crate::expression::{Formula, Operand, Operator, Steps};
 use crate::fault::{Fault, ScriptError};
@@ -70,21 +69,6 @@ impl<'a> Parser<'a> {
         Ok(())
     }
 
-    /// Takes this word.
-    pub fn expect_word(&mut self, word: &[u8]) -> Result<(), ScriptError>
-        ensures goes { Passes result (λ k. This (Word word.now) k) self.old.rest self.new.rest }
-        ensures shorter { length self.new.rest ≤ length self.old.rest }
-    {
-        let Some((Lexeme::Word(found), after)) = self.rest.next() else {
-            return Err(ScriptError::Refused(Fault::Token));
-        };
-        if !is(found, word) {
-            return Err(ScriptError::Refused(Fault::Token));
-        }
-        self.rest = after;
-        Ok(())
-    }
-
     /// Takes this mark if it is next.
     pub fn takes(&mut self, sign: Sign) -> bool
         ensures yes { result ≡ true → self.old.rest ≡ Is sign ∷ self.new.rest }
@@ -99,6 +83,24 @@ impl<'a> Parser<'a> {
         true
     }
 
+    /// Takes this word if it is next.
+    #[tactic(auto, using(crate::proofs::Stops::same_word))]
+    pub fn takes_word(&mut self, word: &[u8]) -> bool
+        ensures yes { result ≡ true → self.old.rest ≡ Word word.now ∷ self.new.rest }
+        ensures taken { result ≡ true → length self.new.rest < length self.old.rest }
+        ensures no { result ≡ false → (self.new.rest ≡ self.old.rest) × IsNotNext (Word word.now) self.old.rest }
+        ensures shorter { length self.new.rest ≤ length self.old.rest }
+    {
+        let Some((found, after)) = self.rest.word() else {
+            return false;
+        };
+        if !is(found, word) {
+            return false;
+        }
+        self.rest = after;
+        true
+    }
+
     // Takes the mark in front of one more term if one is next: whether the term is subtracted.
     fn takes_term(&mut self) -> Option<bool>
         ensures some { IfSome result (λ minus. self.old.rest ≡ Is (term_sign minus) ∷ self.new.rest) }
@@ -107,15 +109,36 @@ impl<'a> Parser<'a> {
             × IsNotNext (Is Sign.Plus) self.old.rest × IsNotNext (Is Sign.Minus) self.old.rest) }
         ensures shorter { length self.new.rest ≤ length self.old.rest }
     {
-        if let Some(after) = self.rest.sign(Sign::Plus) {
-            self.rest = after;
+        if self.takes(Sign::Plus) {
             return Some(false);
         }
-        if let Some(after) = self.rest.sign(Sign::Minus) {
+        self.takes(Sign::Minus).then_some(true)
+    }
+
+    // Takes a number, or a word that stands for one.
+    fn leaf(&mut self, names: &Names, banned: Banned, steps: &mut Steps) -> Result<(), ScriptError>
+        requires room { length steps.old.1 < 67 }
+        ensures goes { (depth : ℕ) → IsNotNext (Is Sign.Minus) self.old.rest → IsNotNext (Is Sign.Left) self.old.rest
+            → Writes result steps.old steps.new (λ k. AnAtom (at_depth names.now banned depth) k)
+            self.old.rest self.new.rest }
+        ensures shorter { length self.new.rest ≤ length self.old.rest }
+    {
+        if let Some((number, after)) = self.rest.number() {
             self.rest = after;
-            return Some(true);
+            steps.push(Operand::Number(number as i64))?;
+            return Ok(());
         }
-        None
+        let Some((word, after)) = self.rest.word() else {
+            return Err(ScriptError::Refused(Fault::Token));
+        };
+        match word_atom(names, banned, word) {
+            Ok(operand) => {
+                self.rest = after;
+                steps.push(operand)?;
+                Ok(())
+            }
+            Err(fault) => Err(ScriptError::Refused(fault)),
+        }
     }
 
     // Takes an atom, where so many parentheses and signs are open.
@@ -133,27 +156,14 @@ impl<'a> Parser<'a> {
             (λ k. AnAtom (at_depth names.now banned depth) k) self.old.rest self.new.rest }
         ensures shorter { length self.new.rest ≤ length self.old.rest }
     {
-        if let Some((number, after)) = self.rest.number() {
-            self.rest = after;
-            steps.push(Operand::Number(number as i64))?;
-            return Ok(());
-        }
-        if let Some((word, after)) = self.rest.word() {
-            return match word_atom(names, banned, word) {
-                Ok(operand) => {
-                    self.rest = after;
-                    steps.push(operand)?;
-                    Ok(())
-                }
-                Err(fault) => Err(ScriptError::Refused(fault)),
-            };
-        }
         if let Some(after) = self.rest.sign(Sign::Minus) {
             if depth >= 32 {
                 return Err(ScriptError::Refused(Fault::TooMany));
             }
             self.rest = after;
-            return self.negated(names, banned, depth + 1, steps);
+            self.atom(names, banned, depth + 1, steps)?;
+            steps.negate()?;
+            return Ok(());
         }
         if let Some(after) = self.rest.sign(Sign::Left) {
             if depth >= 32 {
@@ -164,27 +174,7 @@ impl<'a> Parser<'a> {
             self.expect(Sign::Right)?;
             return Ok(());
         }
-        Err(ScriptError::Refused(Fault::Token))
-    }
-
-    // Takes the atom behind a sign.
-    #[cycle(descent)]
-    fn negated(
-        &mut self,
-        names: &Names,
-        banned: Banned,
-        depth: u32,
-        steps: &mut Steps,
-    ) -> Result<(), ScriptError>
-        requires depth { depth ≤ 32 }
-        requires room { length steps.old.1 + rooms depth ≤ 66 }
-        ensures goes { Writes result steps.old steps.new
-            (λ k. AnAtom (at_depth names.now banned depth) (λ e. k (Negated e))) self.old.rest self.new.rest }
-        ensures shorter { length self.new.rest ≤ length self.old.rest }
-    {
-        self.atom(names, banned, depth, steps)?;
-        steps.negate()?;
-        Ok(())
+        self.leaf(names, banned, steps)
     }
 
     // Takes atoms, multiplied.
@@ -253,38 +243,35 @@ impl<'a> Parser<'a> {
         Ok(steps.finish())
     }
 
-    /// Takes what a line computes: the mark `=`, an expression, and the mark `;`.
+    /// Takes what a line computes: the mark `=` and an expression.
     pub fn number_set(
         &mut self,
         alloc: Global,
         names: &Names,
         banned: Banned,
     ) -> Result<Formula, ScriptError>
-        ensures goes { Goes result (λ k. with_expr (at_depth names.now banned 0) k) (λ e. e)
+        ensures goes { Goes result (λ k. This (Is Sign.Equals) (a_sum (at_depth names.now banned 0) k)) (λ e. e)
             self.old.rest self.new.rest }
         ensures shorter { length self.new.rest ≤ length self.old.rest }
     {
         self.expect(Sign::Equals)?;
-        let formula = self.formula(alloc, names, banned)?;
-        self.expect(Sign::Semicolon)?;
-        Ok(formula)
+        self.formula(alloc, names, banned)
     }
 
-    /// Takes a condition, and the mark `;`.
+    /// Takes a condition.
     pub fn condition(
         &mut self,
         alloc: Global,
         names: &Names,
         banned: Banned,
     ) -> Result<Condition, ScriptError>
-        ensures goes { Goes result (λ k. condition (at_depth names.now banned 0) k) condition_of
+        ensures goes { Goes result (λ k. compared (at_depth names.now banned 0) k) condition_of
             self.old.rest self.new.rest }
         ensures shorter { length self.new.rest ≤ length self.old.rest }
     {
         let left = self.formula(alloc, names, banned)?;
         let comparison = self.comparison()?;
         let right = self.formula(alloc, names, banned)?;
-        self.expect(Sign::Semicolon)?;
         Ok(Condition {
             left,
             comparison,

@@ -1,21 +1,20 @@
 // A descent over lines and scripts.
 
-ghost use Rattle.std.specs.Prelude.{◌<◌, ◌≤◌, length, map, Option, IfOk};
+ghost use Rattle.std.specs.Prelude.{◌<◌, ◌≤◌, length, map, IfOk};
 ghost use Rattle.rcv_script.specs.Symbols.{Is};
-ghost use Rattle.rcv_script.specs.Lines.{line_of, when_of};
+ghost use Rattle.rcv_script.specs.Lines.{line_of};
 ghost use Rattle.rcv_script.specs.Machine.{This, AWord, ASigned, Lines, ALine, label_fault};
-ghost use Rattle.rcv_script.specs.Machine.{var_line, send_line, pick_line, on_line, rest_of_pick};
-ghost use Rattle.rcv_script.specs.Machine.{begun, to_set, place_in, deciding};
+ghost use Rattle.rcv_script.specs.Machine.{var_line, send_line, pick_line, on_line, begun, to_set, place_in};
 ghost use Rattle.rcv_script.specs.Descent.{Goes, Adds};
 
 use crate::fault::{Fault, ScriptError};
 use crate::formula::{Banned, place_of};
-use crate::line::{Condition, Line};
+use crate::line::Line;
 use crate::sign::Sign;
 use crate::words::{LineKind, kind_of};
 use crate::writing::Writing;
 use rcv_points::points::Points;
-use rcv_scan::{Ahead, Lexeme};
+use rcv_scan::Ahead;
 use rcv_tree::name::Name;
 use std::alloc::Global;
 
@@ -27,13 +26,16 @@ pub struct Parser<'a> {
 
 impl<'a> Parser<'a> {
     // Takes the word `set` and the name of a variable: its place.
+    #[tactic(auto, using(crate::proofs::Stops::no_sign, crate::proofs::Stops::no_word))]
     fn variable(&mut self, writing: &Writing<'_>) -> Result<usize, ScriptError>
         ensures goes { Goes result (λ k. to_set writing.now.names (λ n. k (place_in writing.now.names n)))
             (λ place. place) self.old.rest self.new.rest }
         ensures shorter { length self.new.rest ≤ length self.old.rest }
     {
-        self.expect_word(b"set")?;
-        let Some((Lexeme::Word(word), after)) = self.rest.next() else {
+        if !self.takes_word(b"set") {
+            return Err(ScriptError::Refused(Fault::Token));
+        }
+        let Some((word, after)) = self.rest.word() else {
             return Err(ScriptError::Refused(Fault::Token));
         };
         let Some(place) = place_of(writing.names().as_slice(), word) else {
@@ -44,68 +46,70 @@ impl<'a> Parser<'a> {
     }
 
     // Takes a number that may be below 0.
+    #[tactic(auto, using(crate::proofs::Stops::to_number))]
     fn signed(&mut self) -> Result<i64, ScriptError>
         ensures goes { Goes result (λ k. ASigned k) (λ z. z) self.old.rest self.new.rest }
         ensures shorter { length self.new.rest ≤ length self.old.rest }
     {
-        match self.rest.next() {
-            Some((Lexeme::Is(Sign::Minus), after)) => {
-                self.rest = after;
-                let Some((Lexeme::Number(number), after)) = self.rest.next() else {
-                    return Err(ScriptError::Refused(Fault::Token));
-                };
-                self.rest = after;
-                Ok(-(number as i64))
-            }
-            Some((Lexeme::Number(number), after)) => {
-                self.rest = after;
-                Ok(number as i64)
-            }
-            _ => Err(ScriptError::Refused(Fault::Token)),
+        let is_below = self.takes(Sign::Minus);
+        let Some((number, after)) = self.rest.number() else {
+            return Err(ScriptError::Refused(Fault::Token));
+        };
+        self.rest = after;
+        if is_below {
+            Ok(-(number as i64))
+        } else {
+            Ok(number as i64)
         }
     }
 
     // Takes what stands behind the word `var`.
+    #[tactic(auto, using(crate::proofs::Stops::no_word))]
     fn var_line(&mut self, alloc: Global, writing: &mut Writing<'_>) -> Result<(), ScriptError>
         ensures goes { Adds result (λ s k. var_line s.names k) writing.old writing.new self.old.rest self.new.rest }
         ensures shorter { length self.new.rest ≤ length self.old.rest }
     {
-        let Some((Lexeme::Word(word), after)) = self.rest.next() else {
+        let Some((name, after)) = self.rest.word() else {
             return Err(ScriptError::Refused(Fault::Token));
         };
-        if let Some(fault) = writing.var_fault(word) {
+        if let Some(fault) = writing.var_fault(name) {
             return Err(ScriptError::Refused(fault));
         }
-        let name = Name::of(alloc, word)?;
         self.rest = after;
         self.expect(Sign::Equals)?;
         let first = self.signed()?;
         self.expect(Sign::Semicolon)?;
-        writing.add_variable(name, first)?;
+        writing.declare(alloc, name, first)?;
         Ok(())
     }
 
     // Takes the label of a line of this kind.
-    fn label(
-        &mut self,
-        alloc: Global,
-        kind: LineKind,
-        writing: &Writing<'_>,
-    ) -> Result<Name, ScriptError>
+    #[tactic(auto, using(crate::proofs::Stops::no_word))]
+    fn label(&mut self, kind: LineKind, writing: &Writing<'_>) -> Result<&'a [u8], ScriptError>
         ensures goes { Goes result
-            (λ k. AWord (label_fault kind writing.now.messages writing.now.role writing.now.lines) k) (λ n. n)
+            (λ k. AWord (label_fault kind writing.now.messages writing.now.role writing.now.lines) k) (λ n. n.now)
             self.old.rest self.new.rest }
         ensures shorter { length self.new.rest ≤ length self.old.rest }
     {
-        let Some((Lexeme::Word(word), after)) = self.rest.next() else {
+        let Some((label, after)) = self.rest.word() else {
             return Err(ScriptError::Refused(Fault::Token));
         };
-        if let Some(fault) = writing.label_fault(kind, word) {
+        if let Some(fault) = writing.label_fault(kind, label) {
             return Err(ScriptError::Refused(fault));
         }
-        let label = Name::of(alloc, word)?;
         self.rest = after;
         Ok(label)
+    }
+
+    // Adds this line, and takes the mark `;` behind it. Where that is missing, nothing is kept of the script.
+    fn end(&mut self, line: Line, writing: &mut Writing<'_>) -> Result<(), ScriptError>
+        ensures goes { Adds result (λ s k. This (Is Sign.Semicolon) (k (s.names, line_of line)))
+            writing.old writing.new self.old.rest self.new.rest }
+        ensures shorter { length self.new.rest ≤ length self.old.rest }
+    {
+        writing.add(line)?;
+        self.expect(Sign::Semicolon)?;
+        Ok(())
     }
 
     // Takes what stands behind the word `send`.
@@ -113,10 +117,10 @@ impl<'a> Parser<'a> {
         ensures goes { Adds result send_line writing.old writing.new self.old.rest self.new.rest }
         ensures shorter { length self.new.rest ≤ length self.old.rest }
     {
-        let label = self.label(alloc, LineKind::Send, writing)?;
+        let word = self.label(LineKind::Send, writing)?;
         let number = self.number_set(alloc, writing.names(), DECIDING)?;
-        writing.add(Line::Send { label, number })?;
-        Ok(())
+        let label = Name::of(alloc, word)?;
+        self.end(Line::Send { label, number }, writing)
     }
 
     // Takes what stands behind the word `pick`.
@@ -124,27 +128,14 @@ impl<'a> Parser<'a> {
         ensures goes { Adds result pick_line writing.old writing.new self.old.rest self.new.rest }
         ensures shorter { length self.new.rest ≤ length self.old.rest }
     {
-        let label = self.label(alloc, LineKind::Pick, writing)?;
-        let when = self.when(alloc, writing)?;
-        writing.add(Line::Pick { label, when })?;
-        Ok(())
-    }
-
-    // Takes what stands behind the label of a `pick` line.
-    fn when(
-        &mut self,
-        alloc: Global,
-        writing: &Writing<'_>,
-    ) -> Result<Option<Condition>, ScriptError>
-        ensures goes { Goes result (λ k. rest_of_pick (deciding writing.now.names) k) when_of
-            self.old.rest self.new.rest }
-        ensures shorter { length self.new.rest ≤ length self.old.rest }
-    {
-        if self.takes(Sign::Semicolon) {
-            return Ok(None);
+        let word = self.label(LineKind::Pick, writing)?;
+        if !self.takes_word(b"when") {
+            let label = Name::of(alloc, word)?;
+            return self.end(Line::Pick { label, when: None }, writing);
         }
-        self.expect_word(b"when")?;
-        Ok(Some(self.condition(alloc, writing.names(), DECIDING)?))
+        let when = Some(self.condition(alloc, writing.names(), DECIDING)?);
+        let label = Name::of(alloc, word)?;
+        self.end(Line::Pick { label, when }, writing)
     }
 
     // Takes what stands behind the word `on`.
@@ -152,25 +143,27 @@ impl<'a> Parser<'a> {
         ensures goes { Adds result on_line writing.old writing.new self.old.rest self.new.rest }
         ensures shorter { length self.new.rest ≤ length self.old.rest }
     {
-        let label = self.label(alloc, LineKind::On, writing)?;
-        let banned = writing.remembering(label.as_slice());
+        let word = self.label(LineKind::On, writing)?;
+        let banned = writing.remembering(word);
         let place = self.variable(writing)?;
         let number = self.number_set(alloc, writing.names(), banned)?;
-        writing.add(Line::On {
+        let label = Name::of(alloc, word)?;
+        let line = Line::On {
             label,
             place,
             number,
-        })?;
-        Ok(())
+        };
+        self.end(line, writing)
     }
 
     // Takes a line.
+    #[tactic(auto, using(crate::proofs::Stops::no_line))]
     fn line(&mut self, alloc: Global, writing: &mut Writing<'_>) -> Result<(), ScriptError>
         ensures goes { Adds result (λ s k. ALine s k) writing.old writing.new self.old.rest self.new.rest }
         ensures taken { IfOk result (λ _. length self.new.rest < length self.old.rest) }
         ensures shorter { length self.new.rest ≤ length self.old.rest }
     {
-        let Some((Lexeme::Word(word), after)) = self.rest.next() else {
+        let Some((word, after)) = self.rest.word() else {
             return Err(ScriptError::Refused(Fault::Token));
         };
         let Some(kind) = kind_of(word) else {

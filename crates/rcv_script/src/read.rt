@@ -1,10 +1,9 @@
 // Reads the scripts of a protocol's roles.
 
-ghost use Rattle.std.specs.Prelude.{◌≡◌, ◌<◌, ◌≤◌, ◌∷◌, [], length, map, MatchResult, IfOk, IfErr, true, false};
+ghost use Rattle.std.specs.Prelude.{◌≡◌, ◌<◌, ◌≤◌, length, MatchResult, IfOk, IfErr};
 ghost use Rattle.std.specs.List.{All};
 ghost use Rattle.rcv_lexer.specs.Parts.{LiesIn};
-ghost use Rattle.rcv_script.specs.Symbols.{Word, IsNotNext, symbols_of};
-ghost use Rattle.rcv_script.specs.Lines.{line_of};
+ghost use Rattle.rcv_script.specs.Symbols.{symbols_of};
 ghost use Rattle.rcv_script.specs.Machine.{Taken, script, no_lines, reading};
 ghost use Rattle.rcv_script.specs.Descent.{Goes, Ceases};
 ghost use Rattle.rcv_script.specs.Scripts.{AreScriptsOf, AreRefusedFor};
@@ -16,7 +15,7 @@ use crate::scripts::{Script, Scripts};
 use rcv_accept::accepted::Accepted;
 use rcv_lexer::token::{TextError, Token};
 use rcv_points::points::Points;
-use rcv_scan::{Ahead, Lexeme, is, line_before};
+use rcv_scan::{Ahead, line_before};
 use rcv_tree::name::Names;
 use rcv_tree::refusal::Refusal;
 use std::alloc::Global;
@@ -29,24 +28,8 @@ struct Given {
 }
 
 impl<'a> Parser<'a> {
-    // Takes this word if it is next.
-    fn takes_word(&mut self, word: &[u8]) -> bool
-        ensures yes { result ≡ true → self.old.rest ≡ Word word.now ∷ self.new.rest }
-        ensures taken { result ≡ true → length self.new.rest < length self.old.rest }
-        ensures no { result ≡ false → (self.new.rest ≡ self.old.rest) × IsNotNext (Word word.now) self.old.rest }
-        ensures shorter { length self.new.rest ≤ length self.old.rest }
-    {
-        let Some((found, after)) = self.rest.word() else {
-            return false;
-        };
-        if !is(found, word) {
-            return false;
-        }
-        self.rest = after;
-        true
-    }
-
     // Takes what stands behind the word `role`.
+    #[tactic(auto, using(crate::proofs::Stops::no_word))]
     fn script(
         &mut self,
         alloc: Global,
@@ -59,7 +42,7 @@ impl<'a> Parser<'a> {
         ensures declared { IfOk result (λ x. x.role < length roles.now) }
         ensures shorter { length self.new.rest ≤ length self.old.rest }
     {
-        let Some((Lexeme::Word(word), after)) = self.rest.next() else {
+        let Some((word, after)) = self.rest.word() else {
             return Err(ScriptError::Refused(Fault::Token));
         };
         let Some(role) = place_of(roles.as_slice(), word) else {

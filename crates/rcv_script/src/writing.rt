@@ -126,10 +126,10 @@ impl<'a> Writing<'a> {
     }
 
     /// Adds a variable and its line. Where no memory is left, the name may stand there without its line.
-    pub fn add_variable(&mut self, name: Name, first: i64) -> Result<(), AllocError>
-        ensures { IfOk result (λ _. self.new ≡ with_line self.old (self.old.names ++ name ∷ [], VarLine first)) }
+    pub fn declare(&mut self, alloc: Global, name: &[u8], first: i64) -> Result<(), AllocError>
+        ensures { IfOk result (λ _. self.new ≡ with_line self.old (self.old.names ++ name.now ∷ [], VarLine first)) }
     {
-        self.names.push(name)?;
+        self.names.push(Name::of(alloc, name)?)?;
         self.lines.push(Line::Var { first })?;
         Ok(())
     }

@@ -6,9 +6,6 @@ use Rattle.rcv_script.proofs.parser.Parser.+descent.Given as goal
 abbrev pub decreases-atom : goal.decreases-atom
 decreases-atom l = 4 * length l.self.now.rest
 
-abbrev pub decreases-negated : goal.decreases-negated
-decreases-negated l = 4 * length l.self.now.rest + 1
-
 abbrev pub decreases-product : goal.decreases-product
 decreases-product l = 4 * length l.self.now.rest + 1
 
