@@ -4,7 +4,7 @@ use Rattle.std.proofs.lemmas.Bool.Decides.{nat_tests}
 use Rattle.std.specs.Str.{bytes_eq}
 use Rattle.std.proofs.lemmas.Slice.Eq.{bytes_eq-Decides}
 use Rattle.rcv_model.specs.Script.{Expr, Line}
-use Rattle.std.specs.Prelude.{Option, pos}
+use Rattle.std.specs.Prelude.{◌<◌, ◌≤◌, length, Option, Result, Ok, Err, IfOk, pos}
 use Rattle.rcv_script.specs.declared.sign.Sign.{Sign}
 use Rattle.rcv_script.specs.declared.sign.Sign.TheVariants as signs
 use Rattle.rcv_script.specs.declared.fault.Fault.{Fault}
@@ -66,6 +66,12 @@ no_atom p (Word w ∷ ts) a b c d k = absurd (b w ts refl)
 no_atom p (Is signs.Minus ∷ ts) a b c d k = absurd (c ts refl)
 no_atom p (Is signs.Left ∷ ts) a b c d k = absurd (d ts refl)
 no_atom p _ a b c d k = refl
+
+-- a line that was taken leaves less than stood from its first word on
+pub fewer : {X E : Type 0} (r : Result X E) (t : Symbol) (old after new : List Symbol) → old ≡ t ∷ after
+    → IfOk r (λ _. length new ≤ length after) → IfOk r (λ _. length new < length old)
+fewer (Ok x) t old after new is h = rw is (omega (arith, h))
+fewer (Err e) t old after new is h = tt
 
 -- no more factors, terms, lines or scripts, and no end of a line
 

@@ -1,18 +1,18 @@
 -- The machine goes through expressions of the grammar.
 use Rattle.std.proofs.Common.{◌≡◌, ℕ, Bool, true, false, cond, codes, List, ◌∷◌, refl, sym, ap, subst, ◌∙◌, arith}
-use Rattle.std.proofs.lemmas.Bool.Decides.{nat_tests}
-use Rattle.std.specs.Prelude.{◌&&◌, ◌||◌, not, drop, Option, Some, None, is_some}
+use Rattle.std.specs.Prelude.{◌&&◌, ◌||◌, not, nat_le, drop, Option, Some, None, is_some}
 use Rattle.std.specs.Str.{bytes_eq}
 use Rattle.std.proofs.lemmas.Slice.Eq.{bytes_eq-Decides}
 use Rattle.rcv_model.specs.Script.{Expr, TheValue, TheAttempt, Variable, Negated, Times, Plus, Minus}
+use Rattle.rcv_script.specs.declared.fault.Fault.TheVariants as faults
 use Rattle.rcv_script.specs.declared.sign.Sign.TheVariants as signs
 use Rattle.rcv_script.specs.Symbols.{Symbol, Is, Word, Number}
 use Rattle.rcv_script.specs.Grammar.{WrittenAtom, Digits, Named, Signed, Inside, MoreAtoms, NoAtom, TimesAtom, MoreProducts, NoProduct, PlusProduct, MinusProduct, WrittenSum, SumOf, atom_text, atoms_text, products_text, sum_text}
 use Rattle.rcv_script.specs.Meaning.{word_says, atom_says, product_says, terms_say, sum_says}
-use Rattle.rcv_script.specs.Machine.{Place, Item, This, AnAtom, Factors, Terms, On, unless, deeper, a_product, a_sum, variable, place_of, takes_bare}
+use Rattle.rcv_script.specs.Machine.{Place, Item, This, AnAtom, Factors, Terms, On, unless, fault_if, deeper, a_product, a_sum, variable, place_of, takes_bare}
 use Rattle.rcv_script.specs.Table.{is_among, is_own_word, is_deciding, role_of, label, line_so_far, variables, begins_an_atom, minuses, parentheses, with_signs, nesting}
 use Rattle.rcv_script.proofs.Deriving.{AllLines}
-use Rattle.rcv_script.proofs.Least.{Frame, least_code}
+use Rattle.rcv_script.proofs.Least.{Frame, least_code, code_or}
 use Rattle.rcv_script.proofs.Viewing.{view, word_joins, IsLonger, is_longer, stays}
 use Rattle.rcv_script.proofs.Knowing.{Told, ToldBy, tell, Computes, Over, onward}
 use Rattle.rcv_script.proofs.Named.{some_name}
@@ -31,6 +31,25 @@ ends_sum _ = Unit {0}
 product_ends : (more : MoreProducts) (us : List Symbol) → ends_sum us → ends_product (products_text more us)
 product_ends NoProduct (Is signs.Times ∷ us) h = h
 product_ends _ us h = tt
+
+-- the code where one more parenthesis or sign is too many, and those of the words value, attempt and any other
+too_many : (many : Bool) → cond many 36 37 ≡ code_or (fault_if many faults.TooMany)
+too_many true = refl
+too_many false = refl
+
+word_code : (v a d bare : Bool) → cond (d && v) 33 (cond (not d && (not v && a)) 34 (cond (not d && v && bare) 35 37))
+    ≡ code_or (cond v (cond d (Some faults.Variable) (fault_if bare faults.NoPayload)) (cond a (cond d None (Some faults.AttemptInState)) None))
+word_code true a true bare = refl
+word_code true a false true = refl
+word_code true a false false = refl
+word_code false true true bare = refl
+word_code false true false bare = refl
+word_code false false true bare = refl
+word_code false false false bare = refl
+
+either : (d : Bool) → (d || not d) ≡ true
+either true = refl
+either false = refl
 
 module _ (frame : Frame) (ss : AllLines) where
   -- what is awaited behind an expression goes on
@@ -63,10 +82,6 @@ module _ (frame : Frame) (ss : AllLines) where
       line : IsLonger (line_so_far back)
       line = is_longer (line_so_far back) h.0.0
 
-      either : (d : Bool) → (d || not d) ≡ true
-      either true = refl
-      either false = refl
-
       least : least_code frame back (Word w) ≡ cond ((not (is_own_word w) && true && not (is_among w (variables back)))
           || (is_deciding back && bytes_eq w (codes "value"))) 33 (cond (not (is_deciding back) && bytes_eq w (codes "attempt")) 34
           (cond (not (is_deciding back) && bytes_eq w (codes "value") && takes_bare frame.messages (role_of frame.roles back) (label back)) 35 37))
@@ -87,12 +102,12 @@ module _ (frame : Frame) (ss : AllLines) where
           let value = (bytes_eq-Decides w (codes "value")).0 ev in
           let other : bytes_eq w (codes "attempt") ≡ false = rw value refl in
           tell frame p.value (k TheValue) back (Word w) (λ j. Told frame j (Word w ∷ back) us ss)
-          (least ∙ rw (h.0.2, ev, other) (grind (arith, nat_tests))) (λ ok. said TheValue (rw ev refl))
+          (least ∙ rw (h.0.2, ev, other) (word_code true false (is_deciding back) _)) (λ ok. said TheValue (rw ev refl))
       go false true o ev ea eo = tell frame p.attempt (k TheAttempt) back (Word w) (λ j. Told frame j (Word w ∷ back) us ss)
-          (least ∙ rw (h.0.3, ev, ea) (grind (arith, nat_tests))) (λ ok. said TheAttempt (rw (ev, ea) refl))
+          (least ∙ rw (h.0.3, ev, ea) (word_code false true (is_deciding back) _)) (λ ok. said TheAttempt (rw (ev, ea) refl))
       go false false None ev ea eo = least ∙ rw (ev, ea, named None eo) refl
       go false false (Some n) ev ea eo =
-          (least ∙ rw (ev, ea, named (Some n) eo) (grind (arith, nat_tests)), said (Variable n) (rw (ev, ea, eo) refl))
+          (least ∙ rw (ev, ea, named (Some n) eo) (word_code false false (is_deciding back) _), said (Variable n) (rw (ev, ea, eo) refl))
 
   abbrev AtomTold : WrittenAtom → Type 0
   AtomTold a = (p : Place) (k : Expr → Item) (back us : List Symbol) → Opens p back → Follows (k (atom_says p.names a)) back us
@@ -142,13 +157,13 @@ module _ (frame : Frame) (ss : AllLines) where
     atom_told (Signed a) p k back us h f =
         let same = stays back (Is signs.Minus) refl h.0.0 in
         tell frame _ (AnAtom (deeper p) (λ e. k (Negated e))) back (Is signs.Minus) _
-        (rw h.2 (grind (arith, nat_tests, h.0.0, h.1))) (λ ok.
+        (rw (h.2, h.0.0, h.1, either (is_deciding back)) (too_many (nat_le 32 (nesting back)))) (λ ok.
         atom_told a (deeper p) (λ e. k (Negated e)) (Is signs.Minus ∷ back) us
         (subst (Computes frame p) (sym same) h.0, refl, rw h.1 (omega (arith, h.2))) (λ next o. f next (onward same refl o)))
     atom_told (Inside s) p k back us h f =
         let same = stays back (Is signs.Left) refl h.0.0 in
         let c = subst (Computes frame p) (sym same) h.0 in
-        tell frame _ (a_sum (deeper p) (λ e. This (Is signs.Right) (k e))) back (Is signs.Left) _ (rw h.2 (grind (arith, nat_tests))) (λ ok.
+        tell frame _ (a_sum (deeper p) (λ e. This (Is signs.Right) (k e))) back (Is signs.Left) _ (rw h.2 (too_many (nat_le 32 (nesting back)))) (λ ok.
         sum_told s (deeper p) (λ e. This (Is signs.Right) (k e)) (Is signs.Left ∷ back) (Is signs.Right ∷ us)
         (c, refl, refl, omega (arith, h.2)) tt (λ next o. (
           refl,
@@ -178,7 +193,7 @@ module _ (frame : Frame) (ss : AllLines) where
         )
     terms_told (MinusProduct a atoms more) p left k back us h e f =
         let same = stays back (Is signs.Minus) refl h.0.0 in (
-          grind (arith, nat_tests, h.1),
+          rw h.1 (rw (h.0.0, either (is_deciding back)) refl),
           term_told a atoms more (atom_told a) (atoms_told atoms) (terms_told more) p (λ x. Minus left x) k (Is signs.Minus ∷ back) us
               (marked p back (Is signs.Minus) h same refl (rw h.1 refl) refl) e (λ next o. f next (onward same refl o)),
         )

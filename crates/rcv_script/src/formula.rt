@@ -16,7 +16,6 @@ use crate::parser::Parser;
 use crate::sign::Sign;
 use rcv_scan::{Lexeme, is};
 use rcv_tree::name::{Name, Names};
-use std::alloc::Global;
 
 /// What speaks against the words `value` and `attempt` in an expression.
 #[derive(Clone, Copy)]
@@ -74,7 +73,6 @@ impl<'a> Parser<'a> {
         ensures yes { result ≡ true → self.old.rest ≡ Is sign ∷ self.new.rest }
         ensures taken { result ≡ true → length self.new.rest < length self.old.rest }
         ensures no { result ≡ false → (self.new.rest ≡ self.old.rest) × IsNotNext (Is sign) self.old.rest }
-        ensures shorter { length self.new.rest ≤ length self.old.rest }
     {
         let Some(after) = self.rest.sign(sign) else {
             return false;
@@ -89,7 +87,6 @@ impl<'a> Parser<'a> {
         ensures yes { result ≡ true → self.old.rest ≡ Word word.now ∷ self.new.rest }
         ensures taken { result ≡ true → length self.new.rest < length self.old.rest }
         ensures no { result ≡ false → (self.new.rest ≡ self.old.rest) × IsNotNext (Word word.now) self.old.rest }
-        ensures shorter { length self.new.rest ≤ length self.old.rest }
     {
         let Some((found, after)) = self.rest.word() else {
             return false;
@@ -107,7 +104,6 @@ impl<'a> Parser<'a> {
         ensures taken { IfSome result (λ minus. length self.new.rest < length self.old.rest) }
         ensures none { IfNone result ((self.new.rest ≡ self.old.rest)
             × IsNotNext (Is Sign.Plus) self.old.rest × IsNotNext (Is Sign.Minus) self.old.rest) }
-        ensures shorter { length self.new.rest ≤ length self.old.rest }
     {
         if self.takes(Sign::Plus) {
             return Some(false);
@@ -229,49 +225,34 @@ impl<'a> Parser<'a> {
     }
 
     // Takes an expression.
-    fn formula(
-        &mut self,
-        alloc: Global,
-        names: &Names,
-        banned: Banned,
-    ) -> Result<Formula, ScriptError>
+    fn formula(&mut self, names: &Names, banned: Banned) -> Result<Formula, ScriptError>
         ensures goes { Goes result (λ k. a_sum (at_depth names.now banned 0) k) (λ e. e) self.old.rest self.new.rest }
         ensures shorter { length self.new.rest ≤ length self.old.rest }
     {
-        let mut steps = Steps::new(alloc);
+        let mut steps = Steps::new(self.alloc);
         self.sum(names, banned, 0, &mut steps)?;
         Ok(steps.finish())
     }
 
     /// Takes what a line computes: the mark `=` and an expression.
-    pub fn number_set(
-        &mut self,
-        alloc: Global,
-        names: &Names,
-        banned: Banned,
-    ) -> Result<Formula, ScriptError>
+    pub fn number_set(&mut self, names: &Names, banned: Banned) -> Result<Formula, ScriptError>
         ensures goes { Goes result (λ k. This (Is Sign.Equals) (a_sum (at_depth names.now banned 0) k)) (λ e. e)
             self.old.rest self.new.rest }
-        ensures shorter { length self.new.rest ≤ length self.old.rest }
+        ensures shorter { IfOk result (λ _. length self.new.rest ≤ length self.old.rest) }
     {
         self.expect(Sign::Equals)?;
-        self.formula(alloc, names, banned)
+        self.formula(names, banned)
     }
 
     /// Takes a condition.
-    pub fn condition(
-        &mut self,
-        alloc: Global,
-        names: &Names,
-        banned: Banned,
-    ) -> Result<Condition, ScriptError>
+    pub fn condition(&mut self, names: &Names, banned: Banned) -> Result<Condition, ScriptError>
         ensures goes { Goes result (λ k. compared (at_depth names.now banned 0) k) condition_of
             self.old.rest self.new.rest }
-        ensures shorter { length self.new.rest ≤ length self.old.rest }
+        ensures shorter { IfOk result (λ _. length self.new.rest ≤ length self.old.rest) }
     {
-        let left = self.formula(alloc, names, banned)?;
+        let left = self.formula(names, banned)?;
         let comparison = self.comparison()?;
-        let right = self.formula(alloc, names, banned)?;
+        let right = self.formula(names, banned)?;
         Ok(Condition {
             left,
             comparison,
@@ -282,7 +263,7 @@ impl<'a> Parser<'a> {
     // Takes a mark that compares.
     fn comparison(&mut self) -> Result<Comparison, ScriptError>
         ensures goes { Goes result (λ k. ATest k) test_of self.old.rest self.new.rest }
-        ensures shorter { length self.new.rest ≤ length self.old.rest }
+        ensures shorter { IfOk result (λ _. length self.new.rest ≤ length self.old.rest) }
     {
         let Some((Lexeme::Is(sign), after)) = self.rest.next() else {
             return Err(ScriptError::Refused(Fault::Token));

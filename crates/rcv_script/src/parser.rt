@@ -18,9 +18,10 @@ use rcv_scan::Ahead;
 use rcv_tree::name::Name;
 use std::alloc::Global;
 
-/// What is still to be read.
+/// What is still to be read, and where memory is taken.
 #[derive(Drop)]
 pub struct Parser<'a> {
+    pub alloc: Global,
     pub rest: Ahead<'a, Sign>,
 }
 
@@ -30,7 +31,7 @@ impl<'a> Parser<'a> {
     fn variable(&mut self, writing: &Writing<'_>) -> Result<usize, ScriptError>
         ensures goes { Goes result (λ k. to_set writing.now.names (λ n. k (place_in writing.now.names n)))
             (λ place. place) self.old.rest self.new.rest }
-        ensures shorter { length self.new.rest ≤ length self.old.rest }
+        ensures shorter { IfOk result (λ _. length self.new.rest ≤ length self.old.rest) }
     {
         if !self.takes_word(b"set") {
             return Err(ScriptError::Refused(Fault::Token));
@@ -49,7 +50,7 @@ impl<'a> Parser<'a> {
     #[tactic(auto, using(crate::proofs::Stops::to_number))]
     fn signed(&mut self) -> Result<i64, ScriptError>
         ensures goes { Goes result (λ k. ASigned k) (λ z. z) self.old.rest self.new.rest }
-        ensures shorter { length self.new.rest ≤ length self.old.rest }
+        ensures shorter { IfOk result (λ _. length self.new.rest ≤ length self.old.rest) }
     {
         let is_below = self.takes(Sign::Minus);
         let Some((number, after)) = self.rest.number() else {
@@ -65,9 +66,9 @@ impl<'a> Parser<'a> {
 
     // Takes what stands behind the word `var`.
     #[tactic(auto, using(crate::proofs::Stops::no_word))]
-    fn var_line(&mut self, alloc: Global, writing: &mut Writing<'_>) -> Result<(), ScriptError>
+    fn var_line(&mut self, writing: &mut Writing<'_>) -> Result<(), ScriptError>
         ensures goes { Adds result (λ s k. var_line s.names k) writing.old writing.new self.old.rest self.new.rest }
-        ensures shorter { length self.new.rest ≤ length self.old.rest }
+        ensures shorter { IfOk result (λ _. length self.new.rest ≤ length self.old.rest) }
     {
         let Some((name, after)) = self.rest.word() else {
             return Err(ScriptError::Refused(Fault::Token));
@@ -79,7 +80,7 @@ impl<'a> Parser<'a> {
         self.expect(Sign::Equals)?;
         let first = self.signed()?;
         self.expect(Sign::Semicolon)?;
-        writing.declare(alloc, name, first)?;
+        writing.declare(self.alloc, name, first)?;
         Ok(())
     }
 
@@ -89,7 +90,7 @@ impl<'a> Parser<'a> {
         ensures goes { Goes result
             (λ k. AWord (label_fault kind writing.now.messages writing.now.role writing.now.lines) k) (λ n. n.now)
             self.old.rest self.new.rest }
-        ensures shorter { length self.new.rest ≤ length self.old.rest }
+        ensures shorter { IfOk result (λ _. length self.new.rest ≤ length self.old.rest) }
     {
         let Some((label, after)) = self.rest.word() else {
             return Err(ScriptError::Refused(Fault::Token));
@@ -113,41 +114,41 @@ impl<'a> Parser<'a> {
     }
 
     // Takes what stands behind the word `send`.
-    fn send_line(&mut self, alloc: Global, writing: &mut Writing<'_>) -> Result<(), ScriptError>
+    fn send_line(&mut self, writing: &mut Writing<'_>) -> Result<(), ScriptError>
         ensures goes { Adds result send_line writing.old writing.new self.old.rest self.new.rest }
-        ensures shorter { length self.new.rest ≤ length self.old.rest }
+        ensures shorter { IfOk result (λ _. length self.new.rest ≤ length self.old.rest) }
     {
         let word = self.label(LineKind::Send, writing)?;
-        let number = self.number_set(alloc, writing.names(), DECIDING)?;
-        let label = Name::of(alloc, word)?;
+        let number = self.number_set(writing.names(), DECIDING)?;
+        let label = Name::of(self.alloc, word)?;
         self.end(Line::Send { label, number }, writing)
     }
 
     // Takes what stands behind the word `pick`.
-    fn pick_line(&mut self, alloc: Global, writing: &mut Writing<'_>) -> Result<(), ScriptError>
+    fn pick_line(&mut self, writing: &mut Writing<'_>) -> Result<(), ScriptError>
         ensures goes { Adds result pick_line writing.old writing.new self.old.rest self.new.rest }
-        ensures shorter { length self.new.rest ≤ length self.old.rest }
+        ensures shorter { IfOk result (λ _. length self.new.rest ≤ length self.old.rest) }
     {
         let word = self.label(LineKind::Pick, writing)?;
         if !self.takes_word(b"when") {
-            let label = Name::of(alloc, word)?;
+            let label = Name::of(self.alloc, word)?;
             return self.end(Line::Pick { label, when: None }, writing);
         }
-        let when = Some(self.condition(alloc, writing.names(), DECIDING)?);
-        let label = Name::of(alloc, word)?;
+        let when = Some(self.condition(writing.names(), DECIDING)?);
+        let label = Name::of(self.alloc, word)?;
         self.end(Line::Pick { label, when }, writing)
     }
 
     // Takes what stands behind the word `on`.
-    fn on_line(&mut self, alloc: Global, writing: &mut Writing<'_>) -> Result<(), ScriptError>
+    fn on_line(&mut self, writing: &mut Writing<'_>) -> Result<(), ScriptError>
         ensures goes { Adds result on_line writing.old writing.new self.old.rest self.new.rest }
-        ensures shorter { length self.new.rest ≤ length self.old.rest }
+        ensures shorter { IfOk result (λ _. length self.new.rest ≤ length self.old.rest) }
     {
         let word = self.label(LineKind::On, writing)?;
         let banned = writing.remembering(word);
         let place = self.variable(writing)?;
-        let number = self.number_set(alloc, writing.names(), banned)?;
-        let label = Name::of(alloc, word)?;
+        let number = self.number_set(writing.names(), banned)?;
+        let label = Name::of(self.alloc, word)?;
         let line = Line::On {
             label,
             place,
@@ -157,11 +158,10 @@ impl<'a> Parser<'a> {
     }
 
     // Takes a line.
-    #[tactic(auto, using(crate::proofs::Stops::no_line))]
-    fn line(&mut self, alloc: Global, writing: &mut Writing<'_>) -> Result<(), ScriptError>
+    #[tactic(auto, using(crate::proofs::Stops::no_line, crate::proofs::Stops::fewer))]
+    fn line(&mut self, writing: &mut Writing<'_>) -> Result<(), ScriptError>
         ensures goes { Adds result (λ s k. ALine s k) writing.old writing.new self.old.rest self.new.rest }
         ensures taken { IfOk result (λ _. length self.new.rest < length self.old.rest) }
-        ensures shorter { length self.new.rest ≤ length self.old.rest }
     {
         let Some((word, after)) = self.rest.word() else {
             return Err(ScriptError::Refused(Fault::Token));
@@ -174,28 +174,23 @@ impl<'a> Parser<'a> {
         }
         self.rest = after;
         match kind {
-            LineKind::Var => self.var_line(alloc, writing),
-            LineKind::Send => self.send_line(alloc, writing),
-            LineKind::Pick => self.pick_line(alloc, writing),
-            LineKind::On => self.on_line(alloc, writing),
+            LineKind::Var => self.var_line(writing),
+            LineKind::Send => self.send_line(writing),
+            LineKind::Pick => self.pick_line(writing),
+            LineKind::On => self.on_line(writing),
         }
     }
 
     /// Takes the lines of a role between braces.
-    pub fn lines(
-        &mut self,
-        alloc: Global,
-        points: &Points,
-        role: usize,
-    ) -> Result<Vec<Line>, ScriptError>
+    pub fn lines(&mut self, points: &Points, role: usize) -> Result<Vec<Line>, ScriptError>
         ensures goes { Goes result (λ k. This (Is Sign.Open) (Lines (begun points.now.messages role) k))
             (λ lines. map line_of lines.items) self.old.rest self.new.rest }
-        ensures shorter { length self.new.rest ≤ length self.old.rest }
+        ensures shorter { IfOk result (λ _. length self.new.rest ≤ length self.old.rest) }
     {
         self.expect(Sign::Open)?;
-        let mut writing = Writing::new(alloc, points, role);
+        let mut writing = Writing::new(self.alloc, points, role);
         while !self.takes(Sign::Close) {
-            self.line(alloc, &mut writing)?;
+            self.line(&mut writing)?;
         }
         Ok(writing.into_lines())
     }

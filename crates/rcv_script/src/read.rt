@@ -32,7 +32,6 @@ impl<'a> Parser<'a> {
     #[tactic(auto, using(crate::proofs::Stops::no_word))]
     fn script(
         &mut self,
-        alloc: Global,
         roles: &Names,
         points: &Points,
         given: &[usize],
@@ -40,7 +39,7 @@ impl<'a> Parser<'a> {
         ensures goes { Goes result (λ k. script roles.now given.now points.now.messages k) (λ x. (x.role, x.script))
             self.old.rest self.new.rest }
         ensures declared { IfOk result (λ x. x.role < length roles.now) }
-        ensures shorter { length self.new.rest ≤ length self.old.rest }
+        ensures shorter { IfOk result (λ _. length self.new.rest ≤ length self.old.rest) }
     {
         let Some((word, after)) = self.rest.word() else {
             return Err(ScriptError::Refused(Fault::Token));
@@ -52,7 +51,7 @@ impl<'a> Parser<'a> {
             return Err(ScriptError::Refused(Fault::Role));
         }
         self.rest = after;
-        let lines = self.lines(alloc, points, role)?;
+        let lines = self.lines(points, role)?;
         Ok(Given {
             role,
             script: Script::of(lines),
@@ -61,20 +60,15 @@ impl<'a> Parser<'a> {
 
     // Takes all scripts.
     #[tactic(auto, using(crate::proofs::Stops::no_script))]
-    fn scripts(
-        &mut self,
-        alloc: Global,
-        roles: &Names,
-        points: &Points,
-    ) -> Result<Vec<Script>, ScriptError>
+    fn scripts(&mut self, roles: &Names, points: &Points) -> Result<Vec<Script>, ScriptError>
         ensures ok { IfOk result (λ found. reading roles.now points.now.messages self.old.rest ≡ Taken found.items) }
         ensures all { IfOk result (λ scripts. length scripts.items ≡ length roles.now) }
         ensures err { IfErr result (λ e. Ceases roles.now points.now.messages e self.old.rest self.new.rest) }
     {
-        let mut scripts = no_lines(alloc, roles)?;
-        let mut given = Vec::new(alloc);
+        let mut scripts = no_lines(self.alloc, roles)?;
+        let mut given = Vec::new(self.alloc);
         while self.takes_word(b"role") {
-            let next = self.script(alloc, roles, points, given.as_slice())?;
+            let next = self.script(roles, points, given.as_slice())?;
             given.push(next.role)?;
             scripts[next.role] = next.script;
         }
@@ -124,9 +118,10 @@ pub fn read_scripts(
     let roles = &accepted.protocol().roles;
     let points = accepted.points();
     let mut parser = Parser {
+        alloc,
         rest: Ahead::new(bundle, list),
     };
-    match parser.scripts(alloc, roles, points) {
+    match parser.scripts(roles, points) {
         Ok(scripts) => Ok(Scripts::of(alloc, scripts, points)?),
         Err(ScriptError::Memory) => Err(TextError::Memory),
         Err(ScriptError::Refused(fault)) => Err(TextError::Refused(Refusal::Text {

@@ -2,8 +2,8 @@ use Rattle.std.proofs.Common.{◌≡◌, length}
 use Rattle.rcv_script.specs.Machine.{Scripts, awaited, answer}
 use Rattle.rcv_script.proofs.parser.Parser.scripts.Given as goal
 
-abbrev pub invariant-loop-alloc : goal.invariant-loop-alloc
-invariant-loop-alloc l = record {
+abbrev pub invariant-loop-self : goal.invariant-loop-self
+invariant-loop-self l = record {
   goes : answer (awaited l.roles l.points.messages) l.fn.self.rest ≡ answer (Scripts (record {
     roles = l.roles;
     messages = l.points.messages;
@@ -13,5 +13,5 @@ invariant-loop-alloc l = record {
   sized : length l.scripts.items ≡ length l.roles;
 }
 
-abbrev pub decreases-loop-alloc : goal.decreases-loop-alloc
-decreases-loop-alloc l = length l.self.rest
+abbrev pub decreases-loop-self : goal.decreases-loop-self
+decreases-loop-self l = length l.self.rest
