@@ -5,7 +5,7 @@ ghost use Rattle.rcv_tree.specs.Lists.{declarations};
 ghost use Rattle.rcv_printer.specs.CanonicalText.{module_line, decl_line, decl_lines, head_line};
 ghost use Rattle.rcv_printer.specs.Printing.{Puts};
 
-use crate::names::{put, put_list};
+use crate::names::{put, put_list, put_words};
 use rcv_text::writer::Writer;
 use rcv_tree::name::Names;
 use rcv_tree::protocol::{Decl, Decls};
@@ -24,16 +24,21 @@ pub fn put_module(text: &mut Writer, module: &Names) -> Result<(), AllocError>
 fn put_decl(text: &mut Writer, decl: &Decl) -> Result<(), AllocError>
     ensures { OnOk result (Puts text.old text.new (decl_line decl.now)) }
 {
-    put(text, decl.word.as_slice())?;
-    put(text, b" <")?;
-    put(text, decl.schema.as_slice())?;
-    put(text, b"> \"")?;
-    put(text, decl.extern_name.as_slice())?;
-    put(text, b"\" from \"")?;
-    put(text, decl.file.as_slice())?;
-    put(text, b"\" as ")?;
-    put(text, decl.alias.as_slice())?;
-    put(text, b";\n")
+    put_words(
+        text,
+        &[
+            decl.word.as_slice(),
+            b" <",
+            decl.schema.as_slice(),
+            b"> \"",
+            decl.extern_name.as_slice(),
+            b"\" from \"",
+            decl.file.as_slice(),
+            b"\" as ",
+            decl.alias.as_slice(),
+            b";\n",
+        ],
+    )
 }
 
 // Puts the lines of the declarations behind the text.
@@ -50,9 +55,7 @@ pub fn put_decls(text: &mut Writer, decls: &Decls) -> Result<(), AllocError>
 pub fn put_head(text: &mut Writer, name: &[u8], roles: &Names) -> Result<(), AllocError>
     ensures { OnOk result (Puts text.old text.new (head_line name.now roles.now)) }
 {
-    put(text, b"global protocol ")?;
-    put(text, name)?;
-    put(text, b"(")?;
+    put_words(text, &[b"global protocol ", name, b"("])?;
     put_list(text, b"role ", b", role ", roles)?;
     put(text, b") {\n")
 }

@@ -1,8 +1,8 @@
-// What is put behind a text: a word, and lists of names.
+// What is put behind a text: words, and lists of names.
 
-ghost use Rattle.std.specs.Prelude.{◌≡◌, ◌++◌, OnOk};
+ghost use Rattle.std.specs.Prelude.{◌≡◌, ◌++◌, OnOk, map};
 ghost use Rattle.rcv_grammar.specs.Canonical.{name_at, names_at};
-ghost use Rattle.rcv_printer.specs.CanonicalText.{listed, comma_list};
+ghost use Rattle.rcv_printer.specs.CanonicalText.{words, listed, comma_list};
 ghost use Rattle.rcv_printer.specs.Printing.{Puts};
 
 use rcv_text::writer::Writer;
@@ -15,6 +15,16 @@ pub fn put(text: &mut Writer, word: &[u8]) -> Result<(), AllocError>
     ensures { OnOk result (Puts text.old text.new (λ next. word.now ++ next)) }
 {
     text.word(word)
+}
+
+// Puts the words behind the text, one behind another.
+pub fn put_words(text: &mut Writer, all: &[&[u8]]) -> Result<(), AllocError>
+    ensures { OnOk result (Puts text.old text.new (words (map (λ word. word.now) all.now))) }
+{
+    for word in all {
+        put(text, word)?;
+    }
+    Ok(())
 }
 
 // The name of a role.
@@ -38,8 +48,7 @@ pub fn put_list(
 {
     let mut word = before;
     for name in names.as_slice() {
-        put(text, word)?;
-        put(text, name.as_slice())?;
+        put_words(text, &[word, name.as_slice()])?;
         word = between;
     }
     Ok(())
@@ -51,8 +60,7 @@ pub fn put_roles(text: &mut Writer, roles: &Names, places: &Roles) -> Result<(),
 {
     let mut word: &[u8] = b"";
     for role in places.as_slice() {
-        put(text, word)?;
-        put(text, name_of(roles, *role))?;
+        put_words(text, &[word, name_of(roles, *role)])?;
         word = b", ";
     }
     Ok(())

@@ -5,7 +5,7 @@ ghost use Rattle.rcv_model.specs.Text.{body_of, bodies_of, stmt_body};
 ghost use Rattle.rcv_printer.specs.CanonicalText.{inner, body_text, blocks_text};
 ghost use Rattle.rcv_printer.specs.Printing.{Puts, PutsStatements};
 
-use crate::names::{name_of, put, put_list, put_roles};
+use crate::names::{name_of, put, put_list, put_roles, put_words};
 use rcv_text::writer::Writer;
 use rcv_tree::name::{Name, Names};
 use rcv_tree::role::RoleId;
@@ -38,7 +38,8 @@ pub fn put_block(
     Ok(())
 }
 
-// Puts blocks behind the text, with one word before the first brace and another one before each that follows.
+// Puts blocks behind the text, with one word before the first brace and another one before each that follows, and ends
+// the line.
 #[cycle(statements)]
 fn put_blocks(
     alloc: Global,
@@ -50,18 +51,17 @@ fn put_blocks(
     blocks: &Blocks,
 ) -> Result<(), AllocError>
     ensures { OnOk result (Puts text.old text.new
-        (blocks_text roles.now margin.now before.now between.now (bodies_of blocks.now))) }
+        (λ next. blocks_text roles.now margin.now before.now between.now (bodies_of blocks.now) (codes "\n" ++ next))) }
 {
     let further = inner(alloc, margin)?;
     let mut word = before;
     for block in blocks.as_slice() {
-        put(text, word)?;
-        put(text, b"{\n")?;
+        put_words(text, &[word, b"{\n"])?;
         put_block(alloc, text, roles, further.as_slice(), block)?;
-        put(text, margin)?;
-        put(text, b"}")?;
+        put_words(text, &[margin, b"}"])?;
         word = between;
     }
+    put(text, b"\n")?;
     Ok(())
 }
 
@@ -76,7 +76,6 @@ fn put_stmt(
 ) -> Result<(), AllocError>
     ensures { OnOk result (PutsStatements roles.now margin.now text.old text.new (stmt_body stmt.now)) }
 {
-    put(text, margin)?;
     match stmt {
         Stmt::Message {
             label,
@@ -85,46 +84,34 @@ fn put_stmt(
             receiver,
             ..
         } => {
-            put(text, label.as_slice())?;
-            put(text, b"(")?;
+            put_words(text, &[margin, label.as_slice(), b"("])?;
             put_list(text, b"", b", ", sorts)?;
-            put(text, b") from ")?;
-            put(text, name_of(roles, *sender))?;
-            put(text, b" to ")?;
-            put(text, name_of(roles, *receiver))?;
-            put(text, b";\n")
+            let sender = name_of(roles, *sender);
+            let receiver = name_of(roles, *receiver);
+            put_words(text, &[b") from ", sender, b" to ", receiver, b";\n"])
         }
         Stmt::Choice { subject, branches } => {
-            put(text, b"choice at ")?;
-            put(text, name_of(roles, *subject))?;
-            put_blocks(alloc, text, roles, margin, b" ", b" or ", branches)?;
-            put(text, b"\n")
+            put_words(text, &[margin, b"choice at ", name_of(roles, *subject)])?;
+            put_blocks(alloc, text, roles, margin, b" ", b" or ", branches)
         }
         Stmt::Rec { name, body } => {
-            put(text, b"rec ")?;
-            put(text, name.as_slice())?;
-            put(text, b" {\n")?;
+            put_words(text, &[margin, b"rec ", name.as_slice(), b" {\n"])?;
             put_block(alloc, text, roles, inner(alloc, margin)?.as_slice(), body)?;
-            put(text, margin)?;
-            put(text, b"}\n")
+            put_words(text, &[margin, b"}\n"])
         }
-        Stmt::Continue { name } => {
-            put(text, b"continue ")?;
-            put(text, name.as_slice())?;
-            put(text, b";\n")
-        }
+        Stmt::Continue { name } => put_words(
+            text,
+            &[margin, b"continue ", name.as_slice(), b";\n"],
+        ),
         Stmt::Par { blocks } => {
-            put(text, b"par")?;
-            put_blocks(alloc, text, roles, margin, b" ", b" and ", blocks)?;
-            put(text, b"\n")
+            put_words(text, &[margin, b"par"])?;
+            put_blocks(alloc, text, roles, margin, b" ", b" and ", blocks)
         }
         Stmt::Do {
             protocol,
             roles: places,
         } => {
-            put(text, b"do ")?;
-            put(text, protocol.as_slice())?;
-            put(text, b"(")?;
+            put_words(text, &[margin, b"do ", protocol.as_slice(), b"("])?;
             put_roles(text, roles, places)?;
             put(text, b");\n")
         }

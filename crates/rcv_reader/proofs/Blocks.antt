@@ -1,5 +1,5 @@
 -- What statements, blocks and branches say, read one after another.
-use Rattle.std.proofs.Common.{◌≡◌, ℕ, ◌+◌, ◌-◌, ◌<◌, ◌≤◌, Bool, true, false, Some, Result, Ok, Err, OnOk, IfOk, List, [], ◌∷◌, ◌++◌, length, map, drop, refl, sym, ap, subst, ◌∙◌, arith, length-append}
+use Rattle.std.proofs.Common.{◌≡◌, ℕ, ◌+◌, ◌-◌, ◌<◌, ◌≤◌, Bool, true, false, Some, Result, Ok, Err, OnOk, List, [], ◌∷◌, ◌++◌, length, map, drop, refl, sym, ap, subst, ◌∙◌, arith}
 use Rattle.std.proofs.lemmas.List.{length-map}
 use Rattle.rcv_tree.specs.Lists.{statements, blocks}
 use Rattle.rcv_tree.specs.declared.statement.Stmt.{Stmt}
@@ -45,15 +45,14 @@ added_by roles n n' added block block' old new is more = record {
   };
 }
 
-pub message_read : (p p1 p2 p3 p4 new : Standing) (label : List ℕ) (sorts : List (List ℕ)) (sender : ℕ) (others : List ℕ)
-    (last points : ℕ) (block block' : List Stmt) → p ≡ at p1 (Is Left ∷ p1.rest)
+pub message_read : (p p1 p2 p3 p4 new : Standing) (label : List ℕ) (sorts : List (List ℕ)) (sender : ℕ) (receivers : List ℕ)
+    (points : ℕ) (block block' : List Stmt) → p ≡ at p1 (Is Left ∷ p1.rest)
     → p1 ≡ at p2 (sort_list sorts (Is Right ∷ p2.rest)) → ((n : List ℕ) × (place_of p3.roles n ≡ Some sender) × (p2 ≡ at p3 (Is From ∷ Word n ∷ p3.rest)))
-    → p3 ≡ at p4 (Is To ∷ p4.rest) → AreReceived p4 (at new (Is Semicolon ∷ new.rest)) sender (others ++ last ∷ [])
-    → points ≡ new.count → block' ≡ block ++ messages label sorts sender (others ++ last ∷ []) (points - (length others + 1))
+    → p3 ≡ at p4 (Is To ∷ p4.rest) → AreReceived p4 (at new (Is Semicolon ∷ new.rest)) sender receivers
+    → points ≡ new.count → block' ≡ block ++ messages label sorts sender receivers (points - length receivers)
     → TakesSome p new (Word label ∷ []) block block'
-message_read p p1 p2 p3 p4 new label sorts sender others last points block block' e1 e2 role e4 are all is =
-    let receivers = others ++ last ∷ [] in
-    let before : points - (length others + 1) ≡ p4.count = omega (arith, all, are.counted, length-append others (last ∷ [])) in
+message_read p p1 p2 p3 p4 new label sorts sender receivers points block block' e1 e2 role e4 are all is =
+    let before : points - length receivers ≡ p4.count = omega (arith, all, are.counted) in
     let is_role = rw (e4, are.spelled) at role.1 in
     let place : role_at new.roles role.0 ≡ sender = ap or_first is_role in
     let long = ap length are.places ∙ length-map (are.first ∷ are.others) (role_at new.roles) in
@@ -92,19 +91,19 @@ again_read p0 p1 new name block block' e f is = rw (e, f) (
 )
 
 pub rec_read : (p q r new : Standing) (name : List ℕ) (body : Block) (block block' : List Stmt)
-    → p ≡ at p (Word name ∷ q.rest) → q ≡ within (at p q.rest) (p.recs ++ name ∷ []) → TakesBlock q r body
-    → ((recs : List (List ℕ)) (n : List ℕ) → r.recs ≡ recs ++ n ∷ [] → new ≡ within r recs) → block' ≡ block ++ stmt.Rec name body ∷ []
-    → TakesSome p new (Is Rec ∷ []) block block'
-rec_read p q r new name body block block' e entered takes leaves is =
+    → ((n : List ℕ) × (p ≡ at p (Word n ∷ q.rest)) × (q ≡ within (at p q.rest) (p.recs ++ n ∷ []))) → TakesBlock q r body
+    → ((recs : List (List ℕ)) (n : List ℕ) → r.recs ≡ recs ++ n ∷ [] → (new ≡ within r recs) × (name ≡ n))
+    → block' ≡ block ++ stmt.Rec name body ∷ [] → TakesSome p new (Is Rec ∷ []) block block'
+rec_read p q r new name body block block' (n, e, entered) takes leaves is =
     let (kept, inner, opened, b, begun) = rw entered at takes in
-    let spelled = ap (λ (x : Standing). x.rest) e in
-    rw (leaves p.recs name (sym (ap (λ (x : Standing). x.recs) kept))) (
+    let (left, same) = leaves p.recs n (sym (ap (λ (x : Standing). x.recs) kept)) in
+    rw left (
       ap (λ (x : Standing). at (within x p.recs) p.rest) kept,
-      added_by r.roles p.count r.count _ block block' _ _ is (λ l rest next w. (
+      added_by r.roles p.count r.count _ block block' _ _ (rw same at is) (λ l rest next w. (
         record {
-          written = ARec name b.written w.written;
+          written = ARec n b.written w.written;
           sound = ((begun, b.sound.0, w.sound.0), (b.sound.1, w.sound.1));
-          spelled = rw (spelled, opened, b.spelled, w.spelled) refl;
+          spelled = rw (ap (λ (x : Standing). x.rest) e, opened, b.spelled, w.spelled) refl;
           counted = omega (arith, b.counted, w.counted);
           tree = rw (stmt_body-Rec, b.tree, w.tree, b.counted) refl;
         },
@@ -147,19 +146,19 @@ choice_added p r new subject bs block block' role kept b lt is =
     )
 
 -- What stands behind the first symbol of a statement was taken, and so the statement was.
-pub statement : (r : Result Bool Stop) (ended : Bool) (p q new : Standing) (spot : Spot) (t : Symbol)
-    (item over last : List Item → List Item) (block block' : List Stmt) → IfOk r (λ e. e ≡ ended) → Consumes r q new item (λ x k. last k)
+pub statement : (r : Result Unit Stop) (ended : Bool) (p q new : Standing) (spot : Spot) (t : Symbol)
+    (item over last : List Item → List Item) (block block' : List Stmt) → Consumes r q new item (λ x k. last k)
     → p ≡ at q (t ∷ q.rest)
     → ((k : List Item) → answers (at q (t ∷ q.rest)) (First (place_of_spot q spot) ∷ k) ≡ answers q (item (over k)))
     → OnOk r (TakesSome q new (t ∷ []) block block')
     → (q.recs ≡ new.recs → (k : List Item) → last (over k) ≡ Rest (behind (place_of_spot new spot) ended) ∷ k)
-    → Consumes r p new (λ k. First (place_of_spot p spot) ∷ k) (λ e k. Rest (behind (place_of_spot new spot) e) ∷ k)
+    → Consumes r p new (λ k. First (place_of_spot p spot) ∷ k) (λ x k. Rest (behind (place_of_spot new spot) ended) ∷ k)
     × OnOk r (TakesSome p new [] block block')
-statement (Ok e) ended p q new spot t item over last block block' is goes taken first takes same =
+statement (Ok x) ended p q new spot t item over last block block' goes taken first takes same =
     let on = λ (k : List Item). first k ∙ goes.0 (over k) ∙ ap (answers new) (same (ap (λ (x : Standing). x.recs) takes.0) k) in
-    rw (taken, is) ((on, omega (arith, goes.1)), (ap (λ (x : Standing). at x (t ∷ q.rest)) takes.0, takes.1))
-statement (Err e) ended p q new spot t item over last block block' is goes taken first takes same =
-    (halts_behind {X = Bool} (Err e) e p q new _ item over (λ x k. Rest (behind (place_of_spot new spot) x) ∷ k) refl goes.0 (rw taken first), tt)
+    rw taken ((on, omega (arith, goes.1)), (ap (λ (x : Standing). at x (t ∷ q.rest)) takes.0, takes.1))
+statement (Err e) ended p q new spot t item over last block block' goes taken first takes same =
+    (halts_behind {X = Unit} (Err e) e p q new _ item over (λ x k. Rest (behind (place_of_spot new spot) ended) ∷ k) refl goes.0 (rw taken first), tt)
 
 -- ---- statements, one after another
 
@@ -240,36 +239,33 @@ block_in_front roles n k m body bodies ts inner us next opened b begun others = 
   tree = rw (b.tree, others.tree, b.counted) refl;
 }
 
--- The subject was read, and the first blocks.
+-- The subject was read, and the first blocks; one more has to stand behind them.
 pub record ChoiceSoFar (old now : Standing) (spot : Spot) (subject : ℕ) (bs : List Block) : Type 0 where
   pub start : Standing  -- in front of the first block
   pub role : (n : List ℕ) × (place_of start.roles n ≡ Some subject) × (old ≡ at start (Is At ∷ Word n ∷ start.rest))
   pub goes : (k : List Item) → answers old (This (Is At) ∷ Subject ∷ Opening (place_of_spot old spot) ∷ More (place_of_spot old spot) ∷ k)
-      ≡ answers now (More (place_of_spot now spot) ∷ k)
+      ≡ answers now (Opening (place_of_spot now spot) ∷ More (place_of_spot now spot) ∷ k)
   pub kept : start ≡ back_at now start.count start.rest
-  pub reads : (m : ℕ) (bodies : trees.Bodies) (next : List Symbol) → AreBlocks now.roles now.count m bodies now.rest next
+  pub reads : (m : ℕ) (bodies : trees.Bodies) (next : List Symbol) → AreBlocks now.roles now.count m bodies (Is Or ∷ now.rest) next
       → AreBlocks now.roles start.count m (branches_in_front bs bodies) (Is Or ∷ start.rest) next
   pub within : spot.comes ≤ length now.recs
-  pub shorter : (length now.rest < length start.rest) × (length now.rest < length old.rest)
+  pub shorter : (length now.rest ≤ length start.rest) × (length now.rest < length old.rest)
 
-pub choice_first : (old start new : Standing) (spot : Spot) (subject : ℕ) (bs : List Block) (b : Block)
+pub choice_first : (old start : Standing) (spot : Spot) (subject : ℕ) (bs : List Block)
     → ((n : List ℕ) × (place_of start.roles n ≡ Some subject) × (old ≡ at start (Is At ∷ Word n ∷ start.rest)))
-    → ((k : List Item) → answers old (This (Is At) ∷ Subject ∷ k) ≡ answers start k)
-    → ((k : List Item) → answers start (Opening (place_of_spot start spot) ∷ k) ≡ answers new k) → spot.comes ≤ length old.recs
-    → TakesBlock start new b → bs ≡ [] ++ b ∷ [] → length new.rest < length start.rest → ChoiceSoFar old new spot subject bs
-choice_first old start new spot subject bs b role found goes within (kept, inner, opened, is, begun) pushed lt =
+    → ((k : List Item) → answers old (This (Is At) ∷ Subject ∷ k) ≡ answers start k) → spot.comes ≤ length old.recs
+    → bs ≡ [] → ChoiceSoFar old start spot subject bs
+choice_first old start spot subject bs role found within empty =
     let same : old.recs ≡ start.recs = ap (λ (x : Standing). x.recs) role.2 in
     record {
       start = start;
       role = role;
       goes = λ k. found (Opening (place_of_spot old spot) ∷ More (place_of_spot old spot) ∷ k)
-          ∙ ap (λ (x : List (List ℕ)). let p = place_at x spot.depth spot.comes spot.ended in answers start (Opening p ∷ More p ∷ k)) same
-          ∙ goes (More (place_of_spot start spot) ∷ k) ∙ ap (λ (x : Standing). answers new (More (place_of_spot x spot) ∷ k)) kept;
-      kept = kept;
-      reads = λ m bodies next w.
-          rw pushed (block_in_front new.roles start.count new.count m _ bodies start.rest inner new.rest next opened is begun w);
-      within = subst (λ (x : List (List ℕ)). spot.comes ≤ length x) (same ∙ ap (λ (x : Standing). x.recs) kept) within;
-      shorter = (lt, rw role.2 (omega (arith, lt)));
+          ∙ ap (λ (x : List (List ℕ)). let p = place_at x spot.depth spot.comes spot.ended in answers start (Opening p ∷ More p ∷ k)) same;
+      kept = refl;
+      reads = λ m bodies next w. rw empty w;
+      within = subst (λ (x : List (List ℕ)). spot.comes ≤ length x) same within;
+      shorter = (omega arith, rw role.2 (omega arith));
     }
 
 branches-push : (bs : List Block) (b : Block) (others : trees.Bodies)
@@ -278,34 +274,39 @@ branches-push [] b others = refl
 branches-push (x ∷ bs) b others = ap (trees.Or (trees.body_of x)) (branches-push bs b others)
 
 pub choice_next : (old p q new : Standing) (spot : Spot) (subject : ℕ) (bs bs' : List Block) (b : Block)
-    → ChoiceSoFar old p spot subject bs → p ≡ at q (Is Or ∷ q.rest)
-    → ((k : List Item) → answers q (Opening (place_of_spot q spot) ∷ k) ≡ answers new k)
-    → TakesBlock q new b → bs' ≡ bs ++ b ∷ [] → length new.rest < length q.rest → ChoiceSoFar old new spot subject bs'
-choice_next old p q new spot subject bs bs' b so_far e goes (kept, inner, opened, block, begun) is lt =
-    let here = rw e at so_far in
-    let so = rw kept at here in
+    → ChoiceSoFar old p spot subject bs → ((k : List Item) → answers p (Opening (place_of_spot p spot) ∷ k) ≡ answers q k)
+    → TakesBlock p q b → bs' ≡ bs ++ b ∷ [] → length q.rest < length p.rest → q ≡ at new (Is Or ∷ new.rest)
+    → ChoiceSoFar old new spot subject bs'
+choice_next old p q new spot subject bs bs' b so_far goes takes is lt e =
+    let (kept, inner, opened, block, begun) = rw e at takes in
+    let so = rw kept at so_far in
+    let long = ap (λ (x : Standing). length x.rest) e in
     record {
       start = so.start;
       role = so.role;
-      goes = λ k. here.goes k ∙ goes (More (place_of_spot q spot) ∷ k)
-          ∙ ap (λ (x : Standing). answers new (More (place_of_spot x spot) ∷ k)) kept;
+      goes = λ k. so_far.goes k ∙ goes (More (place_of_spot p spot) ∷ k)
+          ∙ ap (λ (x : Standing). answers q (More (place_of_spot x spot) ∷ k)) kept
+          ∙ ap (λ (x : Standing). answers x (More (place_of_spot new spot) ∷ k)) e;
       kept = so.kept;
       reads = λ m bodies next w. rw (is, branches-push) (so.reads m _ next
-          (block_in_front new.roles q.count new.count m _ bodies q.rest inner new.rest next opened block begun w));
+          (block_in_front new.roles p.count new.count m _ bodies p.rest inner (Is Or ∷ new.rest) next opened block begun w));
       within = so.within;
-      shorter = (omega (arith, so.shorter.0, lt), omega (arith, so.shorter.1, lt));
+      shorter = (omega (arith, so.shorter.0, lt, long), omega (arith, so.shorter.1, lt, long));
     }
 
 alternatives-in_front : (bs : List Block) → branches_in_front bs trees.NoMore ≡ trees.alternatives (map trees.body_of bs)
 alternatives-in_front [] = refl
 alternatives-in_front (b ∷ bs) = ap (trees.Or (trees.body_of b)) (alternatives-in_front bs)
 
-pub choice_read : (p new : Standing) (spot : Spot) (subject : ℕ) (bs : Blocks) (block block' : List Stmt)
-    → ChoiceSoFar p new spot subject (blocks bs) → block' ≡ block ++ stmt.Choice subject bs ∷ []
-    → TakesSome p new (Is Choice ∷ []) block block'
-choice_read p new spot subject bs block block' so is =
-    let none : AreBlocks new.roles new.count new.count trees.NoMore new.rest new.rest =
+pub choice_read : (old p q new : Standing) (spot : Spot) (subject : ℕ) (bs : List Block) (all : Blocks) (b : Block) (block block' : List Stmt)
+    → ChoiceSoFar old p spot subject bs → TakesBlock p q b → blocks all ≡ bs ++ b ∷ [] → length q.rest < length p.rest → q ≡ new
+    → block' ≡ block ++ stmt.Choice subject all ∷ [] → TakesSome old new (Is Choice ∷ []) block block'
+choice_read old p q new spot subject bs all b block block' so_far (kept, inner, opened, body, begun) is lt over added =
+    let so = rw kept at so_far in
+    let none : AreBlocks q.roles q.count q.count trees.NoMore q.rest q.rest =
     record { written = NoBlock; sound = (tt, tt); spelled = refl; counted = omega arith; tree = refl } in
-    let all = subst (λ (x : trees.Bodies). AreBlocks new.roles so.start.count new.count x (Is Or ∷ so.start.rest) new.rest)
-    (alternatives-in_front (blocks bs) ∙ sym (bodies_of_lem bs)) (so.reads new.count trees.NoMore new.rest none) in
-    choice_added p so.start new subject bs block block' so.role so.kept all so.shorter.0 is
+    let last = block_in_front q.roles p.count q.count q.count _ trees.NoMore p.rest inner q.rest q.rest opened body begun none in
+    let whole = subst (λ (x : trees.Bodies). AreBlocks q.roles so.start.count q.count x (Is Or ∷ so.start.rest) q.rest)
+    (sym (branches-push bs b trees.NoMore) ∙ ap (λ (x : List Block). branches_in_front x trees.NoMore) (sym is)
+    ∙ alternatives-in_front (blocks all) ∙ sym (bodies_of_lem all)) (so.reads q.count _ q.rest last) in
+    rw (← over) (choice_added old so.start q subject all block block' so.role so.kept whole (omega (arith, so.shorter.0, lt)) added)

@@ -1,5 +1,5 @@
 -- The loops over names: modules, sorts, roles and receivers; and over the declarations.
-use Rattle.std.proofs.Common.{◌≡◌, ℕ, ◌+◌, ◌<◌, true, false, Some, Result, Ok, Err, OnOk, List, [], ◌∷◌, ◌++◌, length, refl, sym, ap, ◌∙◌, arith, append_assoc, append-nil, length-append, take, slice_index_or}
+use Rattle.std.proofs.Common.{◌≡◌, ℕ, ◌+◌, ◌<◌, ◌≤◌, true, false, Some, Result, Ok, Err, OnOk, List, [], ◌∷◌, ◌++◌, length, refl, sym, ap, ◌∙◌, arith, append_assoc, append-nil, length-append, take, slice_index_or}
 use Rattle.std.proofs.lemmas.List.{length-take-le, map-append, take_more}
 use Rattle.std.specs.Prelude.{◌≢◌, ◌==◌}
 use Rattle.std.specs.Borrow.{Bor}
@@ -8,14 +8,14 @@ use Rattle.rcv_tree.specs.declared.protocol.Decl.{Decl}
 use Rattle.rcv_tree.specs.declared.statement.Stmt.{Stmt}
 use Rattle.rcv_tree.specs.declared.statement.Stmt.TheVariants as statements
 use Rattle.rcv_syntax.specs.declared.sign.Sign.{Sign}
-use Rattle.rcv_syntax.specs.declared.sign.Sign.TheVariants.{Role, Comma, Dot}
+use Rattle.rcv_syntax.specs.declared.sign.Sign.TheVariants.{Right, Role, Comma, Semicolon, Dot}
 use Rattle.rcv_syntax.specs.Symbols.{Symbol, Is, Word}
-use Rattle.rcv_syntax.specs.Grammar.{dotted, names_behind, sort_list, roles_behind, decl, decls, AreDecls, is_decl_word}
+use Rattle.rcv_syntax.specs.Grammar.{dotted, names_behind, sort_list, decl, decls, AreDecls, is_decl_word}
 use Rattle.rcv_syntax.specs.Trees.{or_first, place_of, is_listed, role_at, roles_at, MayReceive}
-use Rattle.rcv_machine.specs.Machine.{Item, AnyName, MoreModules, Decls, RoleName, MoreRoles, Sorts, MoreSorts, Receiver, MoreReceivers}
+use Rattle.rcv_machine.specs.Machine.{Item, This, AnyName, MoreModules, Decls, RoleName, MoreRoles, MoreSorts, Receiver, MoreReceivers}
 use Rattle.rcv_reader.specs.Standing.{Standing, at, with_roles, answers}
 use Rattle.rcv_reader.specs.Aliases.{HasThese}
-use Rattle.rcv_reader.specs.Descent.{module_list, names_of_roles, messages, AddsName, AreTaken, IsReceived, AreReceived}
+use Rattle.rcv_reader.specs.Descent.{IsNameList, module_list, names_of_roles, messages, AddsName, AreTaken, IsReceived, AreReceived}
 
 -- What is spelled one behind another: one more at the end.
 one_more : {X : Type 0} (spell : List X → List Symbol → List Symbol) (one : X → List Symbol → List Symbol)
@@ -46,68 +46,95 @@ not_empty (n ∷ ns) m e = cc
 
 -- ---- names with a sign between two
 
--- The first names were read, where this is awaited in front of the first and that behind each.
-pub record NamesSoFar (front more : List Item → List Item) (spell : List (List ℕ) → List Symbol → List Symbol) (old now : Standing)
-    (names : List (List ℕ)) : Type 0 where
-  pub goes : (k : List Item) → answers old (front k) ≡ answers now (more k)
-  pub some : names ≢ []
-  pub read : old ≡ at now (spell names now.rest)
-  pub shorter : length now.rest < length old.rest
+-- The first names were read, and one more has to stand behind them.
+pub record NamesSoFar (more : Item) (spell : List (List ℕ) → List Symbol → List Symbol) (old now : Standing) (names : List (List ℕ))
+    : Type 0 where
+  pub goes : (k : List Item) → answers old (AnyName ∷ more ∷ k) ≡ answers now (AnyName ∷ more ∷ k)
+  pub read : (n : List ℕ) (next : List Symbol) → now ≡ at now (Word n ∷ next) → old ≡ at now (spell (names ++ n ∷ []) next)
+  pub shorter : length now.rest ≤ length old.rest
 
-names_next : (sign : Sign) (front more : List Item → List Item) (spell : List (List ℕ) → List Symbol → List Symbol)
-    → ((ns : List (List ℕ)) (m : List ℕ) (next : List Symbol) → ns ≢ [] → spell (ns ++ m ∷ []) next ≡ spell ns (Is sign ∷ Word m ∷ next))
-    → ((p : Standing) (n : List ℕ) (k : List Item) → answers (at p (Is sign ∷ Word n ∷ p.rest)) (more k) ≡ answers p (more k))
-    → (old p q new : Standing) (names names' : List (List ℕ)) (n : List ℕ) → NamesSoFar front more spell old p names
-    → p ≡ at q (Is sign ∷ q.rest) → q ≡ at new (Word n ∷ new.rest) → names' ≡ names ++ n ∷ [] → NamesSoFar front more spell old new names'
-names_next sign front more spell push taken old p q new names names' n so_far e f is =
-    let so = rw (e, f) at so_far in
+abbrev pub NamesOf : Sign → Sign → Standing → Standing → List (List ℕ) → Type 0
+NamesOf between behind old now names = (more : Item) (spell : List (List ℕ) → List Symbol → List Symbol)
+    → IsNameList between behind more spell → NamesSoFar more spell old now names
+
+pub names_first : (between behind : Sign) (old : Standing) (names : List (List ℕ)) → names ≡ [] → NamesOf between behind old old names
+names_first between behind old names none more spell list =
+    rw none (record { goes = λ k. refl; read = λ n next is. is ∙ ap (at old) (sym (list.one n next)); shorter = omega arith })
+
+pub names_next : (between behind : Sign) (old p q new : Standing) (names names' : List (List ℕ)) (n : List ℕ)
+    → NamesOf between behind old p names → p ≡ at q (Word n ∷ q.rest) → ((k : List Item) → answers p (AnyName ∷ k) ≡ answers q k)
+    → names' ≡ names ++ n ∷ [] → q ≡ at new (Is between ∷ new.rest) → NamesOf between behind old new names'
+names_next between behind old p q new names names' n so_far e goes is f more spell list =
+    let so = so_far more spell list in
     rw is (record {
-      goes = λ k. so.goes k ∙ taken new n k;
-      some = not_empty names n;
-      read = so.read ∙ ap (at new) (sym (push names n new.rest so.some));
-      shorter = omega (arith, so.shorter);
+      goes = λ k. so.goes k ∙ goes (more ∷ k) ∙ ap (λ (x : Standing). answers x (more ∷ k)) f ∙ list.taken new k;
+      read = λ m next g. so.read n q.rest (rw e refl)
+          ∙ rw (e, f) (ap (λ (x : Standing). at new (spell (names ++ n ∷ []) (Is between ∷ x.rest))) g)
+          ∙ ap (at new) (sym (list.push (names ++ n ∷ []) m next (not_empty names n)));
+      shorter = omega (arith, so.shorter, ap (λ (x : Standing). length x.rest) e, ap (λ (x : Standing). length x.rest) f);
     })
 
-abbrev pub SortsSoFar : Standing → Standing → List (List ℕ) → Type 0
-SortsSoFar = NamesSoFar (λ k. Sorts ∷ k) (λ k. MoreSorts ∷ k) sort_list
+pub sorts_are_listed : IsNameList Comma Right MoreSorts sort_list
+sorts_are_listed = record {
+  one = λ n next. refl;
+  push = one_behind sort_list names_behind (λ n next. Is Comma ∷ Word n ∷ next) (λ next. refl) (λ n ns next. refl) (λ n ns next. refl);
+  taken = λ p k. refl;
+  over = λ p k is. is.over MoreSorts k refl;
+}
 
-pub sorts_next : (old p q new : Standing) (names names' : List (List ℕ)) (n : List ℕ) → SortsSoFar old p names
-    → p ≡ at q (Is Comma ∷ q.rest) → q ≡ at new (Word n ∷ new.rest) → names' ≡ names ++ n ∷ [] → SortsSoFar old new names'
-sorts_next = names_next Comma (λ k. Sorts ∷ k) (λ k. MoreSorts ∷ k) sort_list
-    (one_behind sort_list names_behind (λ n next. Is Comma ∷ Word n ∷ next) (λ next. refl) (λ n ns next. refl) (λ n ns next. refl))
-    (λ p n k. refl)
-
-abbrev pub ModulesSoFar : Standing → Standing → List (List ℕ) → Type 0
-ModulesSoFar = NamesSoFar (λ k. AnyName ∷ MoreModules ∷ k) (λ k. MoreModules ∷ k) module_list
-
-pub modules_next : (old p q new : Standing) (names names' : List (List ℕ)) (n : List ℕ) → ModulesSoFar old p names
-    → p ≡ at q (Is Dot ∷ q.rest) → q ≡ at new (Word n ∷ new.rest) → names' ≡ names ++ n ∷ [] → ModulesSoFar old new names'
-modules_next = names_next Dot (λ k. AnyName ∷ MoreModules ∷ k) (λ k. MoreModules ∷ k) module_list
-    (one_behind module_list dotted (λ n next. Is Dot ∷ Word n ∷ next) (λ next. refl) (λ n ns next. refl) (λ n ns next. refl))
-    (λ p n k. refl)
+pub modules_are_listed : IsNameList Dot Semicolon MoreModules module_list
+modules_are_listed = record {
+  one = λ n next. refl;
+  push = one_behind module_list dotted (λ n next. Is Dot ∷ Word n ∷ next) (λ next. refl) (λ n ns next. refl) (λ n ns next. refl);
+  taken = λ p k. refl;
+  over = λ p k is. is.over MoreModules k refl;
+}
 
 -- ---- the roles
 
-roles_push : (ns : List (List ℕ)) (m : List ℕ) (next : List Symbol) → ns ≢ []
-    → names_of_roles (ns ++ m ∷ []) next ≡ names_of_roles ns (Is Comma ∷ Is Role ∷ Word m ∷ next)
-roles_push = one_behind names_of_roles roles_behind (λ r left. Is Comma ∷ Is Role ∷ Word r ∷ left)
-    (λ left. refl) (λ r rs left. refl) (λ r rs left. refl)
+-- in front of one more role
+abbrev pub roles_so_far : List (List ℕ) → List Symbol → List Symbol
+roles_so_far [] next = next
+roles_so_far (n ∷ ns) next = Is Role ∷ Word n ∷ Is Comma ∷ roles_so_far ns next
+
+one_role_more : (ns : List (List ℕ)) (m : List ℕ) (next : List Symbol)
+    → roles_so_far ns (Is Role ∷ Word m ∷ next) ≡ Is Role ∷ names_of_roles (ns ++ m ∷ []) next
+one_role_more [] m next = refl
+one_role_more (n ∷ []) m next = refl
+one_role_more (n ∷ k ∷ ns) m next = ap (λ (x : List Symbol). Is Role ∷ Word n ∷ Is Comma ∷ x) (one_role_more (k ∷ ns) m next)
+
+roles_push : (ns : List (List ℕ)) (m : List ℕ) (next : List Symbol)
+    → roles_so_far (ns ++ m ∷ []) next ≡ roles_so_far ns (Is Role ∷ Word m ∷ Is Comma ∷ next)
+roles_push = one_more roles_so_far (λ n next. Is Role ∷ Word n ∷ Is Comma ∷ next) (λ next. refl) (λ n ns next. refl)
 
 pub record RolesSoFar (old now : Standing) : Type 0 where
-  pub goes : (k : List Item) → answers old (RoleName ∷ k) ≡ answers now (MoreRoles ∷ k)
-  pub some : now.roles ≢ []
-  pub read : old ≡ with_roles now [] (names_of_roles now.roles now.rest)
+  pub goes : (k : List Item) → answers old (This (Is Role) ∷ RoleName ∷ k) ≡ answers now (This (Is Role) ∷ RoleName ∷ k)
+  pub read : old ≡ with_roles now [] (roles_so_far now.roles now.rest)
 
-pub roles_next : (old p q r new : Standing) → RolesSoFar old p → p ≡ at q (Is Comma ∷ q.rest) → q ≡ at r (Is Role ∷ r.rest)
-    → ((k : List Item) → answers r (RoleName ∷ k) ≡ answers new (MoreRoles ∷ k)) → AddsName r new → RolesSoFar old new
-roles_next old p q r new so_far e f goes adds =
-    let so = rw (e, f) at so_far in
-    let some : new.roles ≢ [] = rw adds.added (not_empty r.roles adds.name) in
+pub roles_read : {X E : Type 0} (r : Result X E) (old p q end now new : Standing) → RolesSoFar old p → p ≡ at q (Is Role ∷ q.rest)
+    → AddsName q end → end ≡ now → OnOk r (now ≡ at new (Is Right ∷ new.rest))
+    → OnOk r ((new.roles ≢ []) × (old ≡ with_roles new [] (Is Role ∷ names_of_roles new.roles (Is Right ∷ new.rest))))
+roles_read (Ok x) old p q end now new so_far e adds f g =
+    let so = rw e at so_far in
+    let a = rw (f, g) at adds in (
+      rw a.added (not_empty q.roles a.name),
+      so.read ∙ ap (λ (x : Standing). with_roles x [] (roles_so_far q.roles (Is Role ∷ x.rest))) a.spelled
+          ∙ ap (with_roles new []) (rw (a.added, one_role_more q.roles a.name (Is Right ∷ new.rest)) refl),
+    )
+roles_read (Err e) old p q end now new so_far f adds g h = tt
+
+pub roles_next : (old p q r new : Standing) → RolesSoFar old p → p ≡ at q (Is Role ∷ q.rest)
+    → ((k : List Item) → answers q (RoleName ∷ k) ≡ answers r (MoreRoles ∷ k)) → AddsName q r → r ≡ at new (Is Comma ∷ new.rest)
+    → RolesSoFar old new
+roles_next old p q r new so_far e goes adds f =
+    let so = rw e at so_far in
     record {
-      goes = λ k. so.goes k ∙ goes k;
-      some = some;
-      read = so.read ∙ ap (λ (x : Standing). with_roles x [] (names_of_roles r.roles (Is Comma ∷ Is Role ∷ x.rest))) adds.spelled
-          ∙ ap (with_roles new []) (rw (adds.added, roles_push r.roles adds.name new.rest so.some) refl);
+      goes = λ k. so.goes k ∙ goes k ∙ ap (λ (x : Standing). answers x (MoreRoles ∷ k)) f;
+      read = so.read
+          ∙ ap (λ (x : Standing). with_roles x [] (roles_so_far q.roles (Is Role ∷ x.rest)))
+          (adds.spelled ∙ ap (λ (x : Standing). with_roles x q.roles (Word adds.name ∷ x.rest)) f)
+          ∙ ap (with_roles new []) (sym (roles_push q.roles adds.name new.rest)
+          ∙ ap (λ (x : List (List ℕ)). roles_so_far x new.rest) (sym adds.added ∙ ap (λ (x : Standing). x.roles) f));
     }
 
 -- ---- the declarations
@@ -157,48 +184,46 @@ may_push roles sender before [] n r is first apart may =
 may_push roles sender before (m ∷ names) n r is first apart may =
     (may.0, may.1, may.2, may_push roles sender (before ++ role_at roles m ∷ []) names n r is (rw append_assoc first) apart may.3)
 
-pub receivers_first : (old new : Standing) (sender role : ℕ) (none handed : List ℕ) → none ≡ [] → handed ≡ none
-    → ((k : List Item) → answers old (Receiver sender handed ∷ k) ≡ answers new (MoreReceivers sender (handed ++ role ∷ []) ∷ k))
-    → IsReceived old new sender handed role → ReceiversSoFar old new sender (none ++ role ∷ [])
-receivers_first old new sender role none handed empty same goes received =
-    let is = rw (same, empty) at received in
+pub receivers_first : (old new : Standing) (sender : ℕ) (none after : List ℕ) → none ≡ []
+    → ((k : List Item) → answers old (Receiver sender none ∷ k) ≡ answers new (MoreReceivers sender after ∷ k))
+    → ((r : ℕ) × IsReceived old new sender none r × (after ≡ none ++ r ∷ [])) → ReceiversSoFar old new sender after
+receivers_first old new sender none after empty goes received =
+    let (role, is, pushed) = rw empty at received in
     let place : role_at new.roles is.name ≡ role = ap or_first is.is_role in
-    rw empty (record {
-      goes = rw (same, empty) at goes;
+    record {
+      goes = rw empty at goes;
       received = record {
         first = is.name;
         others = [];
         may = may_push new.roles sender [] [] is.name role is.is_role is.first is.apart tt;
-        places = rw place refl;
-        counted = is.counted;
+        places = rw (pushed, place) refl;
+        counted = rw pushed is.counted;
         spelled = is.spelled;
       };
       shorter = rw is.spelled (omega arith);
-    })
+    }
 
-pub receivers_next : (old p q new : Standing) (sender : ℕ) (before after handed : List ℕ) (role : ℕ)
-    → ReceiversSoFar old p sender before → p ≡ at q (Is Comma ∷ q.rest) → after ≡ before → handed ≡ after
-    → ((k : List Item) → answers q (Receiver sender handed ∷ k) ≡ answers new (MoreReceivers sender (handed ++ role ∷ []) ∷ k))
-    → IsReceived q new sender handed role → ReceiversSoFar old new sender (after ++ role ∷ [])
-receivers_next old p q new sender before after handed role so_far e pushed same goes' received =
-    let is = rw (same, pushed) at received in
-    let goes = rw (same, pushed) at goes' in
+pub receivers_next : (old p q new : Standing) (sender : ℕ) (before after : List ℕ)
+    → ReceiversSoFar old p sender before → p ≡ at q (Is Comma ∷ q.rest)
+    → ((k : List Item) → answers q (Receiver sender before ∷ k) ≡ answers new (MoreReceivers sender after ∷ k))
+    → ((r : ℕ) × IsReceived q new sender before r × (after ≡ before ++ r ∷ [])) → ReceiversSoFar old new sender after
+receivers_next old p q new sender before after so_far e goes (role, is, pushed) =
     let here = rw e at so_far in
     let so = rw is.spelled at here in
     let had = so.received in
     let place : role_at new.roles is.name ≡ role = ap or_first is.is_role in
-    rw pushed (record {
+    record {
       goes = λ k. here.goes k ∙ goes k;
       received = record {
         first = had.first;
         others = had.others ++ is.name ∷ [];
         may = may_push new.roles sender [] (had.first ∷ had.others) is.name role is.is_role (rw had.places at is.first) is.apart had.may;
-        places = rw (had.places, ← place) (sym (map-append (role_at new.roles) (had.first ∷ had.others) (is.name ∷ [])));
-        counted = omega (arith, is.counted, had.counted, length-append before (role ∷ []));
+        places = rw (pushed, had.places, ← place) (sym (map-append (role_at new.roles) (had.first ∷ had.others) (is.name ∷ [])));
+        counted = rw pushed (omega (arith, is.counted, had.counted, length-append before (role ∷ [])));
         spelled = rw names_push had.spelled;
       };
       shorter = omega (arith, so.shorter);
-    })
+    }
 
 -- ---- their messages
 
@@ -211,21 +236,12 @@ messages_push label sorts sender (q ∷ rs) r n =
     rw (messages_push label sorts sender rs r (n + 1), place) refl
 
 -- a message more at the end of a block
-pub message_added : {E : Type 0} (made : Result Unit E) (label : List ℕ) (sorts : List (List ℕ)) (sender : ℕ) (rs : List ℕ) (r n m : ℕ)
-    (block now new : List Stmt) → now ≡ block ++ messages label sorts sender rs n → m ≡ n + length (rs ++ r ∷ [])
-    → OnOk made (new ≡ now ++ statements.Message label sorts sender r m ∷ [])
-    → OnOk made (new ≡ block ++ messages label sorts sender (rs ++ r ∷ []) n)
-message_added (Ok x) label sorts sender rs r n m block now new so_far place is =
-    rw (is, so_far, place, messages_push label sorts sender rs r n, append_assoc) refl
-message_added (Err e) label sorts sender rs r n m block now new so_far place is = tt
-
-pub copy_added : (label label' : List ℕ) (sorts sorts' : List (List ℕ)) (sender : ℕ) (rs : List ℕ) (r i n m : ℕ) (block now new : List Stmt)
-    → i < length rs → slice_index_or rs i r ≡ r → (now ≡ block ++ messages label sorts sender (take i rs) n) × (m ≡ n + (i + 1))
-    → label' ≡ label → sorts' ≡ sorts → new ≡ now ++ statements.Message label' sorts' sender r m ∷ []
-    → (new ≡ block ++ messages label sorts sender (take (i + 1) rs) n) × (m + 1 ≡ n + (i + 1 + 1))
-copy_added label label' sorts sorts' sender rs r i n m block now new lt at so_far one two is =
-    let long = length-take-le i rs (omega (arith, lt)) in
+pub message_added : (label label' : List ℕ) (sorts sorts' : List (List ℕ)) (sender : ℕ) (rs : List ℕ) (r i n m m' : ℕ) (block now new : List Stmt)
+    → i < length rs → slice_index_or rs i r ≡ r → (now ≡ block ++ messages label sorts sender (take i rs) n) × (m ≡ n + i)
+    → label' ≡ label → sorts' ≡ sorts → m' ≡ m + 1 → new ≡ now ++ statements.Message label' sorts' sender r m' ∷ []
+    → (new ≡ block ++ messages label sorts sender (take (i + 1) rs) n) × (m' ≡ n + (i + 1))
+message_added label label' sorts sorts' sender rs r i n m m' block now new lt at so_far one two more is =
     let taken : take (i + 1) rs ≡ take i rs ++ r ∷ [] = take_more rs i r lt ∙ ap (λ (x : ℕ). take i rs ++ x ∷ []) at in
-    let place : m ≡ n + length (take i rs ++ r ∷ []) = omega (arith, so_far.1, long, length-append (take i rs) (r ∷ [])) in
-    let said = message_added {E = ℕ} (Ok tt) label sorts sender (take i rs) r n m block now new so_far.0 place (rw (one, two) at is) in
-    (rw taken said, omega (arith, so_far.1))
+    let place : m' ≡ n + length (take i rs ++ r ∷ []) =
+    omega (arith, so_far.1, more, length-take-le i rs (omega (arith, lt)), length-append (take i rs) (r ∷ [])) in
+    (rw (taken, is, one, two, so_far.0, place, messages_push label sorts sender (take i rs) r n, append_assoc) refl, omega (arith, so_far.1, more))

@@ -21,6 +21,13 @@ halts_behind (Ok x) e p q new front item over behind is halts goes = absurd is
 halts_behind (Err f) errors.Memory p q new front item over behind is halts goes = rw is (tt, tt)
 halts_behind (Err f) (errors.Refused fault) p q new front item over behind is halts goes = rw is (λ k. goes k ∙ halts (over k), tt)
 
+-- The same of what halts or not, where the machine goes on in place.
+pub goes_on : {X : Type 0} (r : Result X Stop) (p new : Standing) (front item : List Item → List Item) (behind : X → List Item → List Item)
+    → ((k : List Item) → answers p (front k) ≡ answers p (item k)) → Consumes r p new item behind → Consumes r p new front behind
+goes_on (Ok x) p new front item behind goes h = (λ k. goes k ∙ h.0 k, h.1)
+goes_on (Err errors.Memory) p new front item behind goes h = h
+goes_on (Err (errors.Refused fault)) p new front item behind goes h = (λ k. goes k ∙ h.0 k, tt)
+
 -- ---- an outcome decides the answer
 
 same_step : (s : State) (k k' : List Item) (t : Symbol) (ts : List Symbol) → step s t ts k ≡ step s t ts k'

@@ -1,21 +1,22 @@
 -- What the functions of the descent say: how the machine goes on, and how what was read is spelled.
-use Rattle.std.specs.Prelude.{◌≡◌, ℕ, ◌+◌, ◌==◌, Bool, true, false, List, [], ◌∷◌, ◌++◌, length, ◌<◌, Result, Ok, Err, OnOk, Some}
+use Rattle.std.specs.Prelude.{◌≡◌, ◌≢◌, ℕ, ◌+◌, ◌==◌, Bool, true, false, List, [], ◌∷◌, ◌++◌, length, ◌<◌, Result, Ok, Err, OnOk, Some}
 use Rattle.rcv_tree.specs.declared.statement.Stmt.{Stmt}
 use Rattle.rcv_tree.specs.declared.statement.Stmt.TheVariants as statements
 use Rattle.rcv_tree.specs.declared.statement.Block.{Block}
 use Rattle.rcv_tree.specs.declared.protocol.Decl.{Decl}
 use Rattle.rcv_model.specs.Text as trees
+use Rattle.rcv_syntax.specs.declared.sign.Sign.{Sign}
 use Rattle.rcv_syntax.specs.declared.sign.Sign.TheVariants.{Module, Global, Protocol, Role, Left, Right, Open, Close, Or, Semicolon}
 use Rattle.rcv_syntax.specs.Symbols.{Symbol, Is, Word}
 use Rattle.rcv_syntax.specs.Grammar as grammar
 use Rattle.rcv_syntax.specs.Grammar.{Written, stmts, names_behind, roles_behind, dotted, decls, AreDecls, blocks_behind, IsBegun, IsProper, AreProper}
 use Rattle.rcv_syntax.specs.Trees.{place_of, is_listed, roles_at, points, points_of, tree_of, trees_of, MayReceive, IsFit, AreFit}
 use Rattle.rcv_syntax.specs.Refusing.{IsFirst}
-use Rattle.rcv_machine.specs.Machine.{Item, Refuses, Place}
+use Rattle.rcv_machine.specs.Machine.{Item, This, AnyName, Refuses, Place}
 use Rattle.rcv_reader.specs.declared.parser.Spot.{Spot}
 use Rattle.rcv_reader.specs.declared.stop.Stop.{Stop}
 use Rattle.rcv_reader.specs.declared.stop.Stop.TheVariants as errors
-use Rattle.rcv_reader.specs.Standing.{Standing, at, back_at, with_roles, answers}
+use Rattle.rcv_reader.specs.Standing.{Standing, at, back_at, with_roles, answers, IsOver}
 
 abbrev pub place_at : List (List ℕ) → ℕ → ℕ → Bool → Place
 place_at recs depth comes ended = record { depth = depth; recs = recs; comes = comes; ended = ended }
@@ -119,6 +120,15 @@ TakesBlock old new b = (old ≡ back_at new old.count old.rest) × (inner : List
 abbrev pub module_list : List (List ℕ) → List Symbol → List Symbol
 module_list [] next = next
 module_list (n ∷ ns) next = Word n ∷ dotted ns next
+
+-- The item is awaited behind a name with which the list may end or go on, and so a list is spelled.
+pub record IsNameList (between behind : Sign) (more : Item) (spell : List (List ℕ) → List Symbol → List Symbol)
+    : Type 0 where
+  pub one : (n : List ℕ) (next : List Symbol) → spell (n ∷ []) next ≡ Word n ∷ next
+  pub push : (ns : List (List ℕ)) (m : List ℕ) (next : List Symbol) → ns ≢ []
+      → spell (ns ++ m ∷ []) next ≡ spell ns (Is between ∷ Word m ∷ next)
+  pub taken : (p : Standing) (k : List Item) → answers (at p (Is between ∷ p.rest)) (more ∷ k) ≡ answers p (AnyName ∷ more ∷ k)
+  pub over : (p : Standing) (k : List Item) → IsOver between p → answers p (more ∷ k) ≡ answers p (This (Is behind) ∷ k)
 
 -- Name , role Name ..
 abbrev pub names_of_roles : List (List ℕ) → List Symbol → List Symbol

@@ -35,33 +35,30 @@ impl<'a> Parser<'a> {
     }
 
     /// Takes the names of the module, and the mark behind them.
+    #[tactic(auto, using(crate::proofs::Reading::modules_are_listed))]
     pub fn modules(&mut self, alloc: Global) -> Result<Names, Stop>
         ensures goes { Takes result self.old self.new (λ k. AnyName ∷ MoreModules ∷ k) (λ x k. k) }
-        ensures read { IfOk result (λ names. (names ≢ []) × (self.old ≡ at self.new (module_list names
-            (Is Sign.Semicolon ∷ self.new.rest)))) }
+        ensures some { IfOk result (λ names. names ≢ []) }
+        ensures read { IfOk result (λ names. self.old
+            ≡ at self.new (module_list names (Is Sign.Semicolon ∷ self.new.rest))) }
     {
-        let mut names = Names::new(alloc);
-        names.push(self.name(alloc)?)?;
-        while self.takes(Sign::Dot) {
-            names.push(self.name(alloc)?)?;
-        }
-        self.expect(Sign::Semicolon)?;
-        Ok(names)
+        self.names(alloc, Sign::Dot, Sign::Semicolon)
     }
 
-    /// Takes the roles behind the first word `role`, and the parenthesis behind them.
+    /// Takes the roles, each behind the word `role`, and the parenthesis behind them.
     pub fn role_names(&mut self, alloc: Global) -> Result<(), Stop>
         requires none { self.old.roles ≡ [] }
-        ensures goes { Takes result self.old self.new (λ k. RoleName ∷ k) (λ x k. k) }
+        ensures goes { Takes result self.old self.new (λ k. This (Is Sign.Role) ∷ RoleName ∷ k) (λ x k. k) }
         ensures read { OnOk result ((self.new.roles ≢ []) × (self.old ≡ with_roles self.new []
-            (names_of_roles self.new.roles (Is Sign.Right ∷ self.new.rest)))) }
+            (Is Sign.Role ∷ names_of_roles self.new.roles (Is Sign.Right ∷ self.new.rest)))) }
     {
-        self.add_role(alloc)?;
-        while self.takes(Sign::Comma) {
+        loop {
             self.expect(Sign::Role)?;
             self.add_role(alloc)?;
+            if !self.takes(Sign::Comma) {
+                return self.expect(Sign::Right);
+            }
         }
-        self.expect(Sign::Right)
     }
 
     // Takes the word `as`.
@@ -141,7 +138,7 @@ impl<'a> Parser<'a> {
         ensures shorter { OnOk result (length self.new.rest < length self.old.rest) }
     {
         let word = self.decl_word(alloc)?;
-        let schema = self.name_behind(alloc, Sign::Less)?;
+        let schema = Name::of(alloc, self.name_behind(Sign::Less)?)?;
         let extern_name = self.quoted(alloc, Sign::Greater)?;
         let file = self.quoted(alloc, Sign::From)?;
         let alias = self.alias(alloc, aliases)?;

@@ -1,7 +1,7 @@
 // A descent over the statements with one token of look-ahead, and two at the word `continue`.
 
 ghost use Rattle.std.specs.List.{All};
-ghost use Rattle.std.specs.Prelude.{◌≡◌, ◌<◌, ◌≤◌, ◌+◌, ◌-◌, ◌^◌, ◌++◌, ◌∷◌, [], length, ℕ, List};
+ghost use Rattle.std.specs.Prelude.{◌≡◌, ◌<◌, ◌≤◌, ◌+◌, ◌-◌, ◌^◌, ◌++◌, ◌∷◌, ◌≢◌, [], length, ℕ, List};
 ghost use Rattle.std.specs.Prelude.{drop, IfSome, IfNone, OnOk, IfOk, IfErr, true, false, Some};
 ghost use Rattle.rcv_tree.specs.Lists.{statements};
 ghost use Rattle.rcv_tree.specs.declared.statement.Stmt.TheVariants as tree;
@@ -16,7 +16,7 @@ ghost use Rattle.rcv_machine.specs.Machine.{Sender, Receiver, MoreReceivers, Rec
 ghost use Rattle.rcv_machine.specs.Machine.{First, Rest, More, Refuses, inside, behind, is_open};
 ghost use Rattle.rcv_reader.specs.Standing.{IsSmall, at, within, answers, IsOver};
 ghost use Rattle.rcv_reader.specs.Descent.{AddsName, IsReceived, AreReceived, messages, Takes, Consumes, TakesSome};
-ghost use Rattle.rcv_reader.specs.Descent.{TakesAll, TakesBlock, place_at, place_of_spot, at_first};
+ghost use Rattle.rcv_reader.specs.Descent.{TakesAll, TakesBlock, IsNameList, place_at, place_of_spot, at_first};
 
 use crate::stop::Stop;
 use rcv_lexer::token::Token;
@@ -74,50 +74,33 @@ fn is_listed(role: RoleId, before: &[RoleId]) -> bool
     before.iter().any(|other| role == *other)
 }
 
-// Adds a message with a copy of this label.
-fn add_message(
-    alloc: Global,
-    label: &[u8],
-    sorts: Names,
-    sender: RoleId,
-    receiver: RoleId,
-    point: u16,
-    block: &mut Block,
-) -> Result<(), AllocError>
-    ensures { OnOk result (statements block.new ≡ statements block.old
-        ++ tree.Message label.now sorts sender receiver point ∷ []) }
-{
-    block.push(Stmt::Message {
-        label: Name::of(alloc, label)?,
-        sorts,
-        sender,
-        receiver,
-        point: Point(point),
-    })
-}
-
-// Adds one for each of these receivers, and for the last one, which makes so many points in all. They share the sorts.
+// Adds a message for each of these receivers, of which the last makes so many points in all. They share the sorts.
 fn add_messages(
     alloc: Global,
     label: &[u8],
-    sorts: Names,
+    sorts: &Names,
     sender: RoleId,
-    others: &[RoleId],
-    last: RoleId,
+    receivers: &[RoleId],
     points: u16,
     block: &mut Block,
 ) -> Result<(), AllocError>
-    requires few { (length others.now < points) × (points ≤ 256) }
+    requires few { (length receivers.now ≤ points) × (points ≤ 256) }
     ensures { OnOk result (statements block.new ≡ statements block.old
-        ++ messages label.now sorts sender (others.now ++ last ∷ []) (points - (length others.now + 1))) }
+        ++ messages label.now sorts.now sender receivers.now (points - length receivers.now)) }
 {
-    let mut point = points - others.len() as u16;
-    for receiver in others {
-        let sorts = sorts.share()?;
-        add_message(alloc, label, sorts, sender, *receiver, point, block)?;
+    let mut point = points - receivers.len() as u16;
+    for receiver in receivers {
         point += 1;
+        let sorts = sorts.share()?;
+        block.push(Stmt::Message {
+            label: Name::of(alloc, label)?,
+            sorts,
+            sender,
+            receiver: *receiver,
+            point: Point(point),
+        })?;
     }
-    add_message(alloc, label, sorts, sender, last, points, block)
+    Ok(())
 }
 
 impl<'a> Parser<'a> {
@@ -182,25 +165,43 @@ impl<'a> Parser<'a> {
     }
 
     /// Takes any name.
-    pub fn name(&mut self, alloc: Global) -> Result<Name, Stop>
+    pub fn name(&mut self) -> Result<&'a [u8], Stop>
         ensures goes { Takes result self.old self.new (λ k. AnyName ∷ k) (λ x k. k) }
-        ensures read { IfOk result (λ n. self.old ≡ at self.new (Word n ∷ self.new.rest)) }
+        ensures read { IfOk result (λ n. self.old ≡ at self.new (Word n.now ∷ self.new.rest)) }
     {
-        let Some((Lexeme::Word(bytes), after)) = self.next() else {
+        let Some((Lexeme::Word(name), after)) = self.next() else {
             return Err(Stop::Refused(Fault::Token));
         };
-        let name = Name::of(alloc, bytes)?;
         self.go_to(after);
         Ok(name)
     }
 
     /// Takes this word or mark, and the name behind it.
-    pub fn name_behind(&mut self, alloc: Global, sign: Sign) -> Result<Name, Stop>
+    pub fn name_behind(&mut self, sign: Sign) -> Result<&'a [u8], Stop>
         ensures goes { Takes result self.old self.new (λ k. This (Is sign) ∷ AnyName ∷ k) (λ x k. k) }
-        ensures read { IfOk result (λ n. self.old ≡ at self.new (Is sign ∷ Word n ∷ self.new.rest)) }
+        ensures read { IfOk result (λ n. self.old ≡ at self.new (Is sign ∷ Word n.now ∷ self.new.rest)) }
     {
         self.expect(sign)?;
-        self.name(alloc)
+        self.name()
+    }
+
+    /// Takes names with a sign between two, and the sign behind them.
+    pub fn names(&mut self, alloc: Global, between: Sign, behind: Sign) -> Result<Names, Stop>
+        ensures goes { (more : Item) (spell : List (List ℕ) → List Symbol → List Symbol)
+            → IsNameList between behind more spell → Consumes result self.old self.new (λ k. AnyName ∷ more ∷ k) (λ x k. k) }
+        ensures some { IfOk result (λ names. names ≢ []) }
+        ensures read { (more : Item) (spell : List (List ℕ) → List Symbol → List Symbol)
+            → IsNameList between behind more spell
+            → IfOk result (λ names. self.old ≡ at self.new (spell names (Is behind ∷ self.new.rest))) }
+    {
+        let mut names = Names::new(alloc);
+        loop {
+            names.push(Name::of(alloc, self.name()?)?)?;
+            if !self.takes(between) {
+                self.expect(behind)?;
+                return Ok(names);
+            }
+        }
     }
 
     /// Takes the name of one more role.
@@ -261,27 +262,23 @@ impl<'a> Parser<'a> {
     }
 
     // Takes sorts, and the parenthesis behind them.
+    #[tactic(auto, using(crate::proofs::Stops::goes_on, crate::proofs::Reading::sorts_are_listed))]
     fn sorts(&mut self, alloc: Global) -> Result<Names, Stop>
         ensures goes { Consumes result self.old self.new (λ k. Sorts ∷ k) (λ x k. k) }
         ensures read { IfOk result (λ sorts. self.old ≡ at self.new (sort_list sorts (Is Sign.Right ∷ self.new.rest))) }
     {
-        let mut sorts = Names::new(alloc);
         if self.takes(Sign::Right) {
-            return Ok(sorts);
+            return Ok(Names::new(alloc));
         }
-        sorts.push(self.name(alloc)?)?;
-        while self.takes(Sign::Comma) {
-            sorts.push(self.name(alloc)?)?;
-        }
-        self.expect(Sign::Right)?;
-        Ok(sorts)
+        self.names(alloc, Sign::Comma, Sign::Right)
     }
 
-    // Takes one receiver of a message, which makes a point. These stand before it.
-    fn receiver(&mut self, sender: RoleId, before: &[RoleId]) -> Result<RoleId, Stop>
-        ensures goes { Takes result self.old self.new (λ k. Receiver sender before.now ∷ k)
-            (λ r k. MoreReceivers sender (before.now ++ r ∷ []) ∷ k) }
-        ensures read { IfOk result (λ r. IsReceived self.old self.new sender before.now r) }
+    // Takes one more receiver of a message, which makes a point.
+    fn add_receiver(&mut self, sender: RoleId, receivers: &mut Roles) -> Result<(), Stop>
+        ensures goes { Takes result self.old self.new (λ k. Receiver sender receivers.old ∷ k)
+            (λ x k. MoreReceivers sender receivers.new ∷ k) }
+        ensures read { OnOk result ((r : ℕ) × IsReceived self.old self.new sender receivers.old r
+            × (receivers.new ≡ receivers.old ++ r ∷ [])) }
     {
         let Some((Lexeme::Word(bytes), after)) = self.next() else {
             return Err(Stop::Refused(Fault::Token));
@@ -290,7 +287,7 @@ impl<'a> Parser<'a> {
             return Err(Stop::Refused(Fault::NoName));
         };
         let receiver = RoleId(place as u8);
-        if is_listed(receiver, before) {
+        if is_listed(receiver, receivers.as_slice()) {
             return Err(Stop::Refused(Fault::Twice));
         }
         if receiver == sender {
@@ -299,39 +296,30 @@ impl<'a> Parser<'a> {
         if self.count >= 256 {
             return Err(Stop::Refused(Fault::TooMany));
         }
+        receivers.push(receiver)?;
         self.count += 1;
         self.go_to(after);
-        Ok(receiver)
+        Ok(())
     }
 
-    // Takes all receivers of a message, and the mark behind them. The last one is apart.
-    fn receivers(&mut self, alloc: Global, sender: RoleId) -> Result<(Roles, RoleId), Stop>
+    // Takes all receivers of a message, and the mark behind them.
+    fn receivers(&mut self, alloc: Global, sender: RoleId) -> Result<Roles, Stop>
         ensures goes { Consumes result self.old self.new (λ k. Receiver sender [] ∷ k) (λ x k. k) }
-        ensures read { IfOk result (λ rs. AreReceived self.old (at self.new (Is Sign.Semicolon ∷ self.new.rest)) sender
-            (rs.0 ++ rs.1 ∷ [])) }
+        ensures read { IfOk result (AreReceived self.old (at self.new (Is Sign.Semicolon ∷ self.new.rest)) sender) }
     {
-        let mut others = Roles::new(alloc);
-        let mut last = self.receiver(sender, others.as_slice())?;
+        let mut receivers = Roles::new(alloc);
+        self.add_receiver(sender, &mut receivers)?;
         while self.takes(Sign::Comma) {
-            others.push(last)?;
-            last = self.receiver(sender, others.as_slice())?;
+            self.add_receiver(sender, &mut receivers)?;
         }
         self.expect(Sign::Semicolon)?;
-        Ok((others, last))
+        Ok(receivers)
     }
 
-    // The number of points, for which there is a place.
-    fn points(&self) -> u16
-        ensures { (result ≡ self.now.count) × (self.now.count ≤ 256) }
-    {
-        self.count
-    }
-
-    // Takes a message, of which the label is taken. Like each statement it answers whether it ends its block.
-    fn message(&mut self, alloc: Global, label: &[u8], block: &mut Block) -> Result<bool, Stop>
+    // Takes a message, of which the label is taken.
+    fn message(&mut self, alloc: Global, label: &[u8], block: &mut Block) -> Result<(), Stop>
         ensures goes { Consumes result self.old self.new
             (λ k. This (Is Sign.Left) ∷ Sorts ∷ This (Is Sign.From) ∷ Sender ∷ k) (λ x k. k) }
-        ensures ends { IfOk result (λ ended. ended ≡ false) }
         ensures read { OnOk result (TakesSome self.old self.new (Word label.now ∷ [])
             (statements block.old) (statements block.new)) }
     {
@@ -339,25 +327,21 @@ impl<'a> Parser<'a> {
         let sorts = self.sorts(alloc)?;
         let sender = self.role(Sign::From)?;
         self.expect(Sign::To)?;
-        let (others, last) = self.receivers(alloc, sender)?;
-        let points = self.points();
-        add_messages(
+        let receivers = self.receivers(alloc, sender)?;
+        Ok(add_messages(
             alloc,
             label,
-            sorts,
+            &sorts,
             sender,
-            others.as_slice(),
-            last,
-            points,
+            receivers.as_slice(),
+            self.count,
             block,
-        )?;
-        Ok(false)
+        )?)
     }
 
     // Takes the name behind `continue`, which is that of an enclosing recursion, and the mark behind it.
-    fn again(&mut self, alloc: Global, spot: Spot, block: &mut Block) -> Result<bool, Stop>
+    fn again(&mut self, alloc: Global, spot: Spot, block: &mut Block) -> Result<(), Stop>
         ensures goes { Consumes result self.old self.new (λ k. AgainName (place_of_spot self.old spot) ∷ k) (λ x k. k) }
-        ensures ends { IfOk result (λ ended. ended ≡ true) }
         ensures read { OnOk result (TakesSome self.old self.new (Is Sign.Continue ∷ [])
             (statements block.old) (statements block.new)) }
     {
@@ -370,8 +354,7 @@ impl<'a> Parser<'a> {
         self.go_to(after);
         self.expect(Sign::Semicolon)?;
         let name = Name::of(alloc, bytes)?;
-        block.push(Stmt::Continue { name })?;
-        Ok(true)
+        Ok(block.push(Stmt::Continue { name })?)
     }
 
     // Takes the brace that begins a block.
@@ -417,11 +400,11 @@ impl<'a> Parser<'a> {
     }
 
     // Takes the name of a recursion, and enters its body.
-    fn enter(&mut self, alloc: Global, spot: Spot) -> Result<&'a [u8], Stop>
+    fn enter(&mut self, alloc: Global, spot: Spot) -> Result<(), Stop>
         ensures goes { Takes result self.old self.new (λ k. RecName (place_of_spot self.old spot) ∷ k)
-            (λ n k. Opening (place_at self.new.recs spot.depth (spot.comes + 1) false) ∷ k) }
-        ensures read { IfOk result (λ n. self.old ≡ at self.old (Word n.now ∷ self.new.rest)) }
-        ensures inner { IfOk result (λ n. self.new ≡ within (at self.old self.new.rest) (self.old.recs ++ n.now ∷ [])) }
+            (λ x k. Opening (place_at self.new.recs spot.depth (spot.comes + 1) false) ∷ k) }
+        ensures read { OnOk result ((n : List ℕ) × (self.old ≡ at self.old (Word n ∷ self.new.rest))
+            × (self.new ≡ within (at self.old self.new.rest) (self.old.recs ++ n ∷ []))) }
         ensures room { OnOk result (length self.new.recs < 2 ^ 63) }
     {
         let Some((Lexeme::Word(name), after)) = self.next() else {
@@ -431,58 +414,56 @@ impl<'a> Parser<'a> {
             return Err(Stop::Memory);
         };
         self.go_to(after);
-        Ok(name)
+        Ok(())
     }
 
-    // Leaves the body of the innermost recursion.
-    fn leave(&mut self)
+    // Leaves the body of the innermost recursion, and hands out its name.
+    fn leave(&mut self) -> Name
+        requires { 0 < length self.old.recs }
         ensures { (recs : List (List ℕ)) (name : List ℕ) → self.old.recs ≡ recs ++ name ∷ []
-            → self.new ≡ within self.old recs }
+            → (self.new ≡ within self.old recs) × (result ≡ name) }
     {
-        self.recs.pop();
+        self.recs.pop().unwrap()
     }
 
     // Takes a recursion, of which the word is taken.
     #[cycle(descent)]
-    fn recursion(&mut self, alloc: Global, spot: Spot, block: &mut Block) -> Result<bool, Stop>
+    fn recursion(&mut self, alloc: Global, spot: Spot, block: &mut Block) -> Result<(), Stop>
         requires comes { spot.comes ≤ length self.old.recs }
         ensures goes { Consumes result self.old self.new (λ k. RecName (place_of_spot self.old spot) ∷ k) (λ x k. k) }
-        ensures ends { IfOk result (λ ended. ended ≡ false) }
         ensures read { OnOk result (TakesSome self.old self.new (Is Sign.Rec ∷ [])
             (statements block.old) (statements block.new)) }
     {
-        let name = self.enter(alloc, spot)?;
+        self.enter(alloc, spot)?;
         let inner = Spot {
             depth: spot.depth,
             comes: spot.comes + 1,
             ended: false,
         };
         let body = self.block(alloc, inner)?;
-        self.leave();
-        let name = Name::of(alloc, name)?;
-        block.push(Stmt::Rec { name, body })?;
-        Ok(false)
+        let name = self.leave();
+        Ok(block.push(Stmt::Rec { name, body })?)
     }
 
     // Takes a choice, of which the word is taken.
     #[cycle(descent)]
-    fn choice(&mut self, alloc: Global, spot: Spot, block: &mut Block) -> Result<bool, Stop>
+    fn choice(&mut self, alloc: Global, spot: Spot, block: &mut Block) -> Result<(), Stop>
         requires comes { spot.comes ≤ length self.old.recs }
         ensures goes { let p = place_of_spot self.old spot in
             Consumes result self.old self.new (λ k. This (Is Sign.At) ∷ Subject ∷ Opening p ∷ More p ∷ k)
             (λ x k. Rest (behind (place_of_spot self.new spot) false) ∷ k) }
-        ensures ends { IfOk result (λ ended. ended ≡ false) }
         ensures read { OnOk result (TakesSome self.old self.new (Is Sign.Choice ∷ [])
             (statements block.old) (statements block.new)) }
     {
         let subject = self.role(Sign::At)?;
         let mut branches = Blocks::new(alloc);
-        branches.push(self.block(alloc, spot)?)?;
-        while self.takes(Sign::Or) {
+        loop {
             branches.push(self.block(alloc, spot)?)?;
+            if !self.takes(Sign::Or) {
+                break;
+            }
         }
-        block.push(Stmt::Choice { subject, branches })?;
-        Ok(false)
+        Ok(block.push(Stmt::Choice { subject, branches })?)
     }
 
     // Takes a block of at least one statement, with its braces.
@@ -499,8 +480,7 @@ impl<'a> Parser<'a> {
             ended: false,
         };
         let mut block = Block::new(alloc);
-        here.ended = self.stmt(alloc, here, &mut block)?;
-        here.comes = 0;
+        self.stmt(alloc, &mut here, &mut block)?;
         self.stmts(alloc, here, &mut block)?;
         Ok(block)
     }
@@ -515,21 +495,23 @@ impl<'a> Parser<'a> {
     {
         let mut here = spot;
         while !self.takes(Sign::Close) {
-            here.ended = self.stmt(alloc, here, block)?;
-            here.comes = 0;
+            self.stmt(alloc, &mut here, block)?;
         }
         Ok(())
     }
 
-    // Takes a statement. Answers whether it ends its block.
+    // Takes a statement at this place, which becomes the one behind it.
     #[cycle(descent)]
-    fn stmt(&mut self, alloc: Global, spot: Spot, block: &mut Block) -> Result<bool, Stop>
-        requires comes { spot.comes ≤ length self.old.recs }
-        ensures goes { Consumes result self.old self.new (λ k. First (place_of_spot self.old spot) ∷ k)
-            (λ ended k. Rest (behind (place_of_spot self.new spot) ended) ∷ k) }
+    fn stmt(&mut self, alloc: Global, spot: &mut Spot, block: &mut Block) -> Result<(), Stop>
+        requires comes { spot.old.comes ≤ length self.old.recs }
+        ensures goes { Consumes result self.old self.new (λ k. First (place_of_spot self.old spot.old) ∷ k)
+            (λ x k. Rest (place_of_spot self.new spot.new) ∷ k) }
         ensures read { OnOk result (TakesSome self.old self.new [] (statements block.old) (statements block.new)) }
+        ensures start { spot.new.comes ≡ 0 }
     {
-        if spot.ended {
+        let here = *spot;
+        spot.comes = 0;
+        if here.ended {
             return Err(Stop::Refused(self.ended_fault()));
         }
         match self.next() {
@@ -539,18 +521,19 @@ impl<'a> Parser<'a> {
             }
             Some((Lexeme::Is(Sign::Choice), after)) => {
                 self.go_to(after);
-                self.choice(alloc, spot, block)
+                self.choice(alloc, here, block)
             }
             Some((Lexeme::Is(Sign::Rec), after)) => {
                 self.go_to(after);
-                self.recursion(alloc, spot, block)
+                self.recursion(alloc, here, block)
             }
             Some((Lexeme::Is(Sign::Continue), after)) => {
-                if self.is_unguarded(spot, &after) {
+                if self.is_unguarded(here, &after) {
                     return Err(Stop::Refused(Fault::Unguarded));
                 }
                 self.go_to(after);
-                self.again(alloc, spot, block)
+                spot.ended = true;
+                self.again(alloc, here, block)
             }
             Some((Lexeme::Is(Sign::Par | Sign::Do), _)) => Err(Stop::Refused(Fault::NotYet)),
             _ => Err(Stop::Refused(Fault::Token)),

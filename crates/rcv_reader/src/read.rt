@@ -33,12 +33,11 @@ impl<'a> Parser<'a> {
             (Is Sign.Protocol ∷ Word n ∷ Is Sign.Left ∷ Is Sign.Role
             ∷ names_of_roles self.new.roles (Is Sign.Right ∷ Is Sign.Open ∷ self.new.rest)))) }
     {
-        let name = self.name_behind(alloc, Sign::Protocol)?;
+        let name = self.name_behind(Sign::Protocol)?;
         self.expect(Sign::Left)?;
-        self.expect(Sign::Role)?;
         self.role_names(alloc)?;
         self.expect(Sign::Open)?;
-        Ok(name)
+        Ok(Name::of(alloc, name)?)
     }
 
     // Takes what stands before the body, with its first brace. The roles are kept.

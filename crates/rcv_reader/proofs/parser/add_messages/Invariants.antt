@@ -6,5 +6,5 @@ use Rattle.rcv_reader.proofs.parser.add_messages.Given as goal
 abbrev pub invariant-loop-receiver : goal.invariant-loop-receiver
 invariant-loop-receiver l =
     (statements l.block ≡ statements l.fn.block
-    ++ messages l.label l.fn.sorts l.sender (take l.receiver-index l.others) (l.points - (length l.others + 1)))
-    × (l.point ≡ l.points - (length l.others + 1) + (l.receiver-index + 1))
+    ++ messages l.label l.sorts l.sender (take l.receiver-index l.receivers) (l.points - length l.receivers))
+    × (l.point ≡ l.points - length l.receivers + l.receiver-index)

@@ -1,6 +1,5 @@
-use Rattle.std.proofs.Common.{◌+◌, List, [], ◌∷◌, ◌++◌, false, true, refl, ap, ◌∙◌, arith}
+use Rattle.std.proofs.Common.{◌+◌, ◌∷◌, false, true, refl, arith}
 use Rattle.std.proofs.lemmas.Grind.{common_steps}
-use Rattle.rcv_tree.specs.declared.statement.Block.{Block}
 use Rattle.rcv_syntax.specs.declared.sign.Sign.TheVariants.{At, Left, From, Choice, Rec, Continue}
 use Rattle.rcv_syntax.specs.Symbols.{Is, Word}
 use Rattle.rcv_machine.specs.Machine.{This, Sorts, Sender, Subject, RecName, AgainName, Opening, Rest, More, behind}
@@ -11,77 +10,72 @@ use Rattle.rcv_reader.proofs.parser.Parser.+descent.Goals as goal
 
 pub block-returns-clause-read : goal.block-returns-clause-read
 block-returns-clause-read t c =
-    block_read _ _ _ _ c.stmts.new.block _ _ c.in_ok-open.ensures.read.0 c.new-block.ensures c.in_ok-here.ensures.read
+    block_read _ _ _ _ c.stmts.new.block _ _ c.in_ok-open.ensures.read.0 c.new-block.ensures c.in_ok-stmt.ensures.read
     c.in_ok-stmts.ensures.read
 
-pub choice-loop-alloc-init : goal.choice-loop-alloc-init
-choice-loop-alloc-init t c =
-    choice_first _ _ _ _ c.in_ok-subject.subject _ c.in_ok-block.field-0 c.in_ok-subject.ensures.read c.in_ok-subject.ensures.subject
-    c.in_ok-block.ensures.goes.0 c.requires.comes c.in_ok-block.ensures.read
-    (c.in_ok-push.ensures.ok ∙ ap (λ (x : List Block). x ++ c.in_ok-block.field-0 ∷ []) c.new-branches.ensures) c.in_ok-block.ensures.goes.1
+pub choice-loop-branches-init : goal.choice-loop-branches-init
+choice-loop-branches-init t c =
+    choice_first _ _ _ c.in_ok-subject.subject _ c.in_ok-subject.ensures.read c.in_ok-subject.ensures.subject c.requires.comes
+    c.new-branches.ensures
 
-pub choice-loop-alloc-preserved : goal.choice-loop-alloc-preserved
-choice-loop-alloc-preserved t c =
-    choice_next _ _ _ _ _ _ _ _ c.in_ok-block-2.field-0 c.loop-alloc.invariant (c.takes.ensures.yes c.loop-alloc-test.true)
-    c.in_ok-block-2.ensures.goes.0 c.in_ok-block-2.ensures.read
-    c.in_ok-push-2.ensures.ok c.in_ok-block-2.ensures.goes.1
+pub choice-loop-branches-preserved : goal.choice-loop-branches-preserved
+choice-loop-branches-preserved t c =
+    choice_next _ _ _ _ _ _ _ _ c.in_ok-block.field-0 c.loop-branches.invariant c.in_ok-block.ensures.goes.0 c.in_ok-block.ensures.read
+    c.in_ok-push.ensures.ok c.in_ok-block.ensures.goes.1 (c.takes.ensures.yes c.if-not-takes.false)
 
 pub choice-returns-clause-read : goal.choice-returns-clause-read
 choice-returns-clause-read t c =
-    choice_read _ _ _ _ c.loop-alloc.branches _ _ (rw (c.takes.ensures.no c.loop-alloc-test.false).0 at c.loop-alloc.invariant)
-    c.in_ok-push-3.ensures.ok
+    choice_read _ _ _ _ _ _ _ c.push.new.self c.in_ok-block.field-0 _ _ c.loop-branches.invariant c.in_ok-block.ensures.read
+    c.in_ok-push.ensures.ok c.in_ok-block.ensures.goes.1 (c.takes.ensures.no c.if-not-takes.true).0 c.in_ok-push-2.ensures.ok
 
 pub recursion-returns-in_err-body-clause-goes : goal.recursion-returns-in_err-body-clause-goes
 recursion-returns-in_err-body-clause-goes t c =
     halts_behind _ _ _ _ _ _ (λ k. Opening (place_at c.enter.new.self.recs c.args.spot.depth (c.args.spot.comes + 1) false) ∷ k) (λ k. k) _
-    c.from_residual-in_err-body.ensures.1 c.in_err-body.ensures.goes.0 c.in_ok-name.ensures.goes
+    c.from_residual-in_err-body.ensures.1 c.in_err-body.ensures.goes.0 c.in_ok-enter.ensures.goes
 
 pub recursion-returns-clause-read : goal.recursion-returns-clause-read
 recursion-returns-clause-read t c =
-    rec_read _ _ _ _ _ c.in_ok-body.body _ _ c.in_ok-name.ensures.read c.in_ok-name.ensures.inner c.in_ok-body.ensures.read
-    c.leave.ensures (rw c.in_ok-name-2.ensures at c.in_ok-push.ensures.ok)
+    rec_read _ _ _ _ _ c.in_ok-body.body _ _ c.in_ok-enter.ensures.read c.in_ok-body.ensures.read c.leave-name.ensures c.in_ok-push.ensures.ok
 
 pub stmts-loop-alloc-preserved : goal.stmts-loop-alloc-preserved
 stmts-loop-alloc-preserved t c =
     let over = c.takes.ensures.no c.loop-alloc-test.true in
-    stmts_next _ _ _ _ _ _ _ _ _ _ c.loop-alloc.invariant over.0 over.1 c.in_ok-here.ensures.goes.0 c.in_ok-here.ensures.read refl
-    c.in_ok-here.ensures.goes.1
+    stmts_next _ _ _ _ _ _ _ _ _ _ c.loop-alloc.invariant over.0 over.1 c.in_ok-stmt.ensures.goes.0 c.in_ok-stmt.ensures.read c.stmt.ensures.start
+    c.in_ok-stmt.ensures.goes.1
 
 pub stmt-returns-in-Some-Word-default : goal.stmt-returns-in-Some-Word-default
 stmt-returns-in-Some-Word-default t c =
     let arm = c.in-Some-Word-default in
     let new = c.go_to.new.self in
-    let s = statement _ false c.args.self.now new c.message.new.self c.args.spot (Word arm.label.now)
-    (λ k. This (Is Left) ∷ Sorts ∷ This (Is From) ∷ Sender ∷ k) (λ k. Rest (behind (place_of_spot new c.args.spot) false) ∷ k)
-    (λ k. k) _ _ c.message.ensures.ends c.message.ensures.goes (c.go_to.ensures.taken _ (rw arm.field-0-0-is at arm.ensures.some))
-    (λ k. rw c.if-spot.false refl) c.message.ensures.read (λ e k. rw e refl) in record { goes = s.0; read = s.1 }
+    let s = statement _ c.args.spot.now.ended c.args.self.now new c.message.new.self c.args.spot.now (Word arm.label.now)
+    (λ k. This (Is Left) ∷ Sorts ∷ This (Is From) ∷ Sender ∷ k) (λ k. Rest (behind (place_of_spot new c.args.spot.now) false) ∷ k)
+    (λ k. k) _ _ c.message.ensures.goes (c.go_to.ensures.taken _ (rw arm.field-0-0-is at arm.ensures.some))
+    (λ k. rw c.if-here.false refl) c.message.ensures.read (λ e k. rw (e, c.if-here.false) refl) in record { goes = s.0; read = s.1; start = refl }
 
 pub stmt-returns-in-Some-Is-Choice-default : goal.stmt-returns-in-Some-Is-Choice-default
 stmt-returns-in-Some-Is-Choice-default t c =
     let arm = c.in-Some-Is-Choice-default in
     let new = c.go_to-in-Some-Is-Choice-default.new.self in
-    let p = place_of_spot new c.args.spot in
-    let s = statement _ false c.args.self.now new c.choice.new.self c.args.spot (Is Choice) (λ k. This (Is At) ∷ Subject ∷ Opening p ∷ More p ∷ k) (λ k. k)
-    (λ k. Rest (behind (place_of_spot c.choice.new.self c.args.spot) false) ∷ k) _ _ c.choice.ensures.ends c.choice.ensures.goes
+    let p = place_of_spot new c.args.spot.now in
+    let s = statement _ c.args.spot.now.ended c.args.self.now new c.choice.new.self c.args.spot.now (Is Choice) (λ k. This (Is At) ∷ Subject ∷ Opening p ∷ More p ∷ k) (λ k. k)
+    (λ k. Rest (behind (place_of_spot c.choice.new.self c.args.spot.now) false) ∷ k) _ _ c.choice.ensures.goes
     (c.go_to-in-Some-Is-Choice-default.ensures.taken _ (rw (arm.field-0-0-is, arm.field-0-0-0-is) at arm.ensures.some))
-    (λ k. rw c.if-spot.false refl) c.choice.ensures.read (λ e k. refl) in record { goes = s.0; read = s.1 }
+    (λ k. rw c.if-here.false refl) c.choice.ensures.read (λ e k. rw c.if-here.false refl) in record { goes = s.0; read = s.1; start = refl }
 
 pub stmt-returns-in-Some-Is-Rec-default : goal.stmt-returns-in-Some-Is-Rec-default
 stmt-returns-in-Some-Is-Rec-default t c =
     let arm = c.in-Some-Is-Rec-default in
     let new = c.go_to-in-Some-Is-Rec-default.new.self in
-    let p = place_of_spot new c.args.spot in
-    let s = statement _ false c.args.self.now new c.recursion.new.self c.args.spot (Is Rec) (λ k. RecName p ∷ k) (λ k. Rest (behind p false) ∷ k)
-    (λ k. k) _ _ c.recursion.ensures.ends c.recursion.ensures.goes
-    (c.go_to-in-Some-Is-Rec-default.ensures.taken _ (rw (arm.field-0-0-is, arm.field-0-0-0-is) at arm.ensures.some))
-    (λ k. rw c.if-spot.false refl) c.recursion.ensures.read (λ e k. rw e refl) in record { goes = s.0; read = s.1 }
+    let p = place_of_spot new c.args.spot.now in
+    let s = statement _ c.args.spot.now.ended c.args.self.now new c.recursion.new.self c.args.spot.now (Is Rec) (λ k. RecName p ∷ k) (λ k. Rest (behind p false) ∷ k)
+    (λ k. k) _ _ c.recursion.ensures.goes (c.go_to-in-Some-Is-Rec-default.ensures.taken _ (rw (arm.field-0-0-is, arm.field-0-0-0-is) at arm.ensures.some))
+    (λ k. rw c.if-here.false refl) c.recursion.ensures.read (λ e k. rw (e, c.if-here.false) refl) in record { goes = s.0; read = s.1; start = refl }
 
 pub stmt-returns-else-is_unguarded : goal.stmt-returns-else-is_unguarded
 stmt-returns-else-is_unguarded t c =
     let arm = c.in-Some-Is-Continue-default in
     let new = c.go_to-in-Some-Is-Continue-default.new.self in
-    let p = place_of_spot new c.args.spot in
-    let s = statement _ true c.args.self.now new c.again.new.self c.args.spot (Is Continue) (λ k. AgainName p ∷ k) (λ k. Rest (behind p true) ∷ k)
-    (λ k. k) _ _ c.again.ensures.ends c.again.ensures.goes
-    (c.go_to-in-Some-Is-Continue-default.ensures.taken _ (rw (arm.field-0-0-is, arm.field-0-0-0-is) at arm.ensures.some))
-    (λ k. grind (arith, common_steps)) c.again.ensures.read (λ e k. rw e refl) in record { goes = s.0; read = s.1 }
+    let p = place_of_spot new c.args.spot.now in
+    let s = statement _ true c.args.self.now new c.again.new.self c.args.spot.now (Is Continue) (λ k. AgainName p ∷ k) (λ k. Rest (behind p true) ∷ k)
+    (λ k. k) _ _ c.again.ensures.goes (c.go_to-in-Some-Is-Continue-default.ensures.taken _ (rw (arm.field-0-0-is, arm.field-0-0-0-is) at arm.ensures.some))
+    (λ k. grind (arith, common_steps)) c.again.ensures.read (λ e k. rw e refl) in record { goes = s.0; read = s.1; start = refl }

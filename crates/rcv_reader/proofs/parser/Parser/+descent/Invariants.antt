@@ -24,8 +24,8 @@ invariant-stmts-loop-alloc l = StmtsSoFar l.fn.self l.self l.fn.spot l.here (sta
 abbrev pub decreases-stmts-loop-alloc : goal.decreases-stmts-loop-alloc
 decreases-stmts-loop-alloc l = length l.self.rest
 
-abbrev pub invariant-choice-loop-alloc : goal.invariant-choice-loop-alloc
-invariant-choice-loop-alloc l = ChoiceSoFar l.fn.self l.self l.spot l.subject (blocks l.branches)
+abbrev pub invariant-choice-loop-branches : goal.invariant-choice-loop-branches
+invariant-choice-loop-branches l = ChoiceSoFar l.fn.self l.self l.spot l.subject (blocks l.branches)
 
-abbrev pub decreases-choice-loop-alloc : goal.decreases-choice-loop-alloc
-decreases-choice-loop-alloc l = length l.self.rest
+abbrev pub decreases-choice-loop-branches : goal.decreases-choice-loop-branches
+decreases-choice-loop-branches l = length l.self.rest

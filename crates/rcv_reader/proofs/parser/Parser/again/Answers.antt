@@ -15,5 +15,4 @@ returns-in_err-expect-clause-goes c =
 pub returns-clause-read : goal.returns-clause-read
 returns-clause-read c =
     again_read _ _ _ _ _ _ (c.go_to.ensures.taken _ (rw c.in-Some-Word-default.field-0-0-is at c.in-Some-Word-default.ensures.some))
-    c.in_ok-expect.ensures.read
-    (rw c.in_ok-name.ensures at c.in_ok-push.ensures.ok)
+    c.in_ok-expect.ensures.read (rw c.in_ok-name.ensures at c.in_ok-push.ensures.ok)

@@ -3,9 +3,9 @@ use Rattle.rcv_reader.proofs.parser.Parser.receivers.Goals as goal
 
 pub loop-sender-init : goal.loop-sender-init
 loop-sender-init c =
-    receivers_first _ _ _ c.in_ok-last.last _ _ c.new-others.ensures c.as_slice.ensures c.in_ok-last.ensures.goes c.in_ok-last.ensures.read
+    receivers_first _ _ _ _ _ c.new-receivers.ensures c.in_ok-add_receiver.ensures.goes c.in_ok-add_receiver.ensures.read
 
 pub loop-sender-preserved : goal.loop-sender-preserved
 loop-sender-preserved c =
-    receivers_next _ _ _ _ _ _ _ _ c.in_ok-last-2.last c.loop-sender.invariant (c.takes.ensures.yes c.loop-sender-test.true)
-    c.in_ok-push.ensures.ok c.as_slice-in-loop-sender.ensures c.in_ok-last-2.ensures.goes c.in_ok-last-2.ensures.read
+    receivers_next _ _ _ _ _ _ _ c.loop-sender.invariant (c.takes.ensures.yes c.loop-sender-test.true)
+    c.in_ok-add_receiver-2.ensures.goes c.in_ok-add_receiver-2.ensures.read

@@ -1,7 +1,12 @@
-use Rattle.rcv_reader.proofs.Reading.{roles_next}
+use Rattle.rcv_reader.proofs.Reading.{roles_next, roles_read}
 use Rattle.rcv_reader.proofs.parser.Parser.role_names.Goals as goal
 
-pub loop-alloc-preserved : goal.loop-alloc-preserved
-loop-alloc-preserved c =
-    roles_next _ _ _ _ _ c.loop-alloc.invariant (c.takes.ensures.yes c.loop-alloc-test.true) c.in_ok-expect.ensures.read
-    c.in_ok-add_role-2.ensures.goes c.in_ok-add_role-2.ensures.read
+pub loop-self-preserved : goal.loop-self-preserved
+loop-self-preserved c =
+    roles_next _ _ _ _ _ c.loop-self.invariant c.in_ok-expect.ensures.read c.in_ok-add_role.ensures.goes c.in_ok-add_role.ensures.read
+    (c.takes.ensures.yes c.if-not-takes.false)
+
+pub returns-then-not-takes-clause-read : goal.returns-then-not-takes-clause-read
+returns-then-not-takes-clause-read c =
+    roles_read _ _ _ _ _ _ _ c.loop-self.invariant c.in_ok-expect.ensures.read c.in_ok-add_role.ensures.read
+    (c.takes.ensures.no c.if-not-takes.true).0 c.expect-then-not-takes.ensures.read
