@@ -1,8 +1,6 @@
 -- Symbols are read as some protocol or refused: a protocol can be built of what is written.
 use denote.RawPtr.{null_ptr}
-use Rattle.std.proofs.Common.{◌≡◌, ℕ, ◌+◌, ◌*◌, ◌^◌, ◌<◌, ◌≤◌, true, false, List, [], ◌∷◌, length, map, refl, sym, ap, ◌∙◌, inl, inr, arith}
-use Rattle.std.specs.Prelude.{◌⊎◌}
-use Rattle.std.proofs.Math.Logic.{⊎_elim}
+use Rattle.std.proofs.Common.{◌≡◌, ℕ, ◌+◌, ◌*◌, ◌^◌, ◌<◌, ◌≤◌, true, false, List, [], ◌∷◌, length, map, refl, sym, ap, ◌∙◌, inl, inr, arith, ◌⊎◌, ⊎_elim}
 use Rattle.std.proofs.lemmas.List.{length-map}
 use Rattle.std.specs.Global.{Vec}
 use Rattle.rcv_tree.specs.declared.statement.Stmt.{Stmt}
@@ -52,8 +50,7 @@ blocks_of xs short =
 
 length-names : (ns : List (List ℕ)) (next : List Symbol) → (length (names_behind ns next) ≡ 2 * length ns + length next)
     × (length (dotted ns next) ≡ 2 * length ns + length next)
-    × (length (roles_behind ns next) ≡ 3 * length ns + length next)
-    × (length next ≤ length (sort_list ns next))
+    × (length (roles_behind ns next) ≡ 3 * length ns + length next) × (length next ≤ length (sort_list ns next))
 length-names [] next = omega arith
 length-names (n ∷ ns) next = let more = length-names ns next in omega arith
 
@@ -92,14 +89,9 @@ module _ (roles : List (List ℕ)) where
         let others = all_have (n + points f) p os us h.4 (omega arith) in
         let more = has_stmts (n + (points f + points_of os)) (behind p false) rest next h.5 (omega arith) in
         let block = block_of first.1.0 (omega arith) in
-        let blocks = blocks_of (block.0 ∷ others.1.0) (omega arith) in (
-          assumption,
-          (
-            stmt.Choice (role_at roles s) blocks.0 ∷ more.1.0,
-            rw (stmt_body-Choice, blocks.1, block.1, first.1.1, others.1.1, more.1.1) refl,
-            omega arith,
-          ),
-        )
+        let blocks = blocks_of (block.0 ∷ others.1.0) (omega arith) in
+        let all = stmt.Choice (role_at roles s) blocks.0 ∷ more.1.0 in
+        (assumption, (all, rw (stmt_body-Choice, blocks.1, block.1, first.1.1, others.1.1, more.1.1) refl, omega arith))
     has_stmts n p (ARec name body rest) next h lt =
         let first = has_stmts n (inside (inside_rec p name)) body (Is Close ∷ stmts rest next) h.2 (omega arith) in
         let more = has_stmts (n + points body) (behind p false) rest next h.3 (omega arith) in
@@ -129,17 +121,13 @@ source_read symbols s state lt spells taken =
     let same = ap length spells.2 in
     let long : length s.declared + length (stmts s.body (Is Close ∷ [])) < 2 ^ 63 =
     omega (arith, length-names, length-decls) in
-    let roles = s.role ∷ s.other_roles in
-    let has = has_stmts roles 0 outermost s.body (Is Close ∷ []) passes (omega arith) in
-    let block = block_of has.1.0 (omega arith) in
-    let tree = block.1 ∙ has.1.1 in
-    let p : Protocol = record {
-      «module» = s.module_name ∷ s.module_more;
-      decls = record { items = a_vec Decl s.declared (omega arith) };
-      name = s.name;
-      roles = roles;
-      body = block.0;
-    } in
+    let rs = s.role ∷ s.other_roles in
+    let has = has_stmts rs 0 outermost s.body (Is Close ∷ []) passes (omega arith) in
+    let b = block_of has.1.0 (omega arith) in
+    let tree = b.1 ∙ has.1.1 in
+    let ms = s.module_name ∷ s.module_more in
+    let ds = a_vec Decl s.declared (omega arith) in
+    let p : Protocol = record { «module» = ms; decls = record { items = ds }; name = s.name; roles = rs; body = b.0 } in
     (p, ((taken_is_free symbols state taken).1, search))
 
 -- ---- a part
@@ -148,10 +136,9 @@ module _ (bundle : List ℕ) (part : Span) (last : ℕ) where
   answered : (ts : List Token) → length bundle < 2 ^ 63 → AreTokens bundle part ts → (a : Answer)
       → reading (symbols_of bundle ts) ≡ a → IsReadPart bundle part ⊎ HasRefusal bundle part last
   answered ts lt are (Taken state) e =
-      let few = tokens_few bundle part ts are in
       let same : length (symbols_of bundle ts) ≡ length ts = length-map ts _ in
-      let derived = (taken_is_free (symbols_of bundle ts) state e).0 in
-      let read = source_read (symbols_of bundle ts) derived.0 state (omega arith) derived.1 e in
+      let is = (taken_is_free (symbols_of bundle ts) state e).0 in
+      let read = source_read (symbols_of bundle ts) is.0 state (omega (arith, tokens_few bundle part ts are)) is.1 e in
       inl (ts, read.0, are, read.1)
   answered ts lt are (Refuses fault left) e =
       inr (_, _, inr (ts, are, (fault, left, refusal_is_first (symbols_of bundle ts) fault left e, refl)))
@@ -172,11 +159,9 @@ module _ (bundle : List ℕ) (part : Span) (last : ℕ) where
       let one = one_first (symbols_of bundle h.0) h.2.0 k.2.0 h.2.1 k.2.1 h.2.2 (rw same k.2.2) in
       (cc, cc)
 
+  some : length bundle < 2 ^ 63 → IsReadPart bundle part ⊎ HasRefusal bundle part last
+  some lt =
+      ⊎_elim (λ h. answered h.0 lt h.1 _ refl) (λ h. inr (10, h.0, inl (refl, h.1))) (one_reading.some bundle part)
+
 pub parts_have_one_answer : PartsHaveOneAnswer
-parts_have_one_answer = record {
-  some = λ bundle part last lt.
-      ⊎_elim (λ h. answered bundle part last h.0 lt h.1 _ refl) (λ h. inr (10, h.0, inl (refl, h.1)))
-      (one_reading.some bundle part);
-  either = read_not_refused;
-  refusal = same_refusal;
-}
+parts_have_one_answer = record { some = some; either = read_not_refused; refusal = same_refusal }

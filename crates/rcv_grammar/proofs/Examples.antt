@@ -1,6 +1,5 @@
 -- Worked cases of the machine: what it takes, and where it refuses with which code.
-use Rattle.std.proofs.Common.{◌≡◌, ℕ, true, codes, List, [], ◌∷◌, ◌++◌, map, Some, None, refl, arith}
-use Rattle.std.specs.Prelude.{Option}
+use Rattle.std.proofs.Common.{◌≡◌, ℕ, true, codes, List, [], ◌∷◌, ◌++◌, map, Some, None, refl, arith, Option}
 use Rattle.rcv_lexer.specs.Parts.{parts_of}
 use Rattle.rcv_lexer.specs.Tokens.{line_at}
 use Rattle.rcv_syntax.specs.declared.sign.Sign.TheVariants.{Module, Global, Choice, At, Rec, Continue, Par, And, Do, Open, Close, Left, Right, Comma, Semicolon}
@@ -47,8 +46,7 @@ AreRefused cases = map (λ (c : Case). c.0) cases ≡ map (λ (c : Case). Some (
 
 refused : AreRefused (
     -- a wrong symbol, an early end, a branch without a statement, and the end behind the deepest block
-    (refusal (text (x ∷ y ∷ Is Close ∷ [])), 11, y ∷ Is Close ∷ [])
-    ∷ (refusal (text (message [])), 11, [])
+    (refusal (text (x ∷ y ∷ Is Close ∷ [])), 11, y ∷ Is Close ∷ []) ∷ (refusal (text (message [])), 11, [])
     ∷ (refusal (text (Is Choice ∷ Is At ∷ a ∷ Is Open ∷ Is Close ∷ [])), 11, Is Close ∷ [])
     ∷ (refusal (text (nested 31 [])), 11, [])
     -- a block too deep
@@ -70,8 +68,7 @@ refused : AreRefused (
     ∷ (at_ninth (Word (codes "I")), 18, Word (codes "I") ∷ [])
     ∷ (at_receiver 256 [] (b ∷ Is Semicolon ∷ []), 18, b ∷ Is Semicolon ∷ [])
     -- what waits: par, do and a second protocol; no other symbol behind a protocol
-    ∷ (refusal (text (Is Par ∷ [])), 19, Is Par ∷ [])
-    ∷ (refusal (text (Is Do ∷ [])), 19, Is Do ∷ [])
+    ∷ (refusal (text (Is Par ∷ [])), 19, Is Par ∷ []) ∷ (refusal (text (Is Do ∷ [])), 19, Is Do ∷ [])
     ∷ (refusal (text (Is Close ∷ Is Global ∷ [])), 19, Is Global ∷ [])
     ∷ (refusal (text (Is Close ∷ Is Close ∷ [])), 11, Is Close ∷ [])
     -- code 17 at the word, before its name is read
@@ -82,14 +79,12 @@ refused : AreRefused (
     ∷ (refusal (text (rec_x (message (again_x (Is Par ∷ []))))), 16, Is Par ∷ [])
     ∷ (refusal (text (rec_x (message (again_x (Is Do ∷ []))))), 16, Is Do ∷ [])
     -- where no point is left: a name of no role, one that stands before, the sender
-    ∷ (at_receiver 256 [] (c ∷ []), 13, c ∷ [])
-    ∷ (at_receiver 256 (1 ∷ []) (b ∷ []), 14, b ∷ [])
+    ∷ (at_receiver 256 [] (c ∷ []), 13, c ∷ []) ∷ (at_receiver 256 (1 ∷ []) (b ∷ []), 14, b ∷ [])
     ∷ (at_receiver 256 [] (a ∷ []), 15, a ∷ [])
     -- a ninth role with the name of the first
     ∷ (at_ninth a, 14, a ∷ [])
     -- behind a continue, at a place to which a walk comes
-    ∷ (at_ended (Is Continue ∷ x ∷ []), 16, Is Continue ∷ x ∷ [])
-    ∷ [])
+    ∷ (at_ended (Is Continue ∷ x ∷ []), 16, Is Continue ∷ x ∷ []) ∷ [])
 refused = refl
 
 -- ---- what is taken
@@ -108,8 +103,7 @@ are_taken : AreTaken (
     ∷ (answer (known both 255) (Receiver 0 [] ∷ []) (b ∷ Is Semicolon ∷ []), known both 256)
     -- what stands behind a body that is never left isn't behind a continue of its own block
     ∷ (reading (text (never_left (again_x (Is Close ∷ Is Close ∷ [])))), known both 1)
-    ∷ (reading (text (never_left (message (Is Close ∷ Is Close ∷ [])))), known both 2)
-    ∷ [])
+    ∷ (reading (text (never_left (message (Is Close ∷ Is Close ∷ [])))), known both 2) ∷ [])
 are_taken = refl
 
 -- ---- the line of a part's end

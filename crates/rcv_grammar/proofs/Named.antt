@@ -1,6 +1,5 @@
 -- Roles and messages of a protocol that was read have words for names, and roles differ.
-use Rattle.std.proofs.Common.{ℕ, List, [], ◌∷◌}
-use Rattle.std.specs.List.{All}
+use Rattle.std.proofs.Common.{ℕ, List, [], ◌∷◌, All}
 use Rattle.std.proofs.lemmas.List.Elements.{All-cons, All-nil}
 use Rattle.rcv_tree.specs.Words.{IsWord}
 use Rattle.rcv_syntax.specs.Symbols.{symbols_of}
@@ -19,8 +18,6 @@ read_texts_have_names bundle part tokens p are read =
     let taken = source_taken (symbols_of bundle tokens) p read in
     let named = read_is_named bundle part tokens p are read in
     let same = read.1.role_names in
-    record {
-      role_words = rw same (names_are_words (roles_of read.1.source) (rw same at named.0.role_names));
-      differ = rw same (head_follows read.1.source taken.0 taken.1).0;
-      label_words = named.1;
-    }
+    let words = names_are_words (roles_of read.1.source) (rw same at named.0.role_names) in
+    let differ = (head_follows read.1.source taken.0 taken.1).0 in
+    record { role_words = rw same words; differ = rw same differ; label_words = named.1 }

@@ -1,7 +1,6 @@
 -- A protocol that was read is printable: each of its names stands in the symbols that were read. There a name is a word that
 -- isn't reserved, and what is quoted can stand between quotes.
-use Rattle.std.proofs.Common.{◌≡◌, ℕ, ◌+◌, true, false, List, [], ◌∷◌, length, Option, Some, None, refl}
-use Rattle.std.specs.List.{All}
+use Rattle.std.proofs.Common.{◌≡◌, ℕ, ◌+◌, true, false, List, [], ◌∷◌, length, Option, Some, None, refl, All}
 use Rattle.std.proofs.lemmas.List.Elements.{All-append, All-cons, All-head, All-nil, All-tail}
 use Rattle.rcv_tree.specs.Words.{IsWord}
 use Rattle.rcv_tree.specs.declared.protocol.Decl.{Decl}
@@ -52,10 +51,9 @@ Fits bundle t = IsOfKind t.kind (bytes_of bundle t)
 
 tokens_fine : (bundle : List ℕ) (tokens : List Token) → All (Fits bundle) tokens → AreFine (symbols_of bundle tokens)
 tokens_fine bundle [] h = tt
-tokens_fine bundle (t ∷ tokens) h = (
-  symbol_fine t.kind (bytes_of bundle t) (All-head (Fits bundle) t tokens h),
-  tokens_fine bundle tokens (All-tail (Fits bundle) t tokens h),
-)
+tokens_fine bundle (t ∷ tokens) h =
+    let first = symbol_fine t.kind (bytes_of bundle t) (All-head (Fits bundle) t tokens h) in
+    (first, tokens_fine bundle tokens (All-tail (Fits bundle) t tokens h))
 
 -- ---- lists
 

@@ -1,7 +1,7 @@
 -- What the awaited items derive, in which codes play no part. A step goes on, or stops with a code, only where the
 -- grammar has the symbol: behind it is derived what the item derives.
 use Rattle.std.proofs.Common.{◌≡◌, ℕ, Bool, true, false, cond, List, [], ◌∷◌, ◌++◌, length, refl, ap, inl, inr}
-use Rattle.std.specs.Prelude.{◌⊎◌, ◌==◌, nat_le, not, Option, Some, None}
+use Rattle.std.specs.Prelude.{◌⊎◌, ◌==◌, nat_le, Option, Some, None}
 use Rattle.rcv_tree.specs.declared.protocol.Decl.{Decl}
 use Rattle.rcv_syntax.specs.declared.sign.Sign.TheVariants.{Global, To, Or, Choice, Rec, Continue, Par, Do, Open, Close, Right, Comma, Semicolon, Dot}
 use Rattle.rcv_syntax.specs.declared.fault.Fault.{Fault}
@@ -71,8 +71,6 @@ derived ts (_, a, (_, (x, b), (_, (xs, c), (_, (ds, are, d), (_, e, (_, (y, f), 
     let source : Source = record { module_name = x; module_more = xs; declared = ds; name = y; role = r; other_roles = rs; body = body } in
     (source, (are, is, simp (a, b, c, d, e, f, g, h, i, j, l, m)))
 
--- ---- a step
-
 -- behind the symbol stands what the others derive
 abbrev Offers : List Item → Symbol → List Item → Type 0
 Offers k t next = (us : List Symbol) → Derives next us → Derives k (t ∷ us)
@@ -132,13 +130,11 @@ begins_agrees (Is Continue) ts s p k =
     (vs, (AContinue m rest, tt, is, simp (a, b)), more) in
     let some = has (First p ∷ k) (Is Continue) (AgainName p ∷ Rest (behind p true) ∷ k) o in
     tested p.ended AfterContinue _ _ _ some (asked (is_open p ts) Unguarded s _ _ _ o)
-begins_agrees (Is Par) ts s p k =
-    let c = completion k in
+begins_agrees (Is Par) ts s p k = let c = completion k in
     let par : Has (First p ∷ k) (Is Par) = (_, (c.0, (APar one one NoBlock NoStmt, tt, (tt, tt, tt, tt, tt, tt), refl), c.1)) in
     tested p.ended AfterContinue _ _ _ par (inl par)
 begins_agrees (Is Do) ts s p k =
-    let c = completion k in
-    let call : Has (First p ∷ k) (Is Do) = (_, (c.0, (ADo [] [] [] NoStmt, tt, tt, refl), c.1)) in
+    let call : Has (First p ∷ k) (Is Do) = (_, (_, (ADo [] [] [] NoStmt, tt, tt, refl), (completion k).1)) in
     tested p.ended AfterContinue _ _ _ call (inl call)
 begins_agrees _ ts s p k = tt
 
@@ -148,8 +144,7 @@ ends_agrees t ts s p k =
     through (begins s p t ts k) (Rest p) (First p) k t (λ us d. (d.0, (d.1.0, d.1.2, d.1.3), d.2)) (begins_agrees t ts s p k)
 
 branches_agrees : (t : Symbol) (ts : List Symbol) (s : State) (p : Place) (k : List Item) → Agrees (branches s p t ts k) (More p ∷ k) t
-branches_agrees (Is Or) ts s p k = λ us d.
-    let (_, (f, begun, proper, a), (vs, (os, rest, are, is, b), more)) = d in
+branches_agrees (Is Or) ts s p k = λ us (_, (f, begun, proper, a), (vs, (os, rest, are, is, b), more)).
     (vs, (ABlock f os, rest, (begun, proper, are), is, simp (a, b)), more)
 branches_agrees t ts s p k =
     through (ends s (behind p false) t ts k) (More p) (Rest (behind p false)) k t (λ us d. (d.0, (NoBlock, d.1.0, tt, d.1.1, d.1.2), d.2))
@@ -182,8 +177,7 @@ agrees (Sorts ∷ k) (Word n) ts s = λ us (vs, (ns, a), more). (vs, (n ∷ ns, 
 agrees (Sorts ∷ k) (Is Right) ts s = λ us d. (us, ([], refl), d)
 agrees (MoreSorts ∷ k) (Is Comma) ts s = λ us (_, (n, a), (vs, (ns, b), more)). (vs, (n ∷ ns, simp (a, b)), more)
 agrees (MoreSorts ∷ k) (Is Right) ts s = λ us d. (us, ([], refl), d)
-agrees (Subject ∷ k) (Word n) ts s =
-    let o : Offers (Subject ∷ k) (Word n) k = λ us d. (us, (n, refl), d) in
+agrees (Subject ∷ k) (Word n) ts s = let o : Offers (Subject ∷ k) (Word n) k = λ us d. (us, (n, refl), d) in
     placed (place_of s.roles n) _ _ _ (has (Subject ∷ k) (Word n) k o) (λ r. o)
 agrees (Sender ∷ k) (Word n) ts s =
     let o : (r : ℕ) → Offers (Sender ∷ k) (Word n) (This (Is To) ∷ Receiver r [] ∷ k) = λ r us d.
@@ -198,8 +192,7 @@ agrees (Receiver sender before ∷ k) (Word n) ts s =
 agrees (MoreReceivers sender before ∷ k) (Is Comma) ts s = λ us (vs, (r, rs, a), more). (vs, (r ∷ rs, simp a), more)
 agrees (MoreReceivers sender before ∷ k) (Is Semicolon) ts s = λ us d. (us, ([], refl), d)
 agrees (RecName p ∷ k) (Word n) ts s = λ us (vs, (b, begun, proper, a), more). (vs, (n, b, begun, proper, simp a), more)
-agrees (AgainName p ∷ k) (Word n) ts s = asked (not (is_among n p.recs)) NoName s _ _ _ (λ us (vs, a, more).
-    (vs, (n, simp a), more))
+agrees (AgainName p ∷ k) (Word n) ts s = asked _ NoName s _ _ _ (λ us (vs, a, more). (vs, (n, simp a), more))
 agrees (Opening p ∷ k) (Is Open) ts s = asked (nat_le 32 p.depth) Deep s _ _ _ (λ us (vs, (b, begun, proper, a), more).
     (vs, (b, begun, proper, simp a), more))
 agrees _ _ ts s = tt

@@ -15,22 +15,16 @@ use Rattle.rcv_machine.proofs.Agreeing.{Derives, completion, derived, Has, Agree
 use Rattle.rcv_machine.proofs.Knowing.{NoneBelow, state_at, ToldBy, Told, one_fault}
 use Rattle.rcv_machine.proofs.Telling.{derived_told, all_told}
 
--- ---- two cuts of one list
-
--- They are one cut, where neither ends within the other.
+-- Two cuts of one list are one, where neither ends within the other.
 apart : (xs ys us vs : List Symbol) → xs ++ ys ≡ us ++ vs
     → ((t : Symbol) (others : List Symbol) → us ≡ xs ++ t ∷ others → ys ≡ t ∷ others ++ vs → ⊥)
     → ((t : Symbol) (others : List Symbol) → xs ≡ us ++ t ∷ others → vs ≡ t ∷ others ++ ys → ⊥) → (xs ≡ us) × (ys ≡ vs)
 apart [] ys [] vs e f g = (refl, e)
 apart [] ys (u ∷ us) vs e f g = absurd (f u us refl e)
 apart (x ∷ xs) ys [] vs e f g = absurd (g x xs refl (sym e))
-apart (x ∷ xs) ys (u ∷ us) vs e f g =
-    let rest : xs ++ ys ≡ us ++ vs = cc in
+apart (x ∷ xs) ys (u ∷ us) vs e f g = let rest : xs ++ ys ≡ us ++ vs = cc in
     let same = apart xs ys us vs rest (λ t others b c. f t others (rw b cc) c) (λ t others b c. g t others (rw b cc) c) in
-    let front = same.0 in
-    (cc, same.1)
-
--- ---- the grammar, behind these symbols
+    let front = same.0 in (cc, same.1)
 
 -- What is awaited derives only what the grammar derives behind the symbols, and this the machine tells.
 abbrev GoesOn : List Symbol → List Item → Type 0
@@ -77,15 +71,12 @@ least_token front left _ l h = omega (arith, l)
 
 free_more : (front : List Symbol) (t : Symbol) (ts : List Symbol) → FreeBefore front (t ∷ ts) → ((f : Fault) → HoldsAt f front (t ∷ ts) → ⊥)
     → FreeBefore (front ++ t ∷ []) ts
-free_more front t ts free none g before u others e h =
-    let one = apart before (u ∷ others) front (t ∷ []) (sym e)
+free_more front t ts free none g before u others e h = let one = apart before (u ∷ others) front (t ∷ []) (sym e)
     (λ v more a b. free g before v more a
     (subst (HoldsAt g before) (ap (λ (z : List Symbol). z ++ ts) b ∙ append_assoc (v ∷ more) (t ∷ []) ts) h))
     (λ v more a b. let long = ap length b in omega (arith, long, length-append more (u ∷ others))) in
     let same : u ∷ others ++ ts ≡ t ∷ ts = ap (λ (z : List Symbol). z ++ ts) one.1 in
     none g (rw (← one.0, ← same) h)
-
--- ---- an answer
 
 abbrev IsExact : List Symbol → Answer → Type 0
 IsExact symbols (Taken s) = IsFree symbols
@@ -100,8 +91,7 @@ verdict : (f : Fault) (front : List Symbol) (t : Symbol) (ts : List Symbol) (k :
     → IsHere front t × (Holds f (backward front []) t ts × NoneBelow (code_of f) (backward front []) t ts)
 verdict f front t ts k e on (inl (us, d)) =
     let more = (stepped front t us k on).0 d in (inl (us, more), rw e at ((stepped front t us k on).1 more ts))
-verdict f front t ts k e on (inr (none, is)) =
-    let derived = (whole front k on).0 (rw none refl) in
+verdict f front t ts k e on (inr (none, is)) = let derived = (whole front k on).0 (rw none refl) in
     let stops : behind_all (Is Global) ≡ Wrong f = rw (none, is) at e in
     let told = all_told (backward front []) ts (λ next. ⊥) ((whole front k on).1 derived).1 in
     (inr (is, derived), rw is (subst (λ (x : Outcome). ToldBy x (backward front []) (Is Global) ts (λ next. ⊥)) stops told))
@@ -110,8 +100,6 @@ free_of : (symbols : List Symbol) → IsDerived symbols → FreeBefore symbols [
 free_of symbols d free Token before [] e h = h.1 (subst IsDerived (e ∙ append-nil before) d)
 free_of symbols d free f before [] e h = h
 free_of symbols d free f before (t ∷ ts) e h = free f before t ts e (subst (HoldsAt f before) (sym (append-nil (t ∷ ts))) h)
-
--- ---- one symbol more
 
 back_more : (front back : List Symbol) (t : Symbol) → backward (front ++ t ∷ []) back ≡ t ∷ backward front back
 back_more [] back t = refl
@@ -123,27 +111,21 @@ by_outcome : (o : Outcome) (front : List Symbol) (t : Symbol) (ts : List Symbol)
     → Right ((front ++ t ∷ []) ++ ts) (answer (state_at (backward (front ++ t ∷ []) [])) next ts))
     → Right (front ++ t ∷ ts) (after o (t ∷ ts) (λ s next. answer s next ts))
 by_outcome (On s next) front t ts k e on free a go =
-    let more : GoesOn (front ++ t ∷ []) next = λ us. (
-      (λ d. (stepped front t us k on).0 (a us d)),
-      (λ d. rw (back_more front [] t) (rw e at ((stepped front t us k on).1 d ts)).1),
-    ) in
-    let b = begins (front ++ t ∷ []) next more in
-    let goes = (rw e at ((stepped front t b.0 k on).1 b.1 ts)).0 in
+    let more : GoesOn (front ++ t ∷ []) next = λ us. let here = stepped front t us k on in
+    ((λ d. here.0 (a us d)), (λ d. rw (back_more front [] t) (rw e at (here.1 d ts)).1)) in
+    let b = begins (front ++ t ∷ []) next more in let goes = (rw e at ((stepped front t b.0 k on).1 b.1 ts)).0 in
     let same : s ≡ state_at (backward (front ++ t ∷ []) []) = goes.same ∙ ap state_at (sym (back_more front [] t)) in
     rw (← append_assoc front (t ∷ []) ts, same) (go next more (free_more front t ts free (none_here front t ts b goes.free)))
 by_outcome (Wrong Token) front t ts k e on free a go =
     let wrong : IsBeginning (front ++ t ∷ []) → ⊥ = λ b. (rw e at ((stepped front t b.0 k on).1 b.1 ts)).0 in
     let apart : t ≡ Is Global → IsDerived front → ⊥ = λ is d.
     let none = ((whole front k on).1 d).0 in let other = rw (none, is) at e in absurd cc in
-    let holds : HoldsAt Token front (t ∷ ts) = (begins front k on, wrong, apart) in (
-      (front, refl, begins front k on, wrong),
-      record { front = front; cut = refl; holds = holds; least = least_token front (t ∷ ts); first = free },
-    )
-by_outcome (Wrong f) front t ts k e on free a go =
-    let v = verdict f front t ts k e on a in (
-      (front, refl, v.0),
-      record { front = front; cut = refl; holds = v.1.0; least = none_lesser (code_of f) front t ts v.0 v.1.1; first = free },
-    )
+    let begun = begins front k on in let least = least_token front (t ∷ ts) in
+    let holds : HoldsAt Token front (t ∷ ts) = (begun, wrong, apart) in
+    ((front, refl, begun, wrong), record { front = front; cut = refl; holds = holds; least = least; first = free })
+by_outcome (Wrong f) front t ts k e on free a go = let v = verdict f front t ts k e on a in
+    let least = none_lesser (code_of f) front t ts v.0 v.1.1 in
+    ((front, refl, v.0), record { front = front; cut = refl; holds = v.1.0; least = least; first = free })
 
 right_from : (ts front : List Symbol) (k : List Item) → GoesOn front k → FreeBefore front ts
     → Right (front ++ ts) (answer (state_at (backward front [])) k ts)
@@ -153,15 +135,12 @@ right_from [] front (i ∷ k) on free =
     let cut = sym (append-nil front) in let least = least_token front [] in
     rw (append-nil front) (holds, record { front = front; cut = cut; holds = holds; least = least; first = free })
 right_from (t ∷ ts) front k on free =
-    let s = state_at (backward front []) in
-    by_outcome (step s t ts k) front t ts k refl on free (agrees k t ts s)
-    (λ next on' free'. right_from ts (front ++ t ∷ []) next on' free')
+    by_outcome _ front t ts k refl on free (agrees k t ts (state_at (backward front [])))
+    (right_from ts (front ++ t ∷ []))
 
 right : (symbols : List Symbol) → Right symbols (reading symbols)
 right symbols = right_from symbols [] awaited (λ ts. (derived ts, derived_told ts)) (λ g before t others e h.
     let long = ap length e in omega (arith, long, length-append before (t ∷ others)))
-
--- ---- the laws
 
 pub refusal_is_first : (symbols : List Symbol) (f : Fault) (left : List Symbol) → reading symbols ≡ Refuses f left → IsFirst symbols f left
 refusal_is_first symbols f left e = subst (IsExact symbols) e (right symbols).1
@@ -179,8 +158,7 @@ texts_are_taken_exactly symbols = ((λ t. taken_is_free symbols t.0 t.1), (λ d.
     go free (Taken s) e = (s, e)
     go free (Refuses f left) e = let h = refusal_is_first symbols f left e in absurd (free f h.front left h.cut h.holds)
 
--- ---- there is one first code
-
+-- there is one first code
 pub one_first : (symbols : List Symbol) (f g : Fault) (left left' : List Symbol) → IsFirst symbols f left → IsFirst symbols g left'
     → Refuses g left' ≡ Refuses f left
 one_first symbols f g left left' h h' =
@@ -188,8 +166,7 @@ one_first symbols f g left left' h h' =
     (λ t others a b. h'.first f h.front t others a (subst (HoldsAt f h.front) b h.holds))
     (λ t others a b. h.first g h'.front t others a (subst (HoldsAt g h'.front) b h'.holds)) in
     let one = one_fault f g (λ l. h'.least f l (rw (← same.0, ← same.1) h.holds)) (λ l. h.least g l (rw (same.0, same.1) h'.holds)) in
-    let left_is = same.1 in
-    cc
+    let left_is = same.1 in cc
 
 pub texts_are_refused_exactly : TextsAreRefusedExactly
 texts_are_refused_exactly symbols f left = (refusal_is_first symbols f left, λ h. go h (reading symbols) refl)

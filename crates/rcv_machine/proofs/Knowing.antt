@@ -60,8 +60,6 @@ pub record InList (back : List Symbol) (from : ℕ) (before : List ℕ) : Type 0
   pub is_sender : place_of (roles_before back) (sender back) ≡ Some from
   pub has : (n : List ℕ) (r : ℕ) → place_of (roles_before back) n ≡ Some r → is_listed r before ≡ is_among n (listed back)
 
--- ---- the least code
-
 pub one_fault : (f g : Fault) → (code_of f < code_of g → ⊥) → (code_of g < code_of f → ⊥) → f ≡ g
 one_fault Token Token a b = refl
 one_fault _ _ a b = grind (arith, a, b)
@@ -91,14 +89,11 @@ module _ (back : List Symbol) (t : Symbol) (ts : List Symbol) where
       (unless unguarded Unguarded (unless (is_at TooMany back t) TooMany (unless (is_at NotYet back t) NotYet
       (On s k))))))))) back t ts rest
   judged s k rest ended unguarded is walks same told =
-      ask rest _ Deep _ ((λ e. e), (λ e. e)) none (λ l n13.
-      ask rest _ NoName _ ((λ e. e), (λ e. e)) n13 (λ known n14.
-      ask rest _ Twice _ ((λ e. e), (λ e. e)) n14 (λ l n15.
-      ask rest _ SelfMessage _ ((λ e. e), (λ e. e)) n15 (λ l n16.
+      ask rest _ Deep _ ((λ e. e), (λ e. e)) none (λ l n13. ask rest _ NoName _ ((λ e. e), (λ e. e)) n13 (λ known n14.
+      ask rest _ Twice _ ((λ e. e), (λ e. e)) n14 (λ l n15. ask rest _ SelfMessage _ ((λ e. e), (λ e. e)) n15 (λ l n16.
       ask rest (cond (begins_a_statement t) ended false) AfterContinue _ (rw (← is) ((λ e. e), (λ e. e))) n16 (λ l n17.
       ask rest unguarded Unguarded _ walks n17 (λ l n18.
-      ask rest _ TooMany _ ((λ e. e), (λ e. e)) n18 (λ l n19.
-      ask rest _ NotYet _ ((λ e. e), (λ e. e)) n19 (λ last n20.
+      ask rest _ TooMany _ ((λ e. e), (λ e. e)) n18 (λ l n19. ask rest _ NotYet _ ((λ e. e), (λ e. e)) n19 (λ last n20.
       (record { free = n20; same = same }, told known last)))))))))
 
 -- at a name that stands so
@@ -119,9 +114,8 @@ is_quiet t = not (begins_a_statement t)
 
 quiet : (t : Symbol) (f : Fault) (back ts : List Symbol) → is_quiet t ≡ true → Holds f back t ts → ⊥
 quiet (Is Continue) Unguarded back ts e h = absurd cc
-quiet _ Unguarded back ts e h = h
 quiet _ Token back ts e h = h
-quiet _ _ back ts e h = cc
+quiet _ _ back ts e h = first_of (search h, cc)
 
 -- ---- steps that keep the state
 

@@ -1,6 +1,6 @@
 -- Names and the places of roles; names of enclosing recursions, and from where a walk comes without a message.
-use Rattle.std.proofs.Common.{◌≡◌, ℕ, ◌+◌, Bool, true, false, List, [], ◌∷◌, ◌++◌, length, refl, sym, ap, ◌∙◌, arith, length-append, slice_index_or, inl, inr}
-use Rattle.std.specs.Prelude.{bytes_eq, is_none, ◌-◌, ◌⊎◌, ◌||◌, ◌↔◌, ◌==◌, nat_lt, not, Some}
+use Rattle.std.proofs.Common.{◌≡◌, ℕ, ◌+◌, true, List, [], ◌∷◌, ◌++◌, length, refl, sym, ap, ◌∙◌, arith, length-append, slice_index_or, inl, inr}
+use Rattle.std.specs.Prelude.{bytes_eq, is_none, ◌-◌, ◌⊎◌, ◌↔◌, ◌==◌, nat_lt, not, Some}
 use Rattle.std.specs.List.{position_or_len}
 use Rattle.std.proofs.Math.Bool.{or-false}
 use Rattle.std.proofs.lemmas.List.{drop-append-le}
@@ -16,8 +16,7 @@ use Rattle.rcv_syntax.specs.Symbols.{Symbol, Is, Word}
 use Rattle.rcv_syntax.specs.Trees.{is_listed, place_of}
 
 pub bytes_sym : (a b : List ℕ) → bytes_eq a b ≡ bytes_eq b a
-bytes_sym a b =
-    same_from_decides _ _ (bytes_eq-Decides a b) (Decides-like (bytes_eq b a) sym sym (bytes_eq-Decides b a))
+bytes_sym a b = same_from_decides _ _ (bytes_eq-Decides a b) (Decides-like _ sym sym (bytes_eq-Decides b a))
 
 pub among_more : (name n : List ℕ) (recs : List (List ℕ))
     → (is_among name (recs ++ n ∷ []) ≡ true) ↔ ((is_among name recs ≡ true) ⊎ (name ≡ n))
@@ -28,8 +27,7 @@ among_more name n recs =
 
 -- inside one recursion more a walk comes to it as well
 pub recent_more : (p : Place) (n : List ℕ) → recent (inside (inside_rec p n)) ≡ recent p ++ n ∷ []
-recent_more p n =
-    let len = length-append p.recs (n ∷ []) in
+recent_more p n = let len = length-append p.recs (n ∷ []) in
     let same : length (p.recs ++ n ∷ []) - (p.comes + 1) ≡ length p.recs - p.comes = omega (arith, len) in
     rw same (drop-append-le (length p.recs - p.comes) p.recs (n ∷ []) (omega arith))
 
@@ -42,8 +40,7 @@ pub unknown : (n : List ℕ) (roles : List (List ℕ)) → not (is_among n roles
 unknown n roles = let here = found n roles in grind (arith, nat_tests, here)
 
 named_so : (roles : List (List ℕ)) (n : List ℕ) (r : ℕ) → place_of roles n ≡ Some r → slice_index_or roles r [] ≡ n
-named_so roles n r e =
-    let a = position-Some (λ role. bytes_eq role n) roles r [] e in (bytes_eq-Decides (slice_index_or roles r []) n).0 a.1
+named_so roles n r e = (bytes_eq-Decides _ n).0 (position-Some (λ role. bytes_eq role n) roles r [] e).1
 
 -- names are one exactly where their places are
 pub same_place : (roles : List (List ℕ)) (n m : List ℕ) (r q : ℕ) → place_of roles n ≡ Some r → place_of roles m ≡ Some q
@@ -57,12 +54,8 @@ same_place roles n m r q e f =
 pub one_more : (roles : List (List ℕ)) (n m : List ℕ) (r q : ℕ) (ns : List (List ℕ)) (rs : List ℕ) → place_of roles n ≡ Some r
     → place_of roles m ≡ Some q → is_listed q rs ≡ is_among m ns → is_listed q (rs ++ r ∷ []) ≡ is_among m (ns ++ n ∷ [])
 one_more roles n m r q ns rs e f h =
-    list_any-append (λ other. q == other) rs (r ∷ [])
-    ∙ ap (λ (z : Bool). z || ((q == r) || false)) h
-    ∙ ap (λ (z : Bool). is_among m ns || (z || false)) (same_place roles m n q r f e)
-    ∙ sym (list_any-append (λ other. bytes_eq m other) ns (n ∷ []))
-
--- ---- walks
+    rw (list_any-append (λ other. q == other) rs (r ∷ []), list_any-append (λ other. bytes_eq m other) ns (n ∷ []))
+    (rw (h, same_place roles m n q r f e))
 
 -- from where a walk comes to what stands behind these symbols
 abbrev pub Origin : List ℕ → List Symbol → Type 0

@@ -10,15 +10,13 @@ use Rattle.rcv_syntax.specs.Symbols.{Symbol, Is, Word, Text}
 use Rattle.rcv_syntax.specs.Grammar.{Written, NoStmt, AMessage, AChoice, ARec, AContinue, APar, ADo, Blocks, NoBlock, ABlock, dotted, names_behind, sort_list, roles_behind, decls, stmts, blocks_behind, IsBegun, IsProper, AreProper, AreDecls, IsDerived}
 use Rattle.rcv_syntax.specs.Codes.{is_among, Standing, standing, is_at_name, AsNewRole, AsAlias, AsActor, AsReceiver, AsTarget, AsOther, names_as, roles_before, aliases_before, points_before, listed, sender, open_braces, recs_of, Comes, FromItsStart, IntoRec, IntoChoice, IntoBranch, IsUnguarded, is_behind_continue, is_behind_all}
 use Rattle.rcv_syntax.specs.Trees.{place_of}
-use Rattle.rcv_machine.specs.Machine.{Place, Item, This, MoreModules, Decls, RoleName, MoreRoles, Sorts, MoreSorts, Receiver, MoreReceivers, Opening, First, Rest, More, State, known, Outcome, On, unless, by_place, receives, behind, inside, inside_rec, is_open, behind_all, outermost, awaited}
+use Rattle.rcv_machine.specs.Machine.{Place, Item, This, MoreModules, Decls, RoleName, Sorts, MoreSorts, Receiver, MoreReceivers, Opening, First, Rest, More, State, known, Outcome, On, unless, by_place, receives, behind, inside, inside_rec, is_open, behind_all, outermost, awaited}
 use Rattle.rcv_machine.proofs.Knowing.{state_at, ToldBy, Told, recent, Reaches, Fits, Here, InList, judged, judged_name, no_walk, kept_name, kept_quiet}
 use Rattle.rcv_machine.proofs.Naming.{among_more, recent_more, unknown, same_place, one_more, origin}
 
 -- where the same blocks are open, behind a sign
 abbrev Behind : Symbol → List Item → List (List Symbol) → List Symbol → Type 0
 Behind t k braces us = (next : List Symbol) → open_braces next ≡ braces → Told k (t ∷ next) us
-
--- ---- the head
 
 dotted_told : (ns : List (List ℕ)) (k : List Item) (back us : List Symbol) → is_behind_continue (Is Semicolon ∷ back) ≡ false
     → ((next : List Symbol) → open_braces next ≡ open_braces back → aliases_before next ≡ aliases_before back
@@ -34,10 +32,9 @@ decls_told [] aliases k back us are before unended next = λ ts.
     judged (Is Semicolon ∷ back) (Is Global) ts (state_at back) k (λ j. Told j (Is Global ∷ Is Semicolon ∷ back) us) _ false refl
     no_walk refl (λ l l'. next (Is Semicolon ∷ back) refl)
 decls_told (d ∷ ds) aliases k back us are before unended next =
-    let word = are.0 in
     let at = Word (codes "as") ∷ Text d.file ∷ Is From ∷ Text d.extern_name ∷ Is Greater ∷ Word d.schema ∷ Is Less
     ∷ Word d.word ∷ Is Semicolon ∷ back in
-    rw (word, before)
+    rw (are.0, before)
     (kept_name d.word refl unended (kept_quiet refl (kept_name d.schema refl refl (kept_quiet refl (kept_quiet refl
     (kept_quiet refl (kept_quiet refl (kept_name (codes "as") refl refl (λ ts.
     judged_name AsAlias false at d.alias ts (state_at at) _ _ refl refl refl
@@ -47,12 +44,10 @@ roles_told : (ns : List (List ℕ)) (n : List ℕ) (k : List Item) (back us : Li
     → is_behind_continue back ≡ false → Behind (Is Right) k (open_braces back) us
     → Told (RoleName ∷ k) back (Word n ∷ roles_behind ns (Is Right ∷ us))
 roles_told [] n k back us stands unended next ts =
-    judged_name AsNewRole false back n ts (known (roles_before back ++ n ∷ []) (points_before back)) (MoreRoles ∷ k) _
-    stands unended (rw stands refl) (λ l. kept_quiet refl (next (Word n ∷ back) refl))
+    judged_name AsNewRole false back n ts _ _ _ stands unended (rw stands refl) (λ l. kept_quiet refl (next _ refl))
 roles_told (m ∷ ns) n k back us stands unended next ts =
-    let more = Is Role ∷ Is Comma ∷ Word n ∷ back in
-    judged_name AsNewRole false back n ts (known (roles_before back ++ n ∷ []) (points_before back)) (MoreRoles ∷ k) _
-    stands unended (rw stands refl) (λ l. kept_quiet refl (kept_quiet refl (roles_told ns m k more us refl refl next)))
+    judged_name AsNewRole false back n ts _ _ _ stands unended (rw stands refl)
+    (λ l. kept_quiet refl (kept_quiet refl (roles_told ns m k (Is Role ∷ Is Comma ∷ Word n ∷ back) us refl refl next)))
 
 -- ---- the names of a message
 
@@ -77,20 +72,16 @@ role_told : (st : Standing) (back : List Symbol) (n : List ℕ) (ts : List Symbo
 role_told st back n ts s items next rest stands unended same asks is told = go (place_of (roles_before back) n) refl
   where
     go : (o : Option ℕ) → place_of (roles_before back) n ≡ o → ToldBy (by_place o next) back (Word n) ts rest
-    go None e =
-        let absent = asks ∙ unknown n (roles_before back) ∙ ap is_none e in
+    go None e = let absent = asks ∙ unknown n (roles_before back) ∙ ap is_none e in
         rw absent at (judged_name st false back n ts s [] rest stands unended same (λ known. let no = sym known ∙ absent in absurd cc))
-    go (Some r) e =
-        let declared = asks ∙ unknown n (roles_before back) ∙ ap is_none e in
-        rw (is r e) (rw declared at (judged_name st false back n ts s (items r) rest stands unended same (λ l. told r e)))
+    go (Some r) e = rw (is r e) (rw (asks ∙ unknown n (roles_before back) ∙ ap is_none e)
+        at (judged_name st false back n ts s (items r) rest stands unended same (λ l. told r e)))
 
 receiver : (back : List Symbol) (n : List ℕ) (ts : List Symbol) (from : ℕ) (before : List ℕ) (k : List Item) (rest : List Item → Type 0)
     → InList back from before → is_behind_continue back ≡ false
     → ((r : ℕ) → InList (Is Comma ∷ Word n ∷ back) from (before ++ r ∷ []) → rest (MoreReceivers from (before ++ r ∷ []) ∷ k))
     → ToldBy (by_place (place_of (roles_before back) n) (receives (state_at back) from before k)) back (Word n) ts rest
-receiver back n ts from before k rest list unended told =
-    let stands = list.receives in
-    let roles = roles_before back in
+receiver back n ts from before k rest list unended told = let stands = list.receives in let roles = roles_before back in
     role_told AsReceiver back n ts (known roles (points_before back + 1)) (λ r. MoreReceivers from (before ++ r ∷ []) ∷ k) _ rest
     stands unended (rw stands (ap (known roles) (sym (length-append (names_as AsReceiver back) (n ∷ []))))) refl
     (λ r e. rw (list.has n r e, same_place roles n (sender back) r from e list.is_sender) refl) (λ r e. told r (record {
@@ -111,13 +102,10 @@ receivers_told (m ∷ ns) n back us from before k list unended next ts =
     receiver back n ts from before k _ list unended
     (λ r joined. kept_quiet refl (receivers_told ns m (Is Comma ∷ Word n ∷ back) us from (before ++ r ∷ []) k joined refl next))
 
--- ---- walks
-
 -- a walk comes into a recursion from its start, and from where one came to the word rec
 into_rec : (p : Place) (n : List ℕ) (b : List Symbol) → Reaches p b → Reaches (inside_rec p n) (Is Open ∷ Word n ∷ Is Rec ∷ b)
 into_rec p n b r x =
-    let more = among_more x n (recent p) in
-    rw (recent_more p n) (
+    let more = among_more x n (recent p) in rw (recent_more p n) (
       (λ e. ⊎_elim (λ h. IntoRec x n b ((r x).0 h)) (λ h. rw h (FromItsStart n b)) (more.0 e)),
       (λ c. more.1 (⊎_elim (λ h. inl ((r x).1 h)) (λ h. inr h) (origin c))),
     )
@@ -142,31 +130,23 @@ guard : (p : Place) (back : List Symbol) (ts : List Symbol) → Reaches p back �
 guard p back (Word x ∷ ts) r = r x
 guard p back _ r = no_walk
 
--- where a statement stands
-as_block : (b : Written) (p : Place) (k : List Item) (back us : List Symbol) → IsBegun b → Told (Rest p ∷ k) back (stmts b us)
-    → Told (First p ∷ k) back (stmts b us)
-as_block NoStmt p k back us begun h = absurd begun
-as_block _ p k back us begun h = h
-
-as_others : (b : Written) (p : Place) (k : List Item) (back us : List Symbol)
-    → Told (Rest (behind p false) ∷ k) back (stmts b (Is Close ∷ us)) → Told (More p ∷ k) back (stmts b (Is Close ∷ us))
-as_others NoStmt p k back us h = h
-as_others _ p k back us h = h
+-- where a statement stands, or none behind the blocks of a choice
+as_block : (b : Written) (p : Place) (k : List Item) (back us : List Symbol) → let ts = stmts b (Is Close ∷ us) in
+    (IsBegun b → Told (Rest p ∷ k) back ts → Told (First p ∷ k) back ts)
+    × (Told (Rest (behind p false) ∷ k) back ts → Told (More p ∷ k) back ts)
+as_block NoStmt p k back us = ((λ begun h. absurd begun), (λ h. h))
+as_block _ p k back us = ((λ begun h. h), (λ h. h))
 
 opening : (b : Written) (p : Place) (k : List Item) (braces : List (List Symbol)) (back us : List Symbol) → IsBegun b
     → open_braces back ≡ braces → p.depth ≡ length braces → p.recs ≡ recs_of (back ∷ braces) → Reaches p (Is Open ∷ back)
-    → (Here (inside p) (back ∷ braces) (Is Open ∷ back) → Told (Rest (inside p) ∷ k) (Is Open ∷ back) (stmts b us))
-    → Told (Opening p ∷ k) back (Is Open ∷ stmts b us)
+    → (Here (inside p) (back ∷ braces) (Is Open ∷ back)
+    → Told (Rest (inside p) ∷ k) (Is Open ∷ back) (stmts b (Is Close ∷ us)))
+    → Told (Opening p ∷ k) back (Is Open ∷ stmts b (Is Close ∷ us))
 opening b p k braces back us begun same depth recs reaches told ts =
     let deep : nat_le 32 p.depth ≡ nat_le 32 (length (open_braces back)) = rw same (ap (nat_le 32) depth) in
     rw deep (judged back (Is Open) ts (state_at back) (First (inside p) ∷ k) _ _ false refl no_walk refl
-    (λ l l'. as_block b (inside p) k (Is Open ∷ back) us begun (told (record {
-      plain = refl;
-      same = ap (λ (z : List (List Symbol)). back ∷ z) same;
-      fits = (omega (arith, depth), recs);
-      ended = refl;
-      reaches = reaches;
-    }))))
+    (λ l l'. (as_block b (inside p) k (Is Open ∷ back) us).0 begun (told
+    (record { plain = refl; same = rw same refl; fits = (omega arith, recs); ended = refl; reaches = reaches }))))
 
 mutual
   stmts_told : (b : Written) (p : Place) (k : List Item) (braces : List (List Symbol)) (back us : List Symbol) → IsProper b
@@ -181,8 +161,7 @@ mutual
       (record { receives = refl; ends = λ m. refl; is_sender = g; has = λ m q' f. refl }) refl (λ m end same ends.
       stmts_told rest (behind p false) k braces (Is Semicolon ∷ Word m ∷ end) us is
       (here_behind p false braces _ refl (same ∙ e ∙ here.same) here.fits (sym ends) (λ x c. origin c)) next)))))))
-  stmts_told (AChoice s f os rest) p k braces back us is here next = λ ts.
-      let at = Word s ∷ Is At ∷ Is Choice ∷ back in
+  stmts_told (AChoice s f os rest) p k braces back us is here next = λ ts. let at = Word s ∷ Is At ∷ Is Choice ∷ back in
       let reaches = into p back (Is Open ∷ at) (λ x c. IntoChoice x s back c) (λ x c. origin c) here.reaches in
       judged back (Is Choice) ts (state_at back) _ _ p.ended false (sym here.ended) no_walk refl (λ l l'. kept_quiet refl (λ ts'.
       role_told AsActor (Is At ∷ Is Choice ∷ back) s ts' (state_at back) (λ q. Opening p ∷ More p ∷ k) _ _ refl refl refl refl
@@ -191,17 +170,14 @@ mutual
       (λ last e. others_told os rest p k braces at last us is.2 e here.fits reaches
       (λ end same. stmts_told rest (behind p false) k braces (Is Close ∷ end) us is.3
       (here_behind p false braces (Is Close ∷ end) refl same here.fits refl (λ x c. origin c)) next))))))
-  stmts_told (ARec m body rest) p k braces back us is here next = λ ts.
-      let at = Word m ∷ Is Rec ∷ back in
-      let q = inside_rec p m in
-      judged back (Is Rec) ts (state_at back) _ _ p.ended false (sym here.ended) no_walk refl
+  stmts_told (ARec m body rest) p k braces back us is here next = λ ts. let at = Word m ∷ Is Rec ∷ back in
+      let q = inside_rec p m in judged back (Is Rec) ts (state_at back) _ _ p.ended false (sym here.ended) no_walk refl
       (λ l l'. kept_name m refl refl (opening body q (Rest (behind p false) ∷ k) braces at _ is.0 here.same here.fits.0
       (ap (λ (z : List (List ℕ)). z ++ m ∷ []) here.fits.1) (into_rec p m back here.reaches)
       (λ here'. stmts_told body (inside q) (Rest (behind p false) ∷ k) (at ∷ braces) (Is Open ∷ at) _ is.1 here'
       (λ end e. stmts_told rest (behind p false) k braces (Is Close ∷ end) us is.2
       (here_behind p false braces (Is Close ∷ end) refl (ap (drop 1) e) here.fits refl (λ x c. origin c)) next))))
-  stmts_told (AContinue m rest) p k braces back us is here next = λ ts.
-      let at = Is Continue ∷ back in
+  stmts_told (AContinue m rest) p k braces back us is here next = λ ts. let at = Is Continue ∷ back in
       let recs : is_among m p.recs ≡ is_among m (recs_of (open_braces back)) = rw here.same (ap (is_among m) here.fits.1) in
       judged back (Is Continue) ts (state_at back) _ _ p.ended (is_open p ts) (sym here.ended) (guard p back ts here.reaches) refl
       (λ l l' ts'. rw recs (judged_name AsTarget false at m ts' (state_at at) _ _ refl refl refl
@@ -217,16 +193,14 @@ mutual
       → ((end : List Symbol) → open_braces (Is Close ∷ end) ≡ braces
       → Told (Rest (behind p false) ∷ k) (Is Close ∷ end) (stmts b (Is Close ∷ us)))
       → Told (More p ∷ k) (Is Close ∷ back) (blocks_behind Or os (stmts b (Is Close ∷ us)))
-  others_told NoBlock b p k braces first back us are e fits reaches next = as_others b p k (Is Close ∷ back) us (next back (ap (drop 1) e))
-  others_told (ABlock f os) b p k braces first back us are e fits reaches next =
-      let at = Is Or ∷ Is Close ∷ back in
+  others_told NoBlock b p k braces first back us are e fits reaches next =
+      (as_block b p k (Is Close ∷ back) us).1 (next back (ap (drop 1) e))
+  others_told (ABlock f os) b p k braces first back us are e fits reaches next = let at = Is Or ∷ Is Close ∷ back in
       let again = into p (Is Open ∷ first) (Is Open ∷ at) (λ x c. IntoBranch x back first braces e c)
       (λ x c. let o = origin c in rw e at o) reaches in
       kept_quiet refl (opening f p (More p ∷ k) braces at _ are.0 (ap (drop 1) e) fits.0 fits.1 again
       (λ here'. stmts_told f (inside p) (More p ∷ k) (at ∷ braces) (Is Open ∷ at) _ are.1 here'
       (λ last e'. others_told os b p k braces at last us are.2 e' fits again next)))
-
--- ---- the whole
 
 pub derived_told : (ts : List Symbol) → IsDerived ts → Told awaited [] ts
 derived_told ts (s, (declared, proper, is)) = rw is
@@ -240,16 +214,12 @@ derived_told ts (s, (declared, proper, is)) = rw is
     opens = This (Is Open) ∷ Rest outermost ∷ []
 
     body : (back : List Symbol) → open_braces back ≡ [] → Told opens (Is Right ∷ back) (Is Open ∷ stmts s.body (Is Close ∷ []))
-    body back e ts =
-        let at = Is Right ∷ back in
+    body back e ts = let at = Is Right ∷ back in
+        let none : Reaches outermost (Is Open ∷ at) = λ x. ((λ h. absurd cc), (λ c. absurd (origin c))) in
         rw e at (judged at (Is Open) ts (state_at at) (Rest outermost ∷ []) (λ j. Told j (Is Open ∷ at) (stmts s.body (Is Close ∷ [])))
-        _ false refl no_walk refl (λ l l'. stmts_told s.body outermost [] (at ∷ []) (Is Open ∷ at) [] proper (record {
-          plain = refl;
-          same = ap (λ (z : List (List Symbol)). at ∷ z) e;
-          fits = (refl, refl);
-          ended = refl;
-          reaches = λ x. ((λ h. absurd cc), (λ c. absurd (origin c)));
-        }) (λ next same. (refl, rw same refl))))
+        _ false refl no_walk refl (λ l l'. stmts_told s.body outermost [] (at ∷ []) (Is Open ∷ at) [] proper
+        (record { plain = refl; same = rw e refl; fits = (refl, refl); ended = refl; reaches = none })
+        (λ next same. (refl, rw same refl))))
 
 -- behind a whole protocol
 pub all_told : (back ts : List Symbol) (rest : List Item → Type 0) → is_behind_all back ≡ true

@@ -1,6 +1,5 @@
 -- Canonical texts, computed.
-use Rattle.std.proofs.Common.{◌≡◌, [], ◌∷◌, ◌++◌, refl}
-use Rattle.std.specs.Prelude.{codes}
+use Rattle.std.proofs.Common.{◌≡◌, [], ◌∷◌, ◌++◌, refl, codes}
 use Rattle.rcv_model.specs.Text.{Body, End, Single, Choose, Loop, Again, Parallel, Call, NoMore, Or}
 use Rattle.rcv_printer.specs.CanonicalText.{inner, module_line, decl_line, decl_lines, head_line, body_text}
 
@@ -12,11 +11,9 @@ message = refl
 -- a choice in a recursion
 abbrev stream : Body
 stream =
-    Loop (codes "X")
-    (Choose 0
+    Loop (codes "X") (Choose 0
     (Or (Single (codes "more") (codes "Int" ∷ []) 0 1 1 (Again (codes "X") End))
-    (Or (Single (codes "stop") [] 0 1 2 (Single (codes "stop") [] 0 2 3 End)) NoMore))
-    End) End
+    (Or (Single (codes "stop") [] 0 1 2 (Single (codes "stop") [] 0 2 3 End)) NoMore)) End) End
 
 stream_text : module_line (codes "stream" ∷ [])
     (decl_lines [] (codes "\n" ++ head_line (codes "Stream") (codes "A" ∷ codes "B" ∷ codes "C" ∷ []) (body_text (codes "A" ∷ codes "B" ∷ codes "C" ∷ []) (inner []) stream (codes "}\n"))))
@@ -31,8 +28,7 @@ beside = refl
 -- a declaration
 declaration : decl_line
     (record { word = codes "type"; schema = codes "java"; extern_name = codes "java.lang.String"; file = codes "rt.jar"; alias = codes "String" })
-    []
-    ≡ codes "type <java> \"java.lang.String\" from \"rt.jar\" as String;\n"
+    [] ≡ codes "type <java> \"java.lang.String\" from \"rt.jar\" as String;\n"
 declaration = refl
 
 -- a module of two names, and an empty body

@@ -1,6 +1,5 @@
 -- What texts say, from the back to the front: words, marks and blanks in front of a text that says symbols.
-use Rattle.std.proofs.Common.{◌≡◌, ℕ, ◌+◌, ◌-◌, Bool, true, false, List, [], ◌∷◌, ◌++◌, length, Option, Some, None, refl, ap, subst, arith, le-leb, ne_eqb, append_assoc, length-append}
-use Rattle.std.specs.Prelude.{take_while, slice_get, slice_range, ◌==◌, ◌&&◌, ◌||◌}
+use Rattle.std.proofs.Common.{◌≡◌, ℕ, ◌+◌, ◌-◌, Bool, true, false, List, [], ◌∷◌, ◌++◌, length, Option, Some, None, refl, ap, subst, arith, le-leb, ne_eqb, append_assoc, length-append, take_while, slice_get, slice_range, ◌==◌, ◌&&◌, ◌||◌}
 use Rattle.std.proofs.lemmas.Bool.Decides.{nat_tests}
 use Rattle.std.proofs.lemmas.List.Sums.{take_while-cons}
 use Rattle.std.proofs.Math.Seq.{take-append_seam, drop-append_seam}
@@ -107,7 +106,7 @@ dot {next} said = mark 46 (rw (alone 46 next refl) refl) refl said
 pub close : {next : List ℕ} {s : List Symbol} → Says next s → Says (125 ∷ next) (Is Close ∷ s)
 close {next} said = mark 125 (rw (alone 125 next refl) refl) refl said
 
--- ---- words
+-- ---- words and quotes
 
 -- the next byte, if there is one, doesn't pass
 abbrev pub StopsAt : (ℕ → Bool) → List ℕ → Type 0
@@ -154,8 +153,6 @@ name n h said stop = rw h.1 at (word n h.0 said stop)
 pub less_piece : (w next : List ℕ) → IsWord w → piece_of (60 ∷ (w ++ next)) ≡ Some (piece (Some kinds.Mark) 1)
 less_piece [] next h = absurd h
 less_piece (b ∷ w) next h = rw (isn't is_letter b 61 h.0 refl) refl
-
--- ---- quotes
 
 get_behind : (q next : List ℕ) (b : ℕ) → slice_get (q ++ b ∷ next) (length q) ≡ Some b
 get_behind [] next b = refl

@@ -1,7 +1,5 @@
 -- A canonical text says the spelling of its source.
-use Rattle.std.proofs.Common.{◌≡◌, ℕ, true, List, [], ◌∷◌, ◌++◌, refl, ⊎_elim, append_assoc, rules}
-use Rattle.std.specs.Prelude.{codes}
-use Rattle.std.specs.Str.{bytes_eq}
+use Rattle.std.proofs.Common.{◌≡◌, ℕ, true, List, [], ◌∷◌, ◌++◌, refl, ⊎_elim, append_assoc, rules, codes, bytes_eq}
 use Rattle.std.proofs.lemmas.Bool.{cases_Bool}
 use Rattle.std.proofs.lemmas.Slice.Eq.{bytes_eq-Decides}
 use Rattle.rcv_tree.specs.Lists.{declarations}
@@ -97,7 +95,6 @@ mutual
       let to = space (spaced (codes "to") (search rules) (name (name_at roles receiver) h.3 after refl)) in
       let source = mark 41 refl refl (space (spaced (codes "from") (search rules) (name (name_at roles sender) h.2 to refl))) in
       m _ _ (name label h.0 (left (says_sorts sorts h.1 source refl)) refl)
-  says_body roles margin (Choose subject NoMore rest) next s m h said = absurd h.1
   says_body roles margin (Choose subject (Or first others) rest) next s m h said =
       let after = feed (says_body roles margin rest next s m h.2 said) in
       let joins : Joins (codes " or ") sign.Or = λ _ _ more. space (spaced (codes "or") (search rules) more) in
@@ -111,18 +108,16 @@ mutual
   says_body roles margin (Again n rest) next s m h said =
       let after = mark 59 refl refl (feed (says_body roles margin rest next s m h.1 said)) in
       m _ _ (spaced (codes "continue") (search rules) (name n h.0 after refl))
-  says_body roles margin (Parallel NoMore rest) next s m h said = absurd h.0
-  says_body roles margin (Parallel (Or first NoMore) rest) next s m h said = absurd h.0.1
   says_body roles margin (Parallel (Or first (Or second others)) rest) next s m h said =
       let after = feed (says_body roles margin rest next s m h.1 said) in
       let joins : Joins (codes " and ") sign.And = λ _ _ more. space (spaced (codes "and") (search rules) more) in
       let more = m _ _ (close (says_blocks roles margin (codes " and ") sign.And (Or second others) _ _ m joins h.0.1 after)) in
       m _ _ (spaced (codes "par") (search rules) (opened (says_body roles (inner margin) first _ _ (inner_margin margin m) h.0.0 more)))
-  says_body roles margin (Call n [] rest) next s m h said = absurd h.1
   says_body roles margin (Call n (r ∷ rs) rest) next s m h said =
       let after = mark 41 refl refl (mark 59 refl refl (feed (says_body roles margin rest next s m h.2 said))) in
       let places = says_list commas (name_at roles r) (names_at roles rs) h.1.0 h.1.1 after refl in
       m _ _ (spaced (codes "do") (search rules) (name n h.0 (left places) refl))
+  says_body roles margin _ next s m h said = absurd assumption
 
   says_blocks : (roles : List (List ℕ)) (margin between : List ℕ) (word : Sign) (bs : Bodies) (next : List ℕ) (s : List Symbol) → IsMargin margin → Joins between word
       → ArePrintableBlocks roles bs → Says next s → Says (blocks_text roles margin between between bs next) (blocks_behind word (blocks_of roles bs) s)

@@ -17,7 +17,7 @@ use Rattle.rcv_machine.specs.Machine.{Item, This, Subject, Opening, First, Rest,
 use Rattle.rcv_reader.specs.declared.parser.Spot.{Spot}
 use Rattle.rcv_reader.specs.declared.stop.Stop.{Stop}
 use Rattle.rcv_reader.specs.Standing.{Standing, at, back_at, within, answers, IsOver}
-use Rattle.rcv_reader.specs.Descent.{place_at, place_of_spot, messages, in_front, branches_in_front, AreReceived, AreStmts, AreBlocks, IsBehind, Adds, Consumes, TakesSome, TakesAll, TakesBlock}
+use Rattle.rcv_reader.specs.Descent.{place_at, place_of_spot, messages, in_front, branches_in_front, AreReceived, AreStmts, AreBlocks, Adds, Consumes, TakesSome, TakesAll, TakesBlock}
 use Rattle.rcv_reader.proofs.Stops.{halts_behind}
 
 -- ---- one statement
@@ -33,15 +33,16 @@ messages_in_front label sorts sender (r ∷ rs) n rest = rw (stmt_body-Message, 
 
 -- Added statements are those in front of what stands behind them.
 added_by : (roles : List (List ℕ)) (n n' : ℕ) (added block block' : List Stmt) (old new : List Symbol) → block' ≡ block ++ added
-    → ((m : ℕ) (body : trees.Body) (next : List Symbol) → AreStmts roles n' m body new next
-    → (w : AreStmts roles n m (in_front added body) old next) × IsBegun w.written)
+    → (more : (m : ℕ) (body : trees.Body) (next : List Symbol) → AreStmts roles n' m body new next
+    → AreStmts roles n m (in_front added body) old next)
+    → ((m : ℕ) (body : trees.Body) (next : List Symbol) (w : AreStmts roles n' m body new next) → IsBegun (more m body next w).written)
     → Adds true roles n n' block block' old new
-added_by roles n n' added block block' old new is more = record {
+added_by roles n n' added block block' old new is more begun = record {
   front = λ m body next w. record {
     body = in_front added body;
     same = ap (λ (x : List Stmt). in_front x body) is ∙ in_front-append block added body;
-    stmts = (more m body next w).0;
-    begun = λ is. (more m body next w).1;
+    stmts = more m body next w;
+    begun = λ is. begun m body next w;
   };
 }
 
@@ -59,35 +60,29 @@ message_read p p1 p2 p3 p4 new label sorts sender receivers points block block' 
     let count : new.count ≡ p4.count + (1 + length are.others) = omega (arith, are.counted, long) in
     rw (e1, e2, role.2, e4, are.spelled) (
       refl,
-      added_by new.roles p4.count new.count _ block block' _ _ (rw before at is) (λ m body next w. (
-        record {
-          written = AMessage label sorts role.0 are.first are.others w.written;
-          sound = (
-            w.sound.0,
-            ((sender, is_role), subst (λ (x : ℕ). MayReceive new.roles x [] (are.first ∷ are.others)) (sym place) are.may, w.sound.1),
-          );
-          spelled = rw w.spelled refl;
-          counted = omega (arith, count, w.counted);
-          tree = messages_in_front label sorts sender receivers p4.count body ∙ rw (w.tree, ← place, are.places, count) refl;
-        },
-        tt,
-      )),
+      added_by new.roles p4.count new.count _ block block' _ _ (rw before at is) (λ m body next w. record {
+        written = AMessage label sorts role.0 are.first are.others w.written;
+        sound = (
+          w.sound.0,
+          ((sender, is_role), subst (λ (x : ℕ). MayReceive new.roles x [] (are.first ∷ are.others)) (sym place) are.may, w.sound.1),
+        );
+        spelled = rw w.spelled refl;
+        counted = omega (arith, count, w.counted);
+        tree = messages_in_front label sorts sender receivers p4.count body ∙ rw (w.tree, ← place, are.places, count) refl;
+      }) (λ m body next w. tt),
     )
 
 pub again_read : (p0 p1 new : Standing) (name : List ℕ) (block block' : List Stmt) → p0 ≡ at p1 (Word name ∷ p1.rest)
     → p1 ≡ at new (Is Semicolon ∷ new.rest) → block' ≡ block ++ stmt.Continue name ∷ [] → TakesSome p0 new (Is Continue ∷ []) block block'
 again_read p0 p1 new name block block' e f is = rw (e, f) (
   refl,
-  added_by new.roles new.count new.count _ block block' _ _ is (λ m body next w. (
-    record {
-      written = AContinue name w.written;
-      sound = w.sound;
-      spelled = rw w.spelled refl;
-      counted = w.counted;
-      tree = rw (stmt_body-Continue, w.tree) refl;
-    },
-    tt,
-  )),
+  added_by new.roles new.count new.count _ block block' _ _ is (λ m body next w. record {
+    written = AContinue name w.written;
+    sound = w.sound;
+    spelled = rw w.spelled refl;
+    counted = w.counted;
+    tree = rw (stmt_body-Continue, w.tree) refl;
+  }) (λ m body next w. tt),
 )
 
 pub rec_read : (p q r new : Standing) (name : List ℕ) (body : Block) (block block' : List Stmt)
@@ -99,16 +94,13 @@ rec_read p q r new name body block block' (n, e, entered) takes leaves is =
     let (left, same) = leaves p.recs n (sym (ap (λ (x : Standing). x.recs) kept)) in
     rw left (
       ap (λ (x : Standing). at (within x p.recs) p.rest) kept,
-      added_by r.roles p.count r.count _ block block' _ _ (rw same at is) (λ l rest next w. (
-        record {
-          written = ARec n b.written w.written;
-          sound = ((begun, b.sound.0, w.sound.0), (b.sound.1, w.sound.1));
-          spelled = rw (ap (λ (x : Standing). x.rest) e, opened, b.spelled, w.spelled) refl;
-          counted = omega (arith, b.counted, w.counted);
-          tree = rw (stmt_body-Rec, b.tree, w.tree, b.counted) refl;
-        },
-        tt,
-      )),
+      added_by r.roles p.count r.count _ block block' _ _ (rw same at is) (λ l rest next w. record {
+        written = ARec n b.written w.written;
+        sound = ((begun, b.sound.0, w.sound.0), (b.sound.1, w.sound.1));
+        spelled = rw (ap (λ (x : Standing). x.rest) e, opened, b.spelled, w.spelled) refl;
+        counted = omega (arith, b.counted, w.counted);
+        tree = rw (stmt_body-Rec, b.tree, w.tree, b.counted) refl;
+      }) (λ l rest next w. tt),
     )
 
 -- the blocks of a choice, of which there is a first
@@ -132,17 +124,14 @@ choice_added p r new subject bs block block' role kept b lt is =
     let tree = rw both at b.tree in
     rw (role.2, kept) (
       refl,
-      added_by new.roles r.count new.count _ block block' _ _ is (λ m body next w. (
-        record {
-          written = AChoice role.0 first others w.written;
-          sound = ((sound.0.0, sound.0.1, sound.0.2, w.sound.0), ((subject, is_role), sound.1.0, sound.1.1, w.sound.1));
-          spelled = ap (λ (x : List Symbol). Is Choice ∷ Is At ∷ Word role.0 ∷ x)
-              (spelled ∙ ap (λ (x : List Symbol). Is Open ∷ stmts first (Is Close ∷ blocks_behind Or others x)) w.spelled);
-          counted = omega (arith, counted, w.counted);
-          tree = rw (stmt_body-Choice, tree, w.tree, counted, place) refl;
-        },
-        tt,
-      )),
+      added_by new.roles r.count new.count _ block block' _ _ is (λ m body next w. record {
+        written = AChoice role.0 first others w.written;
+        sound = ((sound.0.0, sound.0.1, sound.0.2, w.sound.0), ((subject, is_role), sound.1.0, sound.1.1, w.sound.1));
+        spelled = ap (λ (x : List Symbol). Is Choice ∷ Is At ∷ Word role.0 ∷ x)
+            (spelled ∙ ap (λ (x : List Symbol). Is Open ∷ stmts first (Is Close ∷ blocks_behind Or others x)) w.spelled);
+        counted = omega (arith, counted, w.counted);
+        tree = rw (stmt_body-Choice, tree, w.tree, counted, place) refl;
+      }) (λ m body next w. tt),
     )
 
 -- What stands behind the first symbol of a statement was taken, and so the statement was.
@@ -168,12 +157,13 @@ nothing roles n ts = record { written = NoStmt; sound = (tt, tt); spelled = refl
 pub no_stmts : (roles : List (List ℕ)) (count : ℕ) (block : List Stmt) (ts : List Symbol) → Adds false roles count count block block ts ts
 no_stmts roles count block ts = record { front = λ m body next w. record { body = body; same = refl; stmts = w; begun = λ is. cc } }
 
--- What stands behind what was added is behind the block.
-join : (some other : Bool) (roles : List (List ℕ)) (n k m : ℕ) (block block1 : List Stmt) (whole : trees.Body)
-    (start now next : List Symbol) → Adds some roles n k block block1 start now → IsBehind other roles k m block1 whole now next
-    → IsBehind some roles n m block whole start next
-join some other roles n k m block block1 whole start now next adds b =
-    let a = adds.front m b.body next b.stmts in record { body = a.body; same = b.same ∙ a.same; stmts = a.stmts; begun = a.begun }
+-- More was added behind what was added.
+join : (some other : Bool) (roles : List (List ℕ)) (n k j : ℕ) (block block1 block2 : List Stmt) (start now new : List Symbol)
+    → Adds some roles n k block block1 start now → Adds other roles k j block1 block2 now new → Adds some roles n j block block2 start new
+join some other roles n k j block block1 block2 start now new adds more = record {
+  front = λ m body next w. let b = more.front m body next w in
+      let a = adds.front m b.body next b.stmts in record { body = a.body; same = b.same ∙ a.same; stmts = a.stmts; begun = a.begun };
+}
 
 pub record StmtsSoFar (old now : Standing) (spot here : Spot) (block block' : List Stmt) : Type 0 where
   pub goes : (k : List Item) → answers old (Rest (place_of_spot old spot) ∷ k) ≡ answers now (Rest (place_of_spot now here) ∷ k)
@@ -192,10 +182,7 @@ stmts_next old p q new spot here next block block1 block2 so_far e over goes tak
     record {
       goes = λ k. so.goes k ∙ over.over (Rest (place_of_spot q here)) k refl ∙ goes k;
       kept = kept.kept;
-      adds = record {
-        front = λ m body after w. join false true new.roles old.count q.count m block block1 _ old.rest q.rest after kept.adds
-            (takes.1.front m body after w);
-      };
+      adds = join _ _ _ _ _ _ _ _ _ _ _ _ kept.adds takes.1;
       within = omega (arith, none);
       shorter = omega (arith, so.shorter);
     }
@@ -212,17 +199,13 @@ pub whole_block : (some : Bool) (b : Block) (roles : List (List ℕ)) (n k : ℕ
     → (w : AreStmts roles n k (trees.body_of b) start now) × (some ≡ true → IsBegun w.written)
 whole_block some b roles n k block start now empty adds =
     let a = rw empty at (adds.front k trees.End now (nothing roles k now)) in
-    subst (λ (x : trees.Body). (w : AreStmts roles n k x start now) × (some ≡ true → IsBegun w.written))
-    (sym a.same ∙ joined-in_front (statements b) ∙ sym (body_of_lem b)) (a.stmts, a.begun)
+    rw (body_of_lem b, ← joined-in_front (statements b), a.same) (a.stmts, a.begun)
 
 pub block_read : (p q r new : Standing) (b : Block) (none block : List Stmt) → p ≡ at q (Is Open ∷ q.rest) → none ≡ []
     → TakesSome q r [] none block → TakesAll r new block (statements b) → TakesBlock p new b
 block_read p q r new b none block e empty first rest =
     let a = rw rest.0 at first in
-    let all : Adds true new.roles q.count new.count none (statements b) q.rest (Is Close ∷ new.rest) = record {
-      front = λ m body after w. join true false new.roles q.count r.count m none block _ q.rest r.rest after a.1
-          (rest.1.front m body after w);
-    } in
+    let all = join _ _ _ _ _ _ _ _ _ _ _ _ a.1 rest.1 in
     let whole = whole_block true b new.roles q.count new.count none q.rest (Is Close ∷ new.rest) empty all in
     rw e (ap (λ (x : Standing). at x (Is Open ∷ q.rest)) a.0, q.rest, refl, whole.0, whole.1 refl)
 
@@ -306,7 +289,6 @@ choice_read old p q new spot subject bs all b block block' so_far (kept, inner, 
     let none : AreBlocks q.roles q.count q.count trees.NoMore q.rest q.rest =
     record { written = NoBlock; sound = (tt, tt); spelled = refl; counted = omega arith; tree = refl } in
     let last = block_in_front q.roles p.count q.count q.count _ trees.NoMore p.rest inner q.rest q.rest opened body begun none in
-    let whole = subst (λ (x : trees.Bodies). AreBlocks q.roles so.start.count q.count x (Is Or ∷ so.start.rest) q.rest)
-    (sym (branches-push bs b trees.NoMore) ∙ ap (λ (x : List Block). branches_in_front x trees.NoMore) (sym is)
-    ∙ alternatives-in_front (blocks all) ∙ sym (bodies_of_lem all)) (so.reads q.count _ q.rest last) in
+    let whole : AreBlocks q.roles so.start.count q.count (trees.bodies_of all) (Is Or ∷ so.start.rest) q.rest =
+    rw (bodies_of_lem all, ← alternatives-in_front (blocks all), is, branches-push) (so.reads q.count _ q.rest last) in
     rw (← over) (choice_added old so.start q subject all block block' so.role so.kept whole (omega (arith, so.shorter.0, lt)) added)

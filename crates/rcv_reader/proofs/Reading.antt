@@ -10,7 +10,7 @@ use Rattle.rcv_tree.specs.declared.statement.Stmt.TheVariants as statements
 use Rattle.rcv_syntax.specs.declared.sign.Sign.{Sign}
 use Rattle.rcv_syntax.specs.declared.sign.Sign.TheVariants.{Right, Role, Comma, Semicolon, Dot}
 use Rattle.rcv_syntax.specs.Symbols.{Symbol, Is, Word}
-use Rattle.rcv_syntax.specs.Grammar.{dotted, names_behind, sort_list, decl, decls, AreDecls, is_decl_word}
+use Rattle.rcv_syntax.specs.Grammar.{dotted, names_behind, roles_behind, sort_list, decl, decls, AreDecls, is_decl_word}
 use Rattle.rcv_syntax.specs.Trees.{or_first, place_of, is_listed, role_at, roles_at, MayReceive}
 use Rattle.rcv_machine.specs.Machine.{Item, This, AnyName, MoreModules, Decls, RoleName, MoreRoles, MoreSorts, Receiver, MoreReceivers}
 use Rattle.rcv_reader.specs.Standing.{Standing, at, with_roles, answers}
@@ -25,10 +25,6 @@ one_more : {X : Type 0} (spell : List X → List Symbol → List Symbol) (one : 
 one_more spell one none some [] y next = some y [] next ∙ ap (one y) (none next) ∙ sym (none (one y next))
 one_more spell one none some (x ∷ xs) y next =
     some x (xs ++ y ∷ []) next ∙ ap (one x) (one_more spell one none some xs y next) ∙ sym (some x xs (one y next))
-
-names_push : (ns : List (List ℕ)) (m : List ℕ) (next : List Symbol)
-    → names_behind (ns ++ m ∷ []) next ≡ names_behind ns (Is Comma ∷ Word m ∷ next)
-names_push = one_more names_behind (λ n next. Is Comma ∷ Word n ∷ next) (λ next. refl) (λ n ns next. refl)
 
 -- The same where the first stands alone, and each other one behind signs.
 one_behind : (spell behind : List (List ℕ) → List Symbol → List Symbol) (one : List ℕ → List Symbol → List Symbol)
@@ -92,35 +88,29 @@ modules_are_listed = record {
 
 -- ---- the roles
 
--- in front of one more role
-abbrev pub roles_so_far : List (List ℕ) → List Symbol → List Symbol
-roles_so_far [] next = next
-roles_so_far (n ∷ ns) next = Is Role ∷ Word n ∷ Is Comma ∷ roles_so_far ns next
+roles_push : (ns : List (List ℕ)) (m : List ℕ) (next : List Symbol) → ns ≢ []
+    → names_of_roles (ns ++ m ∷ []) next ≡ names_of_roles ns (Is Comma ∷ Is Role ∷ Word m ∷ next)
+roles_push = one_behind names_of_roles roles_behind (λ n next. Is Comma ∷ Is Role ∷ Word n ∷ next) (λ next. refl)
+    (λ n ns next. refl) (λ n ns next. refl)
 
-one_role_more : (ns : List (List ℕ)) (m : List ℕ) (next : List Symbol)
-    → roles_so_far ns (Is Role ∷ Word m ∷ next) ≡ Is Role ∷ names_of_roles (ns ++ m ∷ []) next
-one_role_more [] m next = refl
-one_role_more (n ∷ []) m next = refl
-one_role_more (n ∷ k ∷ ns) m next = ap (λ (x : List Symbol). Is Role ∷ Word n ∷ Is Comma ∷ x) (one_role_more (k ∷ ns) m next)
-
-roles_push : (ns : List (List ℕ)) (m : List ℕ) (next : List Symbol)
-    → roles_so_far (ns ++ m ∷ []) next ≡ roles_so_far ns (Is Role ∷ Word m ∷ Is Comma ∷ next)
-roles_push = one_more roles_so_far (λ n next. Is Role ∷ Word n ∷ Is Comma ∷ next) (λ next. refl) (λ n ns next. refl)
-
+-- The first roles were read, and one more has to stand behind them.
 pub record RolesSoFar (old now : Standing) : Type 0 where
   pub goes : (k : List Item) → answers old (This (Is Role) ∷ RoleName ∷ k) ≡ answers now (This (Is Role) ∷ RoleName ∷ k)
-  pub read : old ≡ with_roles now [] (roles_so_far now.roles now.rest)
+  pub read : (n : List ℕ) (next : List Symbol) → now.rest ≡ Is Role ∷ Word n ∷ next
+      → old ≡ with_roles now [] (Is Role ∷ names_of_roles (now.roles ++ n ∷ []) next)
+
+-- One role more, in front of what is next.
+role_read : (old p q r : Standing) → RolesSoFar old p → p ≡ at q (Is Role ∷ q.rest) → (a : AddsName q r)
+    → (r.roles ≢ []) × (old ≡ with_roles r [] (Is Role ∷ names_of_roles r.roles r.rest))
+role_read old p q r so_far e a =
+    let spelled = a.spelled in
+    let so = rw (e, spelled) at so_far in
+    (rw a.added (not_empty q.roles a.name), rw a.added (so.read a.name r.rest refl))
 
 pub roles_read : {X E : Type 0} (r : Result X E) (old p q end now new : Standing) → RolesSoFar old p → p ≡ at q (Is Role ∷ q.rest)
     → AddsName q end → end ≡ now → OnOk r (now ≡ at new (Is Right ∷ new.rest))
     → OnOk r ((new.roles ≢ []) × (old ≡ with_roles new [] (Is Role ∷ names_of_roles new.roles (Is Right ∷ new.rest))))
-roles_read (Ok x) old p q end now new so_far e adds f g =
-    let so = rw e at so_far in
-    let a = rw (f, g) at adds in (
-      rw a.added (not_empty q.roles a.name),
-      so.read ∙ ap (λ (x : Standing). with_roles x [] (roles_so_far q.roles (Is Role ∷ x.rest))) a.spelled
-          ∙ ap (with_roles new []) (rw (a.added, one_role_more q.roles a.name (Is Right ∷ new.rest)) refl),
-    )
+roles_read (Ok x) old p q end now new so_far e adds f g = rw (f, g) at (role_read old p q end so_far e adds)
 roles_read (Err e) old p q end now new so_far f adds g h = tt
 
 pub roles_next : (old p q r new : Standing) → RolesSoFar old p → p ≡ at q (Is Role ∷ q.rest)
@@ -128,13 +118,10 @@ pub roles_next : (old p q r new : Standing) → RolesSoFar old p → p ≡ at q 
     → RolesSoFar old new
 roles_next old p q r new so_far e goes adds f =
     let so = rw e at so_far in
+    let (some, read) = rw f at (role_read old p q r so_far e adds) in
     record {
       goes = λ k. so.goes k ∙ goes k ∙ ap (λ (x : Standing). answers x (MoreRoles ∷ k)) f;
-      read = so.read
-          ∙ ap (λ (x : Standing). with_roles x [] (roles_so_far q.roles (Is Role ∷ x.rest)))
-          (adds.spelled ∙ ap (λ (x : Standing). with_roles x q.roles (Word adds.name ∷ x.rest)) f)
-          ∙ ap (with_roles new []) (sym (roles_push q.roles adds.name new.rest)
-          ∙ ap (λ (x : List (List ℕ)). roles_so_far x new.rest) (sym adds.added ∙ ap (λ (x : Standing). x.roles) f));
+      read = λ n next is. rw (roles_push new.roles n next some, ← is) read;
     }
 
 -- ---- the declarations
@@ -150,8 +137,7 @@ pub record DeclsSoFar (old now : Standing) (aliases : BTreeSet (Bor (List ℕ)))
   pub taken : AreTaken ds old now
 
 pub decls_next : (old p q new : Standing) (aliases aliases' : BTreeSet (Bor (List ℕ))) (ds ds' : List Decl) (d : Decl)
-    → DeclsSoFar old p aliases ds → p ≡ q
-    → ((names : List (List ℕ)) → HasThese aliases names → (k : List Item)
+    → DeclsSoFar old p aliases ds → p ≡ q → ((names : List (List ℕ)) → HasThese aliases names → (k : List Item)
     → answers q (Decls names ∷ k) ≡ answers new (Decls (names ++ d.alias ∷ []) ∷ k))
     → ((names : List (List ℕ)) → HasThese aliases names → HasThese aliases' (names ++ d.alias ∷ []))
     → AreTaken (d ∷ []) q new → ds' ≡ ds ++ d ∷ [] → DeclsSoFar old new aliases' ds'
@@ -220,7 +206,8 @@ receivers_next old p q new sender before after so_far e goes (role, is, pushed) 
         may = may_push new.roles sender [] (had.first ∷ had.others) is.name role is.is_role (rw had.places at is.first) is.apart had.may;
         places = rw (pushed, had.places, ← place) (sym (map-append (role_at new.roles) (had.first ∷ had.others) (is.name ∷ [])));
         counted = rw pushed (omega (arith, is.counted, had.counted, length-append before (role ∷ [])));
-        spelled = rw names_push had.spelled;
+        spelled = rw (one_more names_behind (λ n next. Is Comma ∷ Word n ∷ next) (λ next. refl) (λ n ns next. refl) had.others
+            is.name new.rest) had.spelled;
       };
       shorter = omega (arith, so.shorter);
     }

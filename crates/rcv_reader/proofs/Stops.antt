@@ -28,15 +28,6 @@ goes_on (Ok x) p new front item behind goes h = (λ k. goes k ∙ h.0 k, h.1)
 goes_on (Err errors.Memory) p new front item behind goes h = h
 goes_on (Err (errors.Refused fault)) p new front item behind goes h = (λ k. goes k ∙ h.0 k, tt)
 
--- ---- an outcome decides the answer
-
-same_step : (s : State) (k k' : List Item) (t : Symbol) (ts : List Symbol) → step s t ts k ≡ step s t ts k'
-    → answer s k (t ∷ ts) ≡ answer s k' (t ∷ ts)
-same_step s k k' t ts e = ap (λ (o : Outcome). after o (t ∷ ts) (λ s' k''. answer s' k'' ts)) e
-
-not_first : (m t : Symbol) (ts : List Symbol) → IsNotNext m (t ∷ ts) → t ≡ m → ⊥
-not_first m t ts h e = h ts (ap (λ (x : Symbol). x ∷ ts) e)
-
 -- ---- a sign isn't next
 
 no_this : (b : Bool) (s : State) (k : List Item) (m t : Symbol) → meets t m ≡ b → (t ≡ m → ⊥) → cond b (On s k) (Wrong Token) ≡ Wrong Token
@@ -46,33 +37,25 @@ no_this false s k m t e h = refl
 stops_at : (s : State) (sign : Sign) (ts : List Symbol) → IsNotNext (Is sign) ts → (k : List Item)
     → answer s (This (Is sign) ∷ k) ts ≡ Refuses Token ts
 stops_at s sign [] h k = refl
-stops_at s sign (t ∷ ts) h k =
-    ap (λ (o : Outcome). after o (t ∷ ts) (λ s' k'. answer s' k' ts))
-    (no_this (meets t (Is sign)) s k (Is sign) t refl (not_first (Is sign) t ts h))
+stops_at s sign (t ∷ ts) h k = ap (λ (o : Outcome). after o (t ∷ ts) (λ s' k'. answer s' k' ts))
+    (no_this (meets t (Is sign)) s k (Is sign) t refl (λ e. h ts (rw e refl)))
 
 over_step : (s : State) (i : Item) (sign : Sign) (k : List Item) (t : Symbol) (ts : List Symbol) → (going_on i).0 ≡ Some sign → (t ≡ Is sign → ⊥)
     → step s t ts (i ∷ k) ≡ step s t ts ((going_on i).1 ∷ (going_on i).2 ++ k)
 over_step s MoreModules sign k (Is Dot) ts is h = absurd (h cc)
-over_step s MoreModules sign k _ ts is h = refl
 over_step s MoreRoles sign k (Is Comma) ts is h = absurd (h cc)
-over_step s MoreRoles sign k _ ts is h = refl
 over_step s Sorts sign k (Is Right) ts is h = absurd (h cc)
-over_step s Sorts sign k _ ts is h = refl
 over_step s MoreSorts sign k (Is Comma) ts is h = absurd (h cc)
-over_step s MoreSorts sign k _ ts is h = refl
 over_step s (MoreReceivers sender before) sign k (Is Comma) ts is h = absurd (h cc)
-over_step s (MoreReceivers sender before) sign k _ ts is h = refl
 over_step s (Rest p) sign k (Is Close) ts is h = absurd (h cc)
-over_step s (Rest p) sign k _ ts is h = refl
 over_step s (More p) sign k (Is Or) ts is h = absurd (h cc)
-over_step s (More p) sign k _ ts is h = refl
-over_step s _ sign k t ts is h = absurd cc
+over_step s _ sign k _ ts is h = refl
 
 over_at : (s : State) (sign : Sign) (ts : List Symbol) → IsNotNext (Is sign) ts → (i : Item) (k : List Item) → (going_on i).0 ≡ Some sign
     → answer s (i ∷ k) ts ≡ answer s ((going_on i).1 ∷ (going_on i).2 ++ k) ts
 over_at s sign [] h i k is = refl
 over_at s sign (t ∷ ts) h i k is =
-    same_step s (i ∷ k) ((going_on i).1 ∷ (going_on i).2 ++ k) t ts (over_step s i sign k t ts is (not_first (Is sign) t ts h))
+    ap (λ (o : Outcome). after o (t ∷ ts) (λ s' k'. answer s' k' ts)) (over_step s i sign k t ts is (λ e. h ts (rw e refl)))
 
 pub is_over : (sign : Sign) (p : Standing) → IsNotNext (Is sign) p.rest → IsOver sign p
 is_over sign p h = record {

@@ -19,11 +19,8 @@ use Rattle.rcv_reader.specs.Descent.{Halts, Ends, IsHead, TakesAll, at_first, pl
 use Rattle.rcv_reader.proofs.Blocks.{whole_block}
 use Rattle.rcv_reader.proofs.Formed.{tree_has_form}
 
--- a list that isn't empty
-abbrev Parts : List (List ℕ) → Type 0
-Parts xs = (first : List ℕ) × (others : List (List ℕ)) × (xs ≡ first ∷ others)
-
-parts_of : (xs : List (List ℕ)) → (xs ≡ [] → ⊥) → Parts xs
+-- of a list that isn't empty
+parts_of : (xs : List (List ℕ)) → (xs ≡ [] → ⊥) → (first : List ℕ) × (others : List (List ℕ)) × (xs ≡ first ∷ others)
 parts_of [] some = absurd (some refl)
 parts_of (x ∷ xs) some = (x, xs, refl)
 

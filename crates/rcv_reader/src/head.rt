@@ -66,13 +66,10 @@ impl<'a> Parser<'a> {
         ensures goes { Takes result self.old self.new (λ k. This (Word (codes "as")) ∷ k) (λ x k. k) }
         ensures read { OnOk result (self.old ≡ at self.new (Word (codes "as") ∷ self.new.rest)) }
     {
-        let Some((Lexeme::Word(bytes), after)) = self.next() else {
-            return Err(Stop::Refused(Fault::Token));
-        };
-        if !is(bytes, b"as") {
-            return Err(Stop::Refused(Fault::Token));
+        match self.next() {
+            Some((Lexeme::Word(bytes), after)) if is(bytes, b"as") => self.go_to(after),
+            _ => return Err(Stop::Refused(Fault::Token)),
         }
-        self.go_to(after);
         Ok(())
     }
 

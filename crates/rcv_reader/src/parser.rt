@@ -142,6 +142,7 @@ impl<'a> Parser<'a> {
     }
 
     /// Takes this word or mark if it is next.
+    #[tactic(auto, using(crate::proofs::Stops::is_over))]
     pub fn takes(&mut self, sign: Sign) -> bool
         ensures yes { result ≡ true → self.old ≡ at self.new (Is sign ∷ self.new.rest) }
         ensures no { result ≡ false → (self.old ≡ self.new) × IsOver sign self.new }
@@ -186,6 +187,7 @@ impl<'a> Parser<'a> {
     }
 
     /// Takes names with a sign between two, and the sign behind them.
+    #[tactic(auto, using(crate::proofs::Reading::names_first))]
     pub fn names(&mut self, alloc: Global, between: Sign, behind: Sign) -> Result<Names, Stop>
         ensures goes { (more : Item) (spell : List (List ℕ) → List Symbol → List Symbol)
             → IsNameList between behind more spell → Consumes result self.old self.new (λ k. AnyName ∷ more ∷ k) (λ x k. k) }
@@ -236,10 +238,8 @@ impl<'a> Parser<'a> {
         ensures is { result ≡ place_of self.now.roles name.now }
         ensures few { IfSome result (λ place. place < 8) }
     {
-        self.roles
-            .as_slice()
-            .iter()
-            .position(|role| role.as_slice() == name)
+        let roles = self.roles.as_slice();
+        roles.iter().position(|role| role.as_slice() == name)
     }
 
     // Takes this word, and the name of a role behind it: the subject of a choice, or a sender.
@@ -303,6 +303,7 @@ impl<'a> Parser<'a> {
     }
 
     // Takes all receivers of a message, and the mark behind them.
+    #[tactic(auto, using(crate::proofs::Reading::receivers_first))]
     fn receivers(&mut self, alloc: Global, sender: RoleId) -> Result<Roles, Stop>
         ensures goes { Consumes result self.old self.new (λ k. Receiver sender [] ∷ k) (λ x k. k) }
         ensures read { IfOk result (AreReceived self.old (at self.new (Is Sign.Semicolon ∷ self.new.rest)) sender) }
@@ -328,15 +329,8 @@ impl<'a> Parser<'a> {
         let sender = self.role(Sign::From)?;
         self.expect(Sign::To)?;
         let receivers = self.receivers(alloc, sender)?;
-        Ok(add_messages(
-            alloc,
-            label,
-            &sorts,
-            sender,
-            receivers.as_slice(),
-            self.count,
-            block,
-        )?)
+        let list = receivers.as_slice();
+        Ok(add_messages(alloc, label, &sorts, sender, list, self.count, block)?)
     }
 
     // Takes the name behind `continue`, which is that of an enclosing recursion, and the mark behind it.
@@ -474,11 +468,9 @@ impl<'a> Parser<'a> {
         ensures read { IfOk result (λ b. TakesBlock self.old self.new b) }
     {
         self.open(spot)?;
-        let mut here = Spot {
-            depth: spot.depth + 1,
-            comes: spot.comes,
-            ended: false,
-        };
+        let mut here = spot;
+        here.depth += 1;
+        here.ended = false;
         let mut block = Block::new(alloc);
         self.stmt(alloc, &mut here, &mut block)?;
         self.stmts(alloc, here, &mut block)?;

@@ -1,9 +1,7 @@
 -- A step goes on, or stops with a code, only where the grammar has the symbol.
-use Rattle.std.proofs.Common.{◌≡◌, ℕ, Bool, true, false, cond, codes, List, [], ◌∷◌, refl, sym, ap, subst, ◌∙◌, append_assoc, append-nil, inl, inr, arith}
+use Rattle.std.proofs.Common.{◌≡◌, ℕ, Bool, true, false, cond, codes, List, [], ◌∷◌, refl, sym, ap, subst, ◌∙◌, append_assoc, append-nil, inl, inr, arith, Option, Some, None, bytes_eq}
 use Rattle.std.proofs.lemmas.Bool.Decides.{nat_tests}
 use Rattle.std.proofs.lemmas.Slice.Eq.{bytes_eq-Decides}
-use Rattle.std.specs.Prelude.{Option, Some, None}
-use Rattle.std.specs.Str.{bytes_eq}
 use Rattle.rcv_model.specs.Script.{Expr, TheValue, TheAttempt, Variable, Less, AtMost, Same, Differ, More, AtLeast, Line}
 use Rattle.rcv_script.specs.declared.sign.Sign.TheVariants as signs
 use Rattle.rcv_script.specs.declared.fault.Fault.{Fault}
@@ -14,7 +12,7 @@ use Rattle.rcv_script.specs.Symbols.{Symbol, Is, Word, Number}
 use Rattle.rcv_script.specs.Labels.{place_of}
 use Rattle.rcv_script.specs.Grammar.{Digits, Named, Signed, Inside, NoAtom, TimesAtom, NoProduct, PlusProduct, MinusProduct, SumOf, VarText, SendText, PickText, WhenText, OnText, line_text}
 use Rattle.rcv_script.specs.Meaning.{word_says, line_says, names_behind, lines_say}
-use Rattle.rcv_script.specs.Machine.{Place, Writing, Item, Scripts, Lines, ALine, This, AWord, ASigned, ANumber, AnEnd, ATest, AnAtom, Factors, Terms, Outcome, On, Wrong, unless, line_fault, line_behind, line_by, line, kind_of, with_line, script_of, word_atom, variable, atom, meets, factors, terms, step}
+use Rattle.rcv_script.specs.Machine.{Place, Writing, Item, Scripts, Lines, ALine, This, AWord, ASigned, ANumber, AnEnd, ATest, AnAtom, Factors, Terms, Outcome, On, Wrong, unless, line_fault, line_behind, line_by, line, kind_of, with_line, script_of, word_atom, variable, meets, step}
 use Rattle.rcv_script.proofs.Deriving.{AllLines, Derives, completion}
 use Rattle.rcv_script.proofs.Stops.{meets_only}
 
@@ -55,25 +53,6 @@ word_agrees p w k = go (bytes_eq w (codes "value")) (bytes_eq w (codes "attempt"
     go false true o ev ea eo = unless_agrees p.attempt (k TheAttempt) (AnAtom p k) (Word w) (said TheAttempt (rw (ev, ea) refl))
     go false false None ev ea eo = let r = completion (k (word_says p.names w)) in (r.0, r.1, (Named w, r.0, refl, r.2))
     go false false (Some n) ev ea eo = said (Variable n) (rw (ev, ea, eo) refl)
-
-atom_agrees : (p : Place) (t : Symbol) (k : Expr → Item) → Agrees (atom p t k) (AnAtom p k) t
-atom_agrees p (Number n) k = λ ts ss d. (Digits n, ts, refl, d)
-atom_agrees p (Word w) k = word_agrees p w k
-atom_agrees p (Is signs.Minus) k = unless_agrees _ _ (AnAtom p k) (Is signs.Minus) (λ ts ss (a, us, e, d). (Signed a, us, cc, d))
-atom_agrees p (Is signs.Left) k = unless_agrees _ _ (AnAtom p k) (Is signs.Left)
-    (λ ts ss (a, vs, e, (atoms, ws, f, (more, us, g, (xs, h, d)))). (Inside (SumOf a atoms more), xs, cc, d))
-atom_agrees p _ k = tt
-
-factors_agree : (p : Place) (left : Expr) (k : Expr → Item) (t : Symbol) (over : Outcome) → Agrees over (k left) t
-    → Agrees (factors p left k t over) (Factors p left k) t
-factors_agree p left k (Is signs.Times) over a = λ ts ss (b, vs, e, (more, us, f, d)). (TimesAtom b more, us, cc, d)
-factors_agree p left k t over a = through over (Factors p left k) (k left) t (λ ts ss d. (NoAtom, ts, refl, d)) a
-
-terms_agree : (p : Place) (left : Expr) (k : Expr → Item) (t : Symbol) (over : Outcome) → Agrees over (k left) t
-    → Agrees (terms p left k t over) (Terms p left k) t
-terms_agree p left k (Is signs.Plus) over a = λ ts ss (b, vs, e, (atoms, ws, f, (more, us, g, d))). (PlusProduct b atoms more, us, cc, d)
-terms_agree p left k (Is signs.Minus) over a = λ ts ss (b, vs, e, (atoms, ws, f, (more, us, g, d))). (MinusProduct b atoms more, us, cc, d)
-terms_agree p left k t over a = through over (Terms p left k) (k left) t (λ ts ss d. (NoProduct, ts, refl, d)) a
 
 -- ---- lines and scripts
 
@@ -118,7 +97,6 @@ pub agrees : (t : Symbol) (i : Item) → Agrees (step t i) i t
 agrees (Word w) (Scripts known) = cond_agrees (bytes_eq w (codes "role")) (script_of known) (Scripts known) (Word w)
     (λ is ts ss (n, us, e, (vs, f, (ls, ws, g, (xs, h, said)))).
     let role = (bytes_eq-Decides w (codes "role")).0 is in (record { role = n; lines = ls } ∷ xs, cc, said))
-agrees t (Scripts known) = tt
 agrees (Is signs.Close) (Lines s k) =
     λ ts ss d. ([], ts, refl, subst (λ (z : List Line). Derives (k z) ts ss) (sym (append-nil s.lines)) d)
 agrees t (Lines s k) = through (line s t (λ x. Lines (with_line s x) k)) (Lines s k) (ALine s (λ x. Lines (with_line s x) k)) t
@@ -126,23 +104,29 @@ agrees t (Lines s k) = through (line s t (λ x. Lines (with_line s x) k)) (Lines
 agrees t (ALine s k) = line_agrees s t k
 agrees t (This m k) = cond_agrees (meets t m) k (This m k) t (λ is ts ss d. let same = meets_only t m is in (ts, cc, d))
 agrees (Word w) (AWord fault k) = unless_agrees (fault w) (k w) (AWord fault k) (Word w) (λ ts ss d. (w, ts, refl, d))
-agrees t (AWord fault k) = tt
 agrees (Is signs.Minus) (ASigned k) = λ ts ss (n, us, e, d). (true, n, us, cc, d)
 agrees (Number n) (ASigned k) = λ ts ss d. (false, n, ts, refl, d)
-agrees t (ASigned k) = tt
 agrees (Number n) (ANumber k) = λ ts ss d. (n, ts, refl, d)
-agrees t (ANumber k) = tt
 agrees (Is signs.Semicolon) (AnEnd plain when) = λ ts ss d. inl (ts, refl, d)
 agrees (Word w) (AnEnd plain when) = cond_agrees (bytes_eq w (codes "when")) when (AnEnd plain when) (Word w)
     (λ is ts ss d. let same = (bytes_eq-Decides w (codes "when")).0 is in inr (ts, cc, d))
-agrees t (AnEnd plain when) = tt
 agrees (Is signs.Less) (ATest k) = λ ts ss d. (Less, ts, refl, d)
 agrees (Is signs.AtMost) (ATest k) = λ ts ss d. (AtMost, ts, refl, d)
 agrees (Is signs.Same) (ATest k) = λ ts ss d. (Same, ts, refl, d)
 agrees (Is signs.Differ) (ATest k) = λ ts ss d. (Differ, ts, refl, d)
 agrees (Is signs.More) (ATest k) = λ ts ss d. (More, ts, refl, d)
 agrees (Is signs.AtLeast) (ATest k) = λ ts ss d. (AtLeast, ts, refl, d)
-agrees t (ATest k) = tt
-agrees t (AnAtom p k) = atom_agrees p t k
-agrees t (Factors p left k) = factors_agree p left k t (step t (k left)) (agrees t (k left))
-agrees t (Terms p left k) = terms_agree p left k t (step t (k left)) (agrees t (k left))
+agrees (Number n) (AnAtom p k) = λ ts ss d. (Digits n, ts, refl, d)
+agrees (Word w) (AnAtom p k) = word_agrees p w k
+agrees (Is signs.Minus) (AnAtom p k) =
+    unless_agrees _ _ (AnAtom p k) (Is signs.Minus) (λ ts ss (a, us, e, d). (Signed a, us, cc, d))
+agrees (Is signs.Left) (AnAtom p k) = unless_agrees _ _ (AnAtom p k) (Is signs.Left)
+    (λ ts ss (a, vs, e, (atoms, ws, f, (more, us, g, (xs, h, d)))). (Inside (SumOf a atoms more), xs, cc, d))
+agrees (Is signs.Times) (Factors p left k) = λ ts ss (a, vs, e, (more, us, f, d)). (TimesAtom a more, us, cc, d)
+agrees t (Factors p left k) =
+    through (step t (k left)) (Factors p left k) (k left) t (λ ts ss d. (NoAtom, ts, refl, d)) (agrees t (k left))
+agrees (Is signs.Plus) (Terms p left k) = λ ts ss (a, vs, e, (b, ws, f, (c, us, g, d))). (PlusProduct a b c, us, cc, d)
+agrees (Is signs.Minus) (Terms p l k) = λ ts ss (a, vs, e, (b, ws, f, (c, us, g, d))). (MinusProduct a b c, us, cc, d)
+agrees t (Terms p left k) =
+    through (step t (k left)) (Terms p left k) (k left) t (λ ts ss d. (NoProduct, ts, refl, d)) (agrees t (k left))
+agrees t i = tt

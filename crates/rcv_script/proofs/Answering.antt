@@ -1,6 +1,5 @@
 -- The machine's answer is by grammar and table.
-use Rattle.std.proofs.Common.{◌≡◌, ℕ, ◌<◌, List, [], ◌∷◌, ◌++◌, refl, sym, ap, subst, ◌∙◌, append_assoc, append-nil, arith, inl, inr}
-use Rattle.std.specs.Prelude.{None}
+use Rattle.std.proofs.Common.{◌≡◌, ℕ, ◌<◌, List, [], ◌∷◌, ◌++◌, refl, sym, ap, subst, ◌∙◌, append_assoc, append-nil, arith, inl, inr, None}
 use Rattle.rcv_points.specs.Follow.{PointView}
 use Rattle.rcv_script.specs.declared.fault.Fault.{Fault}
 use Rattle.rcv_script.specs.declared.fault.Fault.TheVariants as faults
@@ -31,9 +30,6 @@ joined : (front ts back : List Symbol) → backward (front ++ ts) back ≡ backw
 joined [] ts back = refl
 joined (t ∷ front) ts back = joined front ts (t ∷ back)
 
-begins_one : (front : List Symbol) (t : Symbol) (ts : List Symbol) → IsDerived (front ++ t ∷ ts) → IsBeginning (front ++ t ∷ [])
-begins_one front t ts d = (ts, subst IsDerived (sym (append_assoc front (t ∷ []) ts)) d)
-
 module _ (roles : List (List ℕ)) (messages : List PointView) where
   abbrev frame : Frame
   frame = record { roles = roles; messages = messages }
@@ -51,10 +47,13 @@ module _ (roles : List (List ℕ)) (messages : List PointView) where
   none_behind (t ∷ ts) back h = (none_behind ts (t ∷ back) h).1
 
   -- where the grammar has the symbol, no code holds that is less than the least one
-  none_below : (f : Fault) (front : List Symbol) (t : Symbol) (ts : List Symbol) (c : ℕ) → IsBeginning (front ++ t ∷ [])
-      → least_code frame (backward front []) t ≡ c → code_of f < c → HoldsAt roles messages f front (t ∷ ts) → ⊥
-  none_below faults.Token front t ts c b is less h = h.1 b
-  none_below f front t ts c b is less h = let upto = none_lesser frame f (backward front []) t h in omega (arith, is, less, upto)
+  none_below : (front : List Symbol) (t : Symbol) (others left : List Symbol) (c : ℕ) → IsDerived (front ++ t ∷ others)
+      → least_code frame (backward front []) t ≡ c → (f : Fault) → code_of f < c
+      → HoldsAt roles messages f front (t ∷ left) → ⊥
+  none_below front t others left c d is faults.Token less h =
+      h.1 (others, subst IsDerived (sym (append_assoc front (t ∷ []) others)) d)
+  none_below front t others left c d is f less h =
+      let upto = none_lesser frame f (backward front []) t h in omega (arith, is, less, upto)
 
   none_before : (back : List Symbol) → NoneIn back → IsBeginning (backward back []) → (f : Fault) (front : List Symbol) (t : Symbol)
       → (others left : List Symbol) → backward back [] ≡ front ++ t ∷ others → HoldsAt roles messages f front (t ∷ left) → ⊥
@@ -62,11 +61,7 @@ module _ (roles : List (List ℕ)) (messages : List PointView) where
       let d = subst IsDerived (ap (λ (z : List Symbol). z ++ b.0) e ∙ append_assoc front (t ∷ others) b.0) b.1 in
       let same = sym (twice back []) ∙ ap (λ (z : List Symbol). backward z []) e ∙ joined front (t ∷ others) [] in
       let here = (none_behind others (t ∷ backward front []) (subst NoneIn same none)).0 in
-      none_below f front t left 37 (begins_one front t (others ++ b.0) d) here (grind arith) h
-
-  sure : (symbols : List Symbol) (ss : AllLines) → Derives start symbols ss → Told frame start [] symbols ss
-  sure symbols ss (ws, e, said) = subst (λ (z : List Symbol). Told frame start [] z ss) (sym e) (scripts_told frame ss ws _ []
-      (record { roles_are = refl; messages_are = refl; has = λ n r e. refl; fresh = refl; none = refl; closed = refl }) said)
+      none_below front t (others ++ b.0) left 37 d here f (grind arith) h
 
   -- the machine came to this item behind these symbols
   record Reached (i : Item) (back : List Symbol) : Type 0 where
@@ -106,42 +101,38 @@ module _ (roles : List (List ℕ)) (messages : List PointView) where
   }
 
   -- one symbol more
-  told_by : (i : Item) (back : List Symbol) (t : Symbol) (o : Outcome) (ts : List Symbol) (ss : AllLines) → Reached i back → step t i ≡ o
-      → Derives start (backward (t ∷ back) ts) ss → ToldBy frame o back t (λ j. Told frame j (t ∷ back) ts ss)
-  told_by i back t o ts ss r e d =
-      subst (λ (x : Outcome). ToldBy frame x back t (λ j. Told frame j (t ∷ back) ts ss)) e (r.told (t ∷ ts) ss d)
+  abbrev Tells : Outcome → List Symbol → Symbol → Type 0
+  Tells o back t = (ts : List Symbol) (ss : AllLines) → Derives start (backward (t ∷ back) ts) ss
+      → ToldBy frame o back t (λ j. Told frame j (t ∷ back) ts ss)
 
-  goes_on : (i j : Item) (back : List Symbol) (t : Symbol) → Reached i back → step t i ≡ On j → Agrees (On j) i t → Reached j (t ∷ back)
-  goes_on i j back t r e a = let c = completion j in record {
-    sound = λ ts ss d. r.sound (t ∷ ts) ss (a ts ss d);
-    told = λ ts ss d. (told_by i back t (On j) ts ss r e d).1;
-    none = ((told_by i back t (On j) c.0 c.1 r e (r.sound (t ∷ c.0) c.1 (a c.0 c.1 c.2))).0, r.none);
-  }
-
-  stops : (i : Item) (back : List Symbol) (t : Symbol) (ts : List Symbol) (f : Fault) → Reached i back → step t i ≡ Wrong f
-      → Agrees (Wrong f) i t → HoldsAt roles messages f (backward back []) (t ∷ ts)
+  stops : (i : Item) (back : List Symbol) (t : Symbol) (ts : List Symbol) (f : Fault) → Reached i back
+      → Tells (Wrong f) back t → Agrees (Wrong f) i t → HoldsAt roles messages f (backward back []) (t ∷ ts)
       × ((g : Fault) → code_of g < code_of f → HoldsAt roles messages g (backward back []) (t ∷ ts) → ⊥)
-  stops i back t ts faults.Token r e a = (
+  stops i back t ts faults.Token r told a = (
     (
       begins i back r,
       λ c.
           let d = turned (t ∷ back) c.0 ∙ ap (λ (z : List Symbol). z ++ c.0) (turned back (t ∷ [])) ∙ c.1.1 in
           let ss = scripts_say roles (no_lines roles) c.1.0 in
-          holds frame faults.Token back t (told_by i back t (Wrong faults.Token) c.0 ss r e (c.1.0, d, refl)),
+          holds frame faults.Token back t (told c.0 ss (c.1.0, d, refl)),
     ),
     λ g less h. grind (arith, less),
   )
-  stops i back t ts f r e a =
+  stops i back t ts f r told a =
       let d = r.sound (t ∷ a.0) a.1 a.2 in
-      let is = ap (λ (z : List Symbol). least_code frame z t) (twice back []) ∙ told_by i back t (Wrong f) a.0 a.1 r e d in
-      let b = begins_one (backward back []) t a.0 (d.0, sym (turned back (t ∷ a.0)) ∙ d.1) in
-      (holds frame f (backward (backward back []) []) t is, λ g less h. none_below g (backward back []) t ts (code_of f) b is less h)
+      let is = ap (λ (z : List Symbol). least_code frame z t) (twice back []) ∙ told a.0 a.1 d in
+      let b : IsDerived (backward back [] ++ t ∷ a.0) = (d.0, sym (turned back (t ∷ a.0)) ∙ d.1) in
+      (holds frame f (backward (backward back []) []) t is, none_below (backward back []) t a.0 ts (code_of f) b is)
 
-  by_outcome : (i : Item) (back : List Symbol) (t : Symbol) (ts : List Symbol) (o : Outcome) → Reached i back → step t i ≡ o → Agrees o i t
-      → ((j : Item) → Reached j (t ∷ back) → Result (backward back (t ∷ ts)) (answer j ts))
+  by_outcome : (i : Item) (back ts : List Symbol) (t : Symbol) (o : Outcome) → Reached i back → Tells o back t
+      → Agrees o i t → ((j : Item) → Reached j (t ∷ back) → Result (backward back (t ∷ ts)) (answer j ts))
       → Result (backward back (t ∷ ts)) (after o (t ∷ ts) (λ j. answer j ts))
-  by_outcome i back t ts (On j) r e a next = next j (goes_on i j back t r e a)
-  by_outcome i back t ts (Wrong f) r e a next = let h = stops i back t ts f r e a in record {
+  by_outcome i back ts t (On j) r told a next = let c = completion j in next j (record {
+    sound = λ ts ss d. r.sound (t ∷ ts) ss (a ts ss d);
+    told = λ ts ss d. (told ts ss d).1;
+    none = ((told c.0 c.1 (r.sound (t ∷ c.0) c.1 (a c.0 c.1 c.2))).0, r.none);
+  })
+  by_outcome i back ts t (Wrong f) r told a next = let h = stops i back t ts f r told a in record {
     front = backward back [];
     cut = turned back (t ∷ ts);
     holds = h.0;
@@ -151,10 +142,16 @@ module _ (roles : List (List ℕ)) (messages : List PointView) where
 
   result : (ts : List Symbol) (i : Item) (back : List Symbol) → Reached i back → Result (backward back ts) (answer i ts)
   result [] i back r = ended i back r.none (begins i back r) (r.sound []) (r.told [])
-  result (t ∷ ts) i back r = by_outcome i back t ts (step t i) r refl (agrees t i) (λ j r'. result ts j (t ∷ back) r')
+  result (t ∷ ts) i back r =
+      by_outcome i back ts t (step t i) r (λ us. r.told (t ∷ us)) (agrees t i) (λ j. result ts j (t ∷ back))
 
   all_read : (symbols : List Symbol) → Result symbols (reading roles messages symbols)
-  all_read symbols = result symbols start [] (record { sound = λ ts ss d. d; told = sure; none = tt })
+  all_read symbols = result symbols start [] (record {
+    sound = λ ts ss d. d;
+    told = λ ts ss (ws, e, said). subst (λ (z : List Symbol). Told frame start [] z ss) (sym e) (scripts_told frame ss ws _ []
+        (record { roles_are = refl; messages_are = refl; has = λ n r e. refl; fresh = refl; none = refl; closed = refl }) said);
+    none = tt;
+  })
 
   pub taken : (symbols : List Symbol) (ss : AllLines) → reading roles messages symbols ≡ Taken ss → AreRead roles messages symbols ss
   taken symbols ss e = let r = subst (Result symbols) e (all_read symbols) in r.0
@@ -164,19 +161,15 @@ module _ (roles : List (List ℕ)) (messages : List PointView) where
   refused symbols f left e = subst (Result symbols) e (all_read symbols)
 
   pub answered : (symbols : List Symbol) → IsAnswered roles messages symbols
-  answered symbols = go (reading roles messages symbols) (all_read symbols)
-    where
-      go : (a : Answer) → Result symbols a → IsAnswered roles messages symbols
-      go (Taken ss) r = inl (ss, r.0)
-      go (Refuses f left) r = inr (f, left, r)
+  answered ts = elim (reading roles messages ts) as (λ a. Result ts a → IsAnswered roles messages ts)
+      [ Taken ss ↦ λ r. inl (ss, r.0) | Refuses f left ↦ λ r. inr (f, left, r) ] (all_read ts)
 
   pub one_reading : (symbols : List Symbol) (ss others : AllLines) → AreRead roles messages symbols ss
       → AreRead roles messages symbols others → ss ≡ others
-  one_reading symbols ss others r s = go (reading roles messages symbols) (all_read symbols)
-    where
-      go : (a : Answer) → Result symbols a → ss ≡ others
-      go (Taken taken) h = h.1 ss (r.written, r.derived, r.said) ∙ sym (h.1 others (s.written, s.derived, s.said))
-      go (Refuses f left) h = absurd (r.free f h.front left h.cut h.holds)
+  one_reading symbols ss others r s = elim (reading roles messages symbols) as (λ a. Result symbols a → ss ≡ others) [
+    | Taken _ ↦ λ h. h.1 ss (r.written, r.derived, r.said) ∙ sym (h.1 others (s.written, s.derived, s.said))
+    | Refuses f left ↦ λ h. absurd (r.free f h.front left h.cut h.holds)
+  ] (all_read symbols)
 
   -- no symbols are scripts without lines
   pub none_read : AreRead roles messages [] (no_lines roles)

@@ -1,6 +1,5 @@
 -- Where the attempt isn't read, the lines are blind.
-use Rattle.std.proofs.Common.{◌≡◌, ℕ, zero, suc, Bool, true, false, List, [], ◌∷◌, refl}
-use Rattle.std.specs.Prelude.{◌||◌, ◌↔◌, Some}
+use Rattle.std.proofs.Common.{◌≡◌, ℕ, zero, suc, Bool, true, false, List, [], ◌∷◌, refl, ◌||◌, ◌↔◌, Some}
 use Rattle.rcv_model.specs.Script.{Expr, TheAttempt, Negated, Plus, Minus, Times, Line, SendLine, PickLine}
 use Rattle.rcv_model.specs.Transparent.{IsBlind, AreBlind}
 use Rattle.rcv_script.specs.Attempts.{reads, lines_read, scripts_read}
@@ -28,16 +27,10 @@ are_blind (PickLine label (Some c) ∷ ls) =
     (λ e. let p = lines.0 e in (p.0.0, p.0.1, p.1), λ b. lines.1 ((b.0, b.1), b.2))
 are_blind (_ ∷ ls) = are_blind ls
 
--- the scripts of a role and of those behind it
-are_nor : (ls : List Line) (ss : List (List Line)) → (scripts_read (ls ∷ ss) ≡ false) ↔ (AreBlind ls × (scripts_read ss ≡ false))
-are_nor ls ss = nor (lines_read ls) (scripts_read ss) (are_blind ls) (λ e. e, λ e. e)
-
-pub all_blind : (ss : List (List Line)) → scripts_read ss ≡ false → (r : ℕ) → AreBlind (lines_at ss r)
-all_blind [] f zero = tt
-all_blind [] f (suc r) = tt
-all_blind (ls ∷ ss) f zero = ((are_nor ls ss).0 f).0
-all_blind (ls ∷ ss) f (suc r) = all_blind ss ((are_nor ls ss).0 f).1 r
-
-pub blind_all : (ss : List (List Line)) → ((r : ℕ) → AreBlind (lines_at ss r)) → scripts_read ss ≡ false
-blind_all [] f = refl
-blind_all (ls ∷ ss) f = (are_nor ls ss).1 (f 0, blind_all ss (λ r. f (suc r)))
+pub all_blind : (ss : List (List Line)) → (scripts_read ss ≡ false) ↔ ((r : ℕ) → AreBlind (lines_at ss r))
+all_blind [] = (λ e r. elim r as (λ r. AreBlind (lines_at [] r)) [ zero ↦ tt | suc q ↦ tt ], λ b. refl)
+all_blind (ls ∷ ss) =
+    let both = nor (lines_read ls) (scripts_read ss) (are_blind ls) (all_blind ss) in (
+      λ e r. elim r as (λ r. AreBlind (lines_at (ls ∷ ss) r)) [ zero ↦ (both.0 e).0 | suc q ↦ (both.0 e).1 q ],
+      λ b. both.1 (b 0, λ r. b (suc r)),
+    )

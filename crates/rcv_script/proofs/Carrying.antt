@@ -1,16 +1,13 @@
 -- The lines that are for a label do what all lines do on it.
-use Rattle.std.proofs.Common.{◌≡◌, ℕ, suc, ◌-◌, ◌<◌, ◌≤◌, List, [], ◌∷◌, ℤ, pos, length}
-use Rattle.std.proofs.Common.{get_or, refl, sym, ap, ◌∙◌, slice_get, Some, arith}
+use Rattle.std.proofs.Common.{◌≡◌, ℕ, suc, ◌-◌, ◌<◌, List, [], ◌∷◌, ℤ, pos, length, get_or, refl, sym, ap, ◌∙◌, slice_get, Some, arith}
 use Rattle.std.proofs.lemmas.List.{get_or-map, length-map}
 use Rattle.std.proofs.lemmas.Option.{get_or_from_slice_get}
 use Rattle.std.proofs.lemmas.Bool.Decides.{nat_tests}
-use Rattle.rcv_model.specs.Script.{Line, SendLine, OnLine, carry_out, number_for}
-use Rattle.rcv_model.specs.Script.{Literal, TheValue, Variable, Plus}
+use Rattle.rcv_model.specs.Script.{Line, SendLine, OnLine, carry_out, number_for, Literal, TheValue, Variable, Plus}
 use Rattle.rcv_points.specs.Follow.{PointView, message_at, no_message}
 use Rattle.rcv_script.specs.Lines.{lines_at}
 use Rattle.rcv_script.specs.Scripts.{net_by, HasPoint}
-use Rattle.rcv_script.specs.Acts.{ActsView, IsIndex, acts_on, acts_by_point}
-use Rattle.rcv_script.specs.Acts.{on_places, send_place, set_by_all, sent_by}
+use Rattle.rcv_script.specs.Acts.{ActsView, IsIndex, acts_on, acts_by_point, on_places, send_place, set_by_all, sent_by}
 
 -- ---- the lines that set a variable
 
@@ -27,8 +24,7 @@ pub do_all : (label : List ℕ) (lines : List Line) (value : ℤ) (vars : List �
     → set_by_all lines (on_places label 0 lines) value vars ≡ carry_out label value lines vars
 do_all label [] value vars = refl
 do_all label (OnLine other to expr ∷ lines) value vars =
-    let here = moved label (OnLine other to expr) lines 0 lines value in
-    let later = do_all label lines value in
+    let here = moved label (OnLine other to expr) lines 0 lines value in let later = do_all label lines value in
     grind (arith, nat_tests, here, later)
 do_all label (x ∷ lines) value vars = moved label x lines 0 lines value vars ∙ do_all label lines value vars
 
@@ -49,29 +45,24 @@ send_all label (x ∷ lines) vars attempt =
 
 -- ---- what is filed for a role and a point
 
-filed_row : (scripts : List (List Line)) (messages : List PointView) (acts : List (List ActsView)) (r : ℕ) (row : List ActsView)
-    → IsIndex scripts messages acts → r < length scripts → row ≡ get_or acts r row → row ≡ acts_by_point messages (lines_at scripts r)
-filed_row scripts messages acts r row index within there =
-    there ∙ rw index.found (get_or-map (acts_by_point messages) scripts r [] row within)
+module _ (scripts : List (List Line)) (messages : List PointView) (acts : List (List ActsView)) (r : ℕ)
+    (row : List ActsView) (index : IsIndex scripts messages acts) (within : r < length scripts)
+    (there : row ≡ get_or acts r row) where
+  filed_row : row ≡ acts_by_point messages (lines_at scripts r)
+  filed_row = there ∙ rw index.found (get_or-map (acts_by_point messages) scripts r [] row within)
 
-pub filed_points : (scripts : List (List Line)) (messages : List PointView) (acts : List (List ActsView)) (r : ℕ) (row : List ActsView)
-    → IsIndex scripts messages acts → r < length scripts → row ≡ get_or acts r row → length row ≡ length messages
-filed_points scripts messages acts r row index within there =
-    ap length (filed_row scripts messages acts r row index within there)
-    ∙ length-map messages (λ (message : PointView). acts_on message.label (lines_at scripts r))
+  pub filed_points : length row ≡ length messages
+  filed_points =
+      ap length filed_row ∙ length-map messages (λ (message : PointView). acts_on message.label (lines_at scripts r))
 
-message_of_point : (messages : List PointView) (p : ℕ) → 1 ≤ p
-    → get_or messages (p - 1) no_message ≡ message_at (record { places = []; messages = messages; choices = [] }) p
-message_of_point messages p first = grind (arith, nat_tests)
-
-pub filed : (scripts : List (List Line)) (messages : List PointView) (acts : List (List ActsView)) (r p : ℕ) (row : List ActsView)
-    → (a : ActsView) → IsIndex scripts messages acts → r < length scripts → HasPoint messages p
-    → row ≡ get_or acts r row → slice_get row (p - 1) ≡ Some a → a ≡ acts_on ((net_by messages).label p) (lines_at scripts r)
-filed scripts messages acts r p row a index within point there found =
-    let f : PointView → ActsView = λ (message : PointView). acts_on message.label (lines_at scripts r) in
-    sym (get_or_from_slice_get row (p - 1) a a found)
-    ∙ ap (λ (xs : List ActsView). get_or xs (p - 1) a) (filed_row scripts messages acts r row index within there)
-    ∙ get_or-map f messages (p - 1) no_message a (omega (arith, point.0, point.1)) ∙ ap f (message_of_point messages p point.0)
+  pub filed : (p : ℕ) (a : ActsView) → HasPoint messages p → slice_get row (p - 1) ≡ Some a
+      → a ≡ acts_on ((net_by messages).label p) (lines_at scripts r)
+  filed p a (first, last) found =
+      let f : PointView → ActsView = λ (message : PointView). acts_on message.label (lines_at scripts r) in
+      let at : get_or messages (p - 1) no_message ≡ message_at (record { places = []; messages = messages; choices = [] }) p
+      = grind (arith, nat_tests, first) in
+      sym (get_or_from_slice_get row (p - 1) a a found) ∙ ap (λ (xs : List ActsView). get_or xs (p - 1) a) filed_row
+      ∙ get_or-map f messages (p - 1) no_message a (omega (arith, first, last)) ∙ ap f at
 
 -- ---- worked: three lines on the label 7, of which one sends; the line between them is for another label
 
@@ -83,16 +74,11 @@ some_lines =
     OnLine seven 0 (Literal 3) ∷ OnLine (8 ∷ []) 0 (Literal 4) ∷ SendLine seven (Variable 0)
     ∷ OnLine seven 1 (Plus (Variable 0) TheValue) ∷ []
 
-pub both_set : acts_on seven some_lines ≡ record { on = 0 ∷ 3 ∷ []; send = 2 }
-both_set = refl
+worked :
+    (acts_on seven some_lines ≡ record { on = 0 ∷ 3 ∷ []; send = 2 })
+    × (acts_on (8 ∷ []) some_lines ≡ record { on = 1 ∷ []; send = 4 })
+    × (set_by_all some_lines (0 ∷ 3 ∷ []) (pos 5) (pos 0 ∷ pos 0 ∷ []) ≡ pos 3 ∷ pos 8 ∷ [])
+worked = (refl, refl, refl)
 
-pub one_is_not_all : acts_on seven some_lines ≡ record { on = 0 ∷ []; send = 2 } → ⊥
-one_is_not_all e =
-    let places : ◌≡◌ {A = List ℕ} (0 ∷ 3 ∷ []) (0 ∷ []) = ap (λ (a : ActsView). a.on) e in
-    absurd cc
-
-pub none_sends : acts_on (8 ∷ []) some_lines ≡ record { on = 1 ∷ []; send = 4 }
-none_sends = refl
-
-pub second_sees_first : set_by_all some_lines (0 ∷ 3 ∷ []) (pos 5) (pos 0 ∷ pos 0 ∷ []) ≡ pos 3 ∷ pos 8 ∷ []
-second_sees_first = refl
+one_is_not_all : acts_on seven some_lines ≡ record { on = 0 ∷ []; send = 2 } → ⊥
+one_is_not_all e = let places : ◌≡◌ {A = List ℕ} (0 ∷ 3 ∷ []) (0 ∷ []) = ap (λ (a : ActsView). a.on) e in absurd cc

@@ -1,6 +1,5 @@
 -- What is awaited derives lists of symbols, of which each says the lines of all roles. Codes play no part in it.
-use Rattle.std.proofs.Common.{◌≡◌, ℕ, Bool, false, codes, List, [], ◌∷◌, ◌++◌, refl, inl}
-use Rattle.std.specs.Prelude.{◌⊎◌, None, pos}
+use Rattle.std.proofs.Common.{◌≡◌, ℕ, Bool, false, codes, List, [], ◌∷◌, ◌++◌, refl, ◌⊎◌, inl, pos, None}
 use Rattle.rcv_model.specs.Script.{Literal, Test, Less, Line, PickLine}
 use Rattle.rcv_script.specs.declared.sign.Sign.TheVariants as signs
 use Rattle.rcv_script.specs.Symbols.{Symbol, Is, Word, Number}

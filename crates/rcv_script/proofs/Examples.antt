@@ -1,6 +1,5 @@
 -- Worked cases of scripts: A sends big, which has sorts, and ping, which has none; B sends low to A.
-use Rattle.std.proofs.Common.{◌≡◌, ℕ, Bool, true, false, List, [], ◌∷◌, ◌++◌, length, map, codes, refl, sym, ◌∙◌, ap, arith, rules}
-use Rattle.std.specs.Prelude.{replicate, pos, negsuc, Some, None, slice_index_or}
+use Rattle.std.proofs.Common.{◌≡◌, ℕ, Bool, true, false, List, [], ◌∷◌, ◌++◌, length, map, codes, refl, sym, ◌∙◌, ap, arith, rules, replicate, pos, negsuc, Some, None, slice_index_or}
 use Rattle.rcv_tree.specs.declared.protocol.Protocol.{Protocol}
 use Rattle.rcv_model.specs.Text.{Body, End, Single, body_of}
 use Rattle.rcv_model.specs.Places.{singles}
@@ -43,6 +42,14 @@ on label more = w (codes "on") ∷ w label ∷ w (codes "set") ∷ more
 abbrev pub set_x : List ℕ → List Symbol → List Symbol
 set_x label more = on label (w (codes "x") ∷ Is signs.Equals ∷ more)
 
+abbrev AllRead : List (List Symbol × List (List Line)) → Type 0
+AllRead [] = Unit {0}
+AllRead (x ∷ xs) = AreRead roles messages x.0 x.1 × AllRead xs
+
+-- the line of var_x and these are all
+abbrev only_a : List Line → List (List Line)
+only_a lines = (VarLine (negsuc 1) ∷ lines) ∷ [] ∷ []
+
 abbrev ended : List Symbol
 ended = Is signs.Semicolon ∷ Is signs.Close ∷ []
 
@@ -50,26 +57,21 @@ ended = Is signs.Semicolon ∷ Is signs.Close ∷ []
 abbrev signed : ℕ → List Symbol
 signed n = of_a (send (codes "big") (replicate n (Is signs.Minus) ++ Number 1 ∷ []))
 
-nothing : AreRead roles messages [] ([] ∷ [] ∷ [])
-nothing = taken roles messages _ _ refl
-
--- 1 - x - 2 * x is (1 - x) - (2 * x)
-from_the_left :
-    AreRead roles messages (of_a (var_x ++ Word (codes "send") ∷ Word (codes "big") ∷ Is signs.Equals ∷ Number 1 ∷ Is signs.Minus ∷ Word (codes "x") ∷ Is signs.Minus ∷ Number 2 ∷ Is signs.Times ∷ Word (codes "x") ∷ ended))
-    ((VarLine (negsuc 1) ∷ SendLine (codes "big") (Minus (Minus (Literal 1) (Variable 0)) (Times (Literal 2) (Variable 0))) ∷ []) ∷ [] ∷ [])
-from_the_left = taken roles messages _ _ refl
-
--- pick ping when -x * (1 + attempt) > 0, and pick big
-conditions :
-    AreRead roles messages (of_a (var_x ++ Word (codes "pick") ∷ Word (codes "ping") ∷ Word (codes "when") ∷ Is signs.Minus ∷ Word (codes "x") ∷ Is signs.Times ∷ Is signs.Left ∷ Number 1 ∷ Is signs.Plus ∷ Word (codes "attempt") ∷ Is signs.Right ∷ Is signs.More ∷ Number 0 ∷ Is signs.Semicolon ∷ Word (codes "pick") ∷ Word (codes "big") ∷ ended))
-    ((VarLine (negsuc 1) ∷ PickLine (codes "ping") (Some (record { left = Times (Negated (Variable 0)) (Plus (Literal 1) TheAttempt); test = More; right = Literal 0 })) ∷ PickLine (codes "big") None ∷ []) ∷ [] ∷ [])
-conditions = taken roles messages _ _ refl
-
--- A sees the number of low, but not one of ping.
-remembered :
-    AreRead roles messages (of_a (var_x ++ Word (codes "on") ∷ Word (codes "low") ∷ Word (codes "set") ∷ Word (codes "x") ∷ Is signs.Equals ∷ Word (codes "value") ∷ ended))
-    ((VarLine (negsuc 1) ∷ OnLine (codes "low") 0 TheValue ∷ []) ∷ [] ∷ [])
-remembered = taken roles messages _ _ refl
+they_are_read : AllRead (
+    ([], [] ∷ [] ∷ [])
+    -- 1 - x - 2 * x is (1 - x) - (2 * x)
+    ∷ (
+      of_a (var_x ++ send (codes "big") (Number 1 ∷ Is signs.Minus ∷ w (codes "x") ∷ Is signs.Minus ∷ Number 2 ∷ Is signs.Times ∷ w (codes "x") ∷ ended)),
+      only_a (SendLine (codes "big") (Minus (Minus (Literal 1) (Variable 0)) (Times (Literal 2) (Variable 0))) ∷ []),
+    )
+    -- pick ping when -x * (1 + attempt) > 0, and pick big
+    ∷ (
+      of_a (var_x ++ w (codes "pick") ∷ w (codes "ping") ∷ w (codes "when") ∷ Is signs.Minus ∷ w (codes "x") ∷ Is signs.Times ∷ Is signs.Left ∷ Number 1 ∷ Is signs.Plus ∷ w (codes "attempt") ∷ Is signs.Right ∷ Is signs.More ∷ Number 0 ∷ Is signs.Semicolon ∷ w (codes "pick") ∷ w (codes "big") ∷ ended),
+      only_a (PickLine (codes "ping") (Some (record { left = Times (Negated (Variable 0)) (Plus (Literal 1) TheAttempt); test = More; right = Literal 0 })) ∷ PickLine (codes "big") None ∷ []),
+    )
+    -- A sees the number of low, but not one of ping.
+    ∷ (of_a (var_x ++ set_x (codes "low") (w (codes "value") ∷ ended)), only_a (OnLine (codes "low") 0 TheValue ∷ [])) ∷ [])
+they_are_read = search (rules, taken roles messages, refl, tt) depth 40
 
 -- where what isn't read is refused, by which code
 abbrev AllRefused : List (Fault × List Symbol × List Symbol) → Type 0
@@ -92,16 +94,13 @@ they_are_refused = search (rules, refused roles messages, tt) depth 40
 abbrev one_message : Body
 one_message = Single (codes "big") (codes "Int" ∷ []) 0 1 1 End
 
-abbrev sent_by_a : ScriptsView
-sent_by_a = record { lines = [] ∷ [] ∷ []; messages = message (codes "big") 0 1 true ∷ [] }
+abbrev sent : ℕ → ℕ → ScriptsView
+sent sender receiver = record { lines = [] ∷ [] ∷ []; messages = message (codes "big") sender receiver true ∷ [] }
 
-abbrev sent_by_b : ScriptsView
-sent_by_b = record { lines = [] ∷ [] ∷ []; messages = message (codes "big") 1 0 true ∷ [] }
-
-fit : (p : Protocol) → length p.roles ≡ 2 → body_of p.body ≡ one_message → AreScriptsFor p sent_by_a
+fit : (p : Protocol) → length p.roles ≡ 2 → body_of p.body ≡ one_message → AreScriptsFor p (sent 0 1)
 fit p two is = record { roles = sym two; messages = ap (λ b. map message_of (singles b)) (sym is) }
 
-unfit : (p : Protocol) → body_of p.body ≡ one_message → AreScriptsFor p sent_by_b → ⊥
+unfit : (p : Protocol) → body_of p.body ≡ one_message → AreScriptsFor p (sent 1 0) → ⊥
 unfit p is are =
     let e : 1 ≡ 0 = ap (λ (ms : List PointView). (slice_index_or ms 0 no_message).sender) (are.messages ∙ ap (λ b. map message_of (singles b)) is) in
     absurd (omega (arith, e))

@@ -1,12 +1,11 @@
 -- What stops what is awaited behind stops what is awaited in front.
-use Rattle.std.proofs.Common.{◌≡◌, ℕ, List, ◌∷◌, sym, ap, ◌∙◌}
-use Rattle.std.specs.Prelude.{Result, Ok, Err, IsErrAnd}
+use Rattle.std.proofs.Common.{◌≡◌, ℕ, List, ◌∷◌, ◌∙◌, Result, Ok, Err, IsErrAnd}
 use Rattle.rcv_model.specs.Script.{Expr}
 use Rattle.rcv_script.specs.declared.fault.ScriptError.{ScriptError}
 use Rattle.rcv_script.specs.declared.fault.ScriptError.TheVariants as errors
 use Rattle.rcv_script.specs.declared.fault.Fault.{Fault}
 use Rattle.rcv_script.specs.Symbols.{Symbol, Word}
-use Rattle.rcv_script.specs.Machine.{Item, AnAtom, Place, Outcome, after, Refuses, answer}
+use Rattle.rcv_script.specs.Machine.{Item, AnAtom, Place, Refuses, answer}
 use Rattle.rcv_script.specs.Descent.{Halts, Goes, IsNoWordAtom}
 
 -- at the exit of a `?`
@@ -20,13 +19,10 @@ fails to (Err y) (errors.Refused fault) front mid said start between new h halts
 -- at a call whose answer is the function's own
 pub goes_on : {X Y : Type 0} (r : Result X ScriptError) (front mid : (Y → Item) → Item) (said : X → Y) (start between new : List Symbol)
     → Goes r mid said between new → ((k : Y → Item) → answer (front k) start ≡ answer (mid k) between) → Goes r front said start new
-goes_on (Ok x) front mid said start between new h goes = λ k. goes k ∙ h k
 goes_on (Err errors.Memory) front mid said start between new h goes = tt
-goes_on (Err (errors.Refused fault)) front mid said start between new h goes = λ k. goes k ∙ h k
+goes_on _ front mid said start between new h goes = λ k. goes k ∙ h k
 
--- ---- atoms
-
+-- at a word that is no atom
 pub word_stops : (p : Place) (w : List ℕ) (f : Fault) (ts us : List Symbol) → ts ≡ Word w ∷ us → IsNoWordAtom p w f → (k : Expr → Item)
     → answer (AnAtom p k) ts ≡ Refuses f ts
-word_stops p w f ts us is atom k =
-    ap (answer (AnAtom p k)) is ∙ ap (λ (o : Outcome). after o (Word w ∷ us) (λ next. answer next us)) (atom k) ∙ ap (Refuses f) (sym is)
+word_stops p w f ts us is atom k = rw (is, atom k)

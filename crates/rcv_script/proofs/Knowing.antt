@@ -25,6 +25,10 @@ pub tell : (frame : Frame) (o : Option Fault) (j : Item) (back : List Symbol) (t
 tell frame None j back t rest s go = (s, go refl)
 tell frame (Some f) j back t rest s go = s
 
+-- at a symbol against which nothing speaks
+pub along : {A B : Type 0} → A → B → A × B
+along a b = (a, b)
+
 -- what speaks against the words value and attempt
 abbrev pub value_fault : Frame → View → Option Fault
 value_fault frame v =

@@ -1,7 +1,6 @@
 -- The least code that holds at a symbol.
-use Rattle.std.proofs.Common.{◌≡◌, ℕ, ◌≤◌, cond, List, arith}
+use Rattle.std.proofs.Common.{◌≡◌, ℕ, ◌≤◌, cond, List, arith, Option, Some, None}
 use Rattle.std.proofs.lemmas.Bool.Decides.{nat_tests}
-use Rattle.std.specs.Prelude.{Option, Some, None}
 use Rattle.rcv_points.specs.Follow.{PointView}
 use Rattle.rcv_script.specs.declared.fault.Fault.{Fault}
 use Rattle.rcv_script.specs.declared.fault.Fault.TheVariants as faults

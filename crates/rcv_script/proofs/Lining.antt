@@ -17,7 +17,7 @@ use Rattle.rcv_script.proofs.Deriving.{AllLines}
 use Rattle.rcv_script.proofs.Agreeing.{first_word}
 use Rattle.rcv_script.proofs.Least.{Frame, Speaks}
 use Rattle.rcv_script.proofs.Viewing.{View, view, Joins, stays}
-use Rattle.rcv_script.proofs.Knowing.{Told, tell, Computes}
+use Rattle.rcv_script.proofs.Knowing.{Told, tell, along, Computes}
 use Rattle.rcv_script.proofs.Named.{some_name, swapped, same_place}
 use Rattle.rcv_script.proofs.Wording.{sum_told, ends_sum}
 
@@ -99,21 +99,18 @@ module _ (frame : Frame) (ss : AllLines) where
 
     ends : (x : Row) (start next : List Symbol) → Next x → Whole x start → view next ≡ view start → parentheses next ≡ parentheses back
         → Told frame (This (Is signs.Semicolon) (behind x)) next (Is signs.Semicolon ∷ us) ss
-    ends x start next f h same closed = (
-      refl,
-      f (Is signs.Semicolon ∷ next) (record {
-        messages_are = w.messages_are;
-        role = w.role ∙ sym (ap (place_in frame.roles) (ap (λ (v : View). v.role) same ∙ h.0));
-        names = h.3 ∙ sym (ap (λ (v : View). v.names) same);
-        sent = λ l.
-            let sent = ap (λ (v : View). is_among l v.sent) same ∙ ap (is_among l) h.4 in
-            list_any-append (is_send_of l) s.lines (x.1 ∷ [])
-            ∙ rw (w.sent l, is_send l x.1) (sym (list_any-append (bytes_eq l) (labels_sent back) (sends_of x.1))) ∙ sym sent;
-        over = let over = ap (λ (v : View). v.over) same in omega (arith, length-append s.lines (x.1 ∷ []), w.over, over, h.1);
-        fresh = refl;
-        closed = closed ∙ w.closed;
-      }) (ap (λ (v : View). v.given) same ∙ h.2),
-    )
+    ends x start next f h same closed = along refl (f (Is signs.Semicolon ∷ next) (record {
+      messages_are = w.messages_are;
+      role = w.role ∙ sym (ap (place_in frame.roles) (ap (λ (v : View). v.role) same ∙ h.0));
+      names = h.3 ∙ sym (ap (λ (v : View). v.names) same);
+      sent = λ l. list_any-append (is_send_of l) s.lines (x.1 ∷ [])
+          ∙ rw (w.sent l, is_send l x.1) (sym (list_any-append (bytes_eq l) (labels_sent back) (sends_of x.1)))
+          ∙ sym (ap (λ (v : View). is_among l v.sent) same ∙ ap (is_among l) h.4);
+      over = let over = ap (λ (v : View). v.over) same in
+          omega (arith, length-append s.lines (x.1 ∷ []), w.over, over, h.1);
+      fresh = refl;
+      closed = closed ∙ w.closed;
+    }) (ap (λ (v : View). v.given) same ∙ h.2))
 
     line_told : (l : WrittenLine) → Next (row s l) → Told frame (Lines s k) back (line_text l us) ss
     line_told (VarText n below m) f =
@@ -123,70 +120,50 @@ module _ (frame : Frame) (ss : AllLines) where
         at : List Symbol
         at = Is signs.Equals ∷ Word n ∷ Word (codes "var") ∷ back
 
+        whole : (b : Bool) → Whole (row s (VarText n b m)) at
+        whole b = rw (w.fresh, w.names) (refl, refl, refl, refl, sym (append-nil _))
+
         number : (b : Bool) → Next (row s (VarText n b m))
             → Told frame (ASigned (λ z. This (Is signs.Semicolon) (behind (s.names ++ n ∷ [], VarLine z)))) at
             (number_text b m (Is signs.Semicolon ∷ us)) ss
-        number false g = (
-          refl,
-          ends (row s (VarText n false m)) (Number m ∷ at) (Number m ∷ at) g
-              (rw (w.fresh, w.names) (refl, refl, refl, refl, sym (append-nil _))) refl refl,
-        )
-        number true g = (
-          rw w.fresh refl,
-          (
-            refl,
-            ends (row s (VarText n true m)) (Number m ∷ Is signs.Minus ∷ at) (Number m ∷ Is signs.Minus ∷ at) g
-                (rw (w.fresh, w.names) (refl, refl, refl, refl, sym (append-nil _))) refl refl,
-          ),
-        )
-    line_told (SendText n t) f =
-        let start = Is signs.Equals ∷ Word n ∷ Word (codes "send") ∷ back in
+        number false g =
+            (refl, ends (row s (VarText n false m)) at (Number m ∷ at) g (whole false) (rw w.fresh refl) refl)
+        number true g = let next = Number m ∷ Is signs.Minus ∷ at in
+            (rw w.fresh refl, (refl, ends (row s (VarText n true m)) at next g (whole true) (rw w.fresh refl) refl))
+    line_told (SendText n t) f = let start = Is signs.Equals ∷ Word n ∷ Word (codes "send") ∷ back in
         tell frame _ (send_line s behind) back (Word (codes "send")) _ (first_speaks kinds.Send) (λ ok.
-        tell frame _ _ (Word (codes "send") ∷ back) (Word n) _ (label_speaks kinds.Send n (λ e. absurd cc)) (λ ok. (
-          refl,
-          sum_told frame ss t (deciding s.names) _ start (Is signs.Semicolon ∷ us)
-              (rw w.fresh (refl, w.names, refl, refl), refl, refl, rw w.closed refl) tt (λ next o.
-              ends (row s (SendText n t)) start next f (rw w.fresh (refl, refl, refl, w.names, refl)) o.same o.braces),
-        )))
-    line_told (PickText n) f =
-        let start = Word n ∷ Word (codes "pick") ∷ back in
+        tell frame _ _ (Word (codes "send") ∷ back) (Word n) _ (label_speaks kinds.Send n (λ e. absurd cc)) (λ ok.
+        along refl (sum_told frame ss t (deciding s.names) _ start (Is signs.Semicolon ∷ us)
+        (rw w.fresh (refl, w.names, refl, refl), refl, refl, rw w.closed refl) tt (λ next o.
+        ends (row s (SendText n t)) start next f (rw w.fresh (refl, refl, refl, w.names, refl)) o.same o.braces))))
+    line_told (PickText n) f = let start = Word n ∷ Word (codes "pick") ∷ back in
         tell frame _ (pick_line s behind) back (Word (codes "pick")) _ (first_speaks kinds.Pick) (λ ok.
         tell frame _ _ (Word (codes "pick") ∷ back) (Word n) _ (label_speaks kinds.Pick n (λ e. absurd cc)) (λ ok.
         ends (row s (PickText n)) start start f (rw w.fresh (refl, refl, refl, w.names, sym (append-nil _))) refl refl))
-    line_told (WhenText n left t right) f =
+    line_told (WhenText n left t right) f = let start = Word (codes "when") ∷ Word n ∷ Word (codes "pick") ∷ back in
+        let computes : Computes frame (deciding s.names) (view start) = rw w.fresh (refl, w.names, refl, refl) in
+        let rest = sum_text right (Is signs.Semicolon ∷ us) in
         tell frame _ (pick_line s behind) back (Word (codes "pick")) _ (first_speaks kinds.Pick) (λ ok.
-        tell frame _ _ (Word (codes "pick") ∷ back) (Word n) _ (label_speaks kinds.Pick n (λ e. absurd cc)) (λ ok. (
-          rw w.fresh refl,
-          sum_told frame ss left (deciding s.names) _ start (Is (test_mark t) ∷ sum_text right (Is signs.Semicolon ∷ us))
-              (computes, rw w.fresh refl, refl, rw w.closed refl) (test_joins t [] (sum_text right (Is signs.Semicolon ∷ us))).4 (λ next o.
-              let c = subst (Computes frame (deciding s.names)) (sym o.same) computes in
-              let m = test_joins t next us in
-              let same = stays next (Is (test_mark t)) m.0 c.0 in
-              let braces = m.3 ∙ o.braces in
-              test_told frame ss t _ next (sum_text right (Is signs.Semicolon ∷ us))
-              (sum_told frame ss right (deciding s.names) _ (Is (test_mark t) ∷ next) (Is signs.Semicolon ∷ us)
-              (subst (Computes frame (deciding s.names)) (sym same) c, m.1, m.2, rw (braces, w.closed) refl) tt (λ last o'.
-              ends (row s (WhenText n left t right)) start last f (rw w.fresh (refl, refl, refl, w.names, sym (append-nil _)))
-              (o'.same ∙ same ∙ o.same) (o'.braces ∙ braces)))),
-        )))
-      where
-        start : List Symbol
-        start = Word (codes "when") ∷ Word n ∷ Word (codes "pick") ∷ back
-
-        computes : Computes frame (deciding s.names) (view start)
-        computes = rw w.fresh (refl, w.names, refl, refl)
+        tell frame _ _ (Word (codes "pick") ∷ back) (Word n) _ (label_speaks kinds.Pick n (λ e. absurd cc)) (λ ok.
+        along (rw w.fresh refl) (sum_told frame ss left (deciding s.names) _ start (Is (test_mark t) ∷ rest)
+        (computes, rw w.fresh refl, refl, rw w.closed refl) (test_joins t [] rest).4 (λ next o.
+        let c = subst (Computes frame (deciding s.names)) (sym o.same) computes in let m = test_joins t next us in
+        let same = stays next (Is (test_mark t)) m.0 c.0 in let braces = m.3 ∙ o.braces in
+        test_told frame ss t _ next rest
+        (sum_told frame ss right (deciding s.names) _ (Is (test_mark t) ∷ next) (Is signs.Semicolon ∷ us)
+        (subst (Computes frame (deciding s.names)) (sym same) c, m.1, m.2, rw (braces, w.closed) refl) tt (λ last o'.
+        ends (row s (WhenText n left t right)) start last f (rw w.fresh (refl, refl, refl, w.names, sym (append-nil _)))
+        (o'.same ∙ same ∙ o.same) (o'.braces ∙ braces)))))))
     line_told (OnText n v t) f =
         let start = Is signs.Equals ∷ Word v ∷ Word (codes "set") ∷ Word n ∷ Word (codes "on") ∷ back in
         tell frame _ (on_line s behind) back (Word (codes "on")) _ (first_speaks kinds.On) (λ ok.
-        tell frame _ _ (Word (codes "on") ∷ back) (Word n) _ (label_speaks kinds.On n (λ e. absurd cc)) (λ ok. (
-          rw w.fresh refl,
-          tell frame _ _ (Word (codes "set") ∷ Word n ∷ Word (codes "on") ∷ back) (Word v) _ (set_speaks n v) (λ ok. (
-            refl,
-            sum_told frame ss t (remembering s n) _ start (Is signs.Semicolon ∷ us)
-                (rw (w.fresh, w.messages_are, w.role) (refl, w.names, refl, refl), refl, refl, rw w.closed refl) tt (λ next o.
-                ends (row s (OnText n v t)) start next f (rw w.fresh (refl, refl, refl, w.names, sym (append-nil _))) o.same o.braces),
-          )),
-        )))
+        tell frame _ _ (Word (codes "on") ∷ back) (Word n) _ (label_speaks kinds.On n (λ e. absurd cc)) (λ ok.
+        along (rw w.fresh refl)
+        (tell frame _ _ (Word (codes "set") ∷ Word n ∷ Word (codes "on") ∷ back) (Word v) _ (set_speaks n v) (λ ok.
+        along refl (sum_told frame ss t (remembering s n) _ start (Is signs.Semicolon ∷ us)
+        (rw (w.fresh, w.messages_are, w.role) (refl, w.names, refl, refl), refl, refl, rw w.closed refl) tt (λ next o.
+        ends (row s (OnText n v t)) start next f (rw w.fresh (refl, refl, refl, w.names, sym (append-nil _)))
+        o.same o.braces))))))
 
   lines_told : (ls : List WrittenLine) (s : Writing) (k : List Line → Item) (back us : List Symbol) → Writes frame s back
       → ((last : List Symbol) → given last ≡ given back → parentheses last ≡ []
@@ -199,21 +176,21 @@ module _ (frame : Frame) (ss : AllLines) where
       lines_told ls (with_line s (row s l)) k next us w' (λ last g' c.
       subst (λ (z : List Line). Told frame (k z) (Is signs.Close ∷ last) us ss) (sym gathered) (f last (g' ∙ g) c)))
 
-  -- ---- scripts
-
   role_speaks : (known : Known) (back : List Symbol) (n : List ℕ) → Between frame known back
       → Speaks frame (role_fault known.roles known.given n) (Word (codes "role") ∷ back) (Word n)
-  role_speaks known back n h = rw h.roles_are (go (place_of frame.roles n) refl)
+  role_speaks known back n h = rw h.roles_are (go (place_of frame.roles n) refl (sym (some_name n frame.roles)))
     where
-      go : (o : Option ℕ) → place_of frame.roles n ≡ o → Speaks frame (new_role known.given o) (Word (codes "role") ∷ back) (Word n)
-      go None e = let declared = sym (some_name n frame.roles) ∙ ap is_some e in rw (h.fresh, declared) refl
-      go (Some r) e =
-          let declared = sym (some_name n frame.roles) ∙ ap is_some e in rw (h.fresh, declared, h.has n r e) (grind (arith, nat_tests))
+      go : (o : Option ℕ) → place_of frame.roles n ≡ o → is_among n frame.roles ≡ is_some o
+          → Speaks frame (new_role known.given o) (Word (codes "role") ∷ back) (Word n)
+      go None e declared = rw (h.fresh, declared) refl
+      go (Some r) e declared = rw (h.fresh, declared, h.has n r e) (grind (arith, nat_tests))
 
   has_more : (known : Known) (back : List Symbol) (n : List ℕ) → Between frame known back → role_fault known.roles known.given n ≡ None
-      → (m : List ℕ) (q : ℕ) → place_of frame.roles m ≡ Some q
-      → is_listed q (known.given ++ place_in known.roles n ∷ []) ≡ is_among m (given back ++ n ∷ [])
-  has_more known back n h ok m q e = rw h.roles_are (go (place_of frame.roles n) refl (rw h.roles_are at ok))
+      → (next : List Symbol) → given next ≡ given back ++ n ∷ [] → (m : List ℕ) (q : ℕ)
+      → place_of frame.roles m ≡ Some q
+      → is_listed q (known.given ++ place_in known.roles n ∷ []) ≡ is_among m (given next)
+  has_more known back n h ok next more m q e =
+      rw (h.roles_are, more) (go (place_of frame.roles n) refl (rw h.roles_are at ok))
     where
       go : (o : Option ℕ) → place_of frame.roles n ≡ o → new_role known.given o ≡ None
           → is_listed q (known.given ++ unwrap_or o 0 ∷ []) ≡ is_among m (given back ++ n ∷ [])
@@ -224,28 +201,14 @@ module _ (frame : Frame) (ss : AllLines) where
   pub scripts_told : (ws : List WrittenScript) (known : Known) (back : List Symbol) → Between frame known back
       → ss ≡ scripts_say known.roles known.scripts ws → Told frame (Scripts known) back (scripts_text ws) ss
   scripts_told [] known back h e = ap Taken (sym e)
-  scripts_told (x ∷ xs) known back h e = (
-    rw (h.fresh, h.none) refl,
-    tell frame _ _ (Word (codes "role") ∷ back) (Word x.role) _ (role_speaks known back x.role h) (λ ok. (
-      refl,
-      lines_told x.lines (begun known.messages (place_in known.roles x.role))
-          (λ ls. Scripts (with_script known (place_in known.roles x.role) ls))
-          (Is signs.Open ∷ Word x.role ∷ Word (codes "role") ∷ back) (scripts_text xs) (record {
-            messages_are = h.messages_are;
-            role = ap (λ (z : List (List ℕ)). place_in z x.role) h.roles_are;
-            names = refl;
-            sent = λ l. refl;
-            over = refl;
-            fresh = refl;
-            closed = h.closed;
-          }) (λ next g p. scripts_told xs (with_script known (place_in known.roles x.role) (lines_say [] x.lines))
-          (Is signs.Close ∷ next) (record {
-            roles_are = h.roles_are;
-            messages_are = h.messages_are;
-            has = λ m q f. has_more known back x.role h ok m q f ∙ ap (is_among m) (sym g);
-            fresh = refl;
-            none = refl;
-            closed = p;
-          }) e),
-    )),
-  )
+  scripts_told (x ∷ xs) known back h e =
+      let r = place_in known.roles x.role in let ms = h.messages_are in
+      let role = ap (λ (z : List (List ℕ)). place_in z x.role) h.roles_are in
+      along (rw (h.fresh, h.none) refl)
+      (tell frame _ _ (Word (codes "role") ∷ back) (Word x.role) _ (role_speaks known back x.role h) (λ ok.
+      along refl (lines_told x.lines (begun known.messages r) (λ ls. Scripts (with_script known r ls))
+      (Is signs.Open ∷ Word x.role ∷ Word (codes "role") ∷ back) (scripts_text xs)
+      (record { messages_are = ms; role = role; names = refl; sent = λ l. refl; over = refl; fresh = refl; closed = h.closed })
+      (λ next g p. let has = has_more known back x.role h ok next g in
+      scripts_told xs (with_script known r (lines_say [] x.lines)) (Is signs.Close ∷ next)
+      (record { roles_are = h.roles_are; messages_are = ms; has = has; fresh = refl; none = refl; closed = p }) e))))

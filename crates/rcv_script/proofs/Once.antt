@@ -1,6 +1,5 @@
 -- There is one answer to a list of symbols.
-use Rattle.std.proofs.Common.{◌≡◌, ℕ, List, [], ◌∷◌, ◌++◌, ◌<◌, arith, refl, sym, subst, ◌∙◌, inl, inr}
-use Rattle.std.specs.Prelude.{◌⊎◌}
+use Rattle.std.proofs.Common.{◌≡◌, ℕ, List, [], ◌∷◌, ◌++◌, ◌<◌, arith, refl, sym, subst, ◌∙◌, ◌⊎◌, inl, inr}
 use Rattle.rcv_points.specs.Follow.{PointView}
 use Rattle.rcv_script.specs.Symbols.{Symbol}
 use Rattle.rcv_script.specs.declared.fault.Fault.{Fault}
@@ -19,33 +18,22 @@ cuts : (xs ys us vs : List Symbol) → xs ++ ys ≡ us ++ vs → Cuts xs ys us v
 cuts [] ys [] vs e = inl (refl, e)
 cuts [] ys (u ∷ us) vs e = inr (inl (u, us, refl, e))
 cuts (x ∷ xs) ys [] vs e = inr (inr (x, xs, refl, sym e))
-cuts (x ∷ xs) ys (u ∷ us) vs e = more (cc) (cuts xs ys us vs cc)
+cuts (x ∷ xs) ys (u ∷ us) vs e = more (cuts xs ys us vs cc)
   where
-    more : x ≡ u → Cuts xs ys us vs → Cuts (x ∷ xs) ys (u ∷ us) vs
-    more same (inl h) = inl (cc, h.1)
-    more same (inr (inl h)) = inr (inl (h.0, h.1, cc, h.3))
-    more same (inr (inr h)) = inr (inr (h.0, h.1, cc, h.3))
-
-one_least : (roles : List (List ℕ)) (messages : List PointView) (f g : Fault) (front left : List Symbol)
-    → HoldsAt roles messages f front left → HoldsAt roles messages g front left
-    → ((h : Fault) → code_of h < code_of f → HoldsAt roles messages h front left → ⊥)
-    → ((h : Fault) → code_of h < code_of g → HoldsAt roles messages h front left → ⊥) → f ≡ g
-one_least roles messages f g front left a b c d =
-    let up : code_of f < code_of g → ⊥ = λ less. d f less a in
-    let down : code_of g < code_of f → ⊥ = λ less. c g less b in
-    let same : code_of f ≡ code_of g = omega arith in
-    grind (arith, same)
+    more : Cuts xs ys us vs → Cuts (x ∷ xs) ys (u ∷ us) vs
+    more (inl h) = inl (cc, h.1)
+    more (inr (inl h)) = inr (inl (h.0, h.1, cc, h.3))
+    more (inr (inr h)) = inr (inr (h.0, h.1, cc, h.3))
 
 one_first : (roles : List (List ℕ)) (messages : List PointView) (symbols : List Symbol) (f g : Fault) (left other : List Symbol)
     → IsFirst roles messages symbols f left → IsFirst roles messages symbols g other → (f ≡ g) × (left ≡ other)
 one_first roles messages symbols f g left other h i = meet (cuts h.front left i.front other (sym h.cut ∙ i.cut))
   where
     meet : Cuts h.front left i.front other → (f ≡ g) × (left ≡ other)
-    meet (inl e) = (
-      one_least roles messages f g h.front left h.holds (rw (e.0, e.1) i.holds) h.least
-          (λ j less x. i.least j less (rw (← e.0, ← e.1) x)),
-      e.1,
-    )
+    meet (inl e) =
+        let up : code_of f < code_of g → ⊥ = λ less. i.least f less (rw (← e.0, ← e.1) h.holds) in
+        let down : code_of g < code_of f → ⊥ = λ less. h.least g less (rw (e.0, e.1) i.holds) in
+        let same : code_of f ≡ code_of g = omega arith in (grind (arith, same), e.1)
     meet (inr (inl e)) = absurd (i.first f h.front e.0 e.1 e.2 (subst (HoldsAt roles messages f h.front) e.3 h.holds))
     meet (inr (inr e)) = absurd (h.first g i.front e.0 e.1 e.2 (subst (HoldsAt roles messages g i.front) e.3 i.holds))
 

@@ -1,5 +1,5 @@
 -- Where the machine stops at a symbol that isn't awaited, or goes on with what is awaited behind.
-use Rattle.std.proofs.Common.{◌≡◌, ℕ, ℤ, Bool, true, false, List, [], ◌∷◌, refl, sym, ap, ◌∙◌, cond, codes, arith}
+use Rattle.std.proofs.Common.{◌≡◌, ℕ, ℤ, Bool, true, false, List, [], ◌∷◌, refl, sym, ap, ◌∙◌, codes, arith}
 use Rattle.std.proofs.lemmas.Bool.Decides.{nat_tests}
 use Rattle.std.specs.Str.{bytes_eq}
 use Rattle.std.proofs.lemmas.Slice.Eq.{bytes_eq-Decides}
@@ -10,8 +10,8 @@ use Rattle.rcv_script.specs.declared.sign.Sign.TheVariants as signs
 use Rattle.rcv_script.specs.declared.fault.Fault.{Fault}
 use Rattle.rcv_script.specs.declared.fault.Fault.TheVariants.{Token}
 use Rattle.rcv_script.specs.Symbols.{Symbol, Is, Word, Number, Text, IsNotNext, NoWord, NoNumber}
-use Rattle.rcv_script.specs.Machine.{Item, Scripts, Known, script_of, Lines, ALine, This, AWord, ASigned, ANumber, AnEnd, AnAtom, Factors, Terms, Place, Writing, On, Wrong}
-use Rattle.rcv_script.specs.Machine.{same, meets, with_line, after, Refuses, answer}
+use Rattle.rcv_script.specs.Machine.{Item, Scripts, Known, script_of, Lines, ALine, This, AWord, ASigned, ANumber, AnEnd, AnAtom, Factors, Terms, Place, Writing}
+use Rattle.rcv_script.specs.Machine.{same, meets, with_line, Refuses, answer}
 
 pub same_word : (a b : List ℕ) → bytes_eq a b ≡ true → a ≡ b
 same_word a b e = (bytes_eq-Decides a b).0 e
@@ -31,15 +31,9 @@ meets_only _ _ e = absurd cc
 -- a mark or a word that isn't next
 pub no_sign : (m : Symbol) (ts : List Symbol) → IsNotNext m ts → (k : Item) → answer (This m k) ts ≡ Refuses Token ts
 no_sign m [] h k = refl
-no_sign m (t ∷ ts) h k = go (meets t m) refl
-  where
-    go : (b : Bool) → meets t m ≡ b
-        → after (cond b (On k) (Wrong Token)) (t ∷ ts) (λ next. answer next ts) ≡ Refuses Token (t ∷ ts)
-    go true e = absurd (h ts (ap (λ (x : Symbol). x ∷ ts) (meets_only t m e)))
-    go false e = refl
+no_sign m (t ∷ ts) h k = let same = meets_only t m in let other = h ts in grind (arith, nat_tests, same, other)
 
 -- a word or a number that isn't next
-
 pub no_word : (ts : List Symbol) → NoWord ts → (fault : List ℕ → Option Fault) (k : List ℕ → Item) → answer (AWord fault k) ts ≡ Refuses Token ts
 no_word (Word w ∷ ts) h fault k = absurd (h w ts refl)
 no_word _ h fault k = refl
@@ -74,7 +68,6 @@ fewer (Ok x) t old after new is h = rw is (omega (arith, h))
 fewer (Err e) t old after new is h = tt
 
 -- no more factors, terms, lines or scripts, and no end of a line
-
 pub factors_end : (p : Place) (left : Expr) (now new : List Symbol) → (new ≡ now) × IsNotNext (Is signs.Times) now → (k : Expr → Item)
     → answer (Factors p left k) now ≡ answer (k left) new
 factors_end p left (Is signs.Times ∷ ts) new h k = absurd (h.1 ts refl)

@@ -1,6 +1,7 @@
 -- The machine goes through expressions of the grammar.
 use Rattle.std.proofs.Common.{◌≡◌, ℕ, Bool, true, false, cond, codes, List, ◌∷◌, refl, sym, ap, subst, ◌∙◌, arith}
-use Rattle.std.specs.Prelude.{◌&&◌, ◌||◌, not, nat_le, drop, Option, Some, None, is_some}
+use Rattle.std.proofs.lemmas.Bool.Decides.{nat_tests}
+use Rattle.std.specs.Prelude.{◌&&◌, ◌||◌, not, drop, Option, Some, None, is_some}
 use Rattle.std.specs.Str.{bytes_eq}
 use Rattle.std.proofs.lemmas.Slice.Eq.{bytes_eq-Decides}
 use Rattle.rcv_model.specs.Script.{Expr, TheValue, TheAttempt, Variable, Negated, Times, Plus, Minus}
@@ -9,12 +10,12 @@ use Rattle.rcv_script.specs.declared.sign.Sign.TheVariants as signs
 use Rattle.rcv_script.specs.Symbols.{Symbol, Is, Word, Number}
 use Rattle.rcv_script.specs.Grammar.{WrittenAtom, Digits, Named, Signed, Inside, MoreAtoms, NoAtom, TimesAtom, MoreProducts, NoProduct, PlusProduct, MinusProduct, WrittenSum, SumOf, atom_text, atoms_text, products_text, sum_text}
 use Rattle.rcv_script.specs.Meaning.{word_says, atom_says, product_says, terms_say, sum_says}
-use Rattle.rcv_script.specs.Machine.{Place, Item, This, AnAtom, Factors, Terms, On, unless, fault_if, deeper, a_product, a_sum, variable, place_of, takes_bare}
+use Rattle.rcv_script.specs.Machine.{Place, Item, This, AnAtom, Factors, Terms, On, unless, deeper, a_product, a_sum, variable, place_of, takes_bare}
 use Rattle.rcv_script.specs.Table.{is_among, is_own_word, is_deciding, role_of, label, line_so_far, variables, begins_an_atom, minuses, parentheses, with_signs, nesting}
 use Rattle.rcv_script.proofs.Deriving.{AllLines}
-use Rattle.rcv_script.proofs.Least.{Frame, least_code, code_or}
-use Rattle.rcv_script.proofs.Viewing.{view, word_joins, IsLonger, is_longer, stays}
-use Rattle.rcv_script.proofs.Knowing.{Told, ToldBy, tell, Computes, Over, onward}
+use Rattle.rcv_script.proofs.Least.{Frame, least_code}
+use Rattle.rcv_script.proofs.Viewing.{view, Joins, word_joins, IsLonger, is_longer, stays}
+use Rattle.rcv_script.proofs.Knowing.{Told, ToldBy, tell, along, Computes, Over, onward}
 use Rattle.rcv_script.proofs.Named.{some_name}
 
 -- the symbol at which a product or a sum ends
@@ -31,21 +32,6 @@ ends_sum _ = Unit {0}
 product_ends : (more : MoreProducts) (us : List Symbol) → ends_sum us → ends_product (products_text more us)
 product_ends NoProduct (Is signs.Times ∷ us) h = h
 product_ends _ us h = tt
-
--- the code where one more parenthesis or sign is too many, and those of the words value, attempt and any other
-too_many : (many : Bool) → cond many 36 37 ≡ code_or (fault_if many faults.TooMany)
-too_many true = refl
-too_many false = refl
-
-word_code : (v a d bare : Bool) → cond (d && v) 33 (cond (not d && (not v && a)) 34 (cond (not d && v && bare) 35 37))
-    ≡ code_or (cond v (cond d (Some faults.Variable) (fault_if bare faults.NoPayload)) (cond a (cond d None (Some faults.AttemptInState)) None))
-word_code true a true bare = refl
-word_code true a false true = refl
-word_code true a false false = refl
-word_code false true true bare = refl
-word_code false true false bare = refl
-word_code false false true bare = refl
-word_code false false false bare = refl
 
 either : (d : Bool) → (d || not d) ≡ true
 either true = refl
@@ -71,9 +57,13 @@ module _ (frame : Frame) (ss : AllLines) where
   rests p back next h o = (subst (Computes frame p) (sym o.same) h.0, o.whole, h.3 ∙ sym (ap with_signs o.braces))
 
   -- behind a mark that goes on with an expression
-  marked : (p : Place) (back : List Symbol) (m : Symbol) → Rests p back → view (m ∷ back) ≡ view back → begins_an_atom (m ∷ back) ≡ true
-      → minuses (m ∷ back) ≡ 0 → parentheses (m ∷ back) ≡ parentheses back → Starts p (m ∷ back)
-  marked p back m h same begins none braces = (subst (Computes frame p) (sym same) h.0, begins, none, h.2 ∙ sym (ap with_signs braces))
+  marked : (p : Place) (back us : List Symbol) (m : Symbol) (i : Item) → Rests p back → Joins back m
+      → begins_an_atom (m ∷ back) ≡ true → minuses (m ∷ back) ≡ 0 → parentheses (m ∷ back) ≡ parentheses back
+      → Follows i back us → Starts p (m ∷ back) × Follows i (m ∷ back) us
+  marked p back us m i h joins begins none braces f = let same = stays back m joins h.0.0 in
+      let starts : Starts p (m ∷ back) =
+      (subst (Computes frame p) (sym same) h.0, begins, none, h.2 ∙ sym (ap with_signs braces)) in
+      (starts, λ next o. f next (onward same braces o))
 
   word_told : (w : List ℕ) (p : Place) (k : Expr → Item) (back us : List Symbol) → Opens p back
       → Follows (k (word_says p.names w)) back us → Told frame (AnAtom p k) back (Word w ∷ us) ss
@@ -99,15 +89,14 @@ module _ (frame : Frame) (ss : AllLines) where
           → ToldBy frame (cond v (unless p.value (On (k TheValue))) (cond a (unless p.attempt (On (k TheAttempt))) (variable o k)))
           back (Word w) (λ j. Told frame j (Word w ∷ back) us ss)
       go true a o ev ea eo =
-          let value = (bytes_eq-Decides w (codes "value")).0 ev in
-          let other : bytes_eq w (codes "attempt") ≡ false = rw value refl in
+          let other : bytes_eq w (codes "attempt") ≡ false = rw ((bytes_eq-Decides w (codes "value")).0 ev) refl in
           tell frame p.value (k TheValue) back (Word w) (λ j. Told frame j (Word w ∷ back) us ss)
-          (least ∙ rw (h.0.2, ev, other) (word_code true false (is_deciding back) _)) (λ ok. said TheValue (rw ev refl))
+          (least ∙ rw (h.0.2, ev, other) (grind (arith, nat_tests))) (λ ok. said TheValue (rw ev refl))
       go false true o ev ea eo = tell frame p.attempt (k TheAttempt) back (Word w) (λ j. Told frame j (Word w ∷ back) us ss)
-          (least ∙ rw (h.0.3, ev, ea) (word_code false true (is_deciding back) _)) (λ ok. said TheAttempt (rw (ev, ea) refl))
+          (least ∙ rw (h.0.3, ev, ea) (grind (arith, nat_tests))) (λ ok. said TheAttempt (rw (ev, ea) refl))
       go false false None ev ea eo = least ∙ rw (ev, ea, named None eo) refl
       go false false (Some n) ev ea eo =
-          (least ∙ rw (ev, ea, named (Some n) eo) (word_code false false (is_deciding back) _), said (Variable n) (rw (ev, ea, eo) refl))
+          (least ∙ rw (ev, ea, named (Some n) eo) (grind (arith, nat_tests)), said (Variable n) (rw (ev, ea, eo) refl))
 
   abbrev AtomTold : WrittenAtom → Type 0
   AtomTold a = (p : Place) (k : Expr → Item) (back us : List Symbol) → Opens p back → Follows (k (atom_says p.names a)) back us
@@ -137,66 +126,47 @@ module _ (frame : Frame) (ss : AllLines) where
       product_told a atoms first others p (λ x. x) (λ x. Terms p (so x) k) back _ h (product_ends more us e) (λ next o.
       rest p _ k next us (rests p back next h o) e (λ last o'. f last (onward o.same o.braces o')))
 
-  no_factor : (p : Place) (left : Expr) (k : Expr → Item) (back us : List Symbol) → ends_product us
-      → Told frame (k left) back us ss → Told frame (Factors p left k) back us ss
-  no_factor p left k back (Is signs.Times ∷ us) e h = absurd e
-  no_factor p left k back us e h = h
-
-  no_term : (p : Place) (left : Expr) (k : Expr → Item) (back us : List Symbol) → ends_sum us
-      → Told frame (k left) back us ss → Told frame (Terms p left k) back us ss
-  no_term p left k back (Is signs.Times ∷ us) e h = absurd e
-  no_term p left k back (Is signs.Plus ∷ us) e h = absurd e
-  no_term p left k back (Is signs.Minus ∷ us) e h = absurd e
-  no_term p left k back us e h = h
-
   mutual
     atom_told : (a : WrittenAtom) → AtomTold a
     atom_told (Digits n) p k back us h f =
         (refl, f (Number n ∷ back) (record { same = stays back (Number n) refl h.0.0; braces = refl; whole = refl }))
     atom_told (Named w) p k back us h f = word_told w p k back us h f
-    atom_told (Signed a) p k back us h f =
-        let same = stays back (Is signs.Minus) refl h.0.0 in
+    atom_told (Signed a) p k back us h f = let same = stays back (Is signs.Minus) refl h.0.0 in
         tell frame _ (AnAtom (deeper p) (λ e. k (Negated e))) back (Is signs.Minus) _
-        (rw (h.2, h.0.0, h.1, either (is_deciding back)) (too_many (nat_le 32 (nesting back)))) (λ ok.
+        (rw (h.2, h.0.0, h.1, either (is_deciding back)) (grind (arith, nat_tests))) (λ ok.
         atom_told a (deeper p) (λ e. k (Negated e)) (Is signs.Minus ∷ back) us
         (subst (Computes frame p) (sym same) h.0, refl, rw h.1 (omega (arith, h.2))) (λ next o. f next (onward same refl o)))
     atom_told (Inside s) p k back us h f =
-        let same = stays back (Is signs.Left) refl h.0.0 in
-        let c = subst (Computes frame p) (sym same) h.0 in
-        tell frame _ (a_sum (deeper p) (λ e. This (Is signs.Right) (k e))) back (Is signs.Left) _ (rw h.2 (too_many (nat_le 32 (nesting back)))) (λ ok.
-        sum_told s (deeper p) (λ e. This (Is signs.Right) (k e)) (Is signs.Left ∷ back) (Is signs.Right ∷ us)
-        (c, refl, refl, omega (arith, h.2)) tt (λ next o. (
-          refl,
-          f (Is signs.Right ∷ next) (record {
-            same = stays next (Is signs.Right) refl (subst (Computes frame p) (sym o.same) c).0 ∙ o.same ∙ same;
-            braces = ap (λ (z : List (List Symbol)). drop 1 z) o.braces;
-            whole = refl;
-          }),
-        )))
+        let same = stays back (Is signs.Left) refl h.0.0 in let c = subst (Computes frame p) (sym same) h.0 in
+        let right : Expr → Item = λ e. This (Is signs.Right) (k e) in
+        tell frame _ (a_sum (deeper p) right) back (Is signs.Left) _ (rw h.2 (grind (arith, nat_tests))) (λ ok.
+        sum_told s (deeper p) right (Is signs.Left ∷ back) (Is signs.Right ∷ us)
+        (c, refl, refl, omega (arith, h.2)) tt (λ next o.
+        let so = stays next (Is signs.Right) refl (subst (Computes frame p) (sym o.same) c).0 ∙ o.same ∙ same in
+        let braces = ap (λ (z : List (List Symbol)). drop 1 z) o.braces in
+        along refl (f (Is signs.Right ∷ next) (record { same = so; braces = braces; whole = refl }))))
 
     atoms_told : (more : MoreAtoms) → AtomsTold more
-    atoms_told NoAtom p left k back us h e f = no_factor p left k back us e (f back (record { same = refl; braces = refl; whole = h.1 }))
+    atoms_told NoAtom p left k back (Is signs.Times ∷ us) h e f = absurd e
+    atoms_told NoAtom p left k back us h e f = f back (record { same = refl; braces = refl; whole = h.1 })
     atoms_told (TimesAtom a more) p left k back us h e f =
-        let same = stays back (Is signs.Times) refl h.0.0 in (
-          refl,
-          product_told a more (atom_told a) (atoms_told more) p (λ x. Times left x) k (Is signs.Times ∷ back) us
-              (marked p back (Is signs.Times) h same refl refl refl) e (λ next o. f next (onward same refl o)),
-        )
+        let m = marked p back us (Is signs.Times) _ h refl refl refl refl f in
+        along refl (product_told a more (atom_told a) (atoms_told more) p (Times left) k
+        (Is signs.Times ∷ back) us m.0 e m.1)
 
     terms_told : (more : MoreProducts) → TermsTold more
-    terms_told NoProduct p left k back us h e f = no_term p left k back us e (f back (record { same = refl; braces = refl; whole = h.1 }))
+    terms_told NoProduct p left k back (Is signs.Times ∷ us) h e f = absurd e
+    terms_told NoProduct p left k back (Is signs.Plus ∷ us) h e f = absurd e
+    terms_told NoProduct p left k back (Is signs.Minus ∷ us) h e f = absurd e
+    terms_told NoProduct p left k back us h e f = f back (record { same = refl; braces = refl; whole = h.1 })
     terms_told (PlusProduct a atoms more) p left k back us h e f =
-        let same = stays back (Is signs.Plus) refl h.0.0 in (
-          refl,
-          term_told a atoms more (atom_told a) (atoms_told atoms) (terms_told more) p (λ x. Plus left x) k (Is signs.Plus ∷ back) us
-              (marked p back (Is signs.Plus) h same refl refl refl) e (λ next o. f next (onward same refl o)),
-        )
+        let m = marked p back us (Is signs.Plus) _ h refl refl refl refl f in
+        along refl (term_told a atoms more (atom_told a) (atoms_told atoms) (terms_told more) p (Plus left) k _
+        us m.0 e m.1)
     terms_told (MinusProduct a atoms more) p left k back us h e f =
-        let same = stays back (Is signs.Minus) refl h.0.0 in (
-          rw h.1 (rw (h.0.0, either (is_deciding back)) refl),
-          term_told a atoms more (atom_told a) (atoms_told atoms) (terms_told more) p (λ x. Minus left x) k (Is signs.Minus ∷ back) us
-              (marked p back (Is signs.Minus) h same refl (rw h.1 refl) refl) e (λ next o. f next (onward same refl o)),
-        )
+        let m = marked p back us (Is signs.Minus) _ h refl refl (rw h.1 refl) refl f in
+        along (rw h.1 (rw (h.0.0, either (is_deciding back)) refl))
+        (term_told a atoms more (atom_told a) (atoms_told atoms) (terms_told more) p (Minus left) k _ us m.0 e m.1)
 
     pub sum_told : (s : WrittenSum) (p : Place) (k : Expr → Item) (back us : List Symbol) → Starts p back → ends_sum us
         → Follows (k (sum_says p.names s)) back us → Told frame (a_sum p k) back (sum_text s us) ss

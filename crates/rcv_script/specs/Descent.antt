@@ -5,11 +5,11 @@ use Rattle.rcv_points.specs.Follow.{PointView}
 use Rattle.rcv_script.specs.declared.fault.Fault.{Fault}
 use Rattle.rcv_script.specs.declared.fault.ScriptError.{ScriptError}
 use Rattle.rcv_script.specs.declared.fault.ScriptError.TheVariants as errors
-use Rattle.rcv_script.specs.declared.expression.Operand.{Operand}
+use Rattle.rcv_script.specs.declared.expression.Leaf.{Leaf}
 use Rattle.rcv_script.specs.declared.formula.Banned.{Banned}
 use Rattle.rcv_script.specs.declared.sign.Sign.{Sign}
 use Rattle.rcv_script.specs.declared.sign.Sign.TheVariants as signs
-use Rattle.rcv_script.specs.Expressions.{operand_expr}
+use Rattle.rcv_script.specs.Expressions.{leaf_expr}
 use Rattle.rcv_script.specs.Symbols.{Symbol}
 use Rattle.rcv_script.specs.Machine.{Item, ATest, Place, Writing, a_sum, with_line, word_atom, reading}
 use Rattle.rcv_script.specs.Machine.{Refuses, On, Wrong, answer}
@@ -39,7 +39,7 @@ abbrev pub Adds :
     → List Symbol → List Symbol → Type 0
 Adds result front was now old new = Goes result (λ (k : Writing → Item). front was (λ x. k (with_line was x))) (λ _. now) old new
 
--- the same for what says nothing
+-- it comes to what is awaited behind something that says nothing, or stops
 abbrev pub Passes : {X : Type 0} → Result X ScriptError → (Item → Item) → List Symbol → List Symbol → Type 0
 Passes (Ok x) front old new = (k : Item) → answer (front k) old ≡ answer k new
 Passes (Err errors.Memory) front old new = Unit {0}
@@ -51,8 +51,8 @@ term_sign false = signs.Plus
 term_sign true = signs.Minus
 
 -- a word is that atom, or there is that fault
-abbrev pub IsWordAtom : Place → List ℕ → Operand → Type 0
-IsWordAtom p w o = (k : script.Expr → Item) → word_atom p w k ≡ On (k (operand_expr o))
+abbrev pub IsWordAtom : Place → List ℕ → Leaf → Type 0
+IsWordAtom p w leaf = (k : script.Expr → Item) → word_atom p w k ≡ On (k (leaf_expr leaf))
 
 -- that fault speaks against the word
 abbrev pub IsNoWordAtom : Place → List ℕ → Fault → Type 0

@@ -1,7 +1,7 @@
 // Why no scripts were read.
 
 ghost use Rattle.std.specs.Prelude.{◌≡◌};
-ghost use Rattle.rcv_script.specs.declared.fault.ScriptError.TheVariants.{Memory};
+ghost use Rattle.rcv_script.specs.declared.fault.ScriptError.TheVariants.{Memory, Refused};
 ghost use Rattle.rcv_script.specs.Refusals.{code_of};
 
 use std::alloc::{AllocError, AllocFailed};
@@ -40,6 +40,17 @@ pub enum ScriptError {
     /// The fault is at the token that is next, or at the end.
     Refused(Fault),
     Memory,
+}
+
+/// What was read, or why the reader stopped.
+pub type Read<T> = Result<T, ScriptError>;
+
+impl From<Fault> for ScriptError {
+    ghost from_gives = { λ fault e. e ≡ Refused fault };
+
+    fn from(fault: Fault) -> ScriptError {
+        ScriptError::Refused(fault)
+    }
 }
 
 impl From<AllocError> for ScriptError {

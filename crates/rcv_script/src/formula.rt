@@ -9,8 +9,8 @@ ghost use Rattle.rcv_script.specs.Machine.{This, ATest, AnAtom, a_product, a_sum
 ghost use Rattle.rcv_script.specs.Descent.{Goes, Passes, Writes, IsWordAtom, IsNoWordAtom};
 ghost use Rattle.rcv_script.specs.Descent.{at_depth, rooms, term_sign, compared};
 
-use crate::expression::{Formula, Operand, Operator, Steps};
-use crate::fault::{Fault, ScriptError};
+use crate::expression::{Formula, Leaf, Operator, Steps};
+use crate::fault::{Fault, Read, ScriptError};
 use crate::line::{Comparison, Condition};
 use crate::parser::Parser;
 use crate::sign::Sign;
@@ -32,39 +32,28 @@ pub fn place_of(names: &[Name], name: &[u8]) -> Option<usize>
 }
 
 // What a word is in an expression, or what speaks against it.
-fn word_atom(names: &Names, banned: Banned, word: &[u8]) -> Result<Operand, Fault>
+fn word_atom(names: &Names, banned: Banned, word: &[u8]) -> Result<Leaf, Fault>
     ensures ok { (depth : ℕ) → IfOk result (IsWordAtom (at_depth names.now banned depth) word.now) }
     ensures err { (depth : ℕ) → IfErr result (IsNoWordAtom (at_depth names.now banned depth) word.now) }
 {
     if is(word, b"value") {
-        return match banned.value {
-            None => Ok(Operand::Value),
-            Some(fault) => Err(fault),
-        };
+        return banned.value.map_or(Ok(Leaf::Value), Err);
     }
     if is(word, b"attempt") {
-        return match banned.attempt {
-            None => Ok(Operand::Attempt),
-            Some(fault) => Err(fault),
-        };
+        return banned.attempt.map_or(Ok(Leaf::Attempt), Err);
     }
-    match place_of(names.as_slice(), word) {
-        Some(place) => Ok(Operand::Variable(place)),
-        None => Err(Fault::Variable),
-    }
+    let place = place_of(names.as_slice(), word).ok_or(Fault::Variable)?;
+    Ok(Leaf::Variable(place))
 }
 
 impl<'a> Parser<'a> {
     /// Takes this mark.
     #[tactic(auto, using(crate::proofs::Stops::no_sign))]
-    pub fn expect(&mut self, sign: Sign) -> Result<(), ScriptError>
+    pub fn expect(&mut self, sign: Sign) -> Read<()>
         ensures goes { Passes result (λ k. This (Is sign) k) self.old.rest self.new.rest }
         ensures shorter { length self.new.rest ≤ length self.old.rest }
     {
-        let Some(after) = self.rest.sign(sign) else {
-            return Err(ScriptError::Refused(Fault::Token));
-        };
-        self.rest = after;
+        self.rest = self.rest.sign(sign).ok_or(Fault::Token)?;
         Ok(())
     }
 
@@ -88,14 +77,13 @@ impl<'a> Parser<'a> {
         ensures taken { result ≡ true → length self.new.rest < length self.old.rest }
         ensures no { result ≡ false → (self.new.rest ≡ self.old.rest) × IsNotNext (Word word.now) self.old.rest }
     {
-        let Some((found, after)) = self.rest.word() else {
-            return false;
-        };
-        if !is(found, word) {
-            return false;
+        match self.rest.word() {
+            Some((found, after)) if is(found, word) => {
+                self.rest = after;
+                true
+            }
+            _ => false,
         }
-        self.rest = after;
-        true
     }
 
     // Takes the mark in front of one more term if one is next: whether the term is subtracted.
@@ -112,7 +100,7 @@ impl<'a> Parser<'a> {
     }
 
     // Takes a number, or a word that stands for one.
-    fn leaf(&mut self, names: &Names, banned: Banned, steps: &mut Steps) -> Result<(), ScriptError>
+    fn leaf(&mut self, names: &Names, banned: Banned, steps: &mut Steps) -> Read<()>
         requires room { length steps.old.1 < 67 }
         ensures goes { (depth : ℕ) → IsNotNext (Is Sign.Minus) self.old.rest → IsNotNext (Is Sign.Left) self.old.rest
             → Writes result steps.old steps.new (λ k. AnAtom (at_depth names.now banned depth) k)
@@ -121,16 +109,16 @@ impl<'a> Parser<'a> {
     {
         if let Some((number, after)) = self.rest.number() {
             self.rest = after;
-            steps.push(Operand::Number(number as i64))?;
+            steps.push(Leaf::Number(number as i64))?;
             return Ok(());
         }
         let Some((word, after)) = self.rest.word() else {
             return Err(ScriptError::Refused(Fault::Token));
         };
         match word_atom(names, banned, word) {
-            Ok(operand) => {
+            Ok(leaf) => {
                 self.rest = after;
-                steps.push(operand)?;
+                steps.push(leaf)?;
                 Ok(())
             }
             Err(fault) => Err(ScriptError::Refused(fault)),
@@ -139,13 +127,7 @@ impl<'a> Parser<'a> {
 
     // Takes an atom, where so many parentheses and signs are open.
     #[cycle(descent)]
-    fn atom(
-        &mut self,
-        names: &Names,
-        banned: Banned,
-        depth: u32,
-        steps: &mut Steps,
-    ) -> Result<(), ScriptError>
+    fn atom(&mut self, names: &Names, banned: Banned, depth: u32, steps: &mut Steps) -> Read<()>
         requires depth { depth ≤ 32 }
         requires room { length steps.old.1 + rooms depth ≤ 68 }
         ensures goes { Writes result steps.old steps.new
@@ -158,8 +140,7 @@ impl<'a> Parser<'a> {
             }
             self.rest = after;
             self.atom(names, banned, depth + 1, steps)?;
-            steps.negate()?;
-            return Ok(());
+            return Ok(steps.negate()?);
         }
         if let Some(after) = self.rest.sign(Sign::Left) {
             if depth >= 32 {
@@ -167,21 +148,14 @@ impl<'a> Parser<'a> {
             }
             self.rest = after;
             self.sum(names, banned, depth + 1, steps)?;
-            self.expect(Sign::Right)?;
-            return Ok(());
+            return self.expect(Sign::Right);
         }
         self.leaf(names, banned, steps)
     }
 
     // Takes atoms, multiplied.
     #[cycle(descent)]
-    fn product(
-        &mut self,
-        names: &Names,
-        banned: Banned,
-        depth: u32,
-        steps: &mut Steps,
-    ) -> Result<(), ScriptError>
+    fn product(&mut self, names: &Names, banned: Banned, depth: u32, steps: &mut Steps) -> Read<()>
         requires depth { depth ≤ 32 }
         requires room { length steps.old.1 + rooms depth ≤ 67 }
         ensures goes { Writes result steps.old steps.new
@@ -198,13 +172,7 @@ impl<'a> Parser<'a> {
 
     // Takes products, added and subtracted, where so many parentheses and signs are open.
     #[cycle(descent)]
-    fn sum(
-        &mut self,
-        names: &Names,
-        banned: Banned,
-        depth: u32,
-        steps: &mut Steps,
-    ) -> Result<(), ScriptError>
+    fn sum(&mut self, names: &Names, banned: Banned, depth: u32, steps: &mut Steps) -> Read<()>
         requires depth { depth ≤ 32 }
         requires room { length steps.old.1 + rooms depth ≤ 66 }
         ensures goes { Writes result steps.old steps.new
@@ -225,7 +193,7 @@ impl<'a> Parser<'a> {
     }
 
     // Takes an expression.
-    fn formula(&mut self, names: &Names, banned: Banned) -> Result<Formula, ScriptError>
+    fn formula(&mut self, names: &Names, banned: Banned) -> Read<Formula>
         ensures goes { Goes result (λ k. a_sum (at_depth names.now banned 0) k) (λ e. e) self.old.rest self.new.rest }
         ensures shorter { length self.new.rest ≤ length self.old.rest }
     {
@@ -235,7 +203,7 @@ impl<'a> Parser<'a> {
     }
 
     /// Takes what a line computes: the mark `=` and an expression.
-    pub fn number_set(&mut self, names: &Names, banned: Banned) -> Result<Formula, ScriptError>
+    pub fn number_set(&mut self, names: &Names, banned: Banned) -> Read<Formula>
         ensures goes { Goes result (λ k. This (Is Sign.Equals) (a_sum (at_depth names.now banned 0) k)) (λ e. e)
             self.old.rest self.new.rest }
         ensures shorter { IfOk result (λ _. length self.new.rest ≤ length self.old.rest) }
@@ -245,7 +213,7 @@ impl<'a> Parser<'a> {
     }
 
     /// Takes a condition.
-    pub fn condition(&mut self, names: &Names, banned: Banned) -> Result<Condition, ScriptError>
+    pub fn condition(&mut self, names: &Names, banned: Banned) -> Read<Condition>
         ensures goes { Goes result (λ k. compared (at_depth names.now banned 0) k) condition_of
             self.old.rest self.new.rest }
         ensures shorter { IfOk result (λ _. length self.new.rest ≤ length self.old.rest) }
@@ -261,16 +229,14 @@ impl<'a> Parser<'a> {
     }
 
     // Takes a mark that compares.
-    fn comparison(&mut self) -> Result<Comparison, ScriptError>
+    fn comparison(&mut self) -> Read<Comparison>
         ensures goes { Goes result (λ k. ATest k) test_of self.old.rest self.new.rest }
         ensures shorter { IfOk result (λ _. length self.new.rest ≤ length self.old.rest) }
     {
         let Some((Lexeme::Is(sign), after)) = self.rest.next() else {
             return Err(ScriptError::Refused(Fault::Token));
         };
-        let Some(comparison) = comparison_of(sign) else {
-            return Err(ScriptError::Refused(Fault::Token));
-        };
+        let comparison = comparison_of(sign).ok_or(Fault::Token)?;
         self.rest = after;
         Ok(comparison)
     }

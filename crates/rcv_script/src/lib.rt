@@ -14,6 +14,7 @@ mod read;
 pub mod scripts;
 mod setting;
 mod sign;
+pub mod step;
 mod value;
 mod words;
 mod writing;

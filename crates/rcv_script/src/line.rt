@@ -89,14 +89,12 @@ impl Line {
 pub fn is_met(when: &Option<Condition>, vars: &Vars, attempt: u32) -> bool
     ensures { result ≡ is_met (when_of when.now) vars.now attempt }
 {
-    match when {
-        None => true,
-        Some(condition) => {
-            let left = condition.left.value(vars, 0, attempt);
-            let right = condition.right.value(vars, 0, attempt);
-            condition.comparison.holds(left, right)
-        }
-    }
+    let Some(condition) = when else {
+        return true;
+    };
+    let left = condition.left.value(vars, 0, attempt);
+    let right = condition.right.value(vars, 0, attempt);
+    condition.comparison.holds(left, right)
 }
 
 /// Sets the variable at a place; beyond the last one there is none.

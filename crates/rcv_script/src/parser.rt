@@ -7,7 +7,7 @@ ghost use Rattle.rcv_script.specs.Machine.{This, AWord, ASigned, Lines, ALine, l
 ghost use Rattle.rcv_script.specs.Machine.{var_line, send_line, pick_line, on_line, begun, to_set, place_in};
 ghost use Rattle.rcv_script.specs.Descent.{Goes, Adds};
 
-use crate::fault::{Fault, ScriptError};
+use crate::fault::{Fault, Read, ScriptError};
 use crate::formula::{Banned, place_of};
 use crate::line::Line;
 use crate::sign::Sign;
@@ -28,7 +28,7 @@ pub struct Parser<'a> {
 impl<'a> Parser<'a> {
     // Takes the word `set` and the name of a variable: its place.
     #[tactic(auto, using(crate::proofs::Stops::no_sign, crate::proofs::Stops::no_word))]
-    fn variable(&mut self, writing: &Writing<'_>) -> Result<usize, ScriptError>
+    fn variable(&mut self, writing: &Writing<'_>) -> Read<usize>
         ensures goes { Goes result (λ k. to_set writing.now.names (λ n. k (place_in writing.now.names n)))
             (λ place. place) self.old.rest self.new.rest }
         ensures shorter { IfOk result (λ _. length self.new.rest ≤ length self.old.rest) }
@@ -36,19 +36,15 @@ impl<'a> Parser<'a> {
         if !self.takes_word(b"set") {
             return Err(ScriptError::Refused(Fault::Token));
         }
-        let Some((word, after)) = self.rest.word() else {
-            return Err(ScriptError::Refused(Fault::Token));
-        };
-        let Some(place) = place_of(writing.names().as_slice(), word) else {
-            return Err(ScriptError::Refused(Fault::Variable));
-        };
+        let (word, after) = self.rest.word().ok_or(Fault::Token)?;
+        let place = place_of(writing.names().as_slice(), word).ok_or(Fault::Variable)?;
         self.rest = after;
         Ok(place)
     }
 
     // Takes a number that may be below 0.
     #[tactic(auto, using(crate::proofs::Stops::to_number))]
-    fn signed(&mut self) -> Result<i64, ScriptError>
+    fn signed(&mut self) -> Read<i64>
         ensures goes { Goes result (λ k. ASigned k) (λ z. z) self.old.rest self.new.rest }
         ensures shorter { IfOk result (λ _. length self.new.rest ≤ length self.old.rest) }
     {
@@ -57,22 +53,17 @@ impl<'a> Parser<'a> {
             return Err(ScriptError::Refused(Fault::Token));
         };
         self.rest = after;
-        if is_below {
-            Ok(-(number as i64))
-        } else {
-            Ok(number as i64)
-        }
+        let number = number as i64;
+        Ok(if is_below { -number } else { number })
     }
 
     // Takes what stands behind the word `var`.
     #[tactic(auto, using(crate::proofs::Stops::no_word))]
-    fn var_line(&mut self, writing: &mut Writing<'_>) -> Result<(), ScriptError>
+    fn var_line(&mut self, writing: &mut Writing<'_>) -> Read<()>
         ensures goes { Adds result (λ s k. var_line s.names k) writing.old writing.new self.old.rest self.new.rest }
         ensures shorter { IfOk result (λ _. length self.new.rest ≤ length self.old.rest) }
     {
-        let Some((name, after)) = self.rest.word() else {
-            return Err(ScriptError::Refused(Fault::Token));
-        };
+        let (name, after) = self.rest.word().ok_or(Fault::Token)?;
         if let Some(fault) = writing.var_fault(name) {
             return Err(ScriptError::Refused(fault));
         }
@@ -80,75 +71,67 @@ impl<'a> Parser<'a> {
         self.expect(Sign::Equals)?;
         let first = self.signed()?;
         self.expect(Sign::Semicolon)?;
-        writing.declare(self.alloc, name, first)?;
-        Ok(())
+        Ok(writing.declare(self.alloc, name, first)?)
     }
 
     // Takes the label of a line of this kind.
     #[tactic(auto, using(crate::proofs::Stops::no_word))]
-    fn label(&mut self, kind: LineKind, writing: &Writing<'_>) -> Result<&'a [u8], ScriptError>
+    fn label(&mut self, kind: LineKind, writing: &Writing<'_>) -> Read<Name>
         ensures goes { Goes result
-            (λ k. AWord (label_fault kind writing.now.messages writing.now.role writing.now.lines) k) (λ n. n.now)
+            (λ k. AWord (label_fault kind writing.now.messages writing.now.role writing.now.lines) k) (λ n. n)
             self.old.rest self.new.rest }
         ensures shorter { IfOk result (λ _. length self.new.rest ≤ length self.old.rest) }
     {
-        let Some((label, after)) = self.rest.word() else {
-            return Err(ScriptError::Refused(Fault::Token));
-        };
+        let (label, after) = self.rest.word().ok_or(Fault::Token)?;
         if let Some(fault) = writing.label_fault(kind, label) {
             return Err(ScriptError::Refused(fault));
         }
         self.rest = after;
-        Ok(label)
+        Ok(Name::of(self.alloc, label)?)
     }
 
     // Adds this line, and takes the mark `;` behind it. Where that is missing, nothing is kept of the script.
-    fn end(&mut self, line: Line, writing: &mut Writing<'_>) -> Result<(), ScriptError>
+    fn end(&mut self, line: Line, writing: &mut Writing<'_>) -> Read<()>
         ensures goes { Adds result (λ s k. This (Is Sign.Semicolon) (k (s.names, line_of line)))
             writing.old writing.new self.old.rest self.new.rest }
         ensures shorter { length self.new.rest ≤ length self.old.rest }
     {
         writing.add(line)?;
-        self.expect(Sign::Semicolon)?;
-        Ok(())
+        self.expect(Sign::Semicolon)
     }
 
     // Takes what stands behind the word `send`.
-    fn send_line(&mut self, writing: &mut Writing<'_>) -> Result<(), ScriptError>
+    fn send_line(&mut self, writing: &mut Writing<'_>) -> Read<()>
         ensures goes { Adds result send_line writing.old writing.new self.old.rest self.new.rest }
         ensures shorter { IfOk result (λ _. length self.new.rest ≤ length self.old.rest) }
     {
-        let word = self.label(LineKind::Send, writing)?;
+        let label = self.label(LineKind::Send, writing)?;
         let number = self.number_set(writing.names(), DECIDING)?;
-        let label = Name::of(self.alloc, word)?;
         self.end(Line::Send { label, number }, writing)
     }
 
     // Takes what stands behind the word `pick`.
-    fn pick_line(&mut self, writing: &mut Writing<'_>) -> Result<(), ScriptError>
+    fn pick_line(&mut self, writing: &mut Writing<'_>) -> Read<()>
         ensures goes { Adds result pick_line writing.old writing.new self.old.rest self.new.rest }
         ensures shorter { IfOk result (λ _. length self.new.rest ≤ length self.old.rest) }
     {
-        let word = self.label(LineKind::Pick, writing)?;
+        let label = self.label(LineKind::Pick, writing)?;
         if !self.takes_word(b"when") {
-            let label = Name::of(self.alloc, word)?;
             return self.end(Line::Pick { label, when: None }, writing);
         }
         let when = Some(self.condition(writing.names(), DECIDING)?);
-        let label = Name::of(self.alloc, word)?;
         self.end(Line::Pick { label, when }, writing)
     }
 
     // Takes what stands behind the word `on`.
-    fn on_line(&mut self, writing: &mut Writing<'_>) -> Result<(), ScriptError>
+    fn on_line(&mut self, writing: &mut Writing<'_>) -> Read<()>
         ensures goes { Adds result on_line writing.old writing.new self.old.rest self.new.rest }
         ensures shorter { IfOk result (λ _. length self.new.rest ≤ length self.old.rest) }
     {
-        let word = self.label(LineKind::On, writing)?;
-        let banned = writing.remembering(word);
+        let label = self.label(LineKind::On, writing)?;
         let place = self.variable(writing)?;
+        let banned = writing.remembering(label.as_slice());
         let number = self.number_set(writing.names(), banned)?;
-        let label = Name::of(self.alloc, word)?;
         let line = Line::On {
             label,
             place,
@@ -159,16 +142,12 @@ impl<'a> Parser<'a> {
 
     // Takes a line.
     #[tactic(auto, using(crate::proofs::Stops::no_line, crate::proofs::Stops::fewer))]
-    fn line(&mut self, writing: &mut Writing<'_>) -> Result<(), ScriptError>
+    fn line(&mut self, writing: &mut Writing<'_>) -> Read<()>
         ensures goes { Adds result (λ s k. ALine s k) writing.old writing.new self.old.rest self.new.rest }
         ensures taken { IfOk result (λ _. length self.new.rest < length self.old.rest) }
     {
-        let Some((word, after)) = self.rest.word() else {
-            return Err(ScriptError::Refused(Fault::Token));
-        };
-        let Some(kind) = kind_of(word) else {
-            return Err(ScriptError::Refused(Fault::Token));
-        };
+        let (word, after) = self.rest.word().ok_or(Fault::Token)?;
+        let kind = kind_of(word).ok_or(Fault::Token)?;
         if let Some(fault) = writing.line_fault(kind) {
             return Err(ScriptError::Refused(fault));
         }
@@ -182,7 +161,7 @@ impl<'a> Parser<'a> {
     }
 
     /// Takes the lines of a role between braces.
-    pub fn lines(&mut self, points: &Points, role: usize) -> Result<Vec<Line>, ScriptError>
+    pub fn lines(&mut self, points: &Points, role: usize) -> Read<Vec<Line>>
         ensures goes { Goes result (λ k. This (Is Sign.Open) (Lines (begun points.now.messages role) k))
             (λ lines. map line_of lines.items) self.old.rest self.new.rest }
         ensures shorter { IfOk result (λ _. length self.new.rest ≤ length self.old.rest) }

@@ -8,7 +8,7 @@ ghost use Rattle.rcv_script.specs.Machine.{Taken, script, no_lines, reading};
 ghost use Rattle.rcv_script.specs.Descent.{Goes, Ceases};
 ghost use Rattle.rcv_script.specs.Scripts.{AreScriptsOf, AreRefusedFor};
 
-use crate::fault::{Fault, ScriptError};
+use crate::fault::{Fault, Read, ScriptError};
 use crate::formula::place_of;
 use crate::parser::Parser;
 use crate::scripts::{Script, Scripts};
@@ -20,47 +20,28 @@ use rcv_tree::name::Names;
 use rcv_tree::refusal::Refusal;
 use std::alloc::Global;
 
-// A role and its script.
-#[derive(Drop)]
-struct Given {
-    role: usize,
-    script: Script,
-}
-
 impl<'a> Parser<'a> {
-    // Takes what stands behind the word `role`.
+    // Takes what stands behind the word `role`: a role and its script.
     #[tactic(auto, using(crate::proofs::Stops::no_word))]
-    fn script(
-        &mut self,
-        roles: &Names,
-        points: &Points,
-        given: &[usize],
-    ) -> Result<Given, ScriptError>
-        ensures goes { Goes result (λ k. script roles.now given.now points.now.messages k) (λ x. (x.role, x.script))
+    fn script(&mut self, roles: &Names, points: &Points, given: &[usize]) -> Read<(usize, Script)>
+        ensures goes { Goes result (λ k. script roles.now given.now points.now.messages k) (λ x. x)
             self.old.rest self.new.rest }
-        ensures declared { IfOk result (λ x. x.role < length roles.now) }
+        ensures declared { IfOk result (λ x. x.0 < length roles.now) }
         ensures shorter { IfOk result (λ _. length self.new.rest ≤ length self.old.rest) }
     {
-        let Some((word, after)) = self.rest.word() else {
-            return Err(ScriptError::Refused(Fault::Token));
-        };
-        let Some(role) = place_of(roles.as_slice(), word) else {
-            return Err(ScriptError::Refused(Fault::Role));
-        };
+        let (word, after) = self.rest.word().ok_or(Fault::Token)?;
+        let role = place_of(roles.as_slice(), word).ok_or(Fault::Role)?;
         if given.contains(&role) {
             return Err(ScriptError::Refused(Fault::Role));
         }
         self.rest = after;
         let lines = self.lines(points, role)?;
-        Ok(Given {
-            role,
-            script: Script::of(lines),
-        })
+        Ok((role, Script::of(lines)))
     }
 
     // Takes all scripts.
     #[tactic(auto, using(crate::proofs::Stops::no_script))]
-    fn scripts(&mut self, roles: &Names, points: &Points) -> Result<Vec<Script>, ScriptError>
+    fn scripts(&mut self, roles: &Names, points: &Points) -> Read<Vec<Script>>
         ensures ok { IfOk result (λ found. reading roles.now points.now.messages self.old.rest ≡ Taken found.items) }
         ensures all { IfOk result (λ scripts. length scripts.items ≡ length roles.now) }
         ensures err { IfErr result (λ e. Ceases roles.now points.now.messages e self.old.rest self.new.rest) }
@@ -68,20 +49,19 @@ impl<'a> Parser<'a> {
         let mut scripts = no_lines(self.alloc, roles)?;
         let mut given = Vec::new(self.alloc);
         while self.takes_word(b"role") {
-            let next = self.script(roles, points, given.as_slice())?;
-            given.push(next.role)?;
-            scripts[next.role] = next.script;
+            let (role, script) = self.script(roles, points, given.as_slice())?;
+            given.push(role)?;
+            scripts[role] = script;
         }
-        if self.rest.is_empty() {
-            Ok(scripts)
-        } else {
-            Err(ScriptError::Refused(Fault::Token))
+        if !self.rest.is_empty() {
+            return Err(ScriptError::Refused(Fault::Token));
         }
+        Ok(scripts)
     }
 }
 
 // A script without lines for each role.
-fn no_lines(alloc: Global, roles: &Names) -> Result<Vec<Script>, ScriptError>
+fn no_lines(alloc: Global, roles: &Names) -> Read<Vec<Script>>
     ensures ok { IfOk result (λ scripts. scripts.items ≡ no_lines roles.now) }
     ensures err { IfErr result (λ e. e ≡ ScriptError.Memory) }
 {

@@ -169,13 +169,6 @@ impl Scripts {
     pub fn reads_attempt(&self) -> bool
         ensures { result ≡ false ↔ ((r : ℕ) → AreBlind (lines_at self.now.lines r)) }
     {
-        self.some_reads_attempt()
-    }
-
-    // Whether the attempt stands in a line that picks or sends.
-    fn some_reads_attempt(&self) -> bool
-        ensures { result ≡ scripts_read self.now.lines }
-    {
         self.roles
             .as_slice()
             .iter()

@@ -121,8 +121,7 @@ impl<'a> Writing<'a> {
         ensures { MatchResult result (λ _. self.new ≡ with_line self.old (self.old.names, line_of line))
             (λ _. self.new ≡ self.old) }
     {
-        self.lines.push(line)?;
-        Ok(())
+        Ok(self.lines.push(line)?)
     }
 
     /// Adds a variable and its line. Where no memory is left, the name may stand there without its line.
@@ -130,7 +129,6 @@ impl<'a> Writing<'a> {
         ensures { IfOk result (λ _. self.new ≡ with_line self.old (self.old.names ++ name.now ∷ [], VarLine first)) }
     {
         self.names.push(Name::of(alloc, name)?)?;
-        self.lines.push(Line::Var { first })?;
-        Ok(())
+        Ok(self.lines.push(Line::Var { first })?)
     }
 }

@@ -23,17 +23,14 @@ unknown : HoldsAt NoName (text (x ∷ Is Left ∷ Is Right ∷ Is From ∷ [])) 
     × (is_at NoName (backward (text (x ∷ Is Left ∷ b ∷ Is Comma ∷ [])) []) c ≡ false)
 unknown = (refl, refl, refl, refl, refl, refl)
 
--- 14 at a role, an alias and a receiver; another list may have it
-twice : HoldsAt Twice (with_roles [] []) (a ∷ [])
+-- 14 at a role, an alias and a receiver; another list may have it; 15 at a receiver
+twice_or_itself : HoldsAt Twice (with_roles [] []) (a ∷ [])
     × HoldsAt Twice (Is Module ∷ x ∷ Is Semicolon ∷ alias_a (Word (codes "type") ∷ Is Less ∷ a ∷ Is Greater ∷ Text []
     ∷ Is From ∷ Text [] ∷ Word (codes "as") ∷ [])) (a ∷ [])
     × HoldsAt Twice (text (message (sends (b ∷ Is Comma ∷ [])))) (b ∷ [])
     × (is_at Twice (backward (text (message (sends []))) []) b ≡ false)
-twice = (refl, refl, refl, refl)
-
--- 15
-to_itself : HoldsAt SelfMessage (text (sends (b ∷ Is Comma ∷ []))) (a ∷ [])
-to_itself = refl
+    × HoldsAt SelfMessage (text (sends (b ∷ Is Comma ∷ []))) (a ∷ [])
+twice_or_itself = (refl, refl, refl, refl, refl)
 
 -- 16 at each first symbol of a statement; behind the block that holds the continue there is another one
 behind_continue : HoldsAt AfterContinue (text (rec_x (message (again_x [])))) (x ∷ [])
@@ -53,13 +50,10 @@ abbrev messages : ℕ → List Symbol → List Symbol
 messages zero next = next
 messages (suc n) next = message (messages n next)
 
--- 18 at the ninth role and behind 256 receivers
-too_many : HoldsAt TooMany (with_roles more_roles []) (Word (codes "I") ∷ [])
+-- 18 at the ninth role and behind 256 receivers; 19 at par, at do and at a second protocol
+too_many_or_later : HoldsAt TooMany (with_roles more_roles []) (Word (codes "I") ∷ [])
     × HoldsAt TooMany (text (messages 256 (sends []))) (b ∷ [])
-too_many = (refl, refl)
-
--- 19
-later : HoldsAt NotYet (text []) (Is Par ∷ [])
+    × HoldsAt NotYet (text []) (Is Par ∷ [])
     × HoldsAt NotYet (text (message [])) (Is Do ∷ [])
     × HoldsAt NotYet (text (rec_x (message (Is Close ∷ Is Close ∷ [])))) (Is Global ∷ [])
-later = (refl, refl, refl)
+too_many_or_later = (refl, refl, refl, refl, refl)

@@ -11,8 +11,7 @@ loop-alloc-init c =
 pub loop-alloc-preserved : goal.loop-alloc-preserved
 loop-alloc-preserved c =
     decls_next _ _ _ _ _ _ _ _ c.in_ok-decl.field-0 c.loop-alloc.invariant (c.takes.ensures.no c.loop-alloc-test.true).0
-    c.in_ok-decl.ensures.goes c.in_ok-decl.ensures.kept c.in_ok-decl.ensures.read
-    c.in_ok-push.ensures.ok
+    c.in_ok-decl.ensures.goes c.in_ok-decl.ensures.kept c.in_ok-decl.ensures.read c.in_ok-push.ensures.ok
 
 pub returns-in_err-decl-clause-goes : goal.returns-in_err-decl-clause-goes
 returns-in_err-decl-clause-goes c =

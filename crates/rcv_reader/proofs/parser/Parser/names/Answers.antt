@@ -1,8 +1,5 @@
-use Rattle.rcv_reader.proofs.Reading.{names_first, names_next}
+use Rattle.rcv_reader.proofs.Reading.{names_next}
 use Rattle.rcv_reader.proofs.parser.Parser.names.Goals as goal
-
-pub loop-names-init : goal.loop-names-init
-loop-names-init c = names_first _ _ _ _ c.new-names.ensures
 
 pub loop-names-preserved : goal.loop-names-preserved
 loop-names-preserved c =

@@ -1,9 +1,5 @@
-use Rattle.rcv_reader.proofs.Reading.{receivers_first, receivers_next}
+use Rattle.rcv_reader.proofs.Reading.{receivers_next}
 use Rattle.rcv_reader.proofs.parser.Parser.receivers.Goals as goal
-
-pub loop-sender-init : goal.loop-sender-init
-loop-sender-init c =
-    receivers_first _ _ _ _ _ c.new-receivers.ensures c.in_ok-add_receiver.ensures.goes c.in_ok-add_receiver.ensures.read
 
 pub loop-sender-preserved : goal.loop-sender-preserved
 loop-sender-preserved c =

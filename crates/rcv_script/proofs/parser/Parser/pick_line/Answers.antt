@@ -22,22 +22,22 @@ from s l k = compared (deciding s.names) (ending s l k)
 pub returns-in_err-condition-clause-goes : goal.returns-in_err-condition-clause-goes
 returns-in_err-condition-clause-goes c =
     let s = c.args.writing.now in
-    let l = c.in_ok-word.word.now in
+    let l = c.in_ok-label.label in
     fails (ending s l) _ _ _ _ _ _ _ _ c.from_residual-in_err-condition.ensures.1 (rw c.names.ensures at c.in_err-condition.ensures.goes)
-    (λ k. c.in_ok-word.ensures.goes (λ n. rest_of_pick (deciding s.names) (behind s n k))
+    (λ k. c.in_ok-label.ensures.goes (λ n. rest_of_pick (deciding s.names) (behind s n k))
     ∙ ap (answer (AnEnd (behind s l k None) (from s l k))) (c.takes_word.ensures.yes c.if-not-takes_word.false))
 
 pub returns-clause-goes : goal.returns-clause-goes
 returns-clause-goes c =
     let s = c.args.writing.now in
-    let l = c.in_ok-word.word.now in
-    goes_on _ _ _ _ _ _ _ (rw c.in_ok-label-2.ensures at c.end-2.ensures.goes) (λ k. c.in_ok-word.ensures.goes (λ n. rest_of_pick (deciding s.names) (behind s n k))
+    let l = c.in_ok-label.label in
+    goes_on _ _ _ _ _ _ _ c.end-2.ensures.goes (λ k. c.in_ok-label.ensures.goes (λ n. rest_of_pick (deciding s.names) (behind s n k))
     ∙ ap (answer (AnEnd (behind s l k None) (from s l k))) (c.takes_word.ensures.yes c.if-not-takes_word.false)
     ∙ (rw c.names.ensures at c.in_ok-condition.ensures.goes) (ending s l k))
 
 pub returns-then-not-takes_word-clause-goes : goal.returns-then-not-takes_word-clause-goes
 returns-then-not-takes_word-clause-goes c =
     let s = c.args.writing.now in
-    let l = c.in_ok-word.word.now in
-    goes_on _ _ _ _ _ _ _ (rw c.in_ok-label.ensures at c.end.ensures.goes) (λ k. c.in_ok-word.ensures.goes (λ n. rest_of_pick (deciding s.names) (behind s n k))
+    let l = c.in_ok-label.label in
+    goes_on _ _ _ _ _ _ _ c.end.ensures.goes (λ k. c.in_ok-label.ensures.goes (λ n. rest_of_pick (deciding s.names) (behind s n k))
     ∙ to_end _ _ (c.takes_word.ensures.no c.if-not-takes_word.true) (behind s l k None) (from s l k))

@@ -9,6 +9,6 @@ loop-self-preserved c =
     let known : Known = record { roles = c.args.roles.now; messages = c.args.points.now.messages; scripts = l.scripts.items; given = l.given.items } in
     record {
       goes = rw c.in_ok-push.ensures.items (l.invariant.goes ∙ ap (answer (Scripts known)) (c.takes_word.ensures.yes c.loop-self-test.true)
-          ∙ (rw c.as_slice.ensures.value at c.in_ok-next.ensures.goes) (λ x. Scripts (with_script known x.0 x.1)));
+          ∙ (rw c.as_slice.ensures.value at c.in_ok-role.ensures.goes) (λ x. Scripts (with_script known x.0 x.1)));
       sized = length-set _ _ _ ∙ l.invariant.sized;
     }

@@ -20,7 +20,7 @@ returns c =
     let within = subst (λ (v : ScriptsView). c.args.role < length v.lines) (sym c.self.view_is) c.requires.role in
     let point = subst (λ (v : ScriptsView). HasPoint v.messages c.args.point) (sym c.self.view_is) c.requires.point in
     let row = c.index.ensures ∙ ap (λ q. get_or own.acts.items q c.index.result.now) c.role.view_is in
-    let acts = filed own.roles.items own.messages.items own.acts.items c.args.role c.args.point _ c.at.result.now c.self.invariant
-    within point row c.at.ensures in
+    let acts = filed own.roles.items own.messages.items own.acts.items c.args.role _ c.self.invariant within row
+    c.args.point c.at.result.now point c.at.ensures in
     subst (λ (v : ScriptsView). c.at.result.now ≡ acts_on ((net_by v.messages).label c.args.point) (lines_at v.lines c.args.role))
     c.self.view_is acts

@@ -1,7 +1,14 @@
-use Rattle.std.proofs.Common.{sym, ◌∙◌}
-use Rattle.rcv_script.proofs.Blindness.{all_blind, blind_all}
+use Rattle.std.proofs.Common.{◌≡◌, sym, ◌∙◌, rules, tests}
+use Rattle.std.proofs.lemmas.Iterator.{YieldsList-from_slice}
+use Rattle.std.proofs.lemmas.Iterator.Search.{any_from_yields_List}
+use Rattle.rcv_script.specs.Attempts.{lines_read, scripts_read}
+use Rattle.rcv_script.proofs.Blindness.{all_blind}
 use Rattle.rcv_script.proofs.scripts.Scripts.reads_attempt.Goals as goal
 
 pub returns : goal.returns
 returns c =
-    (λ e. all_blind c.args.self.now.lines (sym c.some_reads_attempt.ensures ∙ e), λ f. c.some_reads_attempt.ensures ∙ blind_all c.args.self.now.lines f)
+    let scripts = c.args.self.now.lines in
+    let read : c.any.result ≡ scripts_read scripts =
+    any_from_yields_List lines_read _ _ c.any.result c.any.ensures.ran
+    (YieldsList-from_slice scripts cc) (λ x b q k. search (rules, tests)) in
+    let all = all_blind scripts in (λ e. all.0 (sym read ∙ e), λ f. read ∙ all.1 f)
