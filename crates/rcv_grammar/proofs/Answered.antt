@@ -9,7 +9,7 @@ use Rattle.rcv_tree.specs.declared.statement.Stmt.TheOpen.{Block-F, Blocks-F}
 use Rattle.rcv_tree.specs.declared.statement.Stmt.TheViews.{roll-Block, out-roll-Block, roll-Blocks, out-roll-Blocks}
 use Rattle.rcv_tree.specs.declared.statement.Block.{Block}
 use Rattle.rcv_tree.specs.declared.statement.Blocks.{Blocks}
-use Rattle.rcv_tree.specs.declared.protocol.Decl.{Decl}
+use Rattle.rcv_machine.specs.Words.{Or, Close, Symbol, Is, symbols_of, role_at, roles_at, points, points_of, singles, tree_of, trees_of, IsFit, AreFit, Decl, Place, State, Answer, Taken, Refuses, behind, inside, inside_rec, outermost, reading}
 use Rattle.rcv_tree.specs.declared.protocol.Protocol.{Protocol}
 use Rattle.rcv_model.specs.Text.{Body, Bodies, stmt_body, body_of, bodies_of, joined, alternatives}
 use Rattle.rcv_model.proofs.Text.{body_of_lem, bodies_of_lem, stmt_body-Message, stmt_body-Choice, stmt_body-Rec, stmt_body-Continue}
@@ -17,11 +17,7 @@ use Rattle.rcv_lexer.specs.declared.token.Span.{Span}
 use Rattle.rcv_lexer.specs.declared.token.Token.{Token}
 use Rattle.rcv_lexer.specs.Tokens.{AreTokens}
 use Rattle.rcv_lexer.proofs.Once.{one_reading, tokens_few}
-use Rattle.rcv_syntax.specs.declared.sign.Sign.TheVariants.{Or, Close}
-use Rattle.rcv_syntax.specs.Symbols.{Symbol, Is, symbols_of}
 use Rattle.rcv_syntax.specs.Grammar.{Written, NoStmt, AMessage, AChoice, ARec, AContinue, Blocks as Blocks', NoBlock, ABlock, Source, Spells, stmts, blocks_behind, names_behind, sort_list, dotted, decls, roles_behind}
-use Rattle.rcv_machine.specs.Machine.{Place, State, Answer, Taken, Refuses, behind, inside, inside_rec, outermost, reading}
-use Rattle.rcv_syntax.specs.Trees.{role_at, roles_at, points, points_of, singles, tree_of, trees_of, IsFit, AreFit}
 use Rattle.rcv_reader.specs.Refusals.{IsRead}
 use Rattle.rcv_machine.proofs.Exactly.{refusal_is_first, taken_is_free, one_first}
 use Rattle.rcv_grammar.specs.Laws.{IsReadPart, IsRefusedPart, HasRefusal, PartsHaveOneAnswer}

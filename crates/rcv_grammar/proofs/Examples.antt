@@ -2,17 +2,12 @@
 use Rattle.std.proofs.Common.{◌≡◌, ℕ, true, codes, List, [], ◌∷◌, ◌++◌, map, Some, None, refl, arith, Option}
 use Rattle.rcv_lexer.specs.Parts.{parts_of}
 use Rattle.rcv_lexer.specs.Tokens.{line_at}
-use Rattle.rcv_syntax.specs.declared.sign.Sign.TheVariants.{Module, Global, Choice, At, Rec, Continue, Par, And, Do, Open, Close, Left, Right, Comma, Semicolon}
-use Rattle.rcv_syntax.specs.Symbols.{Symbol, Is, Word, line_before}
+use Rattle.rcv_machine.specs.Words.{Module, Global, Choice, At, Rec, Continue, Par, And, Do, Open, Close, Left, Right, Comma, Semicolon, Symbol, Is, Word, line_before, Written, NoStmt, AMessage, AChoice, ARec, AContinue, APar, ADo, NoBlock, ABlock, Source, IsDerived, spelling, tree_of, code_of, Decl}
+use Rattle.rcv_machine.specs.Words.{State, RoleName, Receiver, Rest, Answer, Taken, Refuses, answer, reading, known}
 use Rattle.rcv_model.specs.Text as trees
-use Rattle.rcv_tree.specs.declared.protocol.Decl.{Decl}
 use Rattle.rcv_tree.specs.declared.protocol.Protocol as tree
-use Rattle.rcv_syntax.specs.Grammar.{Written, NoStmt, AMessage, AChoice, ARec, AContinue, APar, ADo, NoBlock, ABlock, Source, IsDerived, spelling}
 use Rattle.rcv_reader.specs.Refusals.{IsRead}
 use Rattle.rcv_grammar.proofs.Answered.{source_read}
-use Rattle.rcv_syntax.specs.Codes.{code_of}
-use Rattle.rcv_machine.specs.Machine.{State, RoleName, Receiver, Rest, Answer, Taken, Refuses, answer, reading, known}
-use Rattle.rcv_syntax.specs.Trees.{tree_of}
 use Rattle.rcv_grammar.specs.Canonical.{written_of}
 use Rattle.rcv_syntax.proofs.Texts.{a, b, c, x, y, both, text, sends, message, rec_x, again_x, nested, alias_a, more_roles}
 

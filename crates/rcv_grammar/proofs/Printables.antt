@@ -3,7 +3,8 @@
 use Rattle.std.proofs.Common.{◌≡◌, ℕ, ◌+◌, true, false, List, [], ◌∷◌, length, Option, Some, None, refl, All}
 use Rattle.std.proofs.lemmas.List.Elements.{All-append, All-cons, All-head, All-nil, All-tail}
 use Rattle.rcv_tree.specs.Words.{IsWord}
-use Rattle.rcv_tree.specs.declared.protocol.Decl.{Decl}
+use Rattle.rcv_machine.specs.Words.{Sign, Or, Symbol, Is, Word, Text, Number, reserved, sign_or, symbol_by, symbols_of, Written, NoStmt, AMessage, AChoice, ARec, AContinue, Blocks, NoBlock, ABlock, dotted, names_behind, sort_list, roles_behind, decls, stmts, blocks_behind, AreDecls}
+use Rattle.rcv_machine.specs.Words.{role_at, roles_at, points, points_of, singles, tree_of, trees_of, IsDeclared, Decl, Place, behind, inside, inside_rec, outermost}
 use Rattle.rcv_tree.specs.declared.protocol.Protocol.{Protocol}
 use Rattle.rcv_model.specs.Text as trees
 use Rattle.rcv_model.specs.Places as places
@@ -13,12 +14,6 @@ use Rattle.rcv_lexer.specs.declared.token.Span.{Span}
 use Rattle.rcv_lexer.specs.declared.token.Token.{Token}
 use Rattle.rcv_lexer.specs.Tokens.{AreTokens, bytes_of, IsQuotable, IsOfKind}
 use Rattle.rcv_lexer.proofs.TokenBytes.{words_are_words}
-use Rattle.rcv_syntax.specs.declared.sign.Sign.{Sign}
-use Rattle.rcv_syntax.specs.declared.sign.Sign.TheVariants.{Or}
-use Rattle.rcv_syntax.specs.Symbols.{Symbol, Is, Word, Text, Number, reserved, sign_or, symbol_by, symbols_of}
-use Rattle.rcv_syntax.specs.Grammar.{Written, NoStmt, AMessage, AChoice, ARec, AContinue, Blocks, NoBlock, ABlock, dotted, names_behind, sort_list, roles_behind, decls, stmts, blocks_behind, AreDecls}
-use Rattle.rcv_syntax.specs.Trees.{role_at, roles_at, points, points_of, singles, tree_of, trees_of, IsDeclared}
-use Rattle.rcv_machine.specs.Machine.{Place, behind, inside, inside_rec, outermost}
 use Rattle.rcv_reader.specs.Refusals.{IsRead}
 use Rattle.rcv_grammar.specs.Canonical.{name_at}
 use Rattle.rcv_grammar.specs.Printable.{IsName, AreNames, ArePrintableDecls, IsPrintableBody, ArePrintableBlocks, IsPrintable}

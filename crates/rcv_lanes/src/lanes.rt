@@ -26,7 +26,7 @@ pub struct Lane<'a> {
 impl<'a> Model for Lane<'a> {
     ghost use Rattle.rcv_role.specs.Cell.{CellView};
     ghost use Rattle.rcv_tree.specs.contracts.statement.Stmt as e;
-    ghost use Rattle.rcv_script.specs.Codes.{expr_code};
+    ghost use Rattle.rcv_formula.specs.Codes.{expr_code};
     ghost use Rattle.std.specs.Coded.{codes};
 
     ghost Value = { CellView };

@@ -1,17 +1,21 @@
 -- What the awaited items derive, in which codes play no part. A step goes on, or stops with a code, only where the
 -- grammar has the symbol: behind it is derived what the item derives.
-use Rattle.std.proofs.Common.{◌≡◌, ℕ, Bool, true, false, cond, List, [], ◌∷◌, ◌++◌, length, refl, ap, inl, inr}
-use Rattle.std.specs.Prelude.{◌⊎◌, ◌==◌, nat_le, Option, Some, None}
-use Rattle.rcv_tree.specs.declared.protocol.Decl.{Decl}
-use Rattle.rcv_syntax.specs.declared.sign.Sign.TheVariants.{Global, To, Or, Choice, Rec, Continue, Par, Do, Open, Close, Right, Comma, Semicolon, Dot}
-use Rattle.rcv_syntax.specs.declared.fault.Fault.{Fault}
-use Rattle.rcv_syntax.specs.declared.fault.Fault.TheVariants.{Token, Deep, NoName, Twice, SelfMessage, AfterContinue, Unguarded, TooMany}
-use Rattle.rcv_syntax.specs.Symbols.{Symbol, Is, Word, Text}
-use Rattle.rcv_syntax.specs.Grammar.{Written, NoStmt, AMessage, AChoice, ARec, AContinue, APar, ADo, Blocks, NoBlock, ABlock, dotted, names_behind, sort_list, roles_behind, decls, stmts, blocks_behind, IsBegun, IsProper, AreProper, is_decl_word, AreDecls, Source, IsDerived}
-use Rattle.rcv_syntax.specs.Codes.{is_among}
-use Rattle.rcv_syntax.specs.Trees.{place_of, is_listed}
-use Rattle.rcv_machine.specs.Machine.{Place, Item, This, AnyName, AnyQuoted, MoreModules, Decls, Alias, RoleName, MoreRoles, Sorts, MoreSorts, Subject, Sender, Receiver, MoreReceivers, RecName, AgainName, Opening, First, Rest, More, State, Outcome, On, Wrong, behind, unless, by_place, meets, is_open, begins, ends, branches, step, awaited}
-use Rattle.rcv_machine.proofs.Heads.{meets_only}
+use Rattle.std.proofs.Common.{◌≡◌, ℕ, Bool, true, false, cond, List, [], ◌∷◌, ◌++◌, length, refl, ap, inl, inr, ◌⊎◌, ◌==◌, nat_le, Option, Some, None, arith, rules}
+use Rattle.std.proofs.lemmas.Bool.Decides.{nat_tests}
+use Rattle.std.proofs.lemmas.Slice.Eq.{bytes_eq-Decides}
+use denote.Enum.Bare.{same_true}
+use Rattle.rcv_machine.specs.Words.{Global, To, Or, Choice, Rec, Continue, Par, Do, Open, Close, Right, Comma, Semicolon, Dot, Fault, Token, Deep, NoName, Twice, SelfMessage, AfterContinue, Unguarded, TooMany, Symbol, Is, Word, Text, Number}
+use Rattle.rcv_machine.specs.Words.{Written, NoStmt, AMessage, AChoice, ARec, AContinue, APar, ADo, Blocks, NoBlock, ABlock, dotted, names_behind, sort_list, roles_behind, decls, stmts, blocks_behind, IsBegun, IsProper, AreProper, is_decl_word, AreDecls, Source, IsDerived, place_of, is_listed, is_among, Decl}
+use Rattle.rcv_machine.specs.Words.{Place, Item, This, AnyName, AnyQuoted, MoreModules, Decls, Alias, RoleName, MoreRoles, Sorts, MoreSorts, Subject, Sender, Receiver, MoreReceivers, RecName, AgainName, Opening, First, Rest, More, State, Outcome, On, Wrong, behind, unless, by_place, meets, is_open, begins, ends, branches, step, awaited}
+use Rattle.rcv_syntax.specs.contracts.sign.Sign.{the_type}
+
+-- A symbol meets no other one.
+pub meets_only : (t m : Symbol) → meets t m ≡ true → t ≡ m
+meets_only (Is a) (Is b) e = ap Is (same_true the_type (search rules) a b e)
+meets_only (Word a) (Word b) e = ap Word ((bytes_eq-Decides a b).0 e)
+meets_only (Text a) (Text b) e = ap Text ((bytes_eq-Decides a b).0 e)
+meets_only (Number a) (Number b) e = ap Number (grind (arith, nat_tests))
+meets_only _ _ e = absurd cc
 
 -- what an item derives, in front of what follows
 abbrev pub Front : Item → List Symbol → List Symbol → Type 0

@@ -1,16 +1,8 @@
 -- The machine's answer is right, in the words of the grammar and of the table of the codes: a text is taken exactly
 -- where no code holds, and refused exactly at the first one.
-use Rattle.std.proofs.Common.{◌≡◌, ℕ, List, [], ◌∷◌, ◌++◌, length, refl, sym, ap, subst, ◌∙◌, append_assoc, append-nil, length-append, arith, inl, inr}
-use Rattle.std.specs.Prelude.{◌⊎◌, ◌<◌}
-use Rattle.rcv_syntax.specs.declared.sign.Sign.TheVariants.{Global}
-use Rattle.rcv_syntax.specs.declared.fault.Fault.{Fault}
-use Rattle.rcv_syntax.specs.declared.fault.Fault.TheVariants.{Token}
-use Rattle.rcv_syntax.specs.Symbols.{Symbol, Is}
-use Rattle.rcv_syntax.specs.Grammar.{IsDerived, IsBeginning}
-use Rattle.rcv_syntax.specs.Codes.{code_of, Holds}
-use Rattle.rcv_syntax.specs.Refusing.{backward, HoldsAt, IsFree, IsFirst}
+use Rattle.std.proofs.Common.{◌≡◌, ℕ, List, [], ◌∷◌, ◌++◌, length, refl, sym, ap, subst, ◌∙◌, append_assoc, append-nil, length-append, arith, inl, inr, ◌⊎◌, ◌<◌}
+use Rattle.rcv_machine.specs.Words.{Global, Fault, Token, Symbol, Is, IsDerived, IsBeginning, code_of, Holds, backward, HoldsAt, IsFree, IsFirst, Item, State, Outcome, On, Wrong, step, behind_all, after, Answer, Taken, Refuses, answer, awaited, reading}
 use Rattle.rcv_machine.specs.Laws.{IsFair, CodesAreFair, TextsAreTakenExactly, TextsAreRefusedExactly}
-use Rattle.rcv_machine.specs.Machine.{Item, State, Outcome, On, Wrong, step, behind_all, after, Answer, Taken, Refuses, answer, awaited, reading}
 use Rattle.rcv_machine.proofs.Agreeing.{Derives, completion, derived, Has, Agrees, agrees}
 use Rattle.rcv_machine.proofs.Knowing.{NoneBelow, state_at, ToldBy, Told, one_fault}
 use Rattle.rcv_machine.proofs.Telling.{derived_told, all_told}

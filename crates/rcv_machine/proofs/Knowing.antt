@@ -1,14 +1,8 @@
 -- What is known of the symbols before, what the machine does with symbols that the grammar derives, and which code is
 -- the least at a symbol.
-use Rattle.std.proofs.Common.{◌≡◌, ◌<◌, ℕ, ◌+◌, Bool, true, false, cond, List, [], ◌∷◌, length, refl, arith}
-use Rattle.std.specs.Prelude.{◌-◌, not, drop, Some, Decides}
-use Rattle.rcv_syntax.specs.declared.sign.Sign.TheVariants.{Global, Continue, Open, Semicolon}
-use Rattle.rcv_syntax.specs.declared.fault.Fault.{Fault}
-use Rattle.rcv_syntax.specs.declared.fault.Fault.TheVariants.{Token, Deep, NoName, Twice, SelfMessage, AfterContinue, Unguarded, TooMany, NotYet}
-use Rattle.rcv_syntax.specs.Symbols.{Symbol, Is, Word}
-use Rattle.rcv_syntax.specs.Codes.{is_among, code_of, Standing, standing, AsReceiver, AsOther, roles_before, points_before, listed, sender, open_braces, recs_of, Comes, is_at_name, is_at, begins_a_statement, IsUnguarded, is_behind_continue, is_behind_all, Holds}
-use Rattle.rcv_syntax.specs.Trees.{place_of, is_listed}
-use Rattle.rcv_machine.specs.Machine.{Place, Item, State, known, Outcome, On, Wrong, unless, step}
+use Rattle.std.proofs.Common.{◌≡◌, ◌<◌, ℕ, ◌+◌, Bool, true, false, cond, List, [], ◌∷◌, length, refl, arith, ◌-◌, not, drop, Some, Decides}
+use Rattle.rcv_machine.specs.Words.{Global, Continue, Open, Semicolon, Fault, Token, Deep, NoName, Twice, SelfMessage, AfterContinue, Unguarded, TooMany, NotYet, Symbol, Is, Word, place_of, is_listed}
+use Rattle.rcv_machine.specs.Words.{is_among, code_of, Standing, standing, AsReceiver, AsOther, roles_before, points_before, listed, sender, open_braces, recs_of, Comes, is_at_name, is_at, begins_a_statement, IsUnguarded, is_behind_continue, is_behind_all, Holds, Place, Item, State, known, Outcome, On, Wrong, unless, step}
 
 -- no code from 12 on that is less than this number holds
 abbrev pub NoneBelow : ℕ → List Symbol → Symbol → List Symbol → Type 0

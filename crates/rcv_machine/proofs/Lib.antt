@@ -1,4 +1,3 @@
-pub mod Heads
 pub mod Agreeing
 pub mod Knowing
 pub mod Naming

@@ -1,16 +1,11 @@
 -- The machine goes through what the grammar derives, or stops with the least code that holds.
-use Rattle.std.proofs.Common.{◌≡◌, ℕ, ◌+◌, Bool, true, false, codes, List, [], ◌∷◌, ◌++◌, length, refl, sym, ap, ◌∙◌, arith, length-append, inl, inr, ⊎_elim}
-use Rattle.std.specs.Prelude.{is_none, ◌-◌, nat_le, not, drop, Option, Some, None, Decides}
+use Rattle.std.proofs.Common.{◌≡◌, ℕ, ◌+◌, Bool, true, false, codes, List, [], ◌∷◌, ◌++◌, length, refl, sym, ap, ◌∙◌, arith, length-append, inl, inr, ⊎_elim, is_none, ◌-◌, nat_le, not, drop, Option, Some, None, Decides}
 use Rattle.std.proofs.lemmas.List.{drop_all}
 use Rattle.std.proofs.lemmas.Bool.Decides.{Decides-like}
-use Rattle.rcv_tree.specs.declared.protocol.Decl.{Decl}
-use Rattle.rcv_syntax.specs.declared.sign.Sign.TheVariants.{Global, Protocol, Role, From, To, Choice, At, Or, Rec, Continue, Par, Do, Open, Close, Left, Right, Comma, Semicolon, Less, Greater}
-use Rattle.rcv_syntax.specs.declared.fault.Fault.TheVariants.{NoName, Twice, SelfMessage, TooMany}
-use Rattle.rcv_syntax.specs.Symbols.{Symbol, Is, Word, Text}
-use Rattle.rcv_syntax.specs.Grammar.{Written, NoStmt, AMessage, AChoice, ARec, AContinue, APar, ADo, Blocks, NoBlock, ABlock, dotted, names_behind, sort_list, roles_behind, decls, stmts, blocks_behind, IsBegun, IsProper, AreProper, AreDecls, IsDerived}
-use Rattle.rcv_syntax.specs.Codes.{is_among, Standing, standing, is_at_name, AsNewRole, AsAlias, AsActor, AsReceiver, AsTarget, AsOther, names_as, roles_before, aliases_before, points_before, listed, sender, open_braces, recs_of, Comes, FromItsStart, IntoRec, IntoChoice, IntoBranch, IsUnguarded, is_behind_continue, is_behind_all}
-use Rattle.rcv_syntax.specs.Trees.{place_of}
-use Rattle.rcv_machine.specs.Machine.{Place, Item, This, MoreModules, Decls, RoleName, Sorts, MoreSorts, Receiver, MoreReceivers, Opening, First, Rest, More, State, known, Outcome, On, unless, by_place, receives, behind, inside, inside_rec, is_open, behind_all, outermost, awaited}
+use Rattle.rcv_machine.specs.Words.{Global, Protocol, Role, From, To, Choice, At, Or, Rec, Continue, Par, Do, Open, Close, Left, Right, Comma, Semicolon, Less, Greater, NoName, Twice, SelfMessage, TooMany, Symbol, Is, Word, Text}
+use Rattle.rcv_machine.specs.Words.{Written, NoStmt, AMessage, AChoice, ARec, AContinue, APar, ADo, Blocks, NoBlock, ABlock, dotted, names_behind, sort_list, roles_behind, decls, stmts, blocks_behind, IsBegun, IsProper, AreProper, AreDecls, IsDerived, place_of}
+use Rattle.rcv_machine.specs.Words.{is_among, Standing, standing, is_at_name, AsNewRole, AsAlias, AsActor, AsReceiver, AsTarget, AsOther, names_as, roles_before, aliases_before, points_before, listed, sender, open_braces, recs_of, Comes, FromItsStart, IntoRec, IntoChoice, IntoBranch, IsUnguarded, is_behind_continue, is_behind_all, Decl}
+use Rattle.rcv_machine.specs.Words.{Place, Item, This, MoreModules, Decls, RoleName, Sorts, MoreSorts, Receiver, MoreReceivers, Opening, First, Rest, More, State, known, Outcome, On, unless, by_place, receives, behind, inside, inside_rec, is_open, behind_all, outermost, awaited}
 use Rattle.rcv_machine.proofs.Knowing.{state_at, ToldBy, Told, recent, Reaches, Fits, Here, InList, judged, judged_name, no_walk, kept_name, kept_quiet}
 use Rattle.rcv_machine.proofs.Naming.{among_more, recent_more, unknown, same_place, one_more, origin}
 

@@ -1,12 +1,6 @@
 -- What the machine's answer says in the grammar's words.
 use Rattle.std.specs.Prelude.{◌≡◌, ◌⊎◌, ◌↔◌, List, [], ◌∷◌, ◌++◌}
-use Rattle.rcv_syntax.specs.declared.sign.Sign.TheVariants.{Global}
-use Rattle.rcv_syntax.specs.declared.fault.Fault.{Fault}
-use Rattle.rcv_syntax.specs.declared.fault.Fault.TheVariants.{Token}
-use Rattle.rcv_syntax.specs.Symbols.{Symbol, Is}
-use Rattle.rcv_syntax.specs.Grammar.{IsDerived, IsBeginning}
-use Rattle.rcv_syntax.specs.Refusing.{IsFree, IsFirst}
-use Rattle.rcv_machine.specs.Machine.{State, Answer, Taken, Refuses, reading}
+use Rattle.rcv_machine.specs.Words.{Global, Fault, Token, Symbol, Is, IsDerived, IsBeginning, IsFree, IsFirst, State, Answer, Taken, Refuses, reading}
 
 -- At left the first wrong symbol stands, or the end where it comes too early: the symbols before are the beginning
 -- of a list that the grammar derives, and with this symbol they are not; at the end the whole list isn't derived.

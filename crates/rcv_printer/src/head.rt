@@ -2,13 +2,13 @@
 
 ghost use Rattle.std.specs.Prelude.{OnOk};
 ghost use Rattle.rcv_tree.specs.Lists.{declarations};
-ghost use Rattle.rcv_printer.specs.CanonicalText.{module_line, decl_line, decl_lines, head_line};
+ghost use Rattle.rcv_printer.specs.CanonicalText.{module_line, decl_lines, head_line};
 ghost use Rattle.rcv_printer.specs.Printing.{Puts};
 
 use crate::names::{put, put_list, put_words};
 use rcv_text::writer::Writer;
 use rcv_tree::name::Names;
-use rcv_tree::protocol::{Decl, Decls};
+use rcv_tree::protocol::Decls;
 use std::alloc::AllocError;
 
 // Puts the module's line behind the text.
@@ -20,33 +20,26 @@ pub fn put_module(text: &mut Writer, module: &Names) -> Result<(), AllocError>
     put(text, b";\n")
 }
 
-// Puts the line of a declaration behind the text.
-fn put_decl(text: &mut Writer, decl: &Decl) -> Result<(), AllocError>
-    ensures { OnOk result (Puts text.old text.new (decl_line decl.now)) }
-{
-    put_words(
-        text,
-        &[
-            decl.word.as_slice(),
-            b" <",
-            decl.schema.as_slice(),
-            b"> \"",
-            decl.extern_name.as_slice(),
-            b"\" from \"",
-            decl.file.as_slice(),
-            b"\" as ",
-            decl.alias.as_slice(),
-            b";\n",
-        ],
-    )
-}
-
 // Puts the lines of the declarations behind the text.
 pub fn put_decls(text: &mut Writer, decls: &Decls) -> Result<(), AllocError>
     ensures { OnOk result (Puts text.old text.new (decl_lines (declarations decls.now))) }
 {
     for decl in decls.as_slice() {
-        put_decl(text, decl)?;
+        put_words(
+            text,
+            &[
+                decl.word.as_slice(),
+                b" <",
+                decl.schema.as_slice(),
+                b"> \"",
+                decl.extern_name.as_slice(),
+                b"\" from \"",
+                decl.file.as_slice(),
+                b"\" as ",
+                decl.alias.as_slice(),
+                b";\n",
+            ],
+        )?;
     }
     Ok(())
 }

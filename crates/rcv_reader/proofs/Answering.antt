@@ -5,11 +5,7 @@ use Rattle.rcv_tree.specs.declared.refusal.Refusal.{Refusal}
 use Rattle.rcv_tree.specs.declared.refusal.Refusal.TheVariants as refusals
 use Rattle.rcv_lexer.specs.declared.token.Token.{Token}
 use Rattle.rcv_lexer.specs.declared.token.TextError.TheVariants as errors
-use Rattle.rcv_syntax.specs.declared.fault.Fault.{Fault}
-use Rattle.rcv_syntax.specs.Symbols.{Symbol, symbols_of, line_before}
-use Rattle.rcv_syntax.specs.Codes.{code_of}
-use Rattle.rcv_syntax.specs.Trees.{Reads}
-use Rattle.rcv_machine.specs.Machine.{State, Taken, Refuses, reading}
+use Rattle.rcv_machine.specs.Words.{Fault, Symbol, symbols_of, line_before, Reads, code_of, State, Taken, Refuses, reading}
 use Rattle.rcv_machine.proofs.Exactly.{taken_is_free, texts_are_taken_exactly, texts_are_refused_exactly}
 use Rattle.rcv_reader.specs.Refusals.{IsRead, IsRefused}
 

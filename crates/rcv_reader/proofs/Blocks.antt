@@ -8,16 +8,10 @@ use Rattle.rcv_tree.specs.declared.statement.Block.{Block}
 use Rattle.rcv_tree.specs.declared.statement.Blocks.{Blocks}
 use Rattle.rcv_model.specs.Text as trees
 use Rattle.rcv_model.proofs.Text.{body_of_lem, bodies_of_lem, stmt_body-Message, stmt_body-Choice, stmt_body-Rec, stmt_body-Continue}
-use Rattle.rcv_syntax.specs.declared.sign.Sign.TheVariants.{Open, Close, Or, Choice, Rec, Continue, Left, Right, From, To, At, Semicolon}
-use Rattle.rcv_syntax.specs.Symbols.{Symbol, Is, Word}
+use Rattle.rcv_machine.specs.Words.{Open, Close, Or, Choice, Rec, Continue, Left, Right, From, To, At, Semicolon, Symbol, Is, Word, Written, NoStmt, AMessage, AChoice, ARec, AContinue, NoBlock, ABlock, stmts, sort_list, blocks_behind, IsBegun, or_first, place_of, role_at, points, points_of, singles, MayReceive}
+use Rattle.rcv_machine.specs.Words.{Item, This, Subject, Opening, First, Rest, More, behind}
 use Rattle.rcv_syntax.specs.Grammar as grammar
-use Rattle.rcv_syntax.specs.Grammar.{Written, NoStmt, AMessage, AChoice, ARec, AContinue, NoBlock, ABlock, stmts, sort_list, blocks_behind, IsBegun}
-use Rattle.rcv_syntax.specs.Trees.{or_first, place_of, role_at, points, points_of, singles, MayReceive}
-use Rattle.rcv_machine.specs.Machine.{Item, This, Subject, Opening, First, Rest, More, behind}
-use Rattle.rcv_reader.specs.declared.parser.Spot.{Spot}
-use Rattle.rcv_reader.specs.declared.stop.Stop.{Stop}
-use Rattle.rcv_reader.specs.Standing.{Standing, at, back_at, within, answers, IsOver}
-use Rattle.rcv_reader.specs.Descent.{place_at, place_of_spot, messages, in_front, branches_in_front, AreReceived, AreStmts, AreBlocks, Adds, Consumes, TakesSome, TakesAll, TakesBlock}
+use Rattle.rcv_reader.specs.Descent.{Spot, Stop, Standing, at, back_at, within, answers, IsOver, place_of_spot, messages, in_front, branches_in_front, AreReceived, AreStmts, AreBlocks, Adds, Consumes, TakesSome, TakesAll, TakesBlock}
 use Rattle.rcv_reader.proofs.Stops.{halts_behind}
 
 -- ---- one statement
@@ -142,12 +136,11 @@ pub statement : (r : Result Unit Stop) (ended : Bool) (p q new : Standing) (spot
     → OnOk r (TakesSome q new (t ∷ []) block block')
     → (q.recs ≡ new.recs → (k : List Item) → last (over k) ≡ Rest (behind (place_of_spot new spot) ended) ∷ k)
     → Consumes r p new (λ k. First (place_of_spot p spot) ∷ k) (λ x k. Rest (behind (place_of_spot new spot) ended) ∷ k)
-    × OnOk r (TakesSome p new [] block block')
 statement (Ok x) ended p q new spot t item over last block block' goes taken first takes same =
     let on = λ (k : List Item). first k ∙ goes.0 (over k) ∙ ap (answers new) (same (ap (λ (x : Standing). x.recs) takes.0) k) in
-    rw taken ((on, omega (arith, goes.1)), (ap (λ (x : Standing). at x (t ∷ q.rest)) takes.0, takes.1))
+    rw taken (on, omega (arith, goes.1))
 statement (Err e) ended p q new spot t item over last block block' goes taken first takes same =
-    (halts_behind {X = Unit} (Err e) e p q new _ item over (λ x k. Rest (behind (place_of_spot new spot) ended) ∷ k) refl goes.0 (rw taken first), tt)
+    halts_behind {X = Unit} (Err e) e p q new _ item over (λ x k. Rest (behind (place_of_spot new spot) ended) ∷ k) refl goes.0 (rw taken first)
 
 -- ---- statements, one after another
 
@@ -233,23 +226,6 @@ pub record ChoiceSoFar (old now : Standing) (spot : Spot) (subject : ℕ) (bs : 
       → AreBlocks now.roles start.count m (branches_in_front bs bodies) (Is Or ∷ start.rest) next
   pub within : spot.comes ≤ length now.recs
   pub shorter : (length now.rest ≤ length start.rest) × (length now.rest < length old.rest)
-
-pub choice_first : (old start : Standing) (spot : Spot) (subject : ℕ) (bs : List Block)
-    → ((n : List ℕ) × (place_of start.roles n ≡ Some subject) × (old ≡ at start (Is At ∷ Word n ∷ start.rest)))
-    → ((k : List Item) → answers old (This (Is At) ∷ Subject ∷ k) ≡ answers start k) → spot.comes ≤ length old.recs
-    → bs ≡ [] → ChoiceSoFar old start spot subject bs
-choice_first old start spot subject bs role found within empty =
-    let same : old.recs ≡ start.recs = ap (λ (x : Standing). x.recs) role.2 in
-    record {
-      start = start;
-      role = role;
-      goes = λ k. found (Opening (place_of_spot old spot) ∷ More (place_of_spot old spot) ∷ k)
-          ∙ ap (λ (x : List (List ℕ)). let p = place_at x spot.depth spot.comes spot.ended in answers start (Opening p ∷ More p ∷ k)) same;
-      kept = refl;
-      reads = λ m bodies next w. rw empty w;
-      within = subst (λ (x : List (List ℕ)). spot.comes ≤ length x) same within;
-      shorter = (omega arith, rw role.2 (omega arith));
-    }
 
 branches-push : (bs : List Block) (b : Block) (others : trees.Bodies)
     → branches_in_front (bs ++ b ∷ []) others ≡ branches_in_front bs (trees.Or (trees.body_of b) others)

@@ -1,10 +1,7 @@
 -- For each code a text that has it: how it is written, and what is left from the symbol on at which it is refused. Each is
 -- the answer of the table, and what the machine says of these texts is computed.
 use Rattle.std.proofs.Common.{codes, [], ◌∷◌, refl}
-use Rattle.rcv_syntax.specs.declared.sign.Sign.TheVariants.{Global, Choice, At, Open, Close, Comma, Semicolon}
-use Rattle.rcv_syntax.specs.declared.fault.Fault.TheVariants.{Token, Deep, NoName, Twice, SelfMessage, AfterContinue, Unguarded, TooMany, NotYet}
-use Rattle.rcv_syntax.specs.Symbols.{Is, Word}
-use Rattle.rcv_syntax.specs.Refusing.{IsFirst}
+use Rattle.rcv_machine.specs.Words.{Global, Choice, At, Open, Close, Comma, Semicolon, Token, Deep, NoName, Twice, SelfMessage, AfterContinue, Unguarded, TooMany, NotYet, Is, Word, IsFirst}
 use Rattle.rcv_syntax.proofs.Texts.{a, b, c, x, y, text, sends, message, rec_x, again_x, nested, with_roles, more_roles}
 use Rattle.rcv_machine.proofs.Exactly.{refusal_is_first}
 

@@ -1,14 +1,11 @@
 -- The tree of what is written has the form that acceptance asks for.
-use Rattle.std.proofs.Common.{◌≡◌, ℕ, ◌+◌, ◌<◌, ◌≤◌, true, List, [], ◌∷◌, ◌++◌, length, refl, sym, ap, subst, arith, append_assoc, append-nil}
-use Rattle.std.specs.Prelude.{◌==◌}
-use Rattle.std.specs.Str.{bytes_eq}
+use Rattle.std.proofs.Common.{◌≡◌, ℕ, ◌+◌, ◌<◌, ◌≤◌, true, List, [], ◌∷◌, ◌++◌, length, refl, sym, ap, subst, arith, append_assoc, append-nil, ◌==◌, bytes_eq}
 use Rattle.std.proofs.lemmas.Bool.Decides.{nat_tests}
 use Rattle.std.proofs.lemmas.List.Quantifiers.{position-Some}
 use Rattle.rcv_model.specs.Text as trees
 use Rattle.rcv_model.specs.Places as places
 use Rattle.rcv_model.specs.Form.{IsNumberedFrom, HaveEnds, HaveSubjects, HaveSubjectsIn, HasForm}
-use Rattle.rcv_syntax.specs.Grammar.{Written, NoStmt, AMessage, AChoice, ARec, AContinue, APar, ADo, Blocks, NoBlock, ABlock}
-use Rattle.rcv_syntax.specs.Trees.{or_first, role_at, roles_at, points, points_of, singles, tree_of, trees_of, IsDeclared, MayReceive, IsFit, AreFit}
+use Rattle.rcv_machine.specs.Words.{Written, NoStmt, AMessage, AChoice, ARec, AContinue, APar, ADo, Blocks, NoBlock, ABlock, or_first, role_at, roles_at, points, points_of, singles, tree_of, trees_of, IsDeclared, MayReceive, IsFit, AreFit}
 
 abbrev Messages : Type 0
 Messages = List (ℕ × places.SingleMessage)

@@ -1,21 +1,12 @@
 -- The loops over names: modules, sorts, roles and receivers; and over the declarations.
-use Rattle.std.proofs.Common.{◌≡◌, ℕ, ◌+◌, ◌<◌, ◌≤◌, true, false, Some, Result, Ok, Err, OnOk, List, [], ◌∷◌, ◌++◌, length, refl, sym, ap, ◌∙◌, arith, append_assoc, append-nil, length-append, take, slice_index_or}
+use Rattle.std.proofs.Common.{◌≡◌, ℕ, ◌+◌, ◌<◌, ◌≤◌, true, false, Some, List, [], ◌∷◌, ◌++◌, length, refl, sym, ap, ◌∙◌, arith, append_assoc, append-nil, length-append, take, slice_index_or, ◌≢◌, ◌==◌, Bor}
 use Rattle.std.proofs.lemmas.List.{length-take-le, map-append, take_more}
-use Rattle.std.specs.Prelude.{◌≢◌, ◌==◌}
-use Rattle.std.specs.Borrow.{Bor}
 use Rattle.std.specs.BTreeSet.{BTreeSet}
-use Rattle.rcv_tree.specs.declared.protocol.Decl.{Decl}
+use Rattle.rcv_machine.specs.Words.{Sign, Right, Role, Comma, Semicolon, Dot, Symbol, Is, Word, dotted, names_behind, roles_behind, sort_list, decl, decls, AreDecls, is_decl_word, or_first, place_of, is_listed, role_at, roles_at, MayReceive, Decl}
+use Rattle.rcv_machine.specs.Words.{Item, This, AnyName, MoreModules, Decls, RoleName, MoreRoles, MoreSorts, Receiver, MoreReceivers}
 use Rattle.rcv_tree.specs.declared.statement.Stmt.{Stmt}
 use Rattle.rcv_tree.specs.declared.statement.Stmt.TheVariants as statements
-use Rattle.rcv_syntax.specs.declared.sign.Sign.{Sign}
-use Rattle.rcv_syntax.specs.declared.sign.Sign.TheVariants.{Right, Role, Comma, Semicolon, Dot}
-use Rattle.rcv_syntax.specs.Symbols.{Symbol, Is, Word}
-use Rattle.rcv_syntax.specs.Grammar.{dotted, names_behind, roles_behind, sort_list, decl, decls, AreDecls, is_decl_word}
-use Rattle.rcv_syntax.specs.Trees.{or_first, place_of, is_listed, role_at, roles_at, MayReceive}
-use Rattle.rcv_machine.specs.Machine.{Item, This, AnyName, MoreModules, Decls, RoleName, MoreRoles, MoreSorts, Receiver, MoreReceivers}
-use Rattle.rcv_reader.specs.Standing.{Standing, at, with_roles, answers}
-use Rattle.rcv_reader.specs.Aliases.{HasThese}
-use Rattle.rcv_reader.specs.Descent.{IsNameList, module_list, names_of_roles, messages, AddsName, AreTaken, IsReceived, AreReceived}
+use Rattle.rcv_reader.specs.Descent.{Standing, at, with_roles, answers, IsNameList, module_list, names_of_roles, messages, AddsName, AreTaken, HasThese, IsReceived, AreReceived}
 
 -- What is spelled one behind another: one more at the end.
 one_more : {X : Type 0} (spell : List X → List Symbol → List Symbol) (one : X → List Symbol → List Symbol)
@@ -57,19 +48,6 @@ pub names_first : (between behind : Sign) (old : Standing) (names : List (List �
 names_first between behind old names none more spell list =
     rw none (record { goes = λ k. refl; read = λ n next is. is ∙ ap (at old) (sym (list.one n next)); shorter = omega arith })
 
-pub names_next : (between behind : Sign) (old p q new : Standing) (names names' : List (List ℕ)) (n : List ℕ)
-    → NamesOf between behind old p names → p ≡ at q (Word n ∷ q.rest) → ((k : List Item) → answers p (AnyName ∷ k) ≡ answers q k)
-    → names' ≡ names ++ n ∷ [] → q ≡ at new (Is between ∷ new.rest) → NamesOf between behind old new names'
-names_next between behind old p q new names names' n so_far e goes is f more spell list =
-    let so = so_far more spell list in
-    rw is (record {
-      goes = λ k. so.goes k ∙ goes (more ∷ k) ∙ ap (λ (x : Standing). answers x (more ∷ k)) f ∙ list.taken new k;
-      read = λ m next g. so.read n q.rest (rw e refl)
-          ∙ rw (e, f) (ap (λ (x : Standing). at new (spell (names ++ n ∷ []) (Is between ∷ x.rest))) g)
-          ∙ ap (at new) (sym (list.push (names ++ n ∷ []) m next (not_empty names n)));
-      shorter = omega (arith, so.shorter, ap (λ (x : Standing). length x.rest) e, ap (λ (x : Standing). length x.rest) f);
-    })
-
 pub sorts_are_listed : IsNameList Comma Right MoreSorts sort_list
 sorts_are_listed = record {
   one = λ n next. refl;
@@ -106,12 +84,6 @@ role_read old p q r so_far e a =
     let spelled = a.spelled in
     let so = rw (e, spelled) at so_far in
     (rw a.added (not_empty q.roles a.name), rw a.added (so.read a.name r.rest refl))
-
-pub roles_read : {X E : Type 0} (r : Result X E) (old p q end now new : Standing) → RolesSoFar old p → p ≡ at q (Is Role ∷ q.rest)
-    → AddsName q end → end ≡ now → OnOk r (now ≡ at new (Is Right ∷ new.rest))
-    → OnOk r ((new.roles ≢ []) × (old ≡ with_roles new [] (Is Role ∷ names_of_roles new.roles (Is Right ∷ new.rest))))
-roles_read (Ok x) old p q end now new so_far e adds f g = rw (f, g) at (role_read old p q end so_far e adds)
-roles_read (Err e) old p q end now new so_far f adds g h = tt
 
 pub roles_next : (old p q r new : Standing) → RolesSoFar old p → p ≡ at q (Is Role ∷ q.rest)
     → ((k : List Item) → answers q (RoleName ∷ k) ≡ answers r (MoreRoles ∷ k)) → AddsName q r → r ≡ at new (Is Comma ∷ new.rest)

@@ -1,16 +1,9 @@
 -- Where the machine stops, or goes on otherwise, at a sign that isn't awaited.
-use Rattle.std.proofs.Common.{◌≡◌, Bool, true, false, List, [], ◌∷◌, ◌++◌, Some, Result, Ok, Err, IsErrAnd, refl, ap, ◌∙◌}
-use Rattle.std.specs.Prelude.{cond}
-use Rattle.rcv_syntax.specs.declared.sign.Sign.{Sign}
-use Rattle.rcv_syntax.specs.declared.sign.Sign.TheVariants.{Close, Or, Right, Comma, Dot}
-use Rattle.rcv_syntax.specs.declared.fault.Fault.TheVariants.{Token}
-use Rattle.rcv_syntax.specs.Symbols.{Symbol, Is, IsNotNext}
-use Rattle.rcv_machine.specs.Machine.{Item, This, MoreModules, MoreRoles, Sorts, MoreSorts, MoreReceivers, Rest, More, State, Outcome, On, Wrong, meets, step, after, Refuses, answer, known}
-use Rattle.rcv_machine.proofs.Heads.{meets_only}
-use Rattle.rcv_reader.specs.declared.stop.Stop.{Stop}
+use Rattle.std.proofs.Common.{◌≡◌, Bool, true, false, List, [], ◌∷◌, ◌++◌, Some, Result, Ok, Err, IsErrAnd, refl, ap, ◌∙◌, cond}
+use Rattle.rcv_machine.specs.Words.{Sign, Close, Or, Right, Comma, Dot, Token, Symbol, Is, IsNotNext, Item, This, MoreModules, MoreRoles, Sorts, MoreSorts, MoreReceivers, Rest, More, State, Outcome, On, Wrong, meets, step, after, Refuses, answer, known}
+use Rattle.rcv_machine.proofs.Agreeing.{meets_only}
 use Rattle.rcv_reader.specs.declared.stop.Stop.TheVariants as errors
-use Rattle.rcv_reader.specs.Standing.{Standing, answers, going_on, IsOver}
-use Rattle.rcv_reader.specs.Descent.{Halts, Consumes}
+use Rattle.rcv_reader.specs.Descent.{Stop, Standing, answers, going_on, IsOver, Halts, Consumes}
 
 -- What halts behind others halts in front of them.
 pub halts_behind : {X : Type 0} (r : Result X Stop) (e : Stop) (p q new : Standing) (front item over : List Item → List Item)

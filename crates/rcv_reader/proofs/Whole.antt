@@ -2,20 +2,14 @@
 use Rattle.std.proofs.Common.{◌≡◌, ℕ, false, Result, Ok, Err, IfErr, IsErrAnd, List, [], ◌∷◌, refl, sym, ap, ◌∙◌, ◌≤◌, length, arith}
 use Rattle.rcv_tree.specs.Lists.{statements, declarations}
 use Rattle.rcv_tree.specs.declared.statement.Stmt.{Stmt}
-use Rattle.rcv_tree.specs.declared.protocol.Decl.{Decl}
+use Rattle.rcv_machine.specs.Words.{Close, Symbol, Is, points, Decl, in_head, Item, Place, Rest, outermost, reading, known}
 use Rattle.rcv_tree.specs.declared.protocol.Protocol.{Protocol}
 use Rattle.rcv_model.specs.Text as trees
 use Rattle.rcv_model.specs.Form.{HasForm}
-use Rattle.rcv_syntax.specs.declared.sign.Sign.TheVariants.{Close}
-use Rattle.rcv_syntax.specs.Symbols.{Symbol, Is}
-use Rattle.rcv_syntax.specs.Trees.{points}
-use Rattle.rcv_machine.specs.Machine.{in_head, Item, Place, Rest, outermost, reading, known}
 use Rattle.rcv_machine.proofs.Exactly.{refusal_is_first, taken_is_free}
-use Rattle.rcv_reader.specs.declared.stop.Stop.{Stop}
 use Rattle.rcv_reader.specs.declared.stop.Stop.TheVariants as errors
-use Rattle.rcv_reader.specs.Standing.{Standing, IsSmall, answers}
 use Rattle.rcv_reader.specs.Refusals.{IsRead}
-use Rattle.rcv_reader.specs.Descent.{Halts, Ends, IsHead, TakesAll, at_first, place_at}
+use Rattle.rcv_reader.specs.Descent.{Stop, Standing, IsSmall, answers, Halts, Ends, IsHead, TakesAll, at_first, place_at}
 use Rattle.rcv_reader.proofs.Blocks.{whole_block}
 use Rattle.rcv_reader.proofs.Formed.{tree_has_form}
 

@@ -1,22 +1,20 @@
 -- What the functions of the descent say: how the machine goes on, and how what was read is spelled.
 use Rattle.std.specs.Prelude.{◌≡◌, ◌≢◌, ℕ, ◌+◌, ◌==◌, Bool, true, false, List, [], ◌∷◌, ◌++◌, length, ◌<◌, Result, Ok, Err, OnOk, Some}
+use Rattle.std.specs.Borrow.{Bor}
+use Rattle.std.specs.BTreeSet.{BTreeSet, contains_by}
+use Rattle.std.specs.Cmp.Lexicographic.{slice_cmp}
+use Rattle.std.specs.Ordering.{nat_cmp}
 use Rattle.rcv_tree.specs.declared.statement.Stmt.{Stmt}
 use Rattle.rcv_tree.specs.declared.statement.Stmt.TheVariants as statements
 use Rattle.rcv_tree.specs.declared.statement.Block.{Block}
-use Rattle.rcv_tree.specs.declared.protocol.Decl.{Decl}
+use Rattle.rcv_machine.specs.Words.{Decl, Sign, Module, Global, Protocol, Role, Left, Right, Open, Close, Or, Semicolon, Symbol, Is, Word, Written, stmts, names_behind, roles_behind, dotted, decls, AreDecls, blocks_behind, IsBegun, IsProper, AreProper, is_among}
+use Rattle.rcv_machine.specs.Words.{place_of, is_listed, roles_at, points, points_of, tree_of, trees_of, MayReceive, IsFit, AreFit, IsFirst, Item, This, AnyName, Refuses, Place}
 use Rattle.rcv_model.specs.Text as trees
-use Rattle.rcv_syntax.specs.declared.sign.Sign.{Sign}
-use Rattle.rcv_syntax.specs.declared.sign.Sign.TheVariants.{Module, Global, Protocol, Role, Left, Right, Open, Close, Or, Semicolon}
-use Rattle.rcv_syntax.specs.Symbols.{Symbol, Is, Word}
 use Rattle.rcv_syntax.specs.Grammar as grammar
-use Rattle.rcv_syntax.specs.Grammar.{Written, stmts, names_behind, roles_behind, dotted, decls, AreDecls, blocks_behind, IsBegun, IsProper, AreProper}
-use Rattle.rcv_syntax.specs.Trees.{place_of, is_listed, roles_at, points, points_of, tree_of, trees_of, MayReceive, IsFit, AreFit}
-use Rattle.rcv_syntax.specs.Refusing.{IsFirst}
-use Rattle.rcv_machine.specs.Machine.{Item, This, AnyName, Refuses, Place}
-use Rattle.rcv_reader.specs.declared.parser.Spot.{Spot}
-use Rattle.rcv_reader.specs.declared.stop.Stop.{Stop}
+pub use Rattle.rcv_reader.specs.declared.parser.Spot.{Spot}
+pub use Rattle.rcv_reader.specs.declared.stop.Stop.{Stop}
 use Rattle.rcv_reader.specs.declared.stop.Stop.TheVariants as errors
-use Rattle.rcv_reader.specs.Standing.{Standing, at, back_at, with_roles, answers, IsOver}
+pub use Rattle.rcv_reader.specs.Standing.{Standing, IsSmall, at, back_at, with_roles, within, answers, going_on, IsOver}
 
 abbrev pub place_at : List (List ℕ) → ℕ → ℕ → Bool → Place
 place_at recs depth comes ended = record { depth = depth; recs = recs; comes = comes; ended = ended }
@@ -140,6 +138,10 @@ pub record AddsName (old new : Standing) : Type 0 where
   pub name : List ℕ
   pub added : new.roles ≡ old.roles ++ name ∷ []
   pub spelled : old ≡ with_roles new old.roles (Word name ∷ new.rest)
+
+-- The set has these aliases, and no other.
+abbrev pub HasThese : BTreeSet (Bor (List ℕ)) → List (List ℕ) → Type 0
+HasThese set names = (name : List ℕ) → contains_by (λ n. slice_cmp nat_cmp name n.now) set ≡ is_among name names
 
 -- Declarations were read.
 pub record AreTaken (ds : List Decl) (old new : Standing) : Type 0 where

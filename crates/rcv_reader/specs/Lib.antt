@@ -1,4 +1,3 @@
 pub mod Standing
-pub mod Aliases
 pub mod Descent
 pub mod Refusals

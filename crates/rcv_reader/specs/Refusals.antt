@@ -5,11 +5,7 @@ use Rattle.rcv_tree.specs.declared.protocol.Protocol.{Protocol}
 use Rattle.rcv_lexer.specs.declared.token.Token.{Token}
 use Rattle.rcv_lexer.specs.declared.token.TextError.{TextError}
 use Rattle.rcv_lexer.specs.declared.token.TextError.TheVariants as errors
-use Rattle.rcv_syntax.specs.declared.fault.Fault.{Fault}
-use Rattle.rcv_syntax.specs.Symbols.{Symbol, symbols_of, line_before}
-use Rattle.rcv_syntax.specs.Codes.{code_of}
-use Rattle.rcv_syntax.specs.Refusing.{IsFree, IsFirst}
-use Rattle.rcv_syntax.specs.Trees.{Reads}
+use Rattle.rcv_machine.specs.Words.{Fault, Symbol, symbols_of, line_before, code_of, IsFree, IsFirst, Reads}
 
 -- The grammar derives the symbols, no code holds at any of them nor at the end, and this is their tree.
 abbrev pub IsRead : List Symbol → Protocol → Type 0

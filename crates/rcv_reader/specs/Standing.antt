@@ -1,10 +1,6 @@
 -- Where the parser stands, and what the machine says there.
 use Rattle.std.specs.Prelude.{◌≡◌, ℕ, ◌≤◌, false, List, [], ◌++◌, ◌∷◌, Option, Some, None}
-use Rattle.rcv_syntax.specs.Symbols.{Symbol, Is, IsNotNext}
-use Rattle.rcv_syntax.specs.declared.sign.Sign.{Sign}
-use Rattle.rcv_syntax.specs.declared.sign.Sign.TheVariants.{Right, Close, Or, Comma, Semicolon, Dot}
-use Rattle.rcv_syntax.specs.declared.fault.Fault.TheVariants.{Token}
-use Rattle.rcv_machine.specs.Machine.{Item, This, AnyName, MoreModules, MoreRoles, Sorts, MoreSorts, MoreReceivers, First, Rest, More, Answer, Refuses, behind, answer, known}
+use Rattle.rcv_machine.specs.Words.{Symbol, Is, IsNotNext, Sign, Right, Close, Or, Comma, Semicolon, Dot, Token, Item, This, AnyName, MoreModules, MoreRoles, Sorts, MoreSorts, MoreReceivers, First, Rest, More, Answer, Refuses, behind, answer, known}
 
 -- what the parser knows, and the symbols that it has still to read
 pub record Standing : Type 0 where

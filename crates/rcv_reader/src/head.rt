@@ -5,16 +5,14 @@ ghost use Rattle.std.specs.Prelude.{List, codes, IfOk, OnOk, IfErr, true, false}
 ghost use Rattle.rcv_tree.specs.Lists.{declarations};
 ghost use Rattle.rcv_syntax.specs.Symbols.{Is, Word, Text, IsNotNext};
 ghost use Rattle.rcv_syntax.specs.Grammar.{is_decl_word};
-ghost use Rattle.rcv_machine.specs.Machine.{This, AnyName, AnyQuoted, MoreModules, Decls as Declaring, Alias, RoleName};
-ghost use Rattle.rcv_reader.specs.Standing.{at, with_roles};
-ghost use Rattle.rcv_reader.specs.Aliases.{HasThese};
-ghost use Rattle.rcv_reader.specs.Descent.{module_list, names_of_roles, AreTaken, Takes};
+ghost use Rattle.rcv_machine.specs.Machine.{This, AnyName, AnyQuoted, Decls as Declaring, Alias, RoleName};
+ghost use Rattle.rcv_reader.specs.Descent.{at, with_roles, names_of_roles, AreTaken, HasThese, Takes};
 
 use crate::parser::Parser;
 use crate::stop::Stop;
 use rcv_scan::{Lexeme, is};
 use rcv_syntax::{Fault, Sign};
-use rcv_tree::name::{Name, Names};
+use rcv_tree::name::Name;
 use rcv_tree::protocol::{Decl, Decls};
 use std::alloc::Global;
 use std::collections::BTreeSet;
@@ -34,29 +32,21 @@ impl<'a> Parser<'a> {
         Ok(text)
     }
 
-    /// Takes the names of the module, and the mark behind them.
-    #[tactic(auto, using(crate::proofs::Reading::modules_are_listed))]
-    pub fn modules(&mut self, alloc: Global) -> Result<Names, Stop>
-        ensures goes { Takes result self.old self.new (λ k. AnyName ∷ MoreModules ∷ k) (λ x k. k) }
-        ensures some { IfOk result (λ names. names ≢ []) }
-        ensures read { IfOk result (λ names. self.old
-            ≡ at self.new (module_list names (Is Sign.Semicolon ∷ self.new.rest))) }
-    {
-        self.names(alloc, Sign::Dot, Sign::Semicolon)
-    }
-
-    /// Takes the roles, each behind the word `role`, and the parenthesis behind them.
+    /// Takes the roles, each behind the word `role`, and the parenthesis and the brace behind them.
+    #[tactic(auto, using(crate::proofs::Reading::roles_next))]
     pub fn role_names(&mut self, alloc: Global) -> Result<(), Stop>
         requires none { self.old.roles ≡ [] }
-        ensures goes { Takes result self.old self.new (λ k. This (Is Sign.Role) ∷ RoleName ∷ k) (λ x k. k) }
+        ensures goes { Takes result self.old self.new (λ k. This (Is Sign.Role) ∷ RoleName
+            ∷ This (Is Sign.Open) ∷ k) (λ x k. k) }
         ensures read { OnOk result ((self.new.roles ≢ []) × (self.old ≡ with_roles self.new []
-            (Is Sign.Role ∷ names_of_roles self.new.roles (Is Sign.Right ∷ self.new.rest)))) }
+            (Is Sign.Role ∷ names_of_roles self.new.roles (Is Sign.Right ∷ Is Sign.Open ∷ self.new.rest)))) }
     {
         loop {
             self.expect(Sign::Role)?;
             self.add_role(alloc)?;
             if !self.takes(Sign::Comma) {
-                return self.expect(Sign::Right);
+                self.expect(Sign::Right)?;
+                return self.expect(Sign::Open);
             }
         }
     }

@@ -1,8 +1,7 @@
 // A descent over the statements with one token of look-ahead, and two at the word `continue`.
 
-ghost use Rattle.std.specs.List.{All};
 ghost use Rattle.std.specs.Prelude.{◌≡◌, ◌<◌, ◌≤◌, ◌+◌, ◌-◌, ◌^◌, ◌++◌, ◌∷◌, ◌≢◌, [], length, ℕ, List};
-ghost use Rattle.std.specs.Prelude.{drop, IfSome, IfNone, OnOk, IfOk, IfErr, true, false, Some};
+ghost use Rattle.std.specs.Prelude.{drop, All, IfSome, IfNone, OnOk, IfOk, IfErr, true, false, Some};
 ghost use Rattle.rcv_tree.specs.Lists.{statements};
 ghost use Rattle.rcv_tree.specs.declared.statement.Stmt.TheVariants as tree;
 ghost use Rattle.rcv_lexer.specs.Parts.{LiesIn};
@@ -334,6 +333,7 @@ impl<'a> Parser<'a> {
     }
 
     // Takes the name behind `continue`, which is that of an enclosing recursion, and the mark behind it.
+    #[tactic(auto, using(crate::proofs::Blocks::again_read))]
     fn again(&mut self, alloc: Global, spot: Spot, block: &mut Block) -> Result<(), Stop>
         ensures goes { Consumes result self.old self.new (λ k. AgainName (place_of_spot self.old spot) ∷ k) (λ x k. k) }
         ensures read { OnOk result (TakesSome self.old self.new (Is Sign.Continue ∷ [])

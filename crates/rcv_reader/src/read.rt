@@ -1,15 +1,13 @@
 // Reads the text of a whole protocol.
 
-ghost use Rattle.std.specs.Prelude.{◌≡◌, ◌≢◌, ◌<◌, ◌≤◌, ◌+◌, ◌^◌, ◌∷◌, [], length, MatchResult, IfOk, IfErr, OnOk};
-ghost use Rattle.std.specs.List.{All};
+ghost use Rattle.std.specs.Prelude.{◌≡◌, ◌<◌, ◌≤◌, ◌+◌, ◌^◌, ◌∷◌, [], length, All, MatchResult, IfOk, IfErr, OnOk};
 ghost use Rattle.rcv_tree.specs.Lists.{statements, declarations};
 ghost use Rattle.rcv_model.specs.Form.{HasForm};
 ghost use Rattle.rcv_model.specs.Text.{body_of};
 ghost use Rattle.rcv_lexer.specs.Parts.{LiesIn};
-ghost use Rattle.rcv_syntax.specs.Symbols.{Is, Word, symbols_of};
-ghost use Rattle.rcv_machine.specs.Machine.{This, AnyName, RoleName, in_head};
-ghost use Rattle.rcv_reader.specs.Standing.{with_roles};
-ghost use Rattle.rcv_reader.specs.Descent.{Ends, Halts, IsHead, Takes, at_first, names_of_roles};
+ghost use Rattle.rcv_syntax.specs.Symbols.{symbols_of};
+ghost use Rattle.rcv_machine.specs.Machine.{in_head};
+ghost use Rattle.rcv_reader.specs.Descent.{Ends, Halts, IsHead, Takes, at_first};
 ghost use Rattle.rcv_reader.specs.Refusals.{IsRead, IsRefused};
 
 use crate::parser::{Parser, Spot};
@@ -24,33 +22,20 @@ use rcv_tree::statement::Block;
 use std::alloc::Global;
 
 impl<'a> Parser<'a> {
-    // Takes what stands behind the declarations and before the body. The roles are kept.
-    fn title(&mut self, alloc: Global) -> Result<Name, Stop>
-        requires none { self.old.roles ≡ [] }
-        ensures goes { Takes result self.old self.new (λ k. This (Is Sign.Protocol) ∷ AnyName ∷ This (Is Sign.Left)
-            ∷ This (Is Sign.Role) ∷ RoleName ∷ This (Is Sign.Open) ∷ k) (λ x k. k) }
-        ensures read { IfOk result (λ n. (self.new.roles ≢ []) × (self.old ≡ with_roles self.new []
-            (Is Sign.Protocol ∷ Word n ∷ Is Sign.Left ∷ Is Sign.Role
-            ∷ names_of_roles self.new.roles (Is Sign.Right ∷ Is Sign.Open ∷ self.new.rest)))) }
-    {
-        let name = self.name_behind(Sign::Protocol)?;
-        self.expect(Sign::Left)?;
-        self.role_names(alloc)?;
-        self.expect(Sign::Open)?;
-        Ok(Name::of(alloc, name)?)
-    }
-
     // Takes what stands before the body, with its first brace. The roles are kept.
+    #[tactic(auto, using(crate::proofs::Reading::modules_are_listed))]
     fn head(&mut self, alloc: Global) -> Result<(Names, Decls, Name), Stop>
         requires none { self.old.roles ≡ [] }
         ensures goes { Takes result self.old self.new in_head (λ x k. k) }
         ensures read { IfOk result (λ h. IsHead h.0 (declarations h.1) h.2 self.old self.new) }
     {
         self.expect(Sign::Module)?;
-        let module = self.modules(alloc)?;
+        let module = self.names(alloc, Sign::Dot, Sign::Semicolon)?;
         let decls = self.decls(alloc)?;
-        let name = self.title(alloc)?;
-        Ok((module, decls, name))
+        let name = self.name_behind(Sign::Protocol)?;
+        self.expect(Sign::Left)?;
+        self.role_names(alloc)?;
+        Ok((module, decls, Name::of(alloc, name)?))
     }
 
     // Nothing may stand behind the protocol.

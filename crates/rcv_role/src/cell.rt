@@ -36,7 +36,7 @@ impl<'a> Model for Cell<'a> {
     ghost use Rattle.rcv_role.specs.Cell.{CellView};
     ghost use Rattle.rcv_role.specs.Ends.{AreEnds};
     ghost use Rattle.rcv_tree.specs.contracts.statement.Stmt as e;
-    ghost use Rattle.rcv_script.specs.Codes.{expr_code};
+    ghost use Rattle.rcv_formula.specs.Codes.{expr_code};
     ghost use Rattle.std.specs.Coded.{codes};
 
     ghost Value = { CellView };

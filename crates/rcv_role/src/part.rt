@@ -53,7 +53,7 @@ impl<'a> Model for Part<'a> {
     ghost use Rattle.rcv_session.specs.Session.{rules_of};
     ghost use Rattle.rcv_role.specs.Part.{PartView, IsPart, own_by, part_by};
     ghost use Rattle.rcv_tree.specs.contracts.statement.Stmt as e;
-    ghost use Rattle.rcv_script.specs.Codes.{expr_code};
+    ghost use Rattle.rcv_formula.specs.Codes.{expr_code};
     ghost use Rattle.std.specs.Coded.{codes};
 
     ghost Value = { PartView };

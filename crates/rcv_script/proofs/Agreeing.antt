@@ -93,7 +93,7 @@ one_more s k ts ss (w, us, e, (ws, vs, f, d)) =
     let gathered = append_assoc s.lines (line_says s.names w ∷ []) (lines_say (names_behind s.names w) ws) in
     (w ∷ ws, vs, e ∙ ap (line_text w) f, subst (λ (z : List Line). Derives (k z) vs ss) gathered d)
 
-pub agrees : (t : Symbol) (i : Item) → Agrees (step t i) i t
+pub agrees : (t : Symbol) (i : Item) → Agrees (step i t) i t
 agrees (Word w) (Scripts known) = cond_agrees (bytes_eq w (codes "role")) (script_of known) (Scripts known) (Word w)
     (λ is ts ss (n, us, e, (vs, f, (ls, ws, g, (xs, h, said)))).
     let role = (bytes_eq-Decides w (codes "role")).0 is in (record { role = n; lines = ls } ∷ xs, cc, said))
@@ -124,9 +124,9 @@ agrees (Is signs.Left) (AnAtom p k) = unless_agrees _ _ (AnAtom p k) (Is signs.L
     (λ ts ss (a, vs, e, (atoms, ws, f, (more, us, g, (xs, h, d)))). (Inside (SumOf a atoms more), xs, cc, d))
 agrees (Is signs.Times) (Factors p left k) = λ ts ss (a, vs, e, (more, us, f, d)). (TimesAtom a more, us, cc, d)
 agrees t (Factors p left k) =
-    through (step t (k left)) (Factors p left k) (k left) t (λ ts ss d. (NoAtom, ts, refl, d)) (agrees t (k left))
+    through (step (k left) t) (Factors p left k) (k left) t (λ ts ss d. (NoAtom, ts, refl, d)) (agrees t (k left))
 agrees (Is signs.Plus) (Terms p left k) = λ ts ss (a, vs, e, (b, ws, f, (c, us, g, d))). (PlusProduct a b c, us, cc, d)
 agrees (Is signs.Minus) (Terms p l k) = λ ts ss (a, vs, e, (b, ws, f, (c, us, g, d))). (MinusProduct a b c, us, cc, d)
 agrees t (Terms p left k) =
-    through (step t (k left)) (Terms p left k) (k left) t (λ ts ss d. (NoProduct, ts, refl, d)) (agrees t (k left))
+    through (step (k left) t) (Terms p left k) (k left) t (λ ts ss d. (NoProduct, ts, refl, d)) (agrees t (k left))
 agrees t i = tt

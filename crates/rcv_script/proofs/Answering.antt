@@ -143,7 +143,7 @@ module _ (roles : List (List ℕ)) (messages : List PointView) where
   result : (ts : List Symbol) (i : Item) (back : List Symbol) → Reached i back → Result (backward back ts) (answer i ts)
   result [] i back r = ended i back r.none (begins i back r) (r.sound []) (r.told [])
   result (t ∷ ts) i back r =
-      by_outcome i back ts t (step t i) r (λ us. r.told (t ∷ us)) (agrees t i) (λ j. result ts j (t ∷ back))
+      by_outcome i back ts t (step i t) r (λ us. r.told (t ∷ us)) (agrees t i) (λ j. result ts j (t ∷ back))
 
   all_read : (symbols : List Symbol) → Result symbols (reading roles messages symbols)
   all_read symbols = result symbols start [] (record {

@@ -2,7 +2,8 @@
 use Rattle.std.proofs.Common.{◌≡◌, ℕ, zero, suc, Bool, true, false, List, [], ◌∷◌, refl, ◌||◌, ◌↔◌, Some}
 use Rattle.rcv_model.specs.Script.{Expr, TheAttempt, Negated, Plus, Minus, Times, Line, SendLine, PickLine}
 use Rattle.rcv_model.specs.Transparent.{IsBlind, AreBlind}
-use Rattle.rcv_script.specs.Attempts.{reads, lines_read, scripts_read}
+use Rattle.rcv_script.specs.Attempts.{lines_read, scripts_read}
+use Rattle.rcv_formula.specs.Attempts.{reads}
 use Rattle.rcv_script.specs.Lines.{lines_at}
 
 -- neither holds

@@ -1,12 +1,10 @@
 -- What stops what is awaited behind stops what is awaited in front.
-use Rattle.std.proofs.Common.{◌≡◌, ℕ, List, ◌∷◌, ◌∙◌, Result, Ok, Err, IsErrAnd}
-use Rattle.rcv_model.specs.Script.{Expr}
+use Rattle.std.proofs.Common.{◌≡◌, List, ◌∙◌, Result, Ok, Err, IsErrAnd}
 use Rattle.rcv_script.specs.declared.fault.ScriptError.{ScriptError}
 use Rattle.rcv_script.specs.declared.fault.ScriptError.TheVariants as errors
-use Rattle.rcv_script.specs.declared.fault.Fault.{Fault}
-use Rattle.rcv_script.specs.Symbols.{Symbol, Word}
-use Rattle.rcv_script.specs.Machine.{Item, AnAtom, Place, Refuses, answer}
-use Rattle.rcv_script.specs.Descent.{Halts, Goes, IsNoWordAtom}
+use Rattle.rcv_script.specs.Symbols.{Symbol}
+use Rattle.rcv_script.specs.Machine.{Item, answer}
+use Rattle.rcv_script.specs.Descent.{Halts, Goes}
 
 -- at the exit of a `?`
 pub fails : {X Y Z : Type 0} (to : (Y → Item) → (Z → Item)) (r : Result X ScriptError) (e : ScriptError) (front : (Y → Item) → Item)
@@ -21,8 +19,3 @@ pub goes_on : {X Y : Type 0} (r : Result X ScriptError) (front mid : (Y → Item
     → Goes r mid said between new → ((k : Y → Item) → answer (front k) start ≡ answer (mid k) between) → Goes r front said start new
 goes_on (Err errors.Memory) front mid said start between new h goes = tt
 goes_on _ front mid said start between new h goes = λ k. goes k ∙ h k
-
--- at a word that is no atom
-pub word_stops : (p : Place) (w : List ℕ) (f : Fault) (ts us : List Symbol) → ts ≡ Word w ∷ us → IsNoWordAtom p w f → (k : Expr → Item)
-    → answer (AnAtom p k) ts ≡ Refuses f ts
-word_stops p w f ts us is atom k = rw (is, atom k)

@@ -18,7 +18,7 @@ ToldBy frame (Wrong f) back t rest = Speaks frame (Some f) back t
 
 abbrev pub Told : Frame → Item → List Symbol → List Symbol → AllLines → Type 0
 Told frame i back [] ss = at_end i ≡ Taken ss
-Told frame i back (t ∷ ts) ss = ToldBy frame (step t i) back t (λ j. Told frame j (t ∷ back) ts ss)
+Told frame i back (t ∷ ts) ss = ToldBy frame (step i t) back t (λ j. Told frame j (t ∷ back) ts ss)
 
 pub tell : (frame : Frame) (o : Option Fault) (j : Item) (back : List Symbol) (t : Symbol) (rest : Item → Type 0)
     → Speaks frame o back t → (o ≡ None → rest j) → ToldBy frame (unless o (On j)) back t rest

@@ -1,8 +1,6 @@
 pub mod Blindness
 pub mod Stops
 pub mod Going
-pub mod Building
-pub mod Values
 pub mod Least
 pub mod Deriving
 pub mod Viewing

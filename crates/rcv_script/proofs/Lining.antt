@@ -2,16 +2,17 @@
 use Rattle.std.proofs.Common.{◌≡◌, ℕ, Bool, true, false, codes, List, [], ◌∷◌, ◌++◌, length, refl, sym, ap, subst, ◌∙◌, arith, append_assoc, append-nil, length-append}
 use Rattle.std.proofs.lemmas.Bool.Decides.{nat_tests}
 use Rattle.std.proofs.lemmas.List.Folds.{list_any-append}
-use Rattle.std.specs.Prelude.{◌||◌, ◌==◌, Option, Some, None, is_some, unwrap_or}
+use Rattle.std.specs.Prelude.{◌||◌, ◌==◌, not, Option, Some, None, is_some, unwrap_or}
 use Rattle.std.specs.Str.{bytes_eq}
-use Rattle.rcv_model.specs.Script.{Test, Less, Line, VarLine, SendLine}
+use Rattle.rcv_model.specs.Script.{Condition, Expr, Test, Less, Line, VarLine, SendLine, PickLine}
 use Rattle.rcv_script.specs.declared.sign.Sign.TheVariants as signs
+use Rattle.rcv_script.specs.declared.fault.Fault.TheVariants as faults
 use Rattle.rcv_script.specs.declared.words.LineKind.{LineKind}
 use Rattle.rcv_script.specs.declared.words.LineKind.TheVariants as kinds
 use Rattle.rcv_script.specs.Symbols.{Symbol, Is, Word, Number}
 use Rattle.rcv_script.specs.Grammar.{WrittenLine, VarText, SendText, PickText, WhenText, OnText, WrittenScript, test_mark, number_text, line_text, lines_text, scripts_text, sum_text}
-use Rattle.rcv_script.specs.Meaning.{line_says, names_behind, lines_say, scripts_say}
-use Rattle.rcv_script.specs.Machine.{Writing, Known, Item, Scripts, Lines, This, ASigned, ATest, var_line, send_line, pick_line, on_line, line_fault, label_fault, deciding, remembering, with_line, with_script, begun, var_fault, set_fault, role_fault, new_role, place_of, place_in, is_listed, Taken, has_send, is_send_of}
+use Rattle.rcv_script.specs.Meaning.{sum_says, line_says, names_behind, lines_say, scripts_say}
+use Rattle.rcv_script.specs.Machine.{Writing, Known, Item, Scripts, Lines, This, ASigned, ATest, a_sum, line_behind, line_fault, label_fault, deciding, remembering, with_line, with_script, begun, fault_if, role_fault, new_role, place_of, place_in, is_listed, Taken, has_send, is_send_of}
 use Rattle.rcv_script.specs.Table.{is_among, line_so_far, variables, labels_sent, lines_over, given, role_name, begins_an_atom, parentheses, minuses, role_of}
 use Rattle.rcv_script.proofs.Deriving.{AllLines}
 use Rattle.rcv_script.proofs.Agreeing.{first_word}
@@ -73,16 +74,13 @@ module _ (frame : Frame) (ss : AllLines) where
     first_speaks kinds.Var = rw (w.fresh, w.over, w.names) (grind (arith, nat_tests))
     first_speaks _ = rw (w.fresh, w.over) (grind (arith, nat_tests))
 
-    var_speaks : (n : List ℕ) → Speaks frame (var_fault s.names n) (Word (codes "var") ∷ back) (Word n)
-    var_speaks n = rw (w.names, some_name n (variables back), w.fresh) (grind (arith, nat_tests))
+    label_speaks : (c : LineKind) (n : List ℕ) → Speaks frame (label_fault c s n) (Word (first_word c) ∷ back) (Word n)
+    label_speaks kinds.Var n = rw (w.names, some_name n (variables back), w.fresh) (grind (arith, nat_tests))
+    label_speaks kinds.Send n = rw (w.messages_are, w.role, w.sent n, w.fresh) (grind (arith, nat_tests))
+    label_speaks _ n = rw (w.messages_are, w.role, w.fresh) (grind (arith, nat_tests))
 
-    label_speaks : (c : LineKind) (n : List ℕ) → (c ≡ kinds.Var → ⊥)
-        → Speaks frame (label_fault c s.messages s.role s.lines n) (Word (first_word c) ∷ back) (Word n)
-    label_speaks kinds.Var n other = absurd (other refl)
-    label_speaks kinds.Send n other = rw (w.messages_are, w.role, w.sent n, w.fresh) (grind (arith, nat_tests))
-    label_speaks _ n other = rw (w.messages_are, w.role, w.fresh) (grind (arith, nat_tests))
-
-    set_speaks : (l n : List ℕ) → Speaks frame (set_fault s.names n) (Word (codes "set") ∷ Word l ∷ Word (codes "on") ∷ back) (Word n)
+    set_speaks : (l n : List ℕ) → Speaks frame (fault_if (not (is_some (place_of s.names n))) faults.Variable)
+        (Word (codes "set") ∷ Word l ∷ Word (codes "on") ∷ back) (Word n)
     set_speaks l n = rw (w.names, some_name n (variables back), w.fresh) (grind (arith, nat_tests))
 
     -- the lines behind this one
@@ -114,8 +112,8 @@ module _ (frame : Frame) (ss : AllLines) where
 
     line_told : (l : WrittenLine) → Next (row s l) → Told frame (Lines s k) back (line_text l us) ss
     line_told (VarText n below m) f =
-        tell frame _ (var_line s.names behind) back (Word (codes "var")) _ (first_speaks kinds.Var) (λ ok.
-        tell frame _ _ (Word (codes "var") ∷ back) (Word n) _ (var_speaks n) (λ ok. (refl, number below f)))
+        tell frame _ (line_behind s kinds.Var behind) back (Word (codes "var")) _ (first_speaks kinds.Var) (λ ok.
+        tell frame _ _ (Word (codes "var") ∷ back) (Word n) _ (label_speaks kinds.Var n) (λ ok. (refl, number below f)))
       where
         at : List Symbol
         at = Is signs.Equals ∷ Word n ∷ Word (codes "var") ∷ back
@@ -131,33 +129,35 @@ module _ (frame : Frame) (ss : AllLines) where
         number true g = let next = Number m ∷ Is signs.Minus ∷ at in
             (rw w.fresh refl, (refl, ends (row s (VarText n true m)) at next g (whole true) (rw w.fresh refl) refl))
     line_told (SendText n t) f = let start = Is signs.Equals ∷ Word n ∷ Word (codes "send") ∷ back in
-        tell frame _ (send_line s behind) back (Word (codes "send")) _ (first_speaks kinds.Send) (λ ok.
-        tell frame _ _ (Word (codes "send") ∷ back) (Word n) _ (label_speaks kinds.Send n (λ e. absurd cc)) (λ ok.
+        tell frame _ (line_behind s kinds.Send behind) back (Word (codes "send")) _ (first_speaks kinds.Send) (λ ok.
+        tell frame _ _ (Word (codes "send") ∷ back) (Word n) _ (label_speaks kinds.Send n) (λ ok.
         along refl (sum_told frame ss t (deciding s.names) _ start (Is signs.Semicolon ∷ us)
         (rw w.fresh (refl, w.names, refl, refl), refl, refl, rw w.closed refl) tt (λ next o.
         ends (row s (SendText n t)) start next f (rw w.fresh (refl, refl, refl, w.names, refl)) o.same o.braces))))
     line_told (PickText n) f = let start = Word n ∷ Word (codes "pick") ∷ back in
-        tell frame _ (pick_line s behind) back (Word (codes "pick")) _ (first_speaks kinds.Pick) (λ ok.
-        tell frame _ _ (Word (codes "pick") ∷ back) (Word n) _ (label_speaks kinds.Pick n (λ e. absurd cc)) (λ ok.
+        tell frame _ (line_behind s kinds.Pick behind) back (Word (codes "pick")) _ (first_speaks kinds.Pick) (λ ok.
+        tell frame _ _ (Word (codes "pick") ∷ back) (Word n) _ (label_speaks kinds.Pick n) (λ ok.
         ends (row s (PickText n)) start start f (rw w.fresh (refl, refl, refl, w.names, sym (append-nil _))) refl refl))
     line_told (WhenText n left t right) f = let start = Word (codes "when") ∷ Word n ∷ Word (codes "pick") ∷ back in
         let computes : Computes frame (deciding s.names) (view start) = rw w.fresh (refl, w.names, refl, refl) in
+        let last : Condition → Item = λ c. This (Is signs.Semicolon) (behind (s.names, PickLine n (Some c))) in
+        let with : Test → Expr → Item = λ x e. last (record { left = sum_says s.names left; test = x; right = e }) in
         let rest = sum_text right (Is signs.Semicolon ∷ us) in
-        tell frame _ (pick_line s behind) back (Word (codes "pick")) _ (first_speaks kinds.Pick) (λ ok.
-        tell frame _ _ (Word (codes "pick") ∷ back) (Word n) _ (label_speaks kinds.Pick n (λ e. absurd cc)) (λ ok.
+        tell frame _ (line_behind s kinds.Pick behind) back (Word (codes "pick")) _ (first_speaks kinds.Pick) (λ ok.
+        tell frame _ _ (Word (codes "pick") ∷ back) (Word n) _ (label_speaks kinds.Pick n) (λ ok.
         along (rw w.fresh refl) (sum_told frame ss left (deciding s.names) _ start (Is (test_mark t) ∷ rest)
         (computes, rw w.fresh refl, refl, rw w.closed refl) (test_joins t [] rest).4 (λ next o.
         let c = subst (Computes frame (deciding s.names)) (sym o.same) computes in let m = test_joins t next us in
         let same = stays next (Is (test_mark t)) m.0 c.0 in let braces = m.3 ∙ o.braces in
-        test_told frame ss t _ next rest
-        (sum_told frame ss right (deciding s.names) _ (Is (test_mark t) ∷ next) (Is signs.Semicolon ∷ us)
-        (subst (Computes frame (deciding s.names)) (sym same) c, m.1, m.2, rw (braces, w.closed) refl) tt (λ last o'.
-        ends (row s (WhenText n left t right)) start last f (rw w.fresh (refl, refl, refl, w.names, sym (append-nil _)))
+        test_told frame ss t (λ x. a_sum (deciding s.names) (with x)) next rest
+        (sum_told frame ss right (deciding s.names) (with t) (Is (test_mark t) ∷ next) (Is signs.Semicolon ∷ us)
+        (subst (Computes frame (deciding s.names)) (sym same) c, m.1, m.2, rw (braces, w.closed) refl) tt (λ over o'.
+        ends (row s (WhenText n left t right)) start over f (rw w.fresh (refl, refl, refl, w.names, sym (append-nil _)))
         (o'.same ∙ same ∙ o.same) (o'.braces ∙ braces)))))))
     line_told (OnText n v t) f =
         let start = Is signs.Equals ∷ Word v ∷ Word (codes "set") ∷ Word n ∷ Word (codes "on") ∷ back in
-        tell frame _ (on_line s behind) back (Word (codes "on")) _ (first_speaks kinds.On) (λ ok.
-        tell frame _ _ (Word (codes "on") ∷ back) (Word n) _ (label_speaks kinds.On n (λ e. absurd cc)) (λ ok.
+        tell frame _ (line_behind s kinds.On behind) back (Word (codes "on")) _ (first_speaks kinds.On) (λ ok.
+        tell frame _ _ (Word (codes "on") ∷ back) (Word n) _ (label_speaks kinds.On n) (λ ok.
         along (rw w.fresh refl)
         (tell frame _ _ (Word (codes "set") ∷ Word n ∷ Word (codes "on") ∷ back) (Word v) _ (set_speaks n v) (λ ok.
         along refl (sum_told frame ss t (remembering s n) _ start (Is signs.Semicolon ∷ us)

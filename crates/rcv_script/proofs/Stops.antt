@@ -1,28 +1,24 @@
 -- Where the machine stops at a symbol that isn't awaited, or goes on with what is awaited behind.
-use Rattle.std.proofs.Common.{◌≡◌, ℕ, ℤ, Bool, true, false, List, [], ◌∷◌, refl, sym, ap, ◌∙◌, codes, arith}
+use Rattle.std.proofs.Common.{◌≡◌, ℕ, ℤ, Bool, true, false, List, [], ◌∷◌, refl, sym, ap, ◌∙◌, codes, arith, rules}
 use Rattle.std.proofs.lemmas.Bool.Decides.{nat_tests}
 use Rattle.std.specs.Str.{bytes_eq}
 use Rattle.std.proofs.lemmas.Slice.Eq.{bytes_eq-Decides}
 use Rattle.rcv_model.specs.Script.{Expr, Line}
 use Rattle.std.specs.Prelude.{◌<◌, ◌≤◌, length, Option, Result, Ok, Err, IfOk, pos}
-use Rattle.rcv_script.specs.declared.sign.Sign.{Sign}
+use denote.Enum.Bare.{same_true}
+use Rattle.rcv_script.specs.contracts.sign.Sign.{the_type}
 use Rattle.rcv_script.specs.declared.sign.Sign.TheVariants as signs
 use Rattle.rcv_script.specs.declared.fault.Fault.{Fault}
 use Rattle.rcv_script.specs.declared.fault.Fault.TheVariants.{Token}
 use Rattle.rcv_script.specs.Symbols.{Symbol, Is, Word, Number, Text, IsNotNext, NoWord, NoNumber}
 use Rattle.rcv_script.specs.Machine.{Item, Scripts, Known, script_of, Lines, ALine, This, AWord, ASigned, ANumber, AnEnd, AnAtom, Factors, Terms, Place, Writing}
-use Rattle.rcv_script.specs.Machine.{same, meets, with_line, Refuses, answer}
+use Rattle.rcv_script.specs.Machine.{meets, with_line, Refuses, answer}
 
 pub same_word : (a b : List ℕ) → bytes_eq a b ≡ true → a ≡ b
 same_word a b e = (bytes_eq-Decides a b).0 e
 
-same_only : (a b : Sign) → same a b ≡ true → a ≡ b
-same_only signs.Open signs.Open e = refl
-same_only _ signs.Open e = cc
-same_only _ _ e = cc
-
 pub meets_only : (t m : Symbol) → meets t m ≡ true → t ≡ m
-meets_only (Is a) (Is b) e = ap Is (same_only a b e)
+meets_only (Is a) (Is b) e = ap Is (same_true the_type (search rules) a b e)
 meets_only (Word a) (Word b) e = ap Word (same_word a b e)
 meets_only (Number a) (Number b) e = ap Number (grind (arith, nat_tests))
 meets_only (Text a) (Text b) e = ap Text ((bytes_eq-Decides a b).0 e)
@@ -61,11 +57,11 @@ no_atom p (Is signs.Minus ∷ ts) a b c d k = absurd (c ts refl)
 no_atom p (Is signs.Left ∷ ts) a b c d k = absurd (d ts refl)
 no_atom p _ a b c d k = refl
 
--- a line that was taken leaves less than stood from its first word on
-pub fewer : {X E : Type 0} (r : Result X E) (t : Symbol) (old after new : List Symbol) → old ≡ t ∷ after
-    → IfOk r (λ _. length new ≤ length after) → IfOk r (λ _. length new < length old)
-fewer (Ok x) t old after new is h = rw is (omega (arith, h))
-fewer (Err e) t old after new is h = tt
+-- a line of which two words were taken, and the rest, leaves less than stood from its first word on
+pub fewer : {X E : Type 0} (r : Result X E) (t u : Symbol) (old mid after new : List Symbol) → old ≡ t ∷ mid
+    → mid ≡ u ∷ after → IfOk r (λ _. length new ≤ length after) → IfOk r (λ _. length new < length old)
+fewer (Ok x) t u old mid after new is then h = rw (is, then) (omega (arith, h))
+fewer (Err e) t u old mid after new is then h = tt
 
 -- no more factors, terms, lines or scripts, and no end of a line
 pub factors_end : (p : Place) (left : Expr) (now new : List Symbol) → (new ≡ now) × IsNotNext (Is signs.Times) now → (k : Expr → Item)

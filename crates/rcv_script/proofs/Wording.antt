@@ -5,7 +5,6 @@ use Rattle.std.specs.Prelude.{◌&&◌, ◌||◌, not, drop, Option, Some, None,
 use Rattle.std.specs.Str.{bytes_eq}
 use Rattle.std.proofs.lemmas.Slice.Eq.{bytes_eq-Decides}
 use Rattle.rcv_model.specs.Script.{Expr, TheValue, TheAttempt, Variable, Negated, Times, Plus, Minus}
-use Rattle.rcv_script.specs.declared.fault.Fault.TheVariants as faults
 use Rattle.rcv_script.specs.declared.sign.Sign.TheVariants as signs
 use Rattle.rcv_script.specs.Symbols.{Symbol, Is, Word, Number}
 use Rattle.rcv_script.specs.Grammar.{WrittenAtom, Digits, Named, Signed, Inside, MoreAtoms, NoAtom, TimesAtom, MoreProducts, NoProduct, PlusProduct, MinusProduct, WrittenSum, SumOf, atom_text, atoms_text, products_text, sum_text}

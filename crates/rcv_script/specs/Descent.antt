@@ -2,17 +2,14 @@
 use Rattle.std.specs.Prelude.{◌≡◌, ℕ, ◌-◌, ◌*◌, Bool, true, false, List, ◌∷◌, Result, Ok, Err}
 use Rattle.rcv_model.specs.Script as script
 use Rattle.rcv_points.specs.Follow.{PointView}
-use Rattle.rcv_script.specs.declared.fault.Fault.{Fault}
 use Rattle.rcv_script.specs.declared.fault.ScriptError.{ScriptError}
 use Rattle.rcv_script.specs.declared.fault.ScriptError.TheVariants as errors
-use Rattle.rcv_script.specs.declared.expression.Leaf.{Leaf}
 use Rattle.rcv_script.specs.declared.formula.Banned.{Banned}
 use Rattle.rcv_script.specs.declared.sign.Sign.{Sign}
 use Rattle.rcv_script.specs.declared.sign.Sign.TheVariants as signs
-use Rattle.rcv_script.specs.Expressions.{leaf_expr}
 use Rattle.rcv_script.specs.Symbols.{Symbol}
-use Rattle.rcv_script.specs.Machine.{Item, ATest, Place, Writing, a_sum, with_line, word_atom, reading}
-use Rattle.rcv_script.specs.Machine.{Refuses, On, Wrong, answer}
+use Rattle.rcv_script.specs.Machine.{Item, Place, Writing, with_line, reading}
+use Rattle.rcv_script.specs.Machine.{Refuses, answer}
 
 -- The machine stops at what is left, whatever is awaited behind.
 abbrev pub Halts : {Y : Type 0} → ScriptError → ((Y → Item) → Item) → List Symbol → List Symbol → Type 0
@@ -28,10 +25,6 @@ Goes {X} {Y} (Err e) front said old new = Halts e front old new
 -- a place inside so many parentheses and signs
 abbrev pub at_depth : List (List ℕ) → Banned → ℕ → Place
 at_depth names banned depth = record { names = names; value = banned.value; attempt = banned.attempt; depth = depth }
-
--- a condition, without the mark behind it
-abbrev pub compared : Place → (script.Condition → Item) → Item
-compared p k = a_sum p (λ a. ATest (λ t. a_sum p (λ b. k (record { left = a; test = t; right = b }))))
 
 -- a line was read and added to what is written, or it stops
 abbrev pub Adds :
@@ -49,14 +42,6 @@ Passes (Err (errors.Refused fault)) front old new = (k : Item) → answer (front
 abbrev pub term_sign : Bool → Sign
 term_sign false = signs.Plus
 term_sign true = signs.Minus
-
--- a word is that atom, or there is that fault
-abbrev pub IsWordAtom : Place → List ℕ → Leaf → Type 0
-IsWordAtom p w leaf = (k : script.Expr → Item) → word_atom p w k ≡ On (k (leaf_expr leaf))
-
--- that fault speaks against the word
-abbrev pub IsNoWordAtom : Place → List ℕ → Fault → Type 0
-IsNoWordAtom p w fault = (k : script.Expr → Item) → word_atom p w k ≡ Wrong fault
 
 -- it stops at this fault, with these symbols left
 abbrev pub Ceases : List (List ℕ) → List PointView → ScriptError → List Symbol → List Symbol → Type 0

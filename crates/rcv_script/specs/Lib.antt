@@ -1,6 +1,4 @@
-pub mod Expressions
 pub mod Lines
-pub mod Codes
 pub mod Attempts
 pub mod Symbols
 pub mod Labels

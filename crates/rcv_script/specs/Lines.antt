@@ -1,5 +1,5 @@
 -- What the lines of the program say.
-use Rattle.std.specs.Prelude.{ℕ, List, [], Option, Some, None, slice_index_or}
+use Rattle.std.specs.Prelude.{ℕ, List, [], option_map, slice_index_or}
 use Rattle.rcv_model.specs.Script as script
 use Rattle.rcv_model.specs.Script.{Expr, Test}
 use Rattle.rcv_script.specs.declared.line.Comparison.{Comparison}
@@ -21,16 +21,11 @@ test_of AtLeast = script.AtLeast
 abbrev pub condition_of : Condition → script.Condition
 condition_of c = record { left = c.left; test = test_of c.comparison; right = c.right }
 
--- the condition of a pick line, if it has one
-abbrev pub when_of : Option Condition → Option script.Condition
-when_of None = None
-when_of (Some c) = Some (condition_of c)
-
 -- what a line says
 abbrev pub line_of : Line → script.Line
 line_of (Var first) = script.VarLine first
 line_of (Send label number) = script.SendLine label number
-line_of (Pick label when) = script.PickLine label (when_of when)
+line_of (Pick label when) = script.PickLine label (option_map condition_of when)
 line_of (On label place number) = script.OnLine label place number
 
 -- the lines of role r; a role without a script has none

@@ -1,18 +1,20 @@
 -- Reading one symbol after another, for the contracts of the descent alone: what is awaited says itself what is awaited behind
 -- it, and what was read. That it reads by grammar and table is a lemma, and no contract of a public function cites it.
-use Rattle.std.specs.Prelude.{ℕ, ◌+◌, ◌==◌, ◌||◌, not, nat_le, Bool, true, false, cond, if◌then◌else◌, codes, List, [], ◌∷◌, ◌++◌, length, Option, Some, None, is_some, slice_set, ℤ, pos, neg_ℤ}
+use Rattle.std.specs.Prelude.{ℕ, ◌+◌, ◌==◌, ◌||◌, not, nat_le, Bool, false, cond, if◌then◌else◌, codes, List, [], ◌∷◌, ◌++◌, length, Option, Some, None, is_some, slice_set, ℤ, pos, neg_ℤ}
 use Rattle.std.specs.List.{list_any}
 use Rattle.std.specs.Option.{option_or}
 use Rattle.std.specs.Str.{bytes_eq}
 use Rattle.rcv_model.specs.Script.{Condition, Expr, Literal, TheValue, TheAttempt, Variable, Negated, Plus, Minus, Times, Test, Less, AtMost, Same, Differ, More, AtLeast, Line, VarLine, SendLine, PickLine, OnLine}
 use Rattle.rcv_points.specs.Follow.{PointView}
-use Rattle.rcv_script.specs.declared.sign.Sign.{Sign}
+use denote.Enum.Bare.{sameb}
+use Rattle.rcv_script.specs.contracts.sign.Sign.{the_type}
 use Rattle.rcv_script.specs.declared.sign.Sign.TheVariants as signs
 use Rattle.rcv_script.specs.declared.fault.Fault.{Fault}
 use Rattle.rcv_script.specs.declared.fault.Fault.TheVariants as faults
 use Rattle.rcv_script.specs.declared.words.LineKind.{LineKind}
 use Rattle.rcv_script.specs.declared.words.LineKind.TheVariants as kinds
 use Rattle.rcv_script.specs.Symbols.{Symbol, Is, Word, Number, Text}
+use Rattle.rcv_script.specs.Table.{is_own_word}
 pub use Rattle.rcv_script.specs.Meaning.{no_lines}
 pub use Rattle.rcv_script.specs.Labels.{place_of, place_in, sends, takes_part, sends_bare, takes_bare}
 
@@ -95,36 +97,15 @@ is_send_of label _ = false
 abbrev pub has_send : List ℕ → List Line → Bool
 has_send label lines = list_any (is_send_of label) lines
 
--- what speaks against the label of a send line behind these lines
-abbrev pub send_fault : List PointView → ℕ → List Line → List ℕ → Option Fault
-send_fault messages role before label =
-    option_or (fault_if (not (sends messages role label) || has_send label before) faults.Label)
-    (fault_if (sends_bare messages role label) faults.NoPayload)
-
--- of one of a pick line
-abbrev pub pick_fault : List PointView → ℕ → List ℕ → Option Fault
-pick_fault messages role label = fault_if (not (sends messages role label)) faults.Label
-
--- of one of an on line
-abbrev pub on_fault : List PointView → ℕ → List ℕ → Option Fault
-on_fault messages role label = fault_if (not (takes_part messages role label)) faults.Label
-
--- of one of a line of this kind; a var line has none
-abbrev pub label_fault : LineKind → List PointView → ℕ → List Line → List ℕ → Option Fault
-label_fault kinds.Send messages role before label = send_fault messages role before label
-label_fault kinds.Pick messages role before label = pick_fault messages role label
-label_fault kinds.On messages role before label = on_fault messages role label
-label_fault kinds.Var messages role before label = None
-
--- a variable is declared once, and isn't called as what expressions read otherwise
-abbrev pub var_fault : List (List ℕ) → List ℕ → Option Fault
-var_fault names name =
-    fault_if ((bytes_eq name (codes "value") || bytes_eq name (codes "attempt")) || is_some (place_of names name))
-    faults.Variable
-
--- a variable that is set is declared before
-abbrev pub set_fault : List (List ℕ) → List ℕ → Option Fault
-set_fault names name = fault_if (not (is_some (place_of names name))) faults.Variable
+-- what speaks against the second word of a line: the name of a variable, which is declared once and isn't called as what
+-- expressions read otherwise, or a label
+abbrev pub label_fault : LineKind → Writing → List ℕ → Option Fault
+label_fault kinds.Var s name = fault_if (is_own_word name || is_some (place_of s.names name)) faults.Variable
+label_fault kinds.Send s label =
+    option_or (fault_if (not (sends s.messages s.role label) || has_send label s.lines) faults.Label)
+    (fault_if (sends_bare s.messages s.role label) faults.NoPayload)
+label_fault kinds.Pick s label = fault_if (not (sends s.messages s.role label)) faults.Label
+label_fault kinds.On s label = fault_if (not (takes_part s.messages s.role label)) faults.Label
 
 -- ---- expressions
 
@@ -166,61 +147,36 @@ word_atom p w k =
     (cond (bytes_eq w (codes "attempt")) (unless p.attempt (On (k TheAttempt)))
     (variable (place_of p.names w) k))
 
--- the first symbol of an atom
-abbrev pub atom : Place → Symbol → (Expr → Item) → Outcome
-atom p (Number n) k = On (k (Literal n))
-atom p (Word w) k = word_atom p w k
-atom p (Is signs.Minus) k = unless (fault_if (nat_le 32 p.depth) faults.TooMany) (On (AnAtom (deeper p) (λ e. k (Negated e))))
-atom p (Is signs.Left) k = unless (fault_if (nat_le 32 p.depth) faults.TooMany) (On (a_sum (deeper p) (λ e. This (Is signs.Right) (k e))))
-atom p _ k = Wrong faults.Token
-
--- a mark that compares
-abbrev pub test : Symbol → (Test → Item) → Outcome
-test (Is signs.Less) k = On (k Less)
-test (Is signs.AtMost) k = On (k AtMost)
-test (Is signs.Same) k = On (k Same)
-test (Is signs.Differ) k = On (k Differ)
-test (Is signs.More) k = On (k More)
-test (Is signs.AtLeast) k = On (k AtLeast)
-test _ k = Wrong faults.Token
-
 -- ---- lines
 
 -- "=" expr ";"
 abbrev pub with_expr : Place → (Expr → Item) → Item
 with_expr p k = This (Is signs.Equals) (a_sum p (λ e. This (Is signs.Semicolon) (k e)))
 
--- what is awaited behind the word var
-abbrev pub var_line : List (List ℕ) → (List (List ℕ) × Line → Item) → Item
-var_line names k =
-    AWord (var_fault names) (λ n. This (Is signs.Equals) (ASigned (λ z. This (Is signs.Semicolon) (k (names ++ n ∷ [], VarLine z)))))
+-- a condition, without the mark behind it
+abbrev pub compared : Place → (Condition → Item) → Item
+compared p k = a_sum p (λ a. ATest (λ t. a_sum p (λ b. k (record { left = a; test = t; right = b }))))
 
--- what is awaited behind the word send
-abbrev pub send_line : Writing → (List (List ℕ) × Line → Item) → Item
-send_line s k = AWord (label_fault kinds.Send s.messages s.role s.lines) (λ l. with_expr (deciding s.names) (λ e. k (s.names, SendLine l e)))
+-- the word set, and the place of a variable that is declared before
+abbrev pub to_set : List (List ℕ) → (ℕ → Item) → Item
+to_set names k =
+    This (Word (codes "set"))
+    (AWord (λ n. fault_if (not (is_some (place_of names n))) faults.Variable) (λ n. k (place_in names n)))
 
--- expr, a mark that compares, expr ";"
-abbrev pub condition : Place → (Condition → Item) → Item
-condition p k =
-    a_sum p (λ a. ATest (λ t. a_sum p (λ b. This (Is signs.Semicolon) (k (record { left = a; test = t; right = b })))))
+-- what is awaited behind the first two words of a line
+abbrev pub rest_of_line : LineKind → Writing → List ℕ → (List (List ℕ) × Line → Item) → Item
+rest_of_line kinds.Var s n k =
+    This (Is signs.Equals) (ASigned (λ z. This (Is signs.Semicolon) (k (s.names ++ n ∷ [], VarLine z))))
+rest_of_line kinds.Send s l k = with_expr (deciding s.names) (λ e. k (s.names, SendLine l e))
+rest_of_line kinds.Pick s l k =
+    AnEnd (k (s.names, PickLine l None))
+    (compared (deciding s.names) (λ c. This (Is signs.Semicolon) (k (s.names, PickLine l (Some c)))))
+rest_of_line kinds.On s l k =
+    to_set s.names (λ place. with_expr (remembering s l) (λ e. k (s.names, OnLine l place e)))
 
--- what is awaited behind the label of a pick line
-abbrev pub rest_of_pick : Place → (Option Condition → Item) → Item
-rest_of_pick p k = AnEnd (k None) (condition p (λ c. k (Some c)))
-
--- what is awaited behind the word pick
-abbrev pub pick_line : Writing → (List (List ℕ) × Line → Item) → Item
-pick_line s k = AWord (label_fault kinds.Pick s.messages s.role s.lines) (λ l. rest_of_pick (deciding s.names) (λ when. k (s.names, PickLine l when)))
-
--- the word set, and a variable
-abbrev pub to_set : List (List ℕ) → (List ℕ → Item) → Item
-to_set names k = This (Word (codes "set")) (AWord (set_fault names) k)
-
--- what is awaited behind the word on
-abbrev pub on_line : Writing → (List (List ℕ) × Line → Item) → Item
-on_line s k =
-    AWord (label_fault kinds.On s.messages s.role s.lines) (λ l. to_set s.names (λ n.
-    with_expr (remembering s l) (λ e. k (s.names, OnLine l (place_in s.names n) e))))
+-- what is awaited behind the first word
+abbrev pub line_behind : Writing → LineKind → (List (List ℕ) × Line → Item) → Item
+line_behind s kind k = AWord (label_fault kind s) (λ n. rest_of_line kind s n k)
 
 -- what a line does, by its first word
 abbrev pub kind_of : List ℕ → Option LineKind
@@ -236,13 +192,6 @@ abbrev pub line_fault : List (List ℕ) → List Line → LineKind → Option Fa
 line_fault names before kinds.Var = fault_if (nat_le 256 (length before) || nat_le 16 (length names)) faults.TooMany
 line_fault names before _ = fault_if (nat_le 256 (length before)) faults.TooMany
 
--- what is awaited behind the first word of a line
-abbrev pub line_behind : Writing → LineKind → (List (List ℕ) × Line → Item) → Item
-line_behind s kinds.Var k = var_line s.names k
-line_behind s kinds.Send k = send_line s k
-line_behind s kinds.Pick k = pick_line s k
-line_behind s kinds.On k = on_line s k
-
 -- the first word of a line
 abbrev pub line_by : Writing → Option LineKind → (List (List ℕ) × Line → Item) → Outcome
 line_by s None k = Wrong faults.Token
@@ -256,11 +205,6 @@ line s _ k = Wrong faults.Token
 -- one more line of the role, with the variables behind it
 abbrev pub with_line : Writing → List (List ℕ) × Line → Writing
 with_line s x = record { messages = s.messages; role = s.role; names = x.0; lines = s.lines ++ x.1 ∷ [] }
-
--- a line, or the brace behind the last one
-abbrev pub lines : Writing → Symbol → (List Line → Item) → Outcome
-lines s (Is signs.Close) k = On (k s.lines)
-lines s t k = line s t (λ x. Lines (with_line s x) k)
 
 -- ---- scripts
 
@@ -282,87 +226,47 @@ script roles given messages k =
 abbrev pub script_of : Known → Item
 script_of known = script known.roles known.given known.messages (λ x. Scripts (with_script known x.0 x.1))
 
--- the word role
-abbrev pub scripts : Known → Symbol → Outcome
-scripts known (Word w) = cond (bytes_eq w (codes "role")) (On (script_of known)) (Wrong faults.Token)
-scripts known _ = Wrong faults.Token
-
 -- ---- one step, and all of them
-
--- one and the same
-abbrev pub same : Sign → Sign → Bool
-same signs.Open signs.Open = true
-same signs.Close signs.Close = true
-same signs.Left signs.Left = true
-same signs.Right signs.Right = true
-same signs.Semicolon signs.Semicolon = true
-same signs.Equals signs.Equals = true
-same signs.Less signs.Less = true
-same signs.AtMost signs.AtMost = true
-same signs.Same signs.Same = true
-same signs.Differ signs.Differ = true
-same signs.More signs.More = true
-same signs.AtLeast signs.AtLeast = true
-same signs.Plus signs.Plus = true
-same signs.Minus signs.Minus = true
-same signs.Times signs.Times = true
-same signs.Foreign signs.Foreign = true
-same _ _ = false
 
 -- the symbol is the awaited one
 abbrev pub meets : Symbol → Symbol → Bool
-meets (Is a) (Is b) = same a b
+meets (Is a) (Is b) = sameb the_type a b
 meets (Word a) (Word b) = bytes_eq a b
 meets (Number a) (Number b) = a == b
 meets (Text a) (Text b) = bytes_eq a b
 meets _ _ = false
 
--- any word against which nothing speaks
-abbrev pub word : Symbol → (List ℕ → Option Fault) → (List ℕ → Item) → Outcome
-word (Word w) fault k = unless (fault w) (On (k w))
-word _ fault k = Wrong faults.Token
-
--- any number
-abbrev pub number : Symbol → (ℕ → Item) → Outcome
-number (Number n) k = On (k n)
-number _ k = Wrong faults.Token
-
--- a number, or a sign
-abbrev pub signed : Symbol → (ℤ → Item) → Outcome
-signed (Is signs.Minus) k = On (ANumber (λ n. k (neg_ℤ (pos n))))
-signed t k = number t (λ n. k (pos n))
-
--- the end of a line, or its condition
-abbrev pub end_or_when : Symbol → Item → Item → Outcome
-end_or_when (Is signs.Semicolon) plain when = On plain
-end_or_when (Word w) plain when = cond (bytes_eq w (codes "when")) (On when) (Wrong faults.Token)
-end_or_when _ plain when = Wrong faults.Token
-
--- one more factor, or what is awaited behind
-abbrev pub factors : Place → Expr → (Expr → Item) → Symbol → Outcome → Outcome
-factors p left k (Is signs.Times) over = On (AnAtom p (λ e. Factors p (Times left e) k))
-factors p left k _ over = over
-
--- one more term, or what is awaited behind
-abbrev pub terms : Place → Expr → (Expr → Item) → Symbol → Outcome → Outcome
-terms p left k (Is signs.Plus) over = On (a_product p (λ e. Terms p (Plus left e) k))
-terms p left k (Is signs.Minus) over = On (a_product p (λ e. Terms p (Minus left e) k))
-terms p left k _ over = over
-
 -- A symbol that doesn't go on with a product or a sum belongs to what is awaited behind it.
-abbrev pub step : Symbol → Item → Outcome
-step t (Scripts known) = scripts known t
-step t (Lines s k) = lines s t k
-step t (ALine s k) = line s t k
-step t (This symbol k) = cond (meets t symbol) (On k) (Wrong faults.Token)
-step t (AWord fault k) = word t fault k
-step t (ASigned k) = signed t k
-step t (ANumber k) = number t k
-step t (AnEnd plain when) = end_or_when t plain when
-step t (ATest k) = test t k
-step t (AnAtom p k) = atom p t k
-step t (Factors p left k) = factors p left k t (step t (k left))
-step t (Terms p left k) = terms p left k t (step t (k left))
+abbrev pub step : Item → Symbol → Outcome
+step (Scripts known) (Word w) = cond (bytes_eq w (codes "role")) (On (script_of known)) (Wrong faults.Token)
+step (Lines s k) (Is signs.Close) = On (k s.lines)
+step (Lines s k) t = line s t (λ x. Lines (with_line s x) k)
+step (ALine s k) t = line s t k
+step (This symbol k) t = cond (meets t symbol) (On k) (Wrong faults.Token)
+step (AWord fault k) (Word w) = unless (fault w) (On (k w))
+step (ASigned k) (Is signs.Minus) = On (ANumber (λ n. k (neg_ℤ (pos n))))
+step (ASigned k) (Number n) = On (k (pos n))
+step (ANumber k) (Number n) = On (k n)
+step (AnEnd plain when) (Is signs.Semicolon) = On plain
+step (AnEnd plain when) (Word w) = cond (bytes_eq w (codes "when")) (On when) (Wrong faults.Token)
+step (ATest k) (Is signs.Less) = On (k Less)
+step (ATest k) (Is signs.AtMost) = On (k AtMost)
+step (ATest k) (Is signs.Same) = On (k Same)
+step (ATest k) (Is signs.Differ) = On (k Differ)
+step (ATest k) (Is signs.More) = On (k More)
+step (ATest k) (Is signs.AtLeast) = On (k AtLeast)
+step (AnAtom p k) (Number n) = On (k (Literal n))
+step (AnAtom p k) (Word w) = word_atom p w k
+step (AnAtom p k) (Is signs.Minus) =
+    unless (fault_if (nat_le 32 p.depth) faults.TooMany) (On (AnAtom (deeper p) (λ e. k (Negated e))))
+step (AnAtom p k) (Is signs.Left) =
+    unless (fault_if (nat_le 32 p.depth) faults.TooMany) (On (a_sum (deeper p) (λ e. This (Is signs.Right) (k e))))
+step (Factors p left k) (Is signs.Times) = On (AnAtom p (λ e. Factors p (Times left e) k))
+step (Factors p left k) t = step (k left) t
+step (Terms p left k) (Is signs.Plus) = On (a_product p (λ e. Terms p (Plus left e) k))
+step (Terms p left k) (Is signs.Minus) = On (a_product p (λ e. Terms p (Minus left e) k))
+step (Terms p left k) t = step (k left) t
+step _ _ = Wrong faults.Token
 
 -- The answer: the lines of each role, or the fault and what is left from its symbol on.
 pub data Answer : Type 0 where
@@ -384,7 +288,7 @@ after (Wrong fault) left go = Refuses fault left
 -- the answer from what is awaited on
 abbrev pub answer : Item → List Symbol → Answer
 answer item [] = at_end item
-answer item (t ∷ ts) = after (step t item) (t ∷ ts) (λ next. answer next ts)
+answer item (t ∷ ts) = after (step item t) (t ∷ ts) (λ next. answer next ts)
 
 -- what is awaited at first
 abbrev pub awaited : List (List ℕ) → List PointView → Item

@@ -56,10 +56,7 @@ line_says names (OnText label name s) = OnLine label (place_in names name) (sum_
 -- the variables that are declared behind a line
 abbrev pub names_behind : List (List ℕ) → WrittenLine → List (List ℕ)
 names_behind names (VarText name below n) = names ++ name ∷ []
-names_behind names (SendText label s) = names
-names_behind names (PickText label) = names
-names_behind names (WhenText label left test right) = names
-names_behind names (OnText label name s) = names
+names_behind names _ = names
 
 -- lines, one after another
 abbrev pub lines_say : List (List ℕ) → List WrittenLine → List Line

@@ -2,18 +2,20 @@
 
 ghost use Rattle.std.specs.Prelude.{◌≡◌, ◌<◌, ◌≤◌, ◌∷◌, ◌+◌, ℕ, List, length, true, false};
 ghost use Rattle.std.specs.Prelude.{Option, IfSome, IfNone, IfOk, IfErr};
-ghost use Rattle.rcv_model.specs.Script.{Test};
+ghost use Rattle.rcv_model.specs.Script.{Expr, Test};
+ghost use Rattle.rcv_formula.specs.Expressions.{leaf_expr};
 ghost use Rattle.rcv_script.specs.Symbols.{Symbol, Is, Word, IsNotNext};
 ghost use Rattle.rcv_script.specs.Lines.{condition_of, test_of};
-ghost use Rattle.rcv_script.specs.Machine.{This, ATest, AnAtom, a_product, a_sum, place_of, Item, Refuses, answer};
-ghost use Rattle.rcv_script.specs.Descent.{Goes, Passes, Writes, IsWordAtom, IsNoWordAtom};
-ghost use Rattle.rcv_script.specs.Descent.{at_depth, rooms, term_sign, compared};
+ghost use Rattle.rcv_script.specs.Machine.{This, ATest, AnAtom, a_product, a_sum, compared, place_of};
+ghost use Rattle.rcv_script.specs.Machine.{Item, Refuses, answer};
+ghost use Rattle.rcv_script.specs.Descent.{Goes, Passes, Writes, at_depth, rooms, term_sign};
 
-use crate::expression::{Formula, Leaf, Operator, Steps};
 use crate::fault::{Fault, Read, ScriptError};
 use crate::line::{Comparison, Condition};
 use crate::parser::Parser;
 use crate::sign::Sign;
+use crate::writing::Writing;
+use rcv_formula::{Formula, Leaf, Operator, Steps};
 use rcv_scan::{Lexeme, is};
 use rcv_tree::name::{Name, Names};
 
@@ -33,8 +35,12 @@ pub fn place_of(names: &[Name], name: &[u8]) -> Option<usize>
 
 // What a word is in an expression, or what speaks against it.
 fn word_atom(names: &Names, banned: Banned, word: &[u8]) -> Result<Leaf, Fault>
-    ensures ok { (depth : ℕ) → IfOk result (IsWordAtom (at_depth names.now banned depth) word.now) }
-    ensures err { (depth : ℕ) → IfErr result (IsNoWordAtom (at_depth names.now banned depth) word.now) }
+    ensures ok { IfOk result (λ leaf. (depth : ℕ) (k : Expr → Item) (after : List Symbol)
+        → answer (AnAtom (at_depth names.now banned depth) k) (Word word.now ∷ after)
+        ≡ answer (k (leaf_expr leaf)) after) }
+    ensures err { IfErr result (λ fault. (depth : ℕ) (k : Expr → Item) (after : List Symbol)
+        → answer (AnAtom (at_depth names.now banned depth) k) (Word word.now ∷ after)
+        ≡ Refuses fault (Word word.now ∷ after)) }
 {
     if is(word, b"value") {
         return banned.value.map_or(Ok(Leaf::Value), Err);
@@ -100,6 +106,7 @@ impl<'a> Parser<'a> {
     }
 
     // Takes a number, or a word that stands for one.
+    #[tactic(auto, using(crate::proofs::Stops::no_atom))]
     fn leaf(&mut self, names: &Names, banned: Banned, steps: &mut Steps) -> Read<()>
         requires room { length steps.old.1 < 67 }
         ensures goes { (depth : ℕ) → IsNotNext (Is Sign.Minus) self.old.rest → IsNotNext (Is Sign.Left) self.old.rest
@@ -109,8 +116,7 @@ impl<'a> Parser<'a> {
     {
         if let Some((number, after)) = self.rest.number() {
             self.rest = after;
-            steps.push(Leaf::Number(number as i64))?;
-            return Ok(());
+            return Ok(steps.push(Leaf::Number(number as i64))?);
         }
         let Some((word, after)) = self.rest.word() else {
             return Err(ScriptError::Refused(Fault::Token));
@@ -118,8 +124,7 @@ impl<'a> Parser<'a> {
         match word_atom(names, banned, word) {
             Ok(leaf) => {
                 self.rest = after;
-                steps.push(leaf)?;
-                Ok(())
+                Ok(steps.push(leaf)?)
             }
             Err(fault) => Err(ScriptError::Refused(fault)),
         }
@@ -154,6 +159,7 @@ impl<'a> Parser<'a> {
     }
 
     // Takes atoms, multiplied.
+    #[tactic(auto, using(crate::proofs::Stops::factors_end, crate::proofs::Stops::terms_end))]
     #[cycle(descent)]
     fn product(&mut self, names: &Names, banned: Banned, depth: u32, steps: &mut Steps) -> Read<()>
         requires depth { depth ≤ 32 }
@@ -171,6 +177,7 @@ impl<'a> Parser<'a> {
     }
 
     // Takes products, added and subtracted, where so many parentheses and signs are open.
+    #[tactic(auto, using(crate::proofs::Stops::factors_end, crate::proofs::Stops::terms_end))]
     #[cycle(descent)]
     fn sum(&mut self, names: &Names, banned: Banned, depth: u32, steps: &mut Steps) -> Read<()>
         requires depth { depth ≤ 32 }
@@ -203,24 +210,24 @@ impl<'a> Parser<'a> {
     }
 
     /// Takes what a line computes: the mark `=` and an expression.
-    pub fn number_set(&mut self, names: &Names, banned: Banned) -> Read<Formula>
-        ensures goes { Goes result (λ k. This (Is Sign.Equals) (a_sum (at_depth names.now banned 0) k)) (λ e. e)
-            self.old.rest self.new.rest }
+    pub fn number_set(&mut self, writing: &Writing<'_>, banned: Banned) -> Read<Formula>
+        ensures goes { Goes result (λ k. This (Is Sign.Equals) (a_sum (at_depth writing.now.names banned 0) k))
+            (λ e. e) self.old.rest self.new.rest }
         ensures shorter { IfOk result (λ _. length self.new.rest ≤ length self.old.rest) }
     {
         self.expect(Sign::Equals)?;
-        self.formula(names, banned)
+        self.formula(writing.names(), banned)
     }
 
     /// Takes a condition.
-    pub fn condition(&mut self, names: &Names, banned: Banned) -> Read<Condition>
-        ensures goes { Goes result (λ k. compared (at_depth names.now banned 0) k) condition_of
+    pub fn condition(&mut self, writing: &Writing<'_>, banned: Banned) -> Read<Condition>
+        ensures goes { Goes result (λ k. compared (at_depth writing.now.names banned 0) k) condition_of
             self.old.rest self.new.rest }
         ensures shorter { IfOk result (λ _. length self.new.rest ≤ length self.old.rest) }
     {
-        let left = self.formula(names, banned)?;
+        let left = self.formula(writing.names(), banned)?;
         let comparison = self.comparison()?;
-        let right = self.formula(names, banned)?;
+        let right = self.formula(writing.names(), banned)?;
         Ok(Condition {
             left,
             comparison,

@@ -1,53 +1,21 @@
-// What speaks against a label in a line of a role's script.
+// What the protocol and the lines of a role say of a label.
 
 ghost use Rattle.std.specs.List.{list_any};
-ghost use Rattle.std.specs.Prelude.{◌≡◌, map, Option};
+ghost use Rattle.std.specs.Prelude.{◌≡◌, map};
 ghost use Rattle.rcv_points.specs.Follow.{message_at};
 ghost use Rattle.rcv_script.specs.Lines.{line_of};
 ghost use Rattle.rcv_script.specs.Scripts.{HasPoint};
-ghost use Rattle.rcv_script.specs.Labels.{is_end, is_meant, takes_bare};
-ghost use Rattle.rcv_script.specs.Machine.{has_send, send_fault, pick_fault, on_fault};
+ghost use Rattle.rcv_script.specs.Labels.{is_end, is_meant};
+ghost use Rattle.rcv_script.specs.Machine.{has_send};
 
-use crate::fault::Fault;
 use crate::line::Line;
 use rcv_points::points::Points;
 use rcv_scan::is;
 use rcv_tree::point::Point;
 
-/// What speaks against the label of a `send` line behind these lines.
-pub fn send_fault(points: &Points, role: usize, lines: &[Line], label: &[u8]) -> Option<Fault>
-    ensures { result ≡ send_fault points.now.messages role (map line_of lines.now) label.now }
-{
-    if !has_message(points, role, label, false, false) || has_send(label, lines) {
-        return Some(Fault::Label);
-    }
-    has_message(points, role, label, false, true).then_some(Fault::NoPayload)
-}
-
-/// What speaks against the label of a `pick` line.
-pub fn pick_fault(points: &Points, role: usize, label: &[u8]) -> Option<Fault>
-    ensures { result ≡ pick_fault points.now.messages role label.now }
-{
-    (!has_message(points, role, label, false, false)).then_some(Fault::Label)
-}
-
-/// What speaks against the label of an `on` line.
-pub fn on_fault(points: &Points, role: usize, label: &[u8]) -> Option<Fault>
-    ensures { result ≡ on_fault points.now.messages role label.now }
-{
-    (!has_message(points, role, label, true, false)).then_some(Fault::Label)
-}
-
-/// Whether a message without sorts has this label and is sent or received by the role.
-pub fn takes_bare(points: &Points, role: usize, label: &[u8]) -> bool
-    ensures { result ≡ takes_bare points.now.messages role label.now }
-{
-    has_message(points, role, label, true, true)
-}
-
-// Whether the role sends a message with this label, or receives it where that counts too. `bare` asks for one without
-// sorts.
-fn has_message(points: &Points, role: usize, label: &[u8], received: bool, bare: bool) -> bool
+/// Whether the role sends a message with this label, or receives it where that counts too. `bare` asks for one without
+/// sorts.
+pub fn has_message(points: &Points, role: usize, label: &[u8], received: bool, bare: bool) -> bool
     ensures { result ≡ list_any (is_meant role label.now received bare) points.now.messages }
 {
     for number in 0..points.count() {
@@ -67,7 +35,8 @@ fn is_end(points: &Points, point: Point, role: usize, received: bool) -> bool
     points.sender(point).0 as usize == role || received && points.receiver(point).0 as usize == role
 }
 
-fn has_send(label: &[u8], lines: &[Line]) -> bool
+/// Whether one of these lines sends with this label.
+pub fn has_send(label: &[u8], lines: &[Line]) -> bool
     ensures { result ≡ has_send label.now (map line_of lines.now) }
 {
     for line in lines {

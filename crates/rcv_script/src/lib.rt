@@ -4,7 +4,6 @@
 ghost use Rattle.rcv_script.specs.Laws.{ScriptsHaveOneAnswer};
 
 mod acts;
-pub mod expression;
 mod fault;
 mod formula;
 mod labels;
@@ -14,8 +13,6 @@ mod read;
 pub mod scripts;
 mod setting;
 mod sign;
-pub mod step;
-mod value;
 mod words;
 mod writing;
 

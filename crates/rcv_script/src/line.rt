@@ -1,11 +1,11 @@
 // Lines of a script, and what each kind of line does.
 
-ghost use Rattle.std.specs.Prelude.{◌≡◌, Option, pos, slice_set};
-ghost use Rattle.rcv_model.specs.Script.{calculate, holds, is_met};
-ghost use Rattle.rcv_script.specs.Lines.{test_of, when_of, line_of};
+ghost use Rattle.std.specs.Prelude.{◌≡◌, Option, option_map, slice_set};
+ghost use Rattle.rcv_model.specs.Script.{holds, is_met};
+ghost use Rattle.rcv_script.specs.Lines.{test_of, condition_of, line_of};
 ghost use Rattle.rcv_script.specs.Attempts.{line_reads};
 
-use crate::expression::Formula;
+use rcv_formula::Formula;
 use rcv_tree::name::Name;
 use rcv_tree::variables::Vars;
 
@@ -87,7 +87,7 @@ impl Line {
 
 /// Whether the condition of a pick line holds. It takes no memory.
 pub fn is_met(when: &Option<Condition>, vars: &Vars, attempt: u32) -> bool
-    ensures { result ≡ is_met (when_of when.now) vars.now attempt }
+    ensures { result ≡ is_met (option_map condition_of when.now) vars.now attempt }
 {
     let Some(condition) = when else {
         return true;

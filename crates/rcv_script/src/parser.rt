@@ -3,8 +3,7 @@
 ghost use Rattle.std.specs.Prelude.{◌<◌, ◌≤◌, length, map, IfOk};
 ghost use Rattle.rcv_script.specs.Symbols.{Is};
 ghost use Rattle.rcv_script.specs.Lines.{line_of};
-ghost use Rattle.rcv_script.specs.Machine.{This, AWord, ASigned, Lines, ALine, label_fault};
-ghost use Rattle.rcv_script.specs.Machine.{var_line, send_line, pick_line, on_line, begun, to_set, place_in};
+ghost use Rattle.rcv_script.specs.Machine.{This, ASigned, Lines, ALine, rest_of_line, begun, to_set};
 ghost use Rattle.rcv_script.specs.Descent.{Goes, Adds};
 
 use crate::fault::{Fault, Read, ScriptError};
@@ -29,8 +28,8 @@ impl<'a> Parser<'a> {
     // Takes the word `set` and the name of a variable: its place.
     #[tactic(auto, using(crate::proofs::Stops::no_sign, crate::proofs::Stops::no_word))]
     fn variable(&mut self, writing: &Writing<'_>) -> Read<usize>
-        ensures goes { Goes result (λ k. to_set writing.now.names (λ n. k (place_in writing.now.names n)))
-            (λ place. place) self.old.rest self.new.rest }
+        ensures goes { Goes result (λ k. to_set writing.now.names k) (λ place. place)
+            self.old.rest self.new.rest }
         ensures shorter { IfOk result (λ _. length self.new.rest ≤ length self.old.rest) }
     {
         if !self.takes_word(b"set") {
@@ -57,39 +56,6 @@ impl<'a> Parser<'a> {
         Ok(if is_below { -number } else { number })
     }
 
-    // Takes what stands behind the word `var`.
-    #[tactic(auto, using(crate::proofs::Stops::no_word))]
-    fn var_line(&mut self, writing: &mut Writing<'_>) -> Read<()>
-        ensures goes { Adds result (λ s k. var_line s.names k) writing.old writing.new self.old.rest self.new.rest }
-        ensures shorter { IfOk result (λ _. length self.new.rest ≤ length self.old.rest) }
-    {
-        let (name, after) = self.rest.word().ok_or(Fault::Token)?;
-        if let Some(fault) = writing.var_fault(name) {
-            return Err(ScriptError::Refused(fault));
-        }
-        self.rest = after;
-        self.expect(Sign::Equals)?;
-        let first = self.signed()?;
-        self.expect(Sign::Semicolon)?;
-        Ok(writing.declare(self.alloc, name, first)?)
-    }
-
-    // Takes the label of a line of this kind.
-    #[tactic(auto, using(crate::proofs::Stops::no_word))]
-    fn label(&mut self, kind: LineKind, writing: &Writing<'_>) -> Read<Name>
-        ensures goes { Goes result
-            (λ k. AWord (label_fault kind writing.now.messages writing.now.role writing.now.lines) k) (λ n. n)
-            self.old.rest self.new.rest }
-        ensures shorter { IfOk result (λ _. length self.new.rest ≤ length self.old.rest) }
-    {
-        let (label, after) = self.rest.word().ok_or(Fault::Token)?;
-        if let Some(fault) = writing.label_fault(kind, label) {
-            return Err(ScriptError::Refused(fault));
-        }
-        self.rest = after;
-        Ok(Name::of(self.alloc, label)?)
-    }
-
     // Adds this line, and takes the mark `;` behind it. Where that is missing, nothing is kept of the script.
     fn end(&mut self, line: Line, writing: &mut Writing<'_>) -> Read<()>
         ensures goes { Adds result (λ s k. This (Is Sign.Semicolon) (k (s.names, line_of line)))
@@ -100,63 +66,58 @@ impl<'a> Parser<'a> {
         self.expect(Sign::Semicolon)
     }
 
-    // Takes what stands behind the word `send`.
-    fn send_line(&mut self, writing: &mut Writing<'_>) -> Read<()>
-        ensures goes { Adds result send_line writing.old writing.new self.old.rest self.new.rest }
-        ensures shorter { IfOk result (λ _. length self.new.rest ≤ length self.old.rest) }
-    {
-        let label = self.label(LineKind::Send, writing)?;
-        let number = self.number_set(writing.names(), DECIDING)?;
-        self.end(Line::Send { label, number }, writing)
-    }
-
-    // Takes what stands behind the word `pick`.
-    fn pick_line(&mut self, writing: &mut Writing<'_>) -> Read<()>
-        ensures goes { Adds result pick_line writing.old writing.new self.old.rest self.new.rest }
-        ensures shorter { IfOk result (λ _. length self.new.rest ≤ length self.old.rest) }
-    {
-        let label = self.label(LineKind::Pick, writing)?;
-        if !self.takes_word(b"when") {
-            return self.end(Line::Pick { label, when: None }, writing);
-        }
-        let when = Some(self.condition(writing.names(), DECIDING)?);
-        self.end(Line::Pick { label, when }, writing)
-    }
-
-    // Takes what stands behind the word `on`.
-    fn on_line(&mut self, writing: &mut Writing<'_>) -> Read<()>
-        ensures goes { Adds result on_line writing.old writing.new self.old.rest self.new.rest }
-        ensures shorter { IfOk result (λ _. length self.new.rest ≤ length self.old.rest) }
-    {
-        let label = self.label(LineKind::On, writing)?;
-        let place = self.variable(writing)?;
-        let banned = writing.remembering(label.as_slice());
-        let number = self.number_set(writing.names(), banned)?;
-        let line = Line::On {
-            label,
-            place,
-            number,
-        };
-        self.end(line, writing)
-    }
-
     // Takes a line.
-    #[tactic(auto, using(crate::proofs::Stops::no_line, crate::proofs::Stops::fewer))]
+    #[tactic(auto, using(crate::proofs::Stops::no_line, crate::proofs::Stops::no_word, crate::proofs::Stops::fewer))]
     fn line(&mut self, writing: &mut Writing<'_>) -> Read<()>
         ensures goes { Adds result (λ s k. ALine s k) writing.old writing.new self.old.rest self.new.rest }
         ensures taken { IfOk result (λ _. length self.new.rest < length self.old.rest) }
     {
         let (word, after) = self.rest.word().ok_or(Fault::Token)?;
         let kind = kind_of(word).ok_or(Fault::Token)?;
-        if let Some(fault) = writing.line_fault(kind) {
-            return Err(ScriptError::Refused(fault));
-        }
+        writing.line_fault(kind).map_or(Ok(()), Err)?;
         self.rest = after;
+        let (word, after) = self.rest.word().ok_or(Fault::Token)?;
+        writing.label_fault(kind, word).map_or(Ok(()), Err)?;
+        self.rest = after;
+        let label = Name::of(self.alloc, word)?;
+        self.rest_of_line(kind, label, writing)
+    }
+
+    // Takes what stands behind the first two words of a line, of which the second is a label or a variable's name.
+    fn rest_of_line(&mut self, kind: LineKind, label: Name, writing: &mut Writing<'_>) -> Read<()>
+        ensures goes { Adds result (λ s k. rest_of_line kind s label k) writing.old writing.new
+            self.old.rest self.new.rest }
+        ensures shorter { IfOk result (λ _. length self.new.rest ≤ length self.old.rest) }
+    {
         match kind {
-            LineKind::Var => self.var_line(writing),
-            LineKind::Send => self.send_line(writing),
-            LineKind::Pick => self.pick_line(writing),
-            LineKind::On => self.on_line(writing),
+            LineKind::Var => {
+                self.expect(Sign::Equals)?;
+                let first = self.signed()?;
+                self.expect(Sign::Semicolon)?;
+                Ok(writing.declare(label, first)?)
+            }
+            LineKind::Send => {
+                let number = self.number_set(writing, DECIDING)?;
+                self.end(Line::Send { label, number }, writing)
+            }
+            LineKind::Pick => {
+                if !self.takes_word(b"when") {
+                    return self.end(Line::Pick { label, when: None }, writing);
+                }
+                let when = Some(self.condition(writing, DECIDING)?);
+                self.end(Line::Pick { label, when }, writing)
+            }
+            LineKind::On => {
+                let place = self.variable(writing)?;
+                let banned = writing.remembering(&label);
+                let number = self.number_set(writing, banned)?;
+                let line = Line::On {
+                    label,
+                    place,
+                    number,
+                };
+                self.end(line, writing)
+            }
         }
     }
 

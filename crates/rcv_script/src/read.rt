@@ -16,9 +16,9 @@ use rcv_accept::accepted::Accepted;
 use rcv_lexer::token::{TextError, Token};
 use rcv_points::points::Points;
 use rcv_scan::{Ahead, line_before};
-use rcv_tree::name::Names;
+use rcv_tree::name::{Name, Names};
 use rcv_tree::refusal::Refusal;
-use std::alloc::Global;
+use std::alloc::{AllocError, Global};
 
 impl<'a> Parser<'a> {
     // Takes what stands behind the word `role`: a role and its script.
@@ -46,7 +46,7 @@ impl<'a> Parser<'a> {
         ensures all { IfOk result (λ scripts. length scripts.items ≡ length roles.now) }
         ensures err { IfErr result (λ e. Ceases roles.now points.now.messages e self.old.rest self.new.rest) }
     {
-        let mut scripts = no_lines(self.alloc, roles)?;
+        let mut scripts = no_lines(self.alloc, roles.as_slice())?;
         let mut given = Vec::new(self.alloc);
         while self.takes_word(b"role") {
             let (role, script) = self.script(roles, points, given.as_slice())?;
@@ -61,12 +61,11 @@ impl<'a> Parser<'a> {
 }
 
 // A script without lines for each role.
-fn no_lines(alloc: Global, roles: &Names) -> Read<Vec<Script>>
-    ensures ok { IfOk result (λ scripts. scripts.items ≡ no_lines roles.now) }
-    ensures err { IfErr result (λ e. e ≡ ScriptError.Memory) }
+fn no_lines(alloc: Global, roles: &[Name]) -> Result<Vec<Script>, AllocError>
+    ensures { IfOk result (λ scripts. scripts.items ≡ no_lines roles.now) }
 {
     let mut scripts = Vec::new(alloc);
-    for _name in roles.as_slice() {
+    for _name in roles {
         scripts.push(Script::of(Vec::new(alloc)))?;
     }
     Ok(scripts)

@@ -7,7 +7,7 @@ ghost use Rattle.rcv_model.specs.Script.{first_vars, carry_out, pick, number_for
 ghost use Rattle.rcv_model.specs.Transparent.{AreBlind};
 ghost use Rattle.rcv_checkpoint.specs.Changed.{IsChange};
 ghost use Rattle.rcv_script.specs.Lines.{line_of, lines_at};
-ghost use Rattle.rcv_script.specs.Attempts.{lines_read, scripts_read};
+ghost use Rattle.rcv_script.specs.Attempts.{lines_read};
 ghost use Rattle.rcv_script.specs.Scripts.{net_by, HasPoint};
 ghost use Rattle.rcv_script.specs.Acts.{acts_on, acts_by_point, set_by, set_by_all, sent_by};
 
@@ -34,7 +34,7 @@ impl Model for Script {
     ghost use Rattle.std.specs.Prelude.{List, map};
     ghost use Rattle.rcv_model.specs.Script.{Line};
     ghost use Rattle.rcv_script.specs.Lines.{line_of};
-    ghost use Rattle.rcv_script.specs.Codes.{expr_code};
+    ghost use Rattle.rcv_formula.specs.Codes.{expr_code};
     ghost use Rattle.std.specs.Coded.{codes};
 
     ghost Value = { List Line };
@@ -56,7 +56,7 @@ pub struct Scripts {
 }
 
 impl Model for Scripts {
-    ghost use Rattle.rcv_script.specs.Codes.{expr_code};
+    ghost use Rattle.rcv_formula.specs.Codes.{expr_code};
     ghost use Rattle.rcv_script.specs.Scripts.{ScriptsView};
     ghost use Rattle.rcv_script.specs.Acts.{IsIndex};
     ghost use Rattle.std.specs.Coded.{codes};
@@ -115,6 +115,7 @@ impl Scripts {
     /// The number that a role sends with a point: that of the `send` line of the point's label, and 0 where it has
     /// none.
     #[inline(always)]
+    #[tactic(auto, using(crate::proofs::Carrying::send_all))]
     pub fn value(&self, role: RoleId, vars: &Vars, attempt: u32, point: Point) -> i64
         requires { HasPoint self.now.messages point }
         ensures { result
@@ -141,6 +142,7 @@ impl Scripts {
 
     /// As `received`, in place; answers which of the variables may have changed.
     #[inline(always)]
+    #[tactic(auto, using(crate::proofs::Carrying::do_all))]
     pub fn receive(&self, role: RoleId, vars: &mut Vars, point: Point, value: i64) -> Changed
         requires { HasPoint self.now.messages point }
         ensures vars { vars.new

@@ -3,12 +3,12 @@
 ghost use Rattle.std.specs.Prelude.{◌≡◌, ◌∷◌, ◌++◌, [], map, Option, IfOk, MatchResult};
 ghost use Rattle.rcv_model.specs.Script.{VarLine};
 ghost use Rattle.rcv_script.specs.Lines.{line_of};
-ghost use Rattle.rcv_script.specs.Machine.{begun, with_line, var_fault, line_fault, label_fault, remembering};
+ghost use Rattle.rcv_script.specs.Machine.{begun, with_line, line_fault, label_fault, remembering};
 ghost use Rattle.rcv_script.specs.Descent.{at_depth};
 
 use crate::fault::Fault;
 use crate::formula::{Banned, place_of};
-use crate::labels::{on_fault, pick_fault, send_fault, takes_bare};
+use crate::labels::{has_message, has_send};
 use crate::line::Line;
 use crate::words::LineKind;
 use rcv_points::points::Points;
@@ -30,7 +30,7 @@ impl<'a> Model for Writing<'a> {
     ghost use Rattle.std.specs.Prelude.{map};
     ghost use Rattle.rcv_script.specs.Lines.{line_of};
     ghost use Rattle.rcv_script.specs.Machine.{Writing};
-    ghost use Rattle.rcv_script.specs.Codes.{expr_code};
+    ghost use Rattle.rcv_formula.specs.Codes.{expr_code};
     ghost use Rattle.std.specs.Coded.{codes};
 
     ghost Value = { Writing };
@@ -72,15 +72,6 @@ impl<'a> Writing<'a> {
         self.lines
     }
 
-    /// What speaks against the name of a new variable.
-    pub fn var_fault(&self, name: &[u8]) -> Option<Fault>
-        ensures { result ≡ var_fault self.now.names name.now }
-    {
-        let is_own_word = is(name, b"value") || is(name, b"attempt");
-        let is_known = is_own_word || place_of(self.names.as_slice(), name).is_some();
-        is_known.then_some(Fault::Variable)
-    }
-
     /// What speaks against one more line of this kind.
     pub fn line_fault(&self, kind: LineKind) -> Option<Fault>
         ensures { result ≡ line_fault self.now.names self.now.lines kind }
@@ -94,24 +85,33 @@ impl<'a> Writing<'a> {
         many.then_some(Fault::TooMany)
     }
 
-    /// What speaks against the label of a line of this kind. A `var` line has none.
+    /// What speaks against the second word of a line of this kind: the name of a new variable, or a label.
     pub fn label_fault(&self, kind: LineKind, label: &[u8]) -> Option<Fault>
-        ensures { result ≡ label_fault kind self.now.messages self.now.role self.now.lines label.now }
+        ensures { result ≡ label_fault kind self.now label.now }
     {
+        let (points, role) = (self.points, self.role);
+        let names = self.names.as_slice();
         match kind {
-            LineKind::Send => send_fault(self.points, self.role, self.lines.as_slice(), label),
-            LineKind::Pick => pick_fault(self.points, self.role, label),
-            LineKind::On => on_fault(self.points, self.role, label),
-            LineKind::Var => None,
+            LineKind::Var if is(label, b"value") || is(label, b"attempt") => Some(Fault::Variable),
+            LineKind::Var if place_of(names, label).is_some() => Some(Fault::Variable),
+            LineKind::On if !has_message(points, role, label, true, false) => Some(Fault::Label),
+            LineKind::Pick if !has_message(points, role, label, false, false) => Some(Fault::Label),
+            LineKind::Send if !has_message(points, role, label, false, false) => Some(Fault::Label),
+            LineKind::Send if has_send(label, self.lines.as_slice()) => Some(Fault::Label),
+            LineKind::Send if has_message(points, role, label, false, true) => Some(
+                Fault::NoPayload,
+            ),
+            _ => None,
         }
     }
 
     /// What an `on` line of this label may not read.
-    pub fn remembering(&self, label: &[u8]) -> Banned
+    pub fn remembering(&self, label: &Name) -> Banned
         ensures { at_depth self.now.names result 0 ≡ remembering self.now label.now }
     {
+        let is_bare = has_message(self.points, self.role, label.as_slice(), true, true);
         Banned {
-            value: takes_bare(self.points, self.role, label).then_some(Fault::NoPayload),
+            value: is_bare.then_some(Fault::NoPayload),
             attempt: Some(Fault::AttemptInState),
         }
     }
@@ -125,10 +125,10 @@ impl<'a> Writing<'a> {
     }
 
     /// Adds a variable and its line. Where no memory is left, the name may stand there without its line.
-    pub fn declare(&mut self, alloc: Global, name: &[u8], first: i64) -> Result<(), AllocError>
-        ensures { IfOk result (λ _. self.new ≡ with_line self.old (self.old.names ++ name.now ∷ [], VarLine first)) }
+    pub fn declare(&mut self, name: Name, first: i64) -> Result<(), AllocError>
+        ensures { IfOk result (λ _. self.new ≡ with_line self.old (self.old.names ++ name ∷ [], VarLine first)) }
     {
-        self.names.push(Name::of(alloc, name)?)?;
+        self.names.push(name)?;
         Ok(self.lines.push(Line::Var { first })?)
     }
 }

@@ -40,7 +40,7 @@ pub struct Session<'a> {
 impl<'a> Model for Session<'a> {
     ghost use Rattle.rcv_super.specs.Super.{SuperView, IsSuper};
     ghost use Rattle.rcv_tree.specs.contracts.statement.Stmt as e;
-    ghost use Rattle.rcv_script.specs.Codes.{expr_code};
+    ghost use Rattle.rcv_formula.specs.Codes.{expr_code};
     ghost use Rattle.std.specs.Coded.{codes};
 
     ghost Value = { SuperView };

@@ -1,5 +1,4 @@
-use Rattle.rcv_grammar.proofs.Named.{read_texts_have_names}
 use Rattle.rcv_grammar.proofs.read_texts_have_names.Goals as goal
 
 pub returns : goal.returns
-returns c = read_texts_have_names
+returns c = Rattle.rcv_grammar.proofs.Named.read_texts_have_names

@@ -1,5 +1,4 @@
-use Rattle.rcv_machine.proofs.Exactly.{texts_are_taken_exactly}
 use Rattle.rcv_machine.proofs.texts_are_taken_exactly.Goals as goal
 
 pub returns : goal.returns
-returns c = texts_are_taken_exactly
+returns c = Rattle.rcv_machine.proofs.Exactly.texts_are_taken_exactly

@@ -1,5 +1,4 @@
-use Rattle.rcv_printer.proofs.ReadBack.{reads_back}
 use Rattle.rcv_printer.proofs.canonical_texts_read_back.Goals as goal
 
 pub returns : goal.returns
-returns c = reads_back
+returns c = Rattle.rcv_printer.proofs.ReadBack.reads_back

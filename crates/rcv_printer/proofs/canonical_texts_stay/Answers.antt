@@ -1,5 +1,4 @@
-use Rattle.rcv_printer.proofs.ReadBack.{stays}
 use Rattle.rcv_printer.proofs.canonical_texts_stay.Goals as goal
 
 pub returns : goal.returns
-returns c = stays
+returns c = Rattle.rcv_printer.proofs.ReadBack.stays

@@ -3,4 +3,4 @@ use Rattle.rcv_script.specs.Machine.{no_lines}
 use Rattle.rcv_script.proofs.read.no_lines.Given as goal
 
 abbrev pub invariant-loop-name : goal.invariant-loop-name
-invariant-loop-name l = l.scripts.items ≡ no_lines (take l._name-index l._name-items)
+invariant-loop-name l = l.scripts.items ≡ no_lines (take l._name-index l.roles)

@@ -1,22 +1,14 @@
-use Rattle.std.proofs.Common.{◌+◌, ◌∷◌, false, true, refl, arith}
+use Rattle.std.proofs.Common.{◌∷◌, false, true, refl, arith}
 use Rattle.std.proofs.lemmas.Grind.{common_steps}
-use Rattle.rcv_syntax.specs.declared.sign.Sign.TheVariants.{At, Left, From, Choice, Rec, Continue}
-use Rattle.rcv_syntax.specs.Symbols.{Is, Word}
-use Rattle.rcv_machine.specs.Machine.{This, Sorts, Sender, Subject, RecName, AgainName, Opening, Rest, More, behind}
-use Rattle.rcv_reader.specs.Descent.{place_at, place_of_spot}
-use Rattle.rcv_reader.proofs.Stops.{halts_behind}
-use Rattle.rcv_reader.proofs.Blocks.{rec_read, choice_first, choice_next, choice_read, block_read, stmts_next, statement}
+use Rattle.rcv_machine.specs.Words.{At, Left, From, Choice, Rec, Continue, Is, Word, This, Sorts, Sender, Subject, RecName, AgainName, Opening, Rest, More, behind}
+use Rattle.rcv_reader.specs.Descent.{place_of_spot}
+use Rattle.rcv_reader.proofs.Blocks.{rec_read, choice_next, choice_read, block_read, stmts_next, statement}
 use Rattle.rcv_reader.proofs.parser.Parser.+descent.Goals as goal
 
 pub block-returns-clause-read : goal.block-returns-clause-read
 block-returns-clause-read t c =
     block_read _ _ _ _ c.stmts.new.block _ _ c.in_ok-open.ensures.read.0 c.new-block.ensures c.in_ok-stmt.ensures.read
     c.in_ok-stmts.ensures.read
-
-pub choice-loop-branches-init : goal.choice-loop-branches-init
-choice-loop-branches-init t c =
-    choice_first _ _ _ c.in_ok-subject.subject _ c.in_ok-subject.ensures.read c.in_ok-subject.ensures.subject c.requires.comes
-    c.new-branches.ensures
 
 pub choice-loop-branches-preserved : goal.choice-loop-branches-preserved
 choice-loop-branches-preserved t c =
@@ -28,11 +20,6 @@ choice-returns-clause-read t c =
     choice_read _ _ _ _ _ _ _ c.push.new.self c.in_ok-block.field-0 _ _ c.loop-branches.invariant c.in_ok-block.ensures.read
     c.in_ok-push.ensures.ok c.in_ok-block.ensures.goes.1 (c.takes.ensures.no c.if-not-takes.true).0 c.in_ok-push-2.ensures.ok
 
-pub recursion-returns-in_err-body-clause-goes : goal.recursion-returns-in_err-body-clause-goes
-recursion-returns-in_err-body-clause-goes t c =
-    halts_behind _ _ _ _ _ _ (λ k. Opening (place_at c.enter.new.self.recs c.args.spot.depth (c.args.spot.comes + 1) false) ∷ k) (λ k. k) _
-    c.from_residual-in_err-body.ensures.1 c.in_err-body.ensures.goes.0 c.in_ok-enter.ensures.goes
-
 pub recursion-returns-clause-read : goal.recursion-returns-clause-read
 recursion-returns-clause-read t c =
     rec_read _ _ _ _ _ c.in_ok-body.body _ _ c.in_ok-enter.ensures.read c.in_ok-body.ensures.read c.leave-name.ensures c.in_ok-push.ensures.ok
@@ -43,39 +30,39 @@ stmts-loop-alloc-preserved t c =
     stmts_next _ _ _ _ _ _ _ _ _ _ c.loop-alloc.invariant over.0 over.1 c.in_ok-stmt.ensures.goes.0 c.in_ok-stmt.ensures.read c.stmt.ensures.start
     c.in_ok-stmt.ensures.goes.1
 
-pub stmt-returns-in-Some-Word-default : goal.stmt-returns-in-Some-Word-default
-stmt-returns-in-Some-Word-default t c =
+pub stmt-returns-in-Some-Word-default-clause-goes : goal.stmt-returns-in-Some-Word-default-clause-goes
+stmt-returns-in-Some-Word-default-clause-goes t c =
     let arm = c.in-Some-Word-default in
     let new = c.go_to.new.self in
-    let s = statement _ c.args.spot.now.ended c.args.self.now new c.message.new.self c.args.spot.now (Word arm.label.now)
+    statement _ c.args.spot.now.ended c.args.self.now new c.message.new.self c.args.spot.now (Word arm.label.now)
     (λ k. This (Is Left) ∷ Sorts ∷ This (Is From) ∷ Sender ∷ k) (λ k. Rest (behind (place_of_spot new c.args.spot.now) false) ∷ k)
     (λ k. k) _ _ c.message.ensures.goes (c.go_to.ensures.taken _ (rw arm.field-0-0-is at arm.ensures.some))
-    (λ k. rw c.if-here.false refl) c.message.ensures.read (λ e k. rw (e, c.if-here.false) refl) in record { goes = s.0; read = s.1; start = refl }
+    (λ k. rw c.if-here.false refl) c.message.ensures.read (λ e k. rw (e, c.if-here.false) refl)
 
-pub stmt-returns-in-Some-Is-Choice-default : goal.stmt-returns-in-Some-Is-Choice-default
-stmt-returns-in-Some-Is-Choice-default t c =
+pub stmt-returns-in-Some-Is-Choice-default-clause-goes : goal.stmt-returns-in-Some-Is-Choice-default-clause-goes
+stmt-returns-in-Some-Is-Choice-default-clause-goes t c =
     let arm = c.in-Some-Is-Choice-default in
     let new = c.go_to-in-Some-Is-Choice-default.new.self in
     let p = place_of_spot new c.args.spot.now in
-    let s = statement _ c.args.spot.now.ended c.args.self.now new c.choice.new.self c.args.spot.now (Is Choice) (λ k. This (Is At) ∷ Subject ∷ Opening p ∷ More p ∷ k) (λ k. k)
+    statement _ c.args.spot.now.ended c.args.self.now new c.choice.new.self c.args.spot.now (Is Choice) (λ k. This (Is At) ∷ Subject ∷ Opening p ∷ More p ∷ k) (λ k. k)
     (λ k. Rest (behind (place_of_spot c.choice.new.self c.args.spot.now) false) ∷ k) _ _ c.choice.ensures.goes
     (c.go_to-in-Some-Is-Choice-default.ensures.taken _ (rw (arm.field-0-0-is, arm.field-0-0-0-is) at arm.ensures.some))
-    (λ k. rw c.if-here.false refl) c.choice.ensures.read (λ e k. rw c.if-here.false refl) in record { goes = s.0; read = s.1; start = refl }
+    (λ k. rw c.if-here.false refl) c.choice.ensures.read (λ e k. rw c.if-here.false refl)
 
-pub stmt-returns-in-Some-Is-Rec-default : goal.stmt-returns-in-Some-Is-Rec-default
-stmt-returns-in-Some-Is-Rec-default t c =
+pub stmt-returns-in-Some-Is-Rec-default-clause-goes : goal.stmt-returns-in-Some-Is-Rec-default-clause-goes
+stmt-returns-in-Some-Is-Rec-default-clause-goes t c =
     let arm = c.in-Some-Is-Rec-default in
     let new = c.go_to-in-Some-Is-Rec-default.new.self in
     let p = place_of_spot new c.args.spot.now in
-    let s = statement _ c.args.spot.now.ended c.args.self.now new c.recursion.new.self c.args.spot.now (Is Rec) (λ k. RecName p ∷ k) (λ k. Rest (behind p false) ∷ k)
+    statement _ c.args.spot.now.ended c.args.self.now new c.recursion.new.self c.args.spot.now (Is Rec) (λ k. RecName p ∷ k) (λ k. Rest (behind p false) ∷ k)
     (λ k. k) _ _ c.recursion.ensures.goes (c.go_to-in-Some-Is-Rec-default.ensures.taken _ (rw (arm.field-0-0-is, arm.field-0-0-0-is) at arm.ensures.some))
-    (λ k. rw c.if-here.false refl) c.recursion.ensures.read (λ e k. rw (e, c.if-here.false) refl) in record { goes = s.0; read = s.1; start = refl }
+    (λ k. rw c.if-here.false refl) c.recursion.ensures.read (λ e k. rw (e, c.if-here.false) refl)
 
-pub stmt-returns-else-is_unguarded : goal.stmt-returns-else-is_unguarded
-stmt-returns-else-is_unguarded t c =
+pub stmt-returns-else-is_unguarded-clause-goes : goal.stmt-returns-else-is_unguarded-clause-goes
+stmt-returns-else-is_unguarded-clause-goes t c =
     let arm = c.in-Some-Is-Continue-default in
     let new = c.go_to-in-Some-Is-Continue-default.new.self in
     let p = place_of_spot new c.args.spot.now in
-    let s = statement _ true c.args.self.now new c.again.new.self c.args.spot.now (Is Continue) (λ k. AgainName p ∷ k) (λ k. Rest (behind p true) ∷ k)
+    statement _ true c.args.self.now new c.again.new.self c.args.spot.now (Is Continue) (λ k. AgainName p ∷ k) (λ k. Rest (behind p true) ∷ k)
     (λ k. k) _ _ c.again.ensures.goes (c.go_to-in-Some-Is-Continue-default.ensures.taken _ (rw (arm.field-0-0-is, arm.field-0-0-0-is) at arm.ensures.some))
-    (λ k. grind (arith, common_steps)) c.again.ensures.read (λ e k. rw e refl) in record { goes = s.0; read = s.1; start = refl }
+    (λ k. grind (arith, common_steps)) c.again.ensures.read (λ e k. rw e refl)

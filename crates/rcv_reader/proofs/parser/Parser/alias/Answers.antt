@@ -1,19 +1,14 @@
-use Rattle.std.proofs.Common.{◌≡◌, ℕ, Bool, true, false, List, [], ◌∷◌, ◌++◌, Bor, refl, ◌∙◌, ap, sym, arith}
+use Rattle.std.proofs.Common.{◌≡◌, ℕ, Bool, true, false, List, [], ◌∷◌, ◌++◌, Bor, refl, ◌∙◌, ap, sym, arith, cond, ◌||◌, bytes_eq}
 use Rattle.std.proofs.lemmas.Grind.{common_steps}
 use Rattle.std.proofs.lemmas.List.Folds.{list_any-append}
 use Rattle.std.proofs.lemmas.Map.Text.{is_eq-slice_cmp}
 use Rattle.std.specs.BTreeSet.{BTreeSet, contains_by, Updates}
 use Rattle.std.specs.Cmp.Lexicographic.{slice_cmp}
 use Rattle.std.specs.Ordering.{nat_cmp}
-use Rattle.std.specs.Prelude.{cond, ◌||◌}
-use Rattle.std.specs.Str.{bytes_eq}
-use Rattle.rcv_syntax.specs.Codes.{is_among}
-use Rattle.rcv_syntax.specs.declared.sign.Sign.TheVariants.{Semicolon}
-use Rattle.rcv_syntax.specs.Symbols.{Is}
-use Rattle.rcv_machine.specs.Machine.{This, Decls}
+use Rattle.rcv_machine.specs.Words.{Semicolon, Is, is_among, This, Decls}
 use Rattle.rcv_reader.proofs.Stops.{halts_behind}
 use Rattle.rcv_machine.proofs.Naming.{bytes_sym}
-use Rattle.rcv_reader.specs.Aliases.{HasThese}
+use Rattle.rcv_reader.specs.Descent.{HasThese}
 use Rattle.rcv_reader.proofs.parser.Parser.alias.Goals as goal
 
 either : (is_new is_old : Bool) → cond is_new true is_old ≡ (is_old || (is_new || false))

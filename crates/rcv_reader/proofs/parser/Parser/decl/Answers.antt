@@ -1,7 +1,5 @@
-use Rattle.std.proofs.Common.{◌∷◌, ◌∙◌}
-use Rattle.std.specs.Prelude.{codes}
-use Rattle.rcv_syntax.specs.Symbols.{Word}
-use Rattle.rcv_machine.specs.Machine.{This, Alias}
+use Rattle.std.proofs.Common.{◌∷◌, ◌∙◌, codes}
+use Rattle.rcv_machine.specs.Words.{Word, This, Alias}
 use Rattle.rcv_reader.proofs.Stops.{halts_behind}
 use Rattle.rcv_reader.proofs.parser.Parser.decl.Goals as goal
 

@@ -1,12 +1,8 @@
-use Rattle.std.proofs.Common.{[], ◌∷◌, refl, rules}
+use Rattle.std.proofs.Common.{◌∷◌}
 use Rattle.rcv_machine.specs.Machine.{Decls}
 use Rattle.rcv_reader.proofs.Stops.{halts_behind}
 use Rattle.rcv_reader.proofs.Reading.{decls_next}
 use Rattle.rcv_reader.proofs.parser.Parser.decls.Goals as goal
-
-pub loop-alloc-init : goal.loop-alloc-init
-loop-alloc-init c =
-    record { names = []; has = λ n. search rules; goes = λ k. refl; taken = rw c.new-list.ensures (record { words = tt; spelled = refl }) }
 
 pub loop-alloc-preserved : goal.loop-alloc-preserved
 loop-alloc-preserved c =
