@@ -4,7 +4,7 @@ use Rattle.rcv_tree.specs.declared.entry.Entry.{Entry}
 use Rattle.rcv_session.specs.Session.{SessionView}
 use Rattle.rcv_form.specs.Json.{IsJsonOf}
 
--- A journal has one JSON.
+-- A journal has at most one JSON.
 abbrev pub JournalsHaveOneJson : Type 0
 JournalsHaveOneJson =
     (setup : SessionView) (entries : List Entry) (a b : List ℕ) → IsJsonOf setup entries a → IsJsonOf setup entries b → a ≡ b

@@ -12,8 +12,8 @@ mod sending;
 mod steps;
 
 // Tried on sessions from text by `.ci/pictures`, over the whole program: journals with another value, stamp or count,
-// with an entry left out or written twice, with other closing lines, or cut; and by the pictures of the examples'
-// journals, which are taken.
+// with an entry left out or written twice, or with other closing lines; and by the pictures of the examples' journals,
+// which are taken.
 
 /// At most one entry is the first wrong one, and none is in a legal journal.
 pub fn one_entry_is_first_wrong()

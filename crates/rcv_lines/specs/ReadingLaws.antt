@@ -13,7 +13,7 @@ JournalsAreReadBack =
     → IsAcceptedProtocol protocol → IsFormed (bare protocol) j
     → Spells (bare protocol) (flat_map (λ line. line) (journal_lines (bare protocol) j)) j
 
--- A text says one journal.
+-- A text says at most one journal.
 abbrev pub TextsHaveOneJournal : Type 0
 TextsHaveOneJournal =
     (protocol : Protocol) (text : List ℕ) (a b : JournalView)
@@ -25,7 +25,7 @@ WrongTextsHaveNoJournal =
     (session : SessionView) (text : List ℕ) (k : ℕ) (j : JournalView)
     → IsFirstWrong session text k → Spells session text j → ⊥
 
--- One line is the first wrong one.
+-- At most one line is the first wrong one.
 abbrev pub OneLineIsFirstWrong : Type 0
 OneLineIsFirstWrong =
     (session : SessionView) (text : List ℕ) (a b : ℕ) → IsFirstWrong session text a → IsFirstWrong session text b → a ≡ b

@@ -223,7 +223,7 @@ fn is_recover(entries: &[Entry], place: u32) -> bool {
     matches!(entries.get(place as usize), Some(Entry::Recover { .. }))
 }
 
-// The widest of the names of long labels as they stand at the foot.
+// The width of the widest label that stands in full at the foot.
 fn widest_foot(cast: &Cast<'_>) -> Pixels {
     let mut widest = Pixels(0);
     for message in cast.messages.iter() {

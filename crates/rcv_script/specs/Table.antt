@@ -85,13 +85,14 @@ role_name [] = []
 role_name (Is signs.Open ∷ Word n ∷ back) = n
 role_name (_ ∷ back) = role_name back
 
--- the variables of this script so far, and the labels of its send lines
+-- the second words of this script's lines so far that begin with this word
 abbrev pub seconds : List ℕ → List Symbol → List (List ℕ)
 seconds word [] = []
 seconds word (Is signs.Open ∷ back) = []
 seconds word (Word n ∷ back) = cond (is_behind word back) (seconds word back ++ n ∷ []) (seconds word back)
 seconds word (_ ∷ back) = seconds word back
 
+-- the variables of this script so far, and the labels of its send lines
 abbrev pub variables : List Symbol → List (List ℕ)
 variables back = seconds (codes "var") back
 
@@ -153,11 +154,12 @@ is_label roles messages back (Word l) =
     || (is_behind (codes "on") back && not (takes_part messages (role_of roles back) l))
 is_label roles messages back _ = false
 
--- 33: a variable that isn't declared before in this script, a declaration of a name declared before or named value or
--- attempt, and the word value in a send or pick line
+-- the words value and attempt
 abbrev pub is_own_word : List ℕ → Bool
 is_own_word w = bytes_eq w (codes "value") || bytes_eq w (codes "attempt")
 
+-- 33: a variable that isn't declared before in this script, a declaration of a name declared before or named value or
+-- attempt, and the word value in a send or pick line
 abbrev pub is_variable : List Symbol → Symbol → Bool
 is_variable back (Word w) =
     (is_behind (codes "var") back && (is_own_word w || is_among w (variables back)))

@@ -18,8 +18,6 @@ mod writing;
 
 pub use fault::Fault;
 pub use read::read_scripts;
-pub use sign::Sign;
-pub use words::LineKind;
 
 /// Scripts are read or refused, never both: what is written by the grammar and has no code is read as what it says, and
 /// all else has one first and least code.

@@ -70,7 +70,7 @@ impl Comparison {
 }
 
 impl Line {
-    /// Whether the attempt stands in the line, which picks or sends. It takes no memory.
+    /// Whether the line picks or sends, and the attempt stands in it. It takes no memory.
     pub fn reads_attempt(&self) -> bool
         ensures { result ≡ line_reads (line_of self.now) }
     {
