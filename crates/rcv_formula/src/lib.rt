@@ -3,6 +3,7 @@
 
 mod expression;
 mod making;
+mod narrow;
 mod part;
 mod parts;
 mod step;

@@ -1,5 +1,6 @@
 -- A step goes on, or stops with a code, only where the grammar has the symbol.
-use Rattle.std.proofs.Common.{◌≡◌, ℕ, Bool, true, false, cond, codes, List, [], ◌∷◌, refl, sym, ap, subst, ◌∙◌, append_assoc, append-nil, inl, inr, arith, Option, Some, None, bytes_eq}
+use Rattle.std.proofs.Common.{◌≡◌, ℕ, Bool, true, false, cond, codes, List, [], ◌∷◌, refl, sym, ap, subst, ◌∙◌}
+use Rattle.std.proofs.Common.{append_assoc, append-nil, inl, inr, arith, Option, Some, None, bytes_eq}
 use Rattle.std.proofs.lemmas.Bool.Decides.{nat_tests}
 use Rattle.std.proofs.lemmas.Slice.Eq.{bytes_eq-Decides}
 use Rattle.rcv_model.specs.Script.{Expr, TheValue, TheAttempt, Variable, Less, AtMost, Same, Differ, More, AtLeast, Line}
@@ -10,9 +11,13 @@ use Rattle.rcv_script.specs.declared.words.LineKind.{LineKind}
 use Rattle.rcv_script.specs.declared.words.LineKind.TheVariants as kinds
 use Rattle.rcv_script.specs.Symbols.{Symbol, Is, Word, Number}
 use Rattle.rcv_script.specs.Labels.{place_of}
-use Rattle.rcv_script.specs.Grammar.{Digits, Named, Signed, Inside, NoAtom, TimesAtom, NoProduct, PlusProduct, MinusProduct, SumOf, VarText, SendText, PickText, WhenText, OnText, line_text}
+use Rattle.rcv_script.specs.Grammar.{Digits, Named, Signed, Inside, NoAtom, TimesAtom, NoProduct, PlusProduct}
+use Rattle.rcv_script.specs.Grammar.{MinusProduct, SumOf, VarText, SendText, PickText, WhenText, OnText, line_text}
 use Rattle.rcv_script.specs.Meaning.{word_says, line_says, names_behind, lines_say}
-use Rattle.rcv_script.specs.Machine.{Place, Writing, Item, Scripts, Lines, ALine, This, AWord, ASigned, ANumber, AnEnd, ATest, AnAtom, Factors, Terms, Outcome, On, Wrong, unless, line_fault, line_behind, line_by, line, kind_of, with_line, script_of, word_atom, variable, meets, step}
+use Rattle.rcv_script.specs.Machine.{Place, Writing, Item, Scripts, Lines, ALine, This, AWord, ASigned, ANumber}
+use Rattle.rcv_script.specs.Machine.{AnEnd, ATest, AnAtom, Factors, Terms, Outcome, On, Wrong, unless, line_fault}
+use Rattle.rcv_script.specs.Machine.{line_behind, line_by, line, kind_of, with_line, script_of, word_atom, variable}
+use Rattle.rcv_script.specs.Machine.{meets, step}
 use Rattle.rcv_script.proofs.Deriving.{AllLines, Derives, completion}
 use Rattle.rcv_script.proofs.Stops.{meets_only}
 

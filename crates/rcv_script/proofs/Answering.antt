@@ -8,7 +8,8 @@ use Rattle.rcv_script.specs.Grammar.{NoAtom, NoProduct, IsDerived, IsBeginning}
 use Rattle.rcv_script.specs.Meaning.{no_lines, scripts_say}
 use Rattle.rcv_script.specs.Refusals.{code_of, backward, HoldsAt, IsFree, IsFirst, AreRead}
 use Rattle.rcv_script.specs.Laws.{IsAnswered}
-use Rattle.rcv_script.specs.Machine.{Item, Scripts, Factors, Terms, Outcome, On, Wrong, Answer, Taken, Refuses, step, at_end, after, answer, awaited, reading}
+use Rattle.rcv_script.specs.Machine.{Item, Scripts, Factors, Terms, Outcome, On, Wrong, Answer, Taken, Refuses, step}
+use Rattle.rcv_script.specs.Machine.{at_end, after, answer, awaited, reading}
 use Rattle.rcv_script.proofs.Least.{Frame, Speaks, least_code, holds, none_lesser}
 use Rattle.rcv_script.proofs.Knowing.{Told, ToldBy}
 use Rattle.rcv_script.proofs.Deriving.{AllLines, Derives, completion}
@@ -80,10 +81,8 @@ module _ (roles : List (List ℕ)) (messages : List PointView) where
   ended : (i : Item) (back : List Symbol) → NoneIn back → IsBeginning (backward back [])
       → ((ss : AllLines) → Derives i [] ss → Derives start (backward back []) ss)
       → ((ss : AllLines) → Derives start (backward back []) ss → at_end i ≡ Taken ss) → Result (backward back []) (at_end i)
-  ended (Scripts known) back none b sound told = let d = sound known.scripts ([], refl, refl) in (
-    record { written = d.0; derived = d.1; free = free; said = d.2 },
-    λ others t. let same = told others t in cc,
-  )
+  ended (Scripts known) back none b sound told = let d = sound known.scripts ([], refl, refl) in
+      (record { written = d.0; derived = d.1; free = free; said = d.2 }, λ others t. let same = told others t in cc)
     where
       free : IsFree roles messages (backward back [])
       free faults.Token front [] e h =
@@ -108,16 +107,11 @@ module _ (roles : List (List ℕ)) (messages : List PointView) where
   stops : (i : Item) (back : List Symbol) (t : Symbol) (ts : List Symbol) (f : Fault) → Reached i back
       → Tells (Wrong f) back t → Agrees (Wrong f) i t → HoldsAt roles messages f (backward back []) (t ∷ ts)
       × ((g : Fault) → code_of g < code_of f → HoldsAt roles messages g (backward back []) (t ∷ ts) → ⊥)
-  stops i back t ts faults.Token r told a = (
-    (
-      begins i back r,
-      λ c.
-          let d = turned (t ∷ back) c.0 ∙ ap (λ (z : List Symbol). z ++ c.0) (turned back (t ∷ [])) ∙ c.1.1 in
-          let ss = scripts_say roles (no_lines roles) c.1.0 in
-          holds frame faults.Token back t (told c.0 ss (c.1.0, d, refl)),
-    ),
-    λ g less h. grind (arith, less),
-  )
+  stops i back t ts faults.Token r told a =
+      let never : IsBeginning (backward back [] ++ t ∷ []) → ⊥ = λ c.
+      let d = turned (t ∷ back) c.0 ∙ ap (λ (z : List Symbol). z ++ c.0) (turned back (t ∷ [])) ∙ c.1.1 in
+      holds frame faults.Token back t (told c.0 (scripts_say roles (no_lines roles) c.1.0) (c.1.0, d, refl)) in
+      ((begins i back r, never), λ g less h. grind (arith, less))
   stops i back t ts f r told a =
       let d = r.sound (t ∷ a.0) a.1 a.2 in
       let is = ap (λ (z : List Symbol). least_code frame z t) (twice back []) ∙ told a.0 a.1 d in

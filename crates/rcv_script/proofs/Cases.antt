@@ -9,10 +9,7 @@ use Rattle.rcv_script.specs.Table.{Holds, is_role, is_label, is_variable, is_too
 use Rattle.rcv_script.proofs.Examples.{roles, messages, w, of_a, var_x, send, on, set_x}
 
 -- the code holds behind these symbols at this one
-abbrev Case : Type 0
-Case = Fault × List Symbol × Symbol
-
-abbrev AllHold : List Case → Type 0
+abbrev AllHold : List (Fault × List Symbol × Symbol) → Type 0
 AllHold [] = Unit {0}
 AllHold (c ∷ cs) = Holds roles messages c.0 (backward c.1 []) c.2 × AllHold cs
 

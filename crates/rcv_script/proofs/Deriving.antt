@@ -3,7 +3,9 @@ use Rattle.std.proofs.Common.{◌≡◌, ℕ, Bool, false, codes, List, [], ◌�
 use Rattle.rcv_model.specs.Script.{Literal, Test, Less, Line, PickLine}
 use Rattle.rcv_script.specs.declared.sign.Sign.TheVariants as signs
 use Rattle.rcv_script.specs.Symbols.{Symbol, Is, Word, Number}
-use Rattle.rcv_script.specs.Grammar.{WrittenAtom, Digits, MoreAtoms, NoAtom, MoreProducts, NoProduct, WrittenLine, PickText, WrittenScript, atom_text, atoms_text, products_text, test_mark, number_text, line_text, lines_text, scripts_text}
+use Rattle.rcv_script.specs.Grammar.{WrittenAtom, Digits, MoreAtoms, NoAtom, MoreProducts, NoProduct, WrittenLine}
+use Rattle.rcv_script.specs.Grammar.{PickText, WrittenScript, atom_text, atoms_text, products_text, test_mark}
+use Rattle.rcv_script.specs.Grammar.{number_text, line_text, lines_text, scripts_text}
 use Rattle.rcv_script.specs.Meaning.{atom_says, product_says, terms_say, signed_number, line_says, names_behind, lines_say, scripts_say}
 use Rattle.rcv_script.specs.Machine.{Item, Scripts, Lines, ALine, This, AWord, ASigned, ANumber, AnEnd, ATest, AnAtom, Factors, Terms}
 

@@ -1,15 +1,19 @@
 -- Worked cases of scripts: A sends big, which has sorts, and ping, which has none; B sends low to A.
-use Rattle.std.proofs.Common.{◌≡◌, ℕ, Bool, true, false, List, [], ◌∷◌, ◌++◌, length, map, codes, refl, sym, ◌∙◌, ap, arith, rules, replicate, pos, negsuc, Some, None, slice_index_or}
+use Rattle.std.proofs.Common.{◌≡◌, ℕ, Bool, true, false, List, [], ◌∷◌, ◌++◌, length, map, codes, refl, sym, ◌∙◌, ap}
+use Rattle.std.proofs.Common.{arith, rules, replicate, pos, negsuc, Some, None, slice_index_or}
 use Rattle.rcv_tree.specs.declared.protocol.Protocol.{Protocol}
 use Rattle.rcv_model.specs.Text.{Body, End, Single, body_of}
 use Rattle.rcv_model.specs.Places.{singles}
-use Rattle.rcv_model.specs.Script.{Literal, TheValue, TheAttempt, Variable, Negated, Plus, Minus, Times, More, VarLine, SendLine, PickLine, OnLine, Line}
+use Rattle.rcv_model.specs.Script.{Literal, TheValue, TheAttempt, Variable, Negated, Plus, Minus, Times, More}
+use Rattle.rcv_model.specs.Script.{VarLine, SendLine, PickLine, OnLine, Line}
 use Rattle.rcv_points.specs.Follow.{PointView, message_of, no_message}
 use Rattle.rcv_script.specs.declared.sign.Sign.TheVariants as signs
 use Rattle.rcv_script.specs.declared.fault.Fault.TheVariants as faults
 use Rattle.rcv_script.specs.Symbols.{Symbol, Is, Word, Number}
 use Rattle.rcv_script.specs.Scripts.{ScriptsView, AreScriptsFor}
-use Rattle.rcv_script.specs.Grammar.{Digits, Named, Signed, Inside, NoAtom, TimesAtom, NoProduct, PlusProduct, MinusProduct, SumOf, VarText, SendText, PickText, WhenText, OnText, WrittenScript}
+use Rattle.rcv_script.specs.Grammar.{Digits, Named, Signed, Inside, NoAtom, TimesAtom, NoProduct, PlusProduct}
+use Rattle.rcv_script.specs.Grammar.{MinusProduct, SumOf, VarText, SendText, PickText, WhenText, OnText}
+use Rattle.rcv_script.specs.Grammar.{WrittenScript}
 use Rattle.rcv_script.specs.Refusals.{AreRead, IsFirst}
 use Rattle.rcv_script.specs.declared.fault.Fault.{Fault}
 use Rattle.rcv_script.proofs.Answering.{taken, refused}

@@ -1,6 +1,5 @@
 -- What the machine does with symbols that the grammar derives.
-use Rattle.std.proofs.Common.{◌≡◌, List, [], ◌∷◌, refl, ◌∙◌, cond}
-use Rattle.std.specs.Prelude.{not, false, Option, Some, None}
+use Rattle.std.proofs.Common.{◌≡◌, List, [], ◌∷◌, refl, ◌∙◌, cond, not, false, Option, Some, None}
 use Rattle.rcv_script.specs.declared.fault.Fault.{Fault}
 use Rattle.rcv_script.specs.declared.fault.Fault.TheVariants as faults
 use Rattle.rcv_script.specs.Symbols.{Symbol}
@@ -29,18 +28,13 @@ tell frame (Some f) j back t rest s go = s
 pub along : {A B : Type 0} → A → B → A × B
 along a b = (a, b)
 
--- what speaks against the words value and attempt
-abbrev pub value_fault : Frame → View → Option Fault
-value_fault frame v =
-    cond v.deciding (Some faults.Variable) (fault_if (takes_bare frame.messages (place_in frame.roles v.role) v.label) faults.NoPayload)
-
-abbrev pub attempt_fault : View → Option Fault
-attempt_fault v = cond v.deciding None (Some faults.AttemptInState)
-
--- a place in an expression
+-- a place in an expression, with what speaks against the words value and attempt
 abbrev pub Computes : Frame → Place → View → Type 0
 Computes frame p v =
-    (v.remembering ≡ not v.deciding) × (p.names ≡ v.names) × (p.value ≡ value_fault frame v) × (p.attempt ≡ attempt_fault v)
+    let bare = takes_bare frame.messages (place_in frame.roles v.role) v.label in
+    (v.remembering ≡ not v.deciding) × (p.names ≡ v.names)
+    × (p.value ≡ cond v.deciding (Some faults.Variable) (fault_if bare faults.NoPayload))
+    × (p.attempt ≡ cond v.deciding None (Some faults.AttemptInState))
 
 -- an atom, a product or a sum is over, which began behind these symbols
 pub record Over (back next : List Symbol) : Type 0 where

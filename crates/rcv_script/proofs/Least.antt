@@ -1,5 +1,5 @@
 -- The least code that holds at a symbol.
-use Rattle.std.proofs.Common.{◌≡◌, ℕ, ◌≤◌, cond, List, arith, Option, Some, None}
+use Rattle.std.proofs.Common.{◌≡◌, ℕ, ◌≤◌, cond, List, arith, Option, Some, option_map, unwrap_or}
 use Rattle.std.proofs.lemmas.Bool.Decides.{nat_tests}
 use Rattle.rcv_points.specs.Follow.{PointView}
 use Rattle.rcv_script.specs.declared.fault.Fault.{Fault}
@@ -20,14 +20,9 @@ least_code frame back t =
     (cond (is_variable back t) 33 (cond (is_attempt_in_state back t) 34
     (cond (is_without_payload frame.roles frame.messages back t) 35 (cond (is_too_many back t) 36 37)))))
 
--- the code of what speaks against a symbol
-abbrev pub code_or : Option Fault → ℕ
-code_or None = 37
-code_or (Some f) = code_of f
-
 -- what speaks against the symbol is the least code from 31 on that holds
 abbrev pub Speaks : Frame → Option Fault → List Symbol → Symbol → Type 0
-Speaks frame o back t = least_code frame back t ≡ code_or o
+Speaks frame o back t = least_code frame back t ≡ unwrap_or (option_map code_of o) 37
 
 -- the least code holds, and no lesser one
 pub holds : (frame : Frame) (f : Fault) (back : List Symbol) (t : Symbol) → Speaks frame (Some f) back t

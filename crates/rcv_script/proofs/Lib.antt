@@ -1,6 +1,5 @@
 pub mod Blindness
 pub mod Stops
-pub mod Going
 pub mod Least
 pub mod Deriving
 pub mod Viewing

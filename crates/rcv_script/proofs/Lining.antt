@@ -1,19 +1,24 @@
 -- The machine goes through the lines and scripts of the grammar.
-use Rattle.std.proofs.Common.{◌≡◌, ℕ, Bool, true, false, codes, List, [], ◌∷◌, ◌++◌, length, refl, sym, ap, subst, ◌∙◌, arith, append_assoc, append-nil, length-append}
+use Rattle.std.proofs.Common.{◌≡◌, ℕ, Bool, true, false, codes, List, [], ◌∷◌, ◌++◌, length, refl, sym, ap, subst}
+use Rattle.std.proofs.Common.{◌∙◌, arith, append_assoc, append-nil, length-append, ◌||◌, ◌==◌, not, Option, Some}
+use Rattle.std.proofs.Common.{None, is_some, unwrap_or, bytes_eq}
 use Rattle.std.proofs.lemmas.Bool.Decides.{nat_tests}
 use Rattle.std.proofs.lemmas.List.Folds.{list_any-append}
-use Rattle.std.specs.Prelude.{◌||◌, ◌==◌, not, Option, Some, None, is_some, unwrap_or}
-use Rattle.std.specs.Str.{bytes_eq}
 use Rattle.rcv_model.specs.Script.{Condition, Expr, Test, Less, Line, VarLine, SendLine, PickLine}
 use Rattle.rcv_script.specs.declared.sign.Sign.TheVariants as signs
 use Rattle.rcv_script.specs.declared.fault.Fault.TheVariants as faults
 use Rattle.rcv_script.specs.declared.words.LineKind.{LineKind}
 use Rattle.rcv_script.specs.declared.words.LineKind.TheVariants as kinds
 use Rattle.rcv_script.specs.Symbols.{Symbol, Is, Word, Number}
-use Rattle.rcv_script.specs.Grammar.{WrittenLine, VarText, SendText, PickText, WhenText, OnText, WrittenScript, test_mark, number_text, line_text, lines_text, scripts_text, sum_text}
+use Rattle.rcv_script.specs.Grammar.{WrittenLine, VarText, SendText, PickText, WhenText, OnText, WrittenScript}
+use Rattle.rcv_script.specs.Grammar.{test_mark, number_text, line_text, lines_text, scripts_text, sum_text}
 use Rattle.rcv_script.specs.Meaning.{sum_says, line_says, names_behind, lines_say, scripts_say}
-use Rattle.rcv_script.specs.Machine.{Writing, Known, Item, Scripts, Lines, This, ASigned, ATest, a_sum, line_behind, line_fault, label_fault, deciding, remembering, with_line, with_script, begun, fault_if, role_fault, new_role, place_of, place_in, is_listed, Taken, has_send, is_send_of}
-use Rattle.rcv_script.specs.Table.{is_among, line_so_far, variables, labels_sent, lines_over, given, role_name, begins_an_atom, parentheses, minuses, role_of}
+use Rattle.rcv_script.specs.Machine.{Writing, Known, Item, Scripts, Lines, This, ASigned, ATest, a_sum, line_behind}
+use Rattle.rcv_script.specs.Machine.{line_fault, label_fault, deciding, remembering, with_line, with_script, begun}
+use Rattle.rcv_script.specs.Machine.{fault_if, role_fault, new_role, place_of, place_in, is_listed, Taken, has_send}
+use Rattle.rcv_script.specs.Machine.{is_send_of}
+use Rattle.rcv_script.specs.Table.{is_among, line_so_far, variables, labels_sent, lines_over, given, role_name}
+use Rattle.rcv_script.specs.Table.{begins_an_atom, parentheses, minuses, role_of}
 use Rattle.rcv_script.proofs.Deriving.{AllLines}
 use Rattle.rcv_script.proofs.Agreeing.{first_word}
 use Rattle.rcv_script.proofs.Least.{Frame, Speaks}

@@ -1,18 +1,17 @@
 -- Where the machine stops at a symbol that isn't awaited, or goes on with what is awaited behind.
 use Rattle.std.proofs.Common.{◌≡◌, ℕ, ℤ, Bool, true, false, List, [], ◌∷◌, refl, sym, ap, ◌∙◌, codes, arith, rules}
+use Rattle.std.proofs.Common.{bytes_eq, ◌<◌, ◌≤◌, length, Option, Result, Ok, Err, IfOk, pos}
 use Rattle.std.proofs.lemmas.Bool.Decides.{nat_tests}
-use Rattle.std.specs.Str.{bytes_eq}
 use Rattle.std.proofs.lemmas.Slice.Eq.{bytes_eq-Decides}
 use Rattle.rcv_model.specs.Script.{Expr, Line}
-use Rattle.std.specs.Prelude.{◌<◌, ◌≤◌, length, Option, Result, Ok, Err, IfOk, pos}
 use denote.Enum.Bare.{same_true}
 use Rattle.rcv_script.specs.contracts.sign.Sign.{the_type}
 use Rattle.rcv_script.specs.declared.sign.Sign.TheVariants as signs
 use Rattle.rcv_script.specs.declared.fault.Fault.{Fault}
 use Rattle.rcv_script.specs.declared.fault.Fault.TheVariants.{Token}
 use Rattle.rcv_script.specs.Symbols.{Symbol, Is, Word, Number, Text, IsNotNext, NoWord, NoNumber}
-use Rattle.rcv_script.specs.Machine.{Item, Scripts, Known, script_of, Lines, ALine, This, AWord, ASigned, ANumber, AnEnd, AnAtom, Factors, Terms, Place, Writing}
-use Rattle.rcv_script.specs.Machine.{meets, with_line, Refuses, answer}
+use Rattle.rcv_script.specs.Machine.{Item, Scripts, Known, script_of, Lines, ALine, This, AWord, ASigned, ANumber}
+use Rattle.rcv_script.specs.Machine.{AnEnd, AnAtom, Factors, Terms, Place, Writing, meets, with_line, Refuses, answer}
 
 pub same_word : (a b : List ℕ) → bytes_eq a b ≡ true → a ≡ b
 same_word a b e = (bytes_eq-Decides a b).0 e

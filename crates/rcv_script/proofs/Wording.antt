@@ -1,16 +1,20 @@
 -- The machine goes through expressions of the grammar.
 use Rattle.std.proofs.Common.{◌≡◌, ℕ, Bool, true, false, cond, codes, List, ◌∷◌, refl, sym, ap, subst, ◌∙◌, arith}
+use Rattle.std.proofs.Common.{◌&&◌, ◌||◌, not, drop, Option, Some, None, is_some, bytes_eq}
+use Rattle.std.proofs.Math.Bool.{or-not_self}
 use Rattle.std.proofs.lemmas.Bool.Decides.{nat_tests}
-use Rattle.std.specs.Prelude.{◌&&◌, ◌||◌, not, drop, Option, Some, None, is_some}
-use Rattle.std.specs.Str.{bytes_eq}
 use Rattle.std.proofs.lemmas.Slice.Eq.{bytes_eq-Decides}
 use Rattle.rcv_model.specs.Script.{Expr, TheValue, TheAttempt, Variable, Negated, Times, Plus, Minus}
 use Rattle.rcv_script.specs.declared.sign.Sign.TheVariants as signs
 use Rattle.rcv_script.specs.Symbols.{Symbol, Is, Word, Number}
-use Rattle.rcv_script.specs.Grammar.{WrittenAtom, Digits, Named, Signed, Inside, MoreAtoms, NoAtom, TimesAtom, MoreProducts, NoProduct, PlusProduct, MinusProduct, WrittenSum, SumOf, atom_text, atoms_text, products_text, sum_text}
+use Rattle.rcv_script.specs.Grammar.{WrittenAtom, Digits, Named, Signed, Inside, MoreAtoms, NoAtom, TimesAtom}
+use Rattle.rcv_script.specs.Grammar.{MoreProducts, NoProduct, PlusProduct, MinusProduct, WrittenSum, SumOf, atom_text}
+use Rattle.rcv_script.specs.Grammar.{atoms_text, products_text, sum_text}
 use Rattle.rcv_script.specs.Meaning.{word_says, atom_says, product_says, terms_say, sum_says}
-use Rattle.rcv_script.specs.Machine.{Place, Item, This, AnAtom, Factors, Terms, On, unless, deeper, a_product, a_sum, variable, place_of, takes_bare}
-use Rattle.rcv_script.specs.Table.{is_among, is_own_word, is_deciding, role_of, label, line_so_far, variables, begins_an_atom, minuses, parentheses, with_signs, nesting}
+use Rattle.rcv_script.specs.Machine.{Place, Item, This, AnAtom, Factors, Terms, On, unless, deeper, a_product, a_sum}
+use Rattle.rcv_script.specs.Machine.{variable, place_of, takes_bare}
+use Rattle.rcv_script.specs.Table.{is_among, is_own_word, is_deciding, role_of, label, line_so_far, variables}
+use Rattle.rcv_script.specs.Table.{begins_an_atom, minuses, parentheses, with_signs, nesting}
 use Rattle.rcv_script.proofs.Deriving.{AllLines}
 use Rattle.rcv_script.proofs.Least.{Frame, least_code}
 use Rattle.rcv_script.proofs.Viewing.{view, Joins, word_joins, IsLonger, is_longer, stays}
@@ -31,10 +35,6 @@ ends_sum _ = Unit {0}
 product_ends : (more : MoreProducts) (us : List Symbol) → ends_sum us → ends_product (products_text more us)
 product_ends NoProduct (Is signs.Times ∷ us) h = h
 product_ends _ us h = tt
-
-either : (d : Bool) → (d || not d) ≡ true
-either true = refl
-either false = refl
 
 module _ (frame : Frame) (ss : AllLines) where
   -- what is awaited behind an expression goes on
@@ -75,7 +75,7 @@ module _ (frame : Frame) (ss : AllLines) where
           || (is_deciding back && bytes_eq w (codes "value"))) 33 (cond (not (is_deciding back) && bytes_eq w (codes "attempt")) 34
           (cond (not (is_deciding back) && bytes_eq w (codes "value") && takes_bare frame.messages (role_of frame.roles back) (label back)) 35 37))
       least = rw (h.0.0, h.1, line.one (codes "role"), line.one (codes "send"), line.one (codes "pick"))
-          (rw (line.one (codes "on"), line.one (codes "var"), line.three, line.none, either (is_deciding back)) refl)
+          (rw (line.one (codes "on"), line.one (codes "var"), line.three, line.none, or-not_self) refl)
 
       named : (o : Option ℕ) → place_of p.names w ≡ o → is_among w (variables back) ≡ is_some o
       named o eo = ap (is_among w) (sym h.0.1) ∙ sym (some_name w p.names) ∙ ap is_some eo
@@ -132,7 +132,7 @@ module _ (frame : Frame) (ss : AllLines) where
     atom_told (Named w) p k back us h f = word_told w p k back us h f
     atom_told (Signed a) p k back us h f = let same = stays back (Is signs.Minus) refl h.0.0 in
         tell frame _ (AnAtom (deeper p) (λ e. k (Negated e))) back (Is signs.Minus) _
-        (rw (h.2, h.0.0, h.1, either (is_deciding back)) (grind (arith, nat_tests))) (λ ok.
+        (rw (h.2, h.0.0, h.1, or-not_self (is_deciding back)) (grind (arith, nat_tests))) (λ ok.
         atom_told a (deeper p) (λ e. k (Negated e)) (Is signs.Minus ∷ back) us
         (subst (Computes frame p) (sym same) h.0, refl, rw h.1 (omega (arith, h.2))) (λ next o. f next (onward same refl o)))
     atom_told (Inside s) p k back us h f =
@@ -164,7 +164,7 @@ module _ (frame : Frame) (ss : AllLines) where
         us m.0 e m.1)
     terms_told (MinusProduct a atoms more) p left k back us h e f =
         let m = marked p back us (Is signs.Minus) _ h refl refl (rw h.1 refl) refl f in
-        along (rw h.1 (rw (h.0.0, either (is_deciding back)) refl))
+        along (rw h.1 (rw (h.0.0, or-not_self (is_deciding back)) refl))
         (term_told a atoms more (atom_told a) (atoms_told atoms) (terms_told more) p (Minus left) k _ us m.0 e m.1)
 
     pub sum_told : (s : WrittenSum) (p : Place) (k : Expr → Item) (back us : List Symbol) → Starts p back → ends_sum us

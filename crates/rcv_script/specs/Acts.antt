@@ -1,6 +1,5 @@
 -- Which lines of a script are for a label: their places in text order, the first line's place being 0.
-use Rattle.std.specs.Prelude.{◌≡◌, ℕ, suc, Option, Some, List, [], ◌∷◌, ℤ, pos, map, if◌then◌else◌, slice_get, slice_set}
-use Rattle.std.specs.Str.{bytes_eq}
+use Rattle.std.specs.Prelude.{◌≡◌, ℕ, suc, Option, Some, List, [], ◌∷◌, ℤ, pos, map, if◌then◌else◌, slice_get, slice_set, bytes_eq}
 use Rattle.rcv_model.specs.Script.{Line, SendLine, OnLine, calculate}
 use Rattle.rcv_points.specs.Follow.{PointView}
 

@@ -8,13 +8,12 @@ use Rattle.rcv_script.specs.declared.formula.Banned.{Banned}
 use Rattle.rcv_script.specs.declared.sign.Sign.{Sign}
 use Rattle.rcv_script.specs.declared.sign.Sign.TheVariants as signs
 use Rattle.rcv_script.specs.Symbols.{Symbol}
-use Rattle.rcv_script.specs.Machine.{Item, Place, Writing, with_line, reading}
-use Rattle.rcv_script.specs.Machine.{Refuses, answer}
+use Rattle.rcv_script.specs.Machine.{Item, Lines, Place, Writing, with_line, reading, Refuses, answer}
 
 -- The machine stops at what is left, whatever is awaited behind.
-abbrev pub Halts : {Y : Type 0} → ScriptError → ((Y → Item) → Item) → List Symbol → List Symbol → Type 0
+abbrev pub Halts : {A : Type 0} → ScriptError → (A → Item) → List Symbol → List Symbol → Type 0
 Halts errors.Memory front old new = Unit {0}
-Halts {Y} (errors.Refused fault) front old new = (k : Y → Item) → answer (front k) old ≡ Refuses fault new
+Halts {A} (errors.Refused fault) front old new = (k : A) → answer (front k) old ≡ Refuses fault new
 
 -- It comes to what is awaited behind, for what was read, or stops.
 abbrev pub Goes :
@@ -30,13 +29,15 @@ at_depth names banned depth = record { names = names; value = banned.value; atte
 abbrev pub Adds :
     {X : Type 0} → Result X ScriptError → (Writing → (List (List ℕ) × script.Line → Item) → Item) → Writing → Writing
     → List Symbol → List Symbol → Type 0
-Adds result front was now old new = Goes result (λ (k : Writing → Item). front was (λ x. k (with_line was x))) (λ _. now) old new
+Adds (Ok x) front was now old new =
+    (k : List script.Line → Item) → answer (front was (λ x. Lines (with_line was x) k)) old ≡ answer (Lines now k) new
+Adds (Err e) front was now old new =
+    Halts e (λ (k : List script.Line → Item). front was (λ x. Lines (with_line was x) k)) old new
 
 -- it comes to what is awaited behind something that says nothing, or stops
 abbrev pub Passes : {X : Type 0} → Result X ScriptError → (Item → Item) → List Symbol → List Symbol → Type 0
 Passes (Ok x) front old new = (k : Item) → answer (front k) old ≡ answer k new
-Passes (Err errors.Memory) front old new = Unit {0}
-Passes (Err (errors.Refused fault)) front old new = (k : Item) → answer (front k) old ≡ Refuses fault new
+Passes (Err e) front old new = Halts e front old new
 
 -- the mark in front of a term
 abbrev pub term_sign : Bool → Sign

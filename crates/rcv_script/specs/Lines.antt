@@ -1,7 +1,6 @@
 -- What the lines of the program say.
 use Rattle.std.specs.Prelude.{ℕ, List, [], option_map, slice_index_or}
 use Rattle.rcv_model.specs.Script as script
-use Rattle.rcv_model.specs.Script.{Expr, Test}
 use Rattle.rcv_script.specs.declared.line.Comparison.{Comparison}
 use Rattle.rcv_script.specs.declared.line.Comparison.TheVariants.{Less, AtMost, Same, Differ, More, AtLeast}
 use Rattle.rcv_script.specs.declared.line.Condition.{Condition}
@@ -9,7 +8,7 @@ use Rattle.rcv_script.specs.declared.line.Line.{Line}
 use Rattle.rcv_script.specs.declared.line.Line.TheVariants.{Var, Send, Pick, On}
 
 -- how a line compares
-abbrev pub test_of : Comparison → Test
+abbrev pub test_of : Comparison → script.Test
 test_of Less = script.Less
 test_of AtMost = script.AtMost
 test_of Same = script.Same

@@ -1,10 +1,12 @@
 -- Reading one symbol after another, for the contracts of the descent alone: what is awaited says itself what is awaited behind
 -- it, and what was read. That it reads by grammar and table is a lemma, and no contract of a public function cites it.
-use Rattle.std.specs.Prelude.{ℕ, ◌+◌, ◌==◌, ◌||◌, not, nat_le, Bool, false, cond, if◌then◌else◌, codes, List, [], ◌∷◌, ◌++◌, length, Option, Some, None, is_some, slice_set, ℤ, pos, neg_ℤ}
+use Rattle.std.specs.Prelude.{ℕ, ◌+◌, ◌==◌, ◌||◌, not, nat_le, Bool, false, cond, if◌then◌else◌, codes, List, [], ◌∷◌}
+use Rattle.std.specs.Prelude.{◌++◌, length, Option, Some, None, is_some, slice_set, ℤ, pos, neg_ℤ, bytes_eq}
 use Rattle.std.specs.List.{list_any}
 use Rattle.std.specs.Option.{option_or}
-use Rattle.std.specs.Str.{bytes_eq}
-use Rattle.rcv_model.specs.Script.{Condition, Expr, Literal, TheValue, TheAttempt, Variable, Negated, Plus, Minus, Times, Test, Less, AtMost, Same, Differ, More, AtLeast, Line, VarLine, SendLine, PickLine, OnLine}
+use Rattle.rcv_model.specs.Script.{Condition, Expr, Literal, TheValue, TheAttempt, Variable, Negated, Plus, Minus}
+use Rattle.rcv_model.specs.Script.{Times, Test, Less, AtMost, Same, Differ, More, AtLeast, Line, VarLine, SendLine}
+use Rattle.rcv_model.specs.Script.{PickLine, OnLine}
 use Rattle.rcv_points.specs.Follow.{PointView}
 use denote.Enum.Bare.{sameb}
 use Rattle.rcv_script.specs.contracts.sign.Sign.{the_type}
@@ -144,8 +146,7 @@ variable (Some n) k = On (k (Variable n))
 abbrev pub word_atom : Place → List ℕ → (Expr → Item) → Outcome
 word_atom p w k =
     cond (bytes_eq w (codes "value")) (unless p.value (On (k TheValue)))
-    (cond (bytes_eq w (codes "attempt")) (unless p.attempt (On (k TheAttempt)))
-    (variable (place_of p.names w) k))
+    (cond (bytes_eq w (codes "attempt")) (unless p.attempt (On (k TheAttempt))) (variable (place_of p.names w) k))
 
 -- ---- lines
 
@@ -171,8 +172,7 @@ rest_of_line kinds.Send s l k = with_expr (deciding s.names) (λ e. k (s.names, 
 rest_of_line kinds.Pick s l k =
     AnEnd (k (s.names, PickLine l None))
     (compared (deciding s.names) (λ c. This (Is signs.Semicolon) (k (s.names, PickLine l (Some c)))))
-rest_of_line kinds.On s l k =
-    to_set s.names (λ place. with_expr (remembering s l) (λ e. k (s.names, OnLine l place e)))
+rest_of_line kinds.On s l k = to_set s.names (λ place. with_expr (remembering s l) (λ e. k (s.names, OnLine l place e)))
 
 -- what is awaited behind the first word
 abbrev pub line_behind : Writing → LineKind → (List (List ℕ) × Line → Item) → Item

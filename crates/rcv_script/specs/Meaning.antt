@@ -1,8 +1,11 @@
 -- What written scripts say. The names are those of the variables that are declared before.
-use Rattle.std.specs.Prelude.{ℕ, if◌then◌else◌, Bool, true, false, codes, List, [], ◌∷◌, ◌++◌, map, Some, None, slice_set, ℤ, pos, neg_ℤ}
-use Rattle.std.specs.Str.{bytes_eq}
-use Rattle.rcv_model.specs.Script.{Expr, Literal, TheValue, TheAttempt, Variable, Negated, Plus, Minus, Times, Line, VarLine, SendLine, PickLine, OnLine}
-use Rattle.rcv_script.specs.Grammar.{WrittenAtom, Digits, Named, Signed, Inside, MoreAtoms, NoAtom, TimesAtom, MoreProducts, NoProduct, PlusProduct, MinusProduct, WrittenSum, SumOf, WrittenLine, VarText, SendText, PickText, WhenText, OnText, WrittenScript}
+use Rattle.std.specs.Prelude.{ℕ, if◌then◌else◌, Bool, true, false, codes, List, [], ◌∷◌, ◌++◌, map, Some, None}
+use Rattle.std.specs.Prelude.{slice_set, ℤ, pos, neg_ℤ, bytes_eq}
+use Rattle.rcv_model.specs.Script.{Expr, Literal, TheValue, TheAttempt, Variable, Negated, Plus, Minus, Times, Line}
+use Rattle.rcv_model.specs.Script.{VarLine, SendLine, PickLine, OnLine}
+use Rattle.rcv_script.specs.Grammar.{WrittenAtom, Digits, Named, Signed, Inside, MoreAtoms, NoAtom, TimesAtom}
+use Rattle.rcv_script.specs.Grammar.{MoreProducts, NoProduct, PlusProduct, MinusProduct, WrittenSum, SumOf}
+use Rattle.rcv_script.specs.Grammar.{WrittenLine, VarText, SendText, PickText, WhenText, OnText, WrittenScript}
 use Rattle.rcv_script.specs.Labels.{place_in}
 
 -- ---- expressions

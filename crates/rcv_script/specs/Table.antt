@@ -1,8 +1,8 @@
 -- The codes from 31 on, each by the symbols alone. Everywhere back are the symbols before, the nearest first, and t is the
 -- symbol at which the code is to hold. No word of scripts is reserved, so what a symbol is follows from its line.
-use Rattle.std.specs.Prelude.{◌≡◌, ℕ, ◌+◌, ◌&&◌, ◌||◌, not, nat_le, Bool, true, false, cond, codes, List, [], ◌∷◌, ◌++◌, length, drop}
+use Rattle.std.specs.Prelude.{◌≡◌, ℕ, ◌+◌, ◌&&◌, ◌||◌, not, nat_le, Bool, true, false, cond, codes, List, [], ◌∷◌}
+use Rattle.std.specs.Prelude.{◌++◌, length, drop, bytes_eq}
 use Rattle.std.specs.List.{list_any}
-use Rattle.std.specs.Str.{bytes_eq}
 use Rattle.rcv_points.specs.Follow.{PointView}
 use Rattle.rcv_script.specs.declared.sign.Sign.TheVariants as signs
 use Rattle.rcv_script.specs.declared.fault.Fault.{Fault}

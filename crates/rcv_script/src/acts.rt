@@ -3,7 +3,7 @@
 
 ghost use Rattle.std.specs.Prelude.{◌≡◌, ◌≤◌, ◌-◌, Some, length, map, slice_get, IfOk};
 ghost use Rattle.rcv_script.specs.Lines.{line_of};
-ghost use Rattle.rcv_script.specs.Acts.{acts_on, acts_by_point, on_places, send_place};
+ghost use Rattle.rcv_script.specs.Acts.{acts_by_point, on_places, send_place};
 
 use crate::line::Line;
 use rcv_points::points::Message;
@@ -45,17 +45,6 @@ impl Model for ActsByPoint {
     ghost view = { λ a. a.acts.items };
 }
 
-impl Acts {
-    /// Those of these lines that are for a label. Fails where memory runs out.
-    fn of(alloc: Global, lines: &[Line], label: &[u8]) -> Result<Acts, AllocError>
-        ensures { IfOk result (λ acts. acts ≡ acts_on label.now (map line_of lines.now)) }
-    {
-        let on = on_places(alloc, lines, label)?;
-        let send = send_place(lines, label);
-        Ok(Acts { on, send })
-    }
-}
-
 impl ActsByPoint {
     /// Those of these lines that are for each point, by its message. Fails where memory runs out.
     pub fn of(
@@ -67,7 +56,9 @@ impl ActsByPoint {
     {
         let mut acts = Vec::new(alloc);
         for message in messages {
-            acts.push(Acts::of(alloc, lines, message.label.as_slice())?)?;
+            let on = on_places(alloc, lines, message.label.as_slice())?;
+            let send = send_place(lines, message.label.as_slice());
+            acts.push(Acts { on, send })?;
         }
         Ok(ActsByPoint { acts })
     }

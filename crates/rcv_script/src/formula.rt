@@ -2,7 +2,7 @@
 
 ghost use Rattle.std.specs.Prelude.{◌≡◌, ◌<◌, ◌≤◌, ◌∷◌, ◌+◌, ℕ, List, length, true, false};
 ghost use Rattle.std.specs.Prelude.{Option, IfSome, IfNone, IfOk, IfErr};
-ghost use Rattle.rcv_model.specs.Script.{Expr, Test};
+ghost use Rattle.rcv_model.specs.Script.{Expr};
 ghost use Rattle.rcv_formula.specs.Expressions.{leaf_expr};
 ghost use Rattle.rcv_script.specs.Symbols.{Symbol, Is, Word, IsNotNext};
 ghost use Rattle.rcv_script.specs.Lines.{condition_of, test_of};
@@ -15,7 +15,8 @@ use crate::line::{Comparison, Condition};
 use crate::parser::Parser;
 use crate::sign::Sign;
 use crate::writing::Writing;
-use rcv_formula::{Formula, Leaf, Operator, Steps};
+use rcv_formula::Operator::{Add, Multiply, Subtract};
+use rcv_formula::{Formula, Leaf, Steps};
 use rcv_scan::{Lexeme, is};
 use rcv_tree::name::{Name, Names};
 
@@ -35,12 +36,12 @@ pub fn place_of(names: &[Name], name: &[u8]) -> Option<usize>
 
 // What a word is in an expression, or what speaks against it.
 fn word_atom(names: &Names, banned: Banned, word: &[u8]) -> Result<Leaf, Fault>
-    ensures ok { IfOk result (λ leaf. (depth : ℕ) (k : Expr → Item) (after : List Symbol)
-        → answer (AnAtom (at_depth names.now banned depth) k) (Word word.now ∷ after)
-        ≡ answer (k (leaf_expr leaf)) after) }
-    ensures err { IfErr result (λ fault. (depth : ℕ) (k : Expr → Item) (after : List Symbol)
-        → answer (AnAtom (at_depth names.now banned depth) k) (Word word.now ∷ after)
-        ≡ Refuses fault (Word word.now ∷ after)) }
+    ensures ok { IfOk result (λ leaf. (depth : ℕ) (k : Expr → Item) (now after : List Symbol)
+        → now ≡ Word word.now ∷ after
+        → answer (AnAtom (at_depth names.now banned depth) k) now ≡ answer (k (leaf_expr leaf)) after) }
+    ensures err { IfErr result (λ fault. (depth : ℕ) (k : Expr → Item) (now after : List Symbol)
+        → now ≡ Word word.now ∷ after
+        → answer (AnAtom (at_depth names.now banned depth) k) now ≡ Refuses fault now) }
 {
     if is(word, b"value") {
         return banned.value.map_or(Ok(Leaf::Value), Err);
@@ -171,7 +172,7 @@ impl<'a> Parser<'a> {
         self.atom(names, banned, depth, steps)?;
         while self.takes(Sign::Times) {
             self.atom(names, banned, depth, steps)?;
-            steps.join(Operator::Multiply)?;
+            steps.join(Multiply)?;
         }
         Ok(())
     }
@@ -189,12 +190,7 @@ impl<'a> Parser<'a> {
         self.product(names, banned, depth, steps)?;
         while let Some(minus) = self.takes_term() {
             self.product(names, banned, depth, steps)?;
-            let operator = if minus {
-                Operator::Subtract
-            } else {
-                Operator::Add
-            };
-            steps.join(operator)?;
+            steps.join(if minus { Subtract } else { Add })?;
         }
         Ok(())
     }
@@ -243,26 +239,16 @@ impl<'a> Parser<'a> {
         let Some((Lexeme::Is(sign), after)) = self.rest.next() else {
             return Err(ScriptError::Refused(Fault::Token));
         };
-        let comparison = comparison_of(sign).ok_or(Fault::Token)?;
+        let comparison = match sign {
+            Sign::Less => Comparison::Less,
+            Sign::AtMost => Comparison::AtMost,
+            Sign::Same => Comparison::Same,
+            Sign::Differ => Comparison::Differ,
+            Sign::More => Comparison::More,
+            Sign::AtLeast => Comparison::AtLeast,
+            _ => return Err(ScriptError::Refused(Fault::Token)),
+        };
         self.rest = after;
         Ok(comparison)
-    }
-}
-
-// How a mark compares, if it does.
-fn comparison_of(sign: Sign) -> Option<Comparison>
-    ensures some { IfSome result (λ found. (k : Test → Item) (after : List Symbol)
-        → answer (ATest k) (Is sign ∷ after) ≡ answer (k (test_of found)) after) }
-    ensures none { IfNone result ((k : Test → Item) (after : List Symbol)
-        → answer (ATest k) (Is sign ∷ after) ≡ Refuses Fault.Token (Is sign ∷ after)) }
-{
-    match sign {
-        Sign::Less => Some(Comparison::Less),
-        Sign::AtMost => Some(Comparison::AtMost),
-        Sign::Same => Some(Comparison::Same),
-        Sign::Differ => Some(Comparison::Differ),
-        Sign::More => Some(Comparison::More),
-        Sign::AtLeast => Some(Comparison::AtLeast),
-        _ => None,
     }
 }

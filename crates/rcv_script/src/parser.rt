@@ -28,8 +28,7 @@ impl<'a> Parser<'a> {
     // Takes the word `set` and the name of a variable: its place.
     #[tactic(auto, using(crate::proofs::Stops::no_sign, crate::proofs::Stops::no_word))]
     fn variable(&mut self, writing: &Writing<'_>) -> Read<usize>
-        ensures goes { Goes result (λ k. to_set writing.now.names k) (λ place. place)
-            self.old.rest self.new.rest }
+        ensures goes { Goes result (λ k. to_set writing.now.names k) (λ place. place) self.old.rest self.new.rest }
         ensures shorter { IfOk result (λ _. length self.new.rest ≤ length self.old.rest) }
     {
         if !self.takes_word(b"set") {
@@ -101,11 +100,11 @@ impl<'a> Parser<'a> {
                 self.end(Line::Send { label, number }, writing)
             }
             LineKind::Pick => {
-                if !self.takes_word(b"when") {
-                    return self.end(Line::Pick { label, when: None }, writing);
+                if self.takes_word(b"when") {
+                    let when = Some(self.condition(writing, DECIDING)?);
+                    return self.end(Line::Pick { label, when }, writing);
                 }
-                let when = Some(self.condition(writing, DECIDING)?);
-                self.end(Line::Pick { label, when }, writing)
+                self.end(Line::Pick { label, when: None }, writing)
             }
             LineKind::On => {
                 let place = self.variable(writing)?;
@@ -122,6 +121,7 @@ impl<'a> Parser<'a> {
     }
 
     /// Takes the lines of a role between braces.
+    #[tactic(auto, using(crate::proofs::Stops::to_line))]
     pub fn lines(&mut self, points: &Points, role: usize) -> Read<Vec<Line>>
         ensures goes { Goes result (λ k. This (Is Sign.Open) (Lines (begun points.now.messages role) k))
             (λ lines. map line_of lines.items) self.old.rest self.new.rest }

@@ -299,20 +299,12 @@ fn first_with(messages: &[Message], label: &[u8], offered: &[Point]) -> Option<P
     ensures { result ≡ first_with (net_by messages.now) label.now offered.now }
 {
     for point in offered {
-        if is(label_of(messages, *point), label) {
+        let message = &messages[point.0 as usize - 1];
+        if is(message.label.as_slice(), label) {
             return Some(*point);
         }
     }
     None
-}
-
-// The label of a point.
-fn label_of(messages: &[Message], point: Point) -> &[u8]
-    requires { HasPoint messages.now point }
-    ensures { result.now ≡ (net_by messages.now).label point }
-{
-    let message = &messages[point.0 as usize - 1];
-    message.label.as_slice()
 }
 
 // Which lines of each script are for each point.

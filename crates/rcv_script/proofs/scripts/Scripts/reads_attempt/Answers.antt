@@ -1,4 +1,4 @@
-use Rattle.std.proofs.Common.{◌≡◌, sym, ◌∙◌, rules, tests}
+use Rattle.std.proofs.Common.{◌≡◌, rules, tests}
 use Rattle.std.proofs.lemmas.Iterator.{YieldsList-from_slice}
 use Rattle.std.proofs.lemmas.Iterator.Search.{any_from_yields_List}
 use Rattle.rcv_script.specs.Attempts.{lines_read, scripts_read}
@@ -11,4 +11,4 @@ returns c =
     let read : c.any.result ≡ scripts_read scripts =
     any_from_yields_List lines_read _ _ c.any.result c.any.ensures.ran
     (YieldsList-from_slice scripts cc) (λ x b q k. search (rules, tests)) in
-    let all = all_blind scripts in (λ e. all.0 (sym read ∙ e), λ f. read ∙ all.1 f)
+    rw read (all_blind scripts)
