@@ -25,7 +25,7 @@ AreStatesTo net r n states = (k : ℕ) → times_in k states ≡ times k (places
 abbrev pub HasMore : List (List ℕ) → ℕ → List (List ℕ) → Type 0
 HasMore before place after = (k : ℕ) → times_in k after ≡ times_in k before + times k (place ∷ [])
 
--- The titles are those of states that hold each place of the role once.
+-- The titles are those of states that hold each place of the role once. Which places share a state is free.
 pub record AreTitlesOf (net : Net) (r : ℕ) (titles : List (List ℕ)) : Type 0 where
   pub states : List (List ℕ)
   pub are_states : AreStatesTo net r net.count states

@@ -102,8 +102,8 @@ fn finished(
 }
 
 /// The picture of a protocol: a column for each role, an arrow for each message, and a frame for each choice and each
-/// loop, with a way back to it from each `continue`. The titles of its messages say their points, in order. Calls
-/// aren't drawn. Fails where memory runs out.
+/// loop, with a way back to it from each `continue`. The titles of its messages say their points, in order. A
+/// text that was read has no calls. Fails where memory runs out.
 pub fn protocol_picture(alloc: Global, protocol: &Protocol) -> Result<Picture, AllocError>
     ensures { IfOk result (λ picture. titles_of picture
         ≡ message_titles protocol.now.roles (body_of protocol.now.body)) }

@@ -120,7 +120,8 @@ fn states_picture(
 
 /// The picture of the machine of a declared role of an accepted protocol: a box for each state, with the role's steps
 /// there, and a wire from each step to the state that it leads to. The titles of the boxes say the states' places: each
-/// place of the role is in one of them, once. Fails where memory runs out.
+/// place of the role is in one of them, once. No clause says that a box has just the places at which the role does the
+/// same. Fails where memory runs out.
 pub fn role_picture(
     alloc: Global,
     local: &Local,

@@ -218,7 +218,7 @@ fn draw_stmt<'t>(
             draw_blocks(chart, drawing, loops, inset, b"and", blocks)?;
             close_frame(chart, drawing, inset, top, tag)
         }
-        // Acceptance refuses a call: it has no messages of its own here.
+        // The reader refuses a call, so none comes here.
         Stmt::Do { .. } => Ok(()),
     }
 }

@@ -5,17 +5,14 @@ use Rattle.std.specs.declared.vec.Vec.{Vec}
 use Rattle.rcv_input.specs.Line.{code_names}
 use Rattle.rcv_explain.specs.declared.explanation.Explanation.{Explanation}
 
--- The codes with their names: those that a refusal of an input may have, and that of a journal that isn't of the form.
-abbrev pub named_codes : List (ℕ × List ℕ)
-named_codes = code_names ++ (50, codes "Journal") ∷ []
-
--- The code has this name.
+-- The code has this name in a list of codes with their names.
 abbrev pub IsNameIn : List (ℕ × List ℕ) → ℕ → List ℕ → Type 0
 IsNameIn [] code name = ⊥
 IsNameIn (e ∷ es) code name = ((code ≡ e.0) × (name ≡ e.1)) ⊎ IsNameIn es code name
 
+-- A refusal with this code has this name.
 abbrev pub IsNamed : ℕ → List ℕ → Type 0
-IsNamed code name = IsNameIn named_codes code name
+IsNamed code name = IsNameIn code_names code name
 
 -- There is a rule with this code.
 abbrev pub HasRule : ℕ → Type 0

@@ -4,11 +4,11 @@ ghost use Rattle.std.specs.Prelude.{IfOk, IfSome, IfNone};
 ghost use Rattle.rcv_explain.specs.Explained.{HasRule, IsNamed, IsToldOf};
 
 use crate::explanation::Explanation;
-use crate::{plans, rules, scripts, texts};
+use crate::{journals, plans, rules, scripts, texts};
 use std::alloc::{AllocError, Global};
 
-/// The explanation of a code: of those that docs/FORMATS.md lists, which are 10 to 27, 30 to 36 and 40 to 43, and of
-/// 50, which a journal has that isn't of the form. None of any other number.
+/// The explanation of a code: of those that docs/FORMATS.md lists, which are 10 to 27, 30 to 36, 40 to 43, and 50 and
+/// 51. None of any other number.
 pub fn explain(code: u8) -> Option<Explanation>
     ensures some { IfSome result (λ e. IsNamed code e.name.now) }
     ensures none { IfNone result (HasRule code → ⊥) }
@@ -43,7 +43,8 @@ pub fn explain(code: u8) -> Option<Explanation>
         41 => Some(plans::ROLE),
         42 => Some(plans::TWICE),
         43 => Some(plans::RANGE),
-        50 => Some(plans::JOURNAL),
+        50 => Some(journals::NO_JOURNAL),
+        51 => Some(journals::JOURNAL),
         _ => None,
     }
 }

@@ -3,6 +3,7 @@
 
 mod codes;
 mod explanation;
+mod journals;
 mod plans;
 mod rules;
 mod scripts;

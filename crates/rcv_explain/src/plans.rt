@@ -1,4 +1,4 @@
-// What the codes of plans say, 40 to 43, and that of a journal, 50.
+// What the codes of plans say: 40 to 43.
 
 use crate::explanation::Explanation;
 
@@ -74,35 +74,5 @@ pub const RANGE: Explanation = Explanation {
     global protocol P(role A, role B) { m() from A to B; }
     %% plan
     room 1
-",
-};
-
-/// Code 50.
-pub const JOURNAL: Explanation = Explanation {
-    name: b"Journal",
-    rule: b"A journal is what `rcv run` writes for the protocol in front of it: entries, a line for each role in order of
-declaration, and the last line. The line of a refusal is the first up to which the lines begin no such text, counted
-over the whole input.",
-    example: b"    $ rcv-show journal
-    module m;
-    global protocol P(role A, role B) { m() from A to B; }
-    %% journal
-    send A 1 n 0 @1
-    recv B 1 m 0 @2 <1
-    role A kept 1 raw 1 done
-    role B kept 1 raw 1 done
-    completed
-",
-    refusal: b"refused 50 Journal line 4",
-    repair: b"take the journal as it was written, of the same protocol. The line in front of it is exactly `%% journal`.",
-    repaired: b"    $ rcv-show journal
-    module m;
-    global protocol P(role A, role B) { m() from A to B; }
-    %% journal
-    send A 1 m 0 @1
-    recv B 1 m 0 @2 <1
-    role A kept 1 raw 1 done
-    role B kept 1 raw 1 done
-    completed
 ",
 };

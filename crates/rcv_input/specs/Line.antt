@@ -3,7 +3,8 @@ use Rattle.std.specs.Prelude.{ℕ, ◌==◌, codes, decimal, List, [], ◌∷◌
 use Rattle.rcv_input.specs.declared.refused.Refused.{Refused}
 use Rattle.rcv_input.specs.declared.refused.Refused.TheVariants.{Line, Rule, NoRole}
 
--- The codes with their names: of a text, of a protocol, of a command, of scripts, of a plan.
+-- The codes with their names, of both programs: of a text, of a protocol, of a command, of scripts, of a plan, and of a
+-- journal that stands behind an input, which only `rcv-show` reads.
 abbrev pub code_names : List (ℕ × List ℕ)
 code_names =
     (10, codes "Letter") ∷ (11, codes "Token") ∷ (12, codes "Deep") ∷ (13, codes "Name") ∷ (14, codes "Twice") ∷ (15, codes "SelfMessage")
@@ -14,7 +15,8 @@ code_names =
     ∷ (30, codes "Token") ∷ (31, codes "Role") ∷ (32, codes "Label")
     ∷ (33, codes "Variable") ∷ (34, codes "AttemptInState") ∷ (35, codes "NoPayload")
     ∷ (36, codes "TooMany")
-    ∷ (40, codes "Token") ∷ (41, codes "Role") ∷ (42, codes "Twice") ∷ (43, codes "Range") ∷ []
+    ∷ (40, codes "Token") ∷ (41, codes "Role") ∷ (42, codes "Twice") ∷ (43, codes "Range")
+    ∷ (50, codes "NoJournal") ∷ (51, codes "Journal") ∷ []
 
 -- The name that stands beside a code in the list; none where the code isn't in it.
 abbrev pub name_in : List (ℕ × List ℕ) → ℕ → List ℕ

@@ -41,6 +41,8 @@ fn name_of(code: u8) -> &'static [u8]
         41 => b"Role",
         42 => b"Twice",
         43 => b"Range",
+        50 => b"NoJournal",
+        51 => b"Journal",
         _ => b"",
     }
 }

@@ -47,7 +47,8 @@ pub fn run_lane<'a, G: Gate>(lane: &mut Lane<'a>, gate: &G)
     }
 }
 
-/// Runs each cell that isn't crashed on one of so many threads, and joins these.
+/// Runs each cell that isn't crashed on one of at most so many threads, and joins these. The clause lets a cell do
+/// nothing.
 pub fn round<'a, G: Gate, R: Threads + Sync>(
     rt: &R,
     lanes: &mut Vec<Lane<'a>>,

@@ -28,23 +28,23 @@ with_drawn s b e = subst (λ (x : Status). EndsSo x b) (sym e) tt
 with_refused : (s : Status) (b : List ℕ) → s ≡ statuses.Refused → EndsSo s b
 with_refused s b e = subst (λ (x : Status). EndsSo x b) (sym e) tt
 
-verdict_ends : (session : SessionView) (j : JournalView) (line : ℕ) (s : Status) (b : List ℕ) → IsVerdict session j line s b → EndsSo s b
-verdict_ends session j line s b (illegal k wrong) = tt
-verdict_ends session j line s b (misclosed k legal wrong) = tt
-verdict_ends session j line s b (drawn legal closes drawing) = tt
+verdict_ends : (session : SessionView) (j : JournalView) (feeds : ℕ) (s : Status) (b : List ℕ) → IsVerdict session j feeds s b → EndsSo s b
+verdict_ends session j feeds s b (illegal k wrong) = tt
+verdict_ends session j feeds s b (misclosed k legal wrong) = tt
+verdict_ends session j feeds s b (drawn legal closes drawing) = tt
 
-text_ends : (session : SessionView) (text : List ℕ) (line : ℕ) (s : Status) (b : List ℕ) → IsTextAnswer session text line s b → EndsSo s b
-text_ends session text line s b (malformed k wrong) = tt
-text_ends session text line s b (formed j spells verdict) = verdict_ends session j line s b verdict
+text_ends : (session : SessionView) (text : List ℕ) (feeds : ℕ) (s : Status) (b : List ℕ) → IsTextAnswer session text feeds s b → EndsSo s b
+text_ends session text feeds s b (malformed k wrong) = tt
+text_ends session text feeds s b (formed j spells verdict) = verdict_ends session j feeds s b verdict
 
-bundle_ends : (bundle text : List ℕ) (s : Status) (b : List ℕ) → IsBundleAnswer bundle text s b → EndsSo s b
-bundle_ends bundle text s b (outcomes.refused refusal first) = tt
-bundle_ends bundle text s b (outcomes.taken session taken answer) = text_ends session text _ s b answer
+bundle_ends : (bundle text : List ℕ) (feeds : ℕ) (s : Status) (b : List ℕ) → IsBundleAnswer bundle text feeds s b → EndsSo s b
+bundle_ends bundle text feeds s b (outcomes.refused refusal first) = tt
+bundle_ends bundle text feeds s b (outcomes.taken session taken answer) = text_ends session text feeds s b answer
 
 journal_ends : (input : List ℕ) (s : Status) (b : List ℕ) → IsJournalAnswer input s b → EndsSo s b
 journal_ends input s b (uncut none) = tt
 journal_ends input s b (long cut is more) = refl
-journal_ends input s b (parted cut is few answer) = bundle_ends _ _ s b answer
+journal_ends input s b (parted cut is few answer) = bundle_ends _ _ _ s b answer
 
 draws_end : (session : SessionView) (command : CommandView) (s : Status) (b : List ℕ) → Draws session command s b → EndsSo s b
 draws_end session DrawTable s b draws = with_drawn s b draws.0

@@ -1,5 +1,5 @@
 -- What is answered to a journal, from what its parts are.
-use Rattle.std.proofs.Common.{◌≡◌, ℕ, ◌+◌, ◌<◌, ◌≤◌, List, [], ◌∷◌, ◌++◌, length, map, Some, None, sym, ◌∙◌, ap, subst, arith, length-append}
+use Rattle.std.proofs.Common.{◌≡◌, ℕ, ◌+◌, ◌<◌, ◌≤◌, List, [], ◌∷◌, ◌++◌, length, map, Some, None, sym, ◌∙◌, ap, subst, ⊎_elim, arith, length-append}
 use Rattle.std.specs.Prelude.{Result, Option, IfOk, IfSome, IfNone}
 use Rattle.std.proofs.lemmas.List.{length-map}
 use Rattle.rcv_tree.specs.declared.entry.Entry.{Entry}
@@ -20,9 +20,9 @@ use Rattle.rcv_judge.specs.Judged.{IsFirstWrong as IsFirstIllegal}
 use Rattle.rcv_look.specs.declared.cut.Cut.{Cut}
 use Rattle.rcv_look.specs.declared.output.Output.{Output}
 use Rattle.rcv_look.specs.declared.status.Status.TheVariants as statuses
-use Rattle.rcv_look.specs.Cutting.{cut_of, bundle_of, journal_of, line_after, line_behind}
+use Rattle.rcv_look.specs.Cutting.{cut_of, bundle_of, journal_of, feeds_before, line_of_end}
 use Rattle.rcv_look.specs.Drawing.{IsJournalDrawing}
-use Rattle.rcv_look.specs.Outcome.{IsVerdict, IsTextAnswer, IsBundleAnswer, IsJournalAnswer, malformed_line, illegal_line, illegal, misclosed, drawn, malformed, formed, uncut, long, parted}
+use Rattle.rcv_look.specs.Outcome.{IsVerdict, IsTextAnswer, IsBundleAnswer, IsJournalAnswer, no_journal_line, malformed_line, illegal_line, illegal, misclosed, drawn, malformed, formed, uncut, long, parted}
 use Rattle.rcv_look.specs.Outcome as outcomes
 use Rattle.rcv_look.proofs.LineCount.{few_lines}
 use Rattle.rcv_look.proofs.Making.{Makes, made, widen, refused}
@@ -38,63 +38,70 @@ few_entries setup text j spells =
     let front = length-append (map (entry_line setup) j.entries) (map (role_line setup) j.roles) in
     omega (arith, lines, same, entries, all, front)
 
+-- Its first wrong line is one of so many, too, or the one behind them.
+pub few_wrong : (setup : SessionView) (text : List ℕ) (k : ℕ) → IsFirstWrong setup text k → k ≤ length text + 1
+few_wrong setup text k first =
+    let lines : length (lines_of text) ≤ length text = few_lines text in
+    ⊎_elim (λ within. omega (arith, lines, within.0)) (λ behind. omega (arith, lines, behind.0)) first.wrong
+
 module _ {E : Type 0} (result : Result Output E) where
   -- no separator
-  pub uncut_said : (input : List ℕ) (line : ℕ) → cut_of input ≡ None → line ≡ line_behind input
-      → IfOk result (λ output. output.status ≡ statuses.Refused) → IfOk result (λ output. output.bytes.items ≡ malformed_line line) → Makes (IsJournalAnswer input) result
+  pub uncut_said : (input : List ℕ) (line : ℕ) → cut_of input ≡ None → line ≡ line_of_end input
+      → IfOk result (λ output. output.status ≡ statuses.Refused) → IfOk result (λ output. output.bytes.items ≡ no_journal_line line) → Makes (IsJournalAnswer input) result
   uncut_said input line none is status bytes =
-      made (IsJournalAnswer input) result statuses.Refused (malformed_line line) status bytes
-      (subst (λ (n : ℕ). IsJournalAnswer input statuses.Refused (malformed_line n)) (sym is) (uncut none))
+      made (IsJournalAnswer input) result statuses.Refused (no_journal_line line) status bytes
+      (subst (λ (n : ℕ). IsJournalAnswer input statuses.Refused (no_journal_line n)) (sym is) (uncut none))
 
   -- a bundle with its text
-  pub parted_said : (input : List ℕ) (cut : Cut) (bundle text : List ℕ) → cut_of input ≡ Some cut → cut.end ≤ 1048576 → bundle ≡ bundle_of input cut → text ≡ journal_of input cut
-      → Makes (IsBundleAnswer bundle text) result → Makes (IsJournalAnswer input) result
-  parted_said input cut bundle text is few same_bundle same_text makes =
-      widen (IsBundleAnswer bundle text) (IsJournalAnswer input) result
-      (λ s b answer. parted cut is few (subst (λ (t : List ℕ). IsBundleAnswer (bundle_of input cut) t s b) same_text (subst (λ (u : List ℕ). IsBundleAnswer u text s b) same_bundle answer))) makes
+  pub parted_said : (input : List ℕ) (cut : Cut) (bundle text : List ℕ) (feeds : ℕ) → cut_of input ≡ Some cut → cut.end ≤ 1048576
+      → bundle ≡ bundle_of input cut → text ≡ journal_of input cut → feeds ≡ feeds_before input cut
+      → Makes (IsBundleAnswer bundle text feeds) result → Makes (IsJournalAnswer input) result
+  parted_said input cut bundle text feeds is few same_bundle same_text same_feeds makes =
+      widen (IsBundleAnswer bundle text feeds) (IsJournalAnswer input) result
+      (λ s b answer. parted cut is few (subst (λ (n : ℕ). IsBundleAnswer (bundle_of input cut) (journal_of input cut) n s b) same_feeds
+      (subst (λ (t : List ℕ). IsBundleAnswer (bundle_of input cut) t feeds s b) same_text (subst (λ (u : List ℕ). IsBundleAnswer u text feeds s b) same_bundle answer)))) makes
 
   -- a bundle that is taken, or refused
-  pub taken_said : (bundle text : List ℕ) (session : SessionView) (line : ℕ) → IsTaken bundle session → line ≡ line_after bundle
-      → Makes (IsTextAnswer session text line) result → Makes (IsBundleAnswer bundle text) result
-  taken_said bundle text session line is_taken is makes =
-      widen (IsTextAnswer session text line) (IsBundleAnswer bundle text) result
-      (λ s b answer. outcomes.taken session is_taken (subst (λ (n : ℕ). IsTextAnswer session text n s b) is answer)) makes
+  pub taken_said : (bundle text : List ℕ) (session : SessionView) (feeds : ℕ) → IsTaken bundle session
+      → Makes (IsTextAnswer session text feeds) result → Makes (IsBundleAnswer bundle text feeds) result
+  taken_said bundle text session feeds is_taken makes =
+      widen (IsTextAnswer session text feeds) (IsBundleAnswer bundle text feeds) result (λ s b answer. outcomes.taken session is_taken answer) makes
 
-  pub refused_said : (bundle text : List ℕ) (error : InputError) → IsRefused bundle error
+  pub refused_said : (bundle text : List ℕ) (feeds : ℕ) (error : InputError) → IsRefused bundle error
       → IfOk result (λ output. (refusal : refusals.Refused) × (error ≡ causes.Refused refusal) × (output.status ≡ statuses.Refused) × (output.bytes.items ≡ refusal_line refusal))
-      → Makes (IsBundleAnswer bundle text) result
-  refused_said bundle text error is said = refused (IsBundleAnswer bundle text) error result said (λ refusal same. outcomes.refused refusal (subst (IsRefused bundle) same is))
+      → Makes (IsBundleAnswer bundle text feeds) result
+  refused_said bundle text feeds error is said = refused (IsBundleAnswer bundle text feeds) error result said (λ refusal same. outcomes.refused refusal (subst (IsRefused bundle) same is))
 
   -- a text of the form, or one with a wrong line
-  pub formed_said : (session setup : SessionView) (protocol : Protocol) (text : List ℕ) (line : ℕ) (j : JournalView) → setup ≡ session → protocol ≡ setup.protocol
-      → Spells (bare protocol) text j → Makes (IsVerdict setup j line) result → Makes (IsTextAnswer session text line) result
-  formed_said session setup protocol text line j same_setup same spells makes =
-      widen (IsVerdict setup j line) (IsTextAnswer session text line) result
+  pub formed_said : (session setup : SessionView) (protocol : Protocol) (text : List ℕ) (feeds : ℕ) (j : JournalView) → setup ≡ session → protocol ≡ setup.protocol
+      → Spells (bare protocol) text j → Makes (IsVerdict setup j feeds) result → Makes (IsTextAnswer session text feeds) result
+  formed_said session setup protocol text feeds j same_setup same spells makes =
+      widen (IsVerdict setup j feeds) (IsTextAnswer session text feeds) result
       (λ s b verdict. formed j (subst (λ (p : Protocol). Spells (bare p) text j) (same ∙ ap (λ (v : SessionView). v.protocol) same_setup) spells)
-      (subst (λ (v : SessionView). IsVerdict v j line s b) same_setup verdict)) makes
+      (subst (λ (v : SessionView). IsVerdict v j feeds s b) same_setup verdict)) makes
 
-  pub malformed_said : (session setup : SessionView) (protocol : Protocol) (text : List ℕ) (line number sum : ℕ) → setup ≡ session → protocol ≡ setup.protocol
-      → IsFirstWrong (bare protocol) text number → sum ≡ line + number
-      → IfOk result (λ output. output.status ≡ statuses.Refused) → IfOk result (λ output. output.bytes.items ≡ malformed_line sum) → Makes (IsTextAnswer session text line) result
-  malformed_said session setup protocol text line number sum same_setup same wrong is status bytes =
-      made (IsTextAnswer session text line) result statuses.Refused (malformed_line sum) status bytes
-      (subst (λ (n : ℕ). IsTextAnswer session text line statuses.Refused (malformed_line n)) (sym is)
+  pub malformed_said : (session setup : SessionView) (protocol : Protocol) (text : List ℕ) (feeds number sum : ℕ) → setup ≡ session → protocol ≡ setup.protocol
+      → IsFirstWrong (bare protocol) text number → sum ≡ feeds + number
+      → IfOk result (λ output. output.status ≡ statuses.Refused) → IfOk result (λ output. output.bytes.items ≡ malformed_line sum) → Makes (IsTextAnswer session text feeds) result
+  malformed_said session setup protocol text feeds number sum same_setup same wrong is status bytes =
+      made (IsTextAnswer session text feeds) result statuses.Refused (malformed_line sum) status bytes
+      (subst (λ (n : ℕ). IsTextAnswer session text feeds statuses.Refused (malformed_line n)) (sym is)
       (malformed number (subst (λ (p : Protocol). IsFirstWrong (bare p) text number) (same ∙ ap (λ (v : SessionView). v.protocol) same_setup) wrong)))
 
   -- an entry that can't come
-  pub illegal_said : (session : SessionView) (j : JournalView) (entries : List Entry) (line k sum : ℕ) → entries ≡ j.entries → IsFirstIllegal (rules_of session) entries k → sum ≡ line + 1 + k
-      → IfOk result (λ output. output.status ≡ statuses.Illegal) → IfOk result (λ output. output.bytes.items ≡ illegal_line sum) → Makes (IsVerdict session j line) result
-  illegal_said session j entries line k sum same wrong is status bytes =
-      made (IsVerdict session j line) result statuses.Illegal (illegal_line sum) status bytes
-      (subst (λ (n : ℕ). IsVerdict session j line statuses.Illegal (illegal_line n)) (sym is) (illegal k (subst (λ (es : List Entry). IsFirstIllegal (rules_of session) es k) same wrong)))
+  pub illegal_said : (session : SessionView) (j : JournalView) (entries : List Entry) (feeds k sum : ℕ) → entries ≡ j.entries → IsFirstIllegal (rules_of session) entries k → sum ≡ feeds + 1 + k
+      → IfOk result (λ output. output.status ≡ statuses.Illegal) → IfOk result (λ output. output.bytes.items ≡ illegal_line sum) → Makes (IsVerdict session j feeds) result
+  illegal_said session j entries feeds k sum same wrong is status bytes =
+      made (IsVerdict session j feeds) result statuses.Illegal (illegal_line sum) status bytes
+      (subst (λ (n : ℕ). IsVerdict session j feeds statuses.Illegal (illegal_line n)) (sym is) (illegal k (subst (λ (es : List Entry). IsFirstIllegal (rules_of session) es k) same wrong)))
 
   -- a closing line that isn't what the entries leave
-  pub misclosed_said : (session : SessionView) (j : JournalView) (entries : List Entry) (line k sum : ℕ) → entries ≡ j.entries → IsLegal (rules_of session) entries
-      → IsFirstWrongClosing (rules_of session) (reading (rules_of session) entries) j.roles j.limited k → sum ≡ line + 1 + length entries + k
-      → IfOk result (λ output. output.status ≡ statuses.Illegal) → IfOk result (λ output. output.bytes.items ≡ illegal_line sum) → Makes (IsVerdict session j line) result
-  misclosed_said session j entries line k sum same legal wrong is status bytes =
-      made (IsVerdict session j line) result statuses.Illegal (illegal_line sum) status bytes
-      (subst (λ (n : ℕ). IsVerdict session j line statuses.Illegal (illegal_line n)) (sym (is ∙ ap (λ (es : List Entry). line + 1 + length es + k) same))
+  pub misclosed_said : (session : SessionView) (j : JournalView) (entries : List Entry) (feeds k sum : ℕ) → entries ≡ j.entries → IsLegal (rules_of session) entries
+      → IsFirstWrongClosing (rules_of session) (reading (rules_of session) entries) j.roles j.limited k → sum ≡ feeds + 1 + length entries + k
+      → IfOk result (λ output. output.status ≡ statuses.Illegal) → IfOk result (λ output. output.bytes.items ≡ illegal_line sum) → Makes (IsVerdict session j feeds) result
+  misclosed_said session j entries feeds k sum same legal wrong is status bytes =
+      made (IsVerdict session j feeds) result statuses.Illegal (illegal_line sum) status bytes
+      (subst (λ (n : ℕ). IsVerdict session j feeds statuses.Illegal (illegal_line n)) (sym (is ∙ ap (λ (es : List Entry). feeds + 1 + length es + k) same))
       (misclosed k (subst (IsLegal (rules_of session)) same legal)
       (subst (λ (es : List Entry). IsFirstWrongClosing (rules_of session) (reading (rules_of session) es) j.roles j.limited k) same wrong)))
 
@@ -103,9 +110,9 @@ pub long_said : (input : List ℕ) (cut : Cut) (bytes : List ℕ) → cut_of inp
 long_said input cut bytes is more empty = subst (IsJournalAnswer input statuses.TooLong) (sym empty) (long cut is more)
 
 -- a journal that is drawn
-pub drawn_said : (session : SessionView) (j : JournalView) (entries : List Entry) (line : ℕ) (bytes : List ℕ) → entries ≡ j.entries → IsLegal (rules_of session) entries
-    → ClosesRight session entries j.roles j.limited → IsJournalDrawing session entries bytes → IsVerdict session j line statuses.Drawn bytes
-drawn_said session j entries line bytes same legal closes drawing =
+pub drawn_said : (session : SessionView) (j : JournalView) (entries : List Entry) (feeds : ℕ) (bytes : List ℕ) → entries ≡ j.entries → IsLegal (rules_of session) entries
+    → ClosesRight session entries j.roles j.limited → IsJournalDrawing session entries bytes → IsVerdict session j feeds statuses.Drawn bytes
+drawn_said session j entries feeds bytes same legal closes drawing =
     drawn (subst (IsLegal (rules_of session)) same legal) (subst (λ (es : List Entry). ClosesRight session es j.roles j.limited) same closes)
     (subst (λ (es : List Entry). IsJournalDrawing session es bytes) same drawing)
 

@@ -1,9 +1,7 @@
 -- How many lines a text has.
-use Rattle.std.proofs.Common.{◌≡◌, ℕ, ◌≤◌, suc, ◌+◌, Bool, true, false, List, [], ◌∷◌, ◌++◌, length, drop, refl, sym, ◌∙◌, ap, arith}
-use Rattle.std.proofs.lemmas.List.{drop_all}
+use Rattle.std.proofs.Common.{◌≡◌, ℕ, ◌≤◌, suc, ◌+◌, Bool, true, false, List, [], ◌∷◌, ◌++◌, length, refl, ◌∙◌, ap, arith}
 use Rattle.std.specs.Prelude.{◌==◌, if◌then◌else◌}
 use Rattle.rcv_form.specs.Form.{lines_from, lines_of}
-use Rattle.rcv_look.specs.Cutting.{line_behind}
 
 -- Whether a line has begun.
 abbrev pub is_begun : List ℕ → Bool
@@ -20,7 +18,7 @@ with_one : (begun : List ℕ) (b : ℕ) → is_begun (begun ++ b ∷ []) ≡ tru
 with_one [] b = refl
 with_one (c ∷ begun) b = refl
 
-pub count : (begun text : List ℕ) → length (lines_from begun text) ≡ lines_in (is_begun begun) text
+count : (begun text : List ℕ) → length (lines_from begun text) ≡ lines_in (is_begun begun) text
 count [] [] = refl
 count (b ∷ begun) [] = refl
 count begun (b ∷ rest) = go (b == 10) (count [] rest) (count (begun ++ b ∷ []) rest)
@@ -29,11 +27,6 @@ count begun (b ∷ rest) = go (b == 10) (count [] rest) (count (begun ++ b ∷ [
         → length (if ends then (begun ++ b ∷ []) ∷ lines_from [] rest else lines_from (begun ++ b ∷ []) rest) ≡ (if ends then suc (lines_in false rest) else lines_in true rest)
     go true ended more = ap suc ended
     go false ended more = more ∙ ap (λ (t : Bool). lines_in t rest) (with_one begun b)
-
--- Behind the last byte, by the lines so far and whether one has begun.
-pub behind_last : (text : List ℕ) (lines i : ℕ) (begun : Bool) → length text ≤ i → lines + lines_in begun (drop i text) ≡ lines_in false text + 1 → lines + lines_in begun [] ≡ line_behind text
-behind_last text lines i begun end so_far =
-    ap (λ (rest : List ℕ). lines + lines_in begun rest) (sym (drop_all i text end)) ∙ so_far ∙ ap (λ (n : ℕ). n + 1) (sym (count [] text))
 
 -- At most as many as it has bytes, and one more where one has begun before it.
 few_in : (text : List ℕ) → (lines_in false text ≤ length text) × (lines_in true text ≤ length text + 1)

@@ -1,7 +1,6 @@
 -- An input that is a bundle with a journal behind it: where the line between them stands.
-use Rattle.std.specs.Prelude.{ℕ, ◌+◌, ◌==◌, Bool, true, false, List, [], ◌∷◌, length, take, drop, codes, count_by, Option, Some, None, option_map}
+use Rattle.std.specs.Prelude.{ℕ, ◌+◌, ◌==◌, Bool, true, false, List, [], ◌∷◌, take, drop, codes, count_by, Option, Some, None, option_map}
 use Rattle.rcv_lexer.specs.Parts.{line_of}
-use Rattle.rcv_form.specs.Form.{lines_of}
 use Rattle.rcv_look.specs.declared.cut.Cut.{Cut}
 
 -- The cut by a line at this place, with its end of so many bytes.
@@ -34,10 +33,14 @@ bundle_of input cut = take cut.end input
 abbrev pub journal_of : List ℕ → Cut → List ℕ
 journal_of input cut = drop cut.behind input
 
--- The number of the line behind a bundle that is empty or ends with a line feed, counted from 1: that of `%% journal`.
-abbrev pub line_after : List ℕ → ℕ
-line_after bundle = 1 + count_by (λ b. b == 10) bundle
+-- How many line feeds stand in a text.
+abbrev pub feeds_in : List ℕ → ℕ
+feeds_in text = count_by (λ b. b == 10) text
 
--- The number of the line behind the last one.
-abbrev pub line_behind : List ℕ → ℕ
-line_behind input = length (lines_of input) + 1
+-- How many stand before the journal's text. A line of that text has so many more in the whole input.
+abbrev pub feeds_before : List ℕ → Cut → ℕ
+feeds_before input cut = feeds_in (take cut.behind input)
+
+-- The number of the line at which an input ends, counted from 1: behind the last line feed.
+abbrev pub line_of_end : List ℕ → ℕ
+line_of_end input = 1 + feeds_in input

@@ -37,9 +37,10 @@ IsTextOf picture bytes = bytes ≡ trees.spelled (tree_of picture)
 abbrev pub most_drawn : ℕ → ℕ
 most_drawn entries = 131072 + 4096 * (if nat_lt entries 450 then entries else 450)
 
--- The bytes are a picture of a session's journal. Its arrows and its rows tell of the entries: each entry stands in one
--- row or one fold, an event is undone there exactly where it isn't kept at the end, and each arrow is a message. The
--- title of an entry's group is the entry's line. The bytes are as few as a picture of so many entries may have.
+-- The bytes are a picture of a session's journal. What its groups say, by class, id and title, tells of the entries: each
+-- has one group or stands in one fold, says undone exactly if it isn't kept at the end, and each arrow is a message. The
+-- title of an entry's group is the entry's line. What is drawn in a group is free. The bytes are as few as a picture of
+-- so many entries may have.
 pub record IsJournalDrawing (session : SessionView) (entries : List Entry) (bytes : List ℕ) : Type 0 where
   pub picture : Picture
   pub rows : List Says

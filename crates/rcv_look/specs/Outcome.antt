@@ -3,6 +3,7 @@ use Rattle.std.specs.Prelude.{◌≡◌, ℕ, ◌+◌, ◌<◌, ◌≤◌, codes
 use Rattle.rcv_model.specs.Journal.{reading, IsLegal}
 use Rattle.rcv_session.specs.Session.{SessionView, rules_of}
 use Rattle.rcv_input.specs.declared.refused.Refused as refusals
+use Rattle.rcv_input.specs.declared.refused.Refused.TheVariants.{Line}
 use Rattle.rcv_input.specs.Input.{IsTaken}
 use Rattle.rcv_input.specs.Refusals.{IsFirstRefusal}
 use Rattle.rcv_input.specs.Line.{refusal_line}
@@ -15,7 +16,7 @@ use Rattle.rcv_look.specs.declared.status.Status.{Status}
 use Rattle.rcv_look.specs.declared.status.Status.TheVariants.{Drawn, Usage, Refused, ReadFault, WriteFault, Memory, TooLong, Illegal}
 use Rattle.rcv_look.specs.Commands.{CommandView, DrawJournal, DrawTable, DrawRole, DrawProtocol, ListPoints, Explain, IsCommand, IsNoCommand}
 use Rattle.rcv_look.specs.Asking.{most_for, most_of_bundle, IsAskedOfSource}
-use Rattle.rcv_look.specs.Cutting.{cut_of, bundle_of, journal_of, line_after, line_behind}
+use Rattle.rcv_look.specs.Cutting.{cut_of, bundle_of, journal_of, feeds_before, line_of_end}
 use Rattle.rcv_look.specs.Drawing.{IsJournalDrawing, IsTableDrawing, IsRoleAnswer, IsProtocolDrawing, ArePoints, IsExplanation}
 
 -- The number of a status, with which the process ends.
@@ -33,55 +34,61 @@ number_of Illegal = 8
 abbrev pub usage_line : List ℕ
 usage_line = codes "usage: rcv-show journal|table|role|protocol|points|explain [--role R] [--code N]\n"
 
--- `refused 50 Journal line L`: a journal isn't of the form at this line of the input.
+-- `refused 50 NoJournal line L`: an input that ends at this line has no line `%% journal`.
+abbrev pub no_journal_line : ℕ → List ℕ
+no_journal_line line = refusal_line (Line 50 line)
+
+-- `refused 51 Journal line L`: a journal isn't of the form at this line of the input.
 abbrev pub malformed_line : ℕ → List ℕ
-malformed_line line = codes "refused 50 Journal line " ++ decimal line ++ codes "\n"
+malformed_line line = refusal_line (Line 51 line)
 
 -- `illegal line L`: a journal of the form isn't legal at this line of the input.
 abbrev pub illegal_line : ℕ → List ℕ
 illegal_line line = codes "illegal line " ++ decimal line ++ codes "\n"
 
--- What is answered to a journal of the form that stands behind this line of the input: its first entry that can't come;
--- or its first closing line that isn't what the entries leave; or a picture of it.
-pub data IsVerdict (session : SessionView) (j : JournalView) (line : ℕ) : Status → List ℕ → Type 0 where
+-- What is answered to a journal of the form behind so many line feeds of the input: its first entry that can't come; or
+-- its first closing line that isn't what the entries leave; or a picture of it.
+pub data IsVerdict (session : SessionView) (j : JournalView) (feeds : ℕ) : Status → List ℕ → Type 0 where
   illegal :
       (k : ℕ) → IsFirstIllegal (rules_of session) j.entries k
-      → IsVerdict session j line Illegal (illegal_line (line + 1 + k))
+      → IsVerdict session j feeds Illegal (illegal_line (feeds + 1 + k))
   misclosed :
       (k : ℕ) → IsLegal (rules_of session) j.entries
       → IsFirstWrongClosing (rules_of session) (reading (rules_of session) j.entries) j.roles j.limited k
-      → IsVerdict session j line Illegal (illegal_line (line + 1 + length j.entries + k))
+      → IsVerdict session j feeds Illegal (illegal_line (feeds + 1 + length j.entries + k))
   drawn :
       {bytes : List ℕ} → IsLegal (rules_of session) j.entries → ClosesRight session j.entries j.roles j.limited
-      → IsJournalDrawing session j.entries bytes → IsVerdict session j line Drawn bytes
+      → IsJournalDrawing session j.entries bytes → IsVerdict session j feeds Drawn bytes
 
--- What is answered to the text behind this line of the input: the first line at which it isn't a journal of the form,
--- counted over the whole input, or what the journal's verdict is.
-pub data IsTextAnswer (session : SessionView) (text : List ℕ) (line : ℕ) : Status → List ℕ → Type 0 where
+-- What is answered to the text behind so many line feeds of the input: the first line at which it isn't a journal of the
+-- form, counted over the whole input, or what the journal's verdict is.
+pub data IsTextAnswer (session : SessionView) (text : List ℕ) (feeds : ℕ) : Status → List ℕ → Type 0 where
   malformed :
       (k : ℕ) → form.IsFirstWrong (bare session.protocol) text k
-      → IsTextAnswer session text line Refused (malformed_line (line + k))
+      → IsTextAnswer session text feeds Refused (malformed_line (feeds + k))
   formed :
       {status : Status} {bytes : List ℕ} (j : JournalView) → form.Spells (bare session.protocol) text j
-      → IsVerdict session j line status bytes → IsTextAnswer session text line status bytes
+      → IsVerdict session j feeds status bytes → IsTextAnswer session text feeds status bytes
 
--- What is answered to a bundle with a text behind the line that separates them: the bundle's first refusal, or what the
--- session's text is answered.
-pub data IsBundleAnswer (bundle text : List ℕ) : Status → List ℕ → Type 0 where
+-- What is answered to a bundle with a text behind so many line feeds of the input: the bundle's first refusal, or what
+-- the session's text is answered.
+pub data IsBundleAnswer (bundle text : List ℕ) (feeds : ℕ) : Status → List ℕ → Type 0 where
   refused :
-      (refusal : refusals.Refused) → IsFirstRefusal bundle refusal → IsBundleAnswer bundle text Refused (refusal_line refusal)
+      (refusal : refusals.Refused) → IsFirstRefusal bundle refusal
+      → IsBundleAnswer bundle text feeds Refused (refusal_line refusal)
   taken :
       {status : Status} {bytes : List ℕ} (session : SessionView) → IsTaken bundle session
-      → IsTextAnswer session text (line_after bundle) status bytes → IsBundleAnswer bundle text status bytes
+      → IsTextAnswer session text feeds status bytes → IsBundleAnswer bundle text feeds status bytes
 
--- What is answered to `journal`: an input without the line `%% journal` isn't of the form behind its last line; the
--- bundle before that line is too long; or what the bundle and the text behind the line are answered.
+-- What is answered to `journal`: that the input has no line `%% journal`, at the line of its end; the bundle before that
+-- line is too long; or what the bundle and the text behind the line are answered.
 pub data IsJournalAnswer (input : List ℕ) : Status → List ℕ → Type 0 where
-  uncut : cut_of input ≡ None → IsJournalAnswer input Refused (malformed_line (line_behind input))
+  uncut : cut_of input ≡ None → IsJournalAnswer input Refused (no_journal_line (line_of_end input))
   long : (cut : Cut) → cut_of input ≡ Some cut → most_of_bundle < cut.end → IsJournalAnswer input TooLong []
   parted :
       {status : Status} {bytes : List ℕ} (cut : Cut) → cut_of input ≡ Some cut → cut.end ≤ most_of_bundle
-      → IsBundleAnswer (bundle_of input cut) (journal_of input cut) status bytes → IsJournalAnswer input status bytes
+      → IsBundleAnswer (bundle_of input cut) (journal_of input cut) (feeds_before input cut) status bytes
+      → IsJournalAnswer input status bytes
 
 -- What the commands that draw a protocol make of it.
 abbrev pub Draws : SessionView → CommandView → Status → List ℕ → Type 0

@@ -2,7 +2,7 @@
 
 ghost use Rattle.std.specs.Prelude.{◌≡◌, ◌+◌, ◌^◌, ◌≤◌, ◌<◌, length, true, codes, IfSome};
 ghost use Rattle.rcv_lexer.specs.Parts.{line_end, line_of};
-ghost use Rattle.rcv_look.specs.Cutting.{here, first_from, cut_of, line_behind};
+ghost use Rattle.rcv_look.specs.Cutting.{here, first_from, cut_of};
 
 /// The line `%% journal` of an input: where the bundle ends before it, and where the journal begins behind it.
 #[derive(Clone, Copy, Debug, PartialEq, Eq)]
@@ -75,20 +75,4 @@ pub fn cut_of(input: &[u8]) -> Option<Cut>
         rest = after;
     }
     None
-}
-
-/// The number of the line behind the last one, counted from 1.
-pub fn line_behind(input: &[u8]) -> u32
-    requires { length input.now + 2 < 2 ^ 32 }
-    ensures { result ≡ line_behind input.now }
-{
-    let mut lines = 1;
-    let mut begun = false;
-    for byte in input {
-        begun = *byte != b'\n';
-        if !begun {
-            lines += 1;
-        }
-    }
-    if begun { lines + 1 } else { lines }
 }

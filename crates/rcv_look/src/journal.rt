@@ -8,10 +8,10 @@ ghost use Rattle.rcv_session.specs.Session.{rules_of};
 ghost use Rattle.rcv_look.specs.Cutting.{cut_of};
 ghost use Rattle.rcv_look.specs.Outcome.{IsVerdict, IsTextAnswer, IsBundleAnswer, IsJournalAnswer};
 
-use crate::cut::{Cut, cut_of, line_behind};
+use crate::cut::{Cut, cut_of};
 use crate::draw::draw;
 use crate::input::MOST_OF_BUNDLE;
-use crate::lines::{illegal, malformed, refuse};
+use crate::lines::{illegal, malformed, no_journal, refuse};
 use crate::output::Output;
 use crate::status::Status;
 use rcv_core::book::Book;
@@ -32,7 +32,7 @@ pub fn journal_answer(alloc: Global, input: &[u8]) -> Result<Output, AllocError>
 {
     match cut_of(input) {
         Some(cut) => cut_answer(alloc, input, cut),
-        None => malformed(alloc, u64::from(line_behind(input))),
+        None => no_journal(alloc, 1 + line_feeds(input)),
     }
 }
 
@@ -50,65 +50,81 @@ fn cut_answer(alloc: Global, input: &[u8], cut: Cut) -> Result<Output, AllocErro
             bytes: Vec::new(alloc),
         });
     }
-    bundle_answer(alloc, &input[..cut.end], &input[cut.behind..])
+    let feeds = line_feeds(&input[..cut.behind]);
+    bundle_answer(alloc, &input[..cut.end], &input[cut.behind..], feeds)
 }
 
-// What is answered to a bundle with this text behind it.
-fn bundle_answer(alloc: Global, bundle: &[u8], text: &[u8]) -> Result<Output, AllocError>
+// What is answered to a bundle with this text behind it, and so many line feeds before the text.
+fn bundle_answer(
+    alloc: Global,
+    bundle: &[u8],
+    text: &[u8],
+    feeds: u32,
+) -> Result<Output, AllocError>
     requires bundle { length bundle.now ≤ 1048576 }
     requires text { length text.now ≤ 134217728 }
-    ensures { IfOk result (λ output. IsBundleAnswer bundle.now text.now output.status output.bytes.items) }
+    requires feeds { feeds ≤ 134217728 }
+    ensures { IfOk result (λ output. IsBundleAnswer bundle.now text.now feeds output.status output.bytes.items) }
 {
-    // The line of the separator.
-    let line = 1 + line_feeds(bundle);
     match read_input(alloc, bundle) {
-        Ok(taken) => text_answer(alloc, taken, text, line),
+        Ok(taken) => text_answer(alloc, taken, text, feeds),
         Err(error) => refuse(alloc, error),
     }
 }
 
-// What is answered to the text behind this line.
-fn text_answer(alloc: Global, taken: Input, text: &[u8], line: u32) -> Result<Output, AllocError>
+// What is answered to the text behind so many line feeds.
+fn text_answer(alloc: Global, taken: Input, text: &[u8], feeds: u32) -> Result<Output, AllocError>
     requires belong { AreScriptsFor taken.accepted.protocol taken.scripts }
     requires planned { IsPlanned (length taken.accepted.protocol.roles) taken.plan }
     requires text { length text.now ≤ 134217728 }
+    requires feeds { feeds ≤ 134217728 }
     ensures { IfOk result (λ output. IsTextAnswer
         (record { protocol = taken.accepted.protocol; scripts = taken.scripts.lines; plan = taken.plan })
-        text.now line output.status output.bytes.items) }
+        text.now feeds output.status output.bytes.items) }
 {
     let setup = Setup::new(alloc, taken.accepted, taken.scripts, taken.plan)?;
     match read_text(alloc, text, setup.accepted()) {
-        Ok(journal) => verdict(alloc, &setup, &journal, line),
-        Err(LinesError::Line(number)) => malformed(alloc, u64::from(line) + u64::from(number)),
+        Ok(journal) => verdict(alloc, &setup, &journal, feeds),
+        Err(LinesError::Line(number)) => malformed(alloc, feeds + number),
         Err(LinesError::Memory) => Err(AllocError),
     }
 }
 
-// What is answered to a journal of the form behind this line.
-fn verdict(alloc: Global, setup: &Setup, journal: &Journal, line: u32) -> Result<Output, AllocError>
+// What is answered to a journal of the form behind so many line feeds.
+fn verdict(
+    alloc: Global,
+    setup: &Setup,
+    journal: &Journal,
+    feeds: u32,
+) -> Result<Output, AllocError>
     requires { length journal.now.entries < 2 ^ 32 }
-    ensures { IfOk result (λ output. IsVerdict setup.now journal.now line output.status output.bytes.items) }
+    ensures { IfOk result (λ output. IsVerdict setup.now journal.now feeds output.status output.bytes.items) }
 {
     match judge(alloc, setup, journal.entries.as_slice()) {
-        Ok(book) => close(alloc, &book, journal, line),
+        Ok(book) => close(alloc, &book, journal, feeds),
         Err(JudgeError::Entry(number)) => {
-            illegal(alloc, u64::from(line) + 1 + u64::from(number))
+            illegal(alloc, u64::from(feeds) + 1 + u64::from(number))
         }
         Err(JudgeError::Memory) => Err(AllocError),
     }
 }
 
 // What is answered to a journal with these entries.
-fn close(alloc: Global, book: &Book<'_>, journal: &Journal, line: u32) -> Result<Output, AllocError>
+fn close(
+    alloc: Global,
+    book: &Book<'_>,
+    journal: &Journal,
+    feeds: u32,
+) -> Result<Output, AllocError>
     requires entries { book.now.entries ≡ journal.now.entries }
     requires few { length journal.now.entries < 2 ^ 32 }
     requires legal { IsLegal (rules_of book.now.setup) book.now.entries }
-    ensures { IfOk result (λ output. IsVerdict book.now.setup journal.now line output.status output.bytes.items) }
+    ensures { IfOk result (λ output. IsVerdict book.now.setup journal.now feeds output.status output.bytes.items) }
 {
     let wrong = wrong_closing(alloc, book, journal)?;
     match wrong {
         Some(number) => {
-            let entries = u64::from(line) + 1 + book.len() as u64;
+            let entries = u64::from(feeds) + 1 + book.len() as u64;
             illegal(alloc, entries + u64::from(number))
         }
         None => Ok(Output {

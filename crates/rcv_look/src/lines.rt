@@ -4,7 +4,7 @@ ghost use Rattle.std.specs.Prelude.{◌≡◌, ◌++◌, decimal, codes, IfOk};
 ghost use Rattle.rcv_input.specs.declared.refused.Refused as refusals;
 ghost use Rattle.rcv_input.specs.Line.{refusal_line};
 ghost use Rattle.rcv_look.specs.Drawing.{no_rule_line};
-ghost use Rattle.rcv_look.specs.Outcome.{malformed_line, illegal_line};
+ghost use Rattle.rcv_look.specs.Outcome.{no_journal_line, malformed_line, illegal_line};
 
 use crate::output::Output;
 use crate::status::Status;
@@ -23,15 +23,20 @@ fn numbered(alloc: Global, words: &[u8], number: u64) -> Result<Vec<u8>, AllocEr
     Ok(text)
 }
 
+/// Says that an input which ends at this line has no line `%% journal`.
+pub fn no_journal(alloc: Global, line: u32) -> Result<Output, AllocError>
+    ensures status { IfOk result (λ output. output.status ≡ Status.Refused) }
+    ensures bytes { IfOk result (λ output. output.bytes.items ≡ no_journal_line line) }
+{
+    refused(alloc, &Refused::Line { code: 50, line })
+}
+
 /// Says the line of the input at which a journal isn't of the form.
-pub fn malformed(alloc: Global, line: u64) -> Result<Output, AllocError>
+pub fn malformed(alloc: Global, line: u32) -> Result<Output, AllocError>
     ensures status { IfOk result (λ output. output.status ≡ Status.Refused) }
     ensures bytes { IfOk result (λ output. output.bytes.items ≡ malformed_line line) }
 {
-    Ok(Output {
-        status: Status::Refused,
-        bytes: numbered(alloc, b"refused 50 Journal line ", line)?,
-    })
+    refused(alloc, &Refused::Line { code: 51, line })
 }
 
 /// Says the line of the input at which a journal of the form isn't legal.

@@ -129,7 +129,7 @@ two_lines : crash_line_count rules ≡ 2
 two_lines = refl
 
 -- its crashes are transparent
-blind : (r : ℕ) → AreBlind (scripts r)
+pub blind : (r : ℕ) → AreBlind (scripts r)
 blind zero = ((tt, tt), (tt, tt, tt))
 blind (suc zero) = ((tt, tt), tt)
 blind (suc (suc r)) = tt
@@ -188,7 +188,7 @@ feed_decided = decided feed 4 feed_form
 one : (concerned : RoleSet) (kept : List ℕ) (undone : ℕ) → May rules s5 (Recover 1 concerned kept undone) → Recover 1 concerned kept undone ≡ first_recover
 one concerned kept undone may = one_recovery rules s5 1 concerned _ kept _ undone _ may b_recovers
 
-feed_full : IsFull [] [] feed
+pub feed_full : IsFull [] [] feed
 feed_full = ((λ n. n), (((λ n. n), (inl refl, (λ n. n), tt), ((λ n. n), tt, tt)), tt), tt)
 
 at_the_end : (s : Spot) → spot_of feed 6 ≡ Some s → (offers_at s ≡ []) ↔ IsEndIn s.frames s.left
@@ -344,7 +344,7 @@ alike : UsedAlike net (reading rules journal) (reading (without_crashes rules) c
 alike = used_alike net (reading rules journal) (reading (without_crashes rules) calm.0) same.1 0 1
 
 -- no rule fails of the text, its choice's subject being the sender of both first points
-feed_subjects : HasSubjects feed
+pub feed_subjects : HasSubjects feed
 feed_subjects s p (inl a) = from_a p (offers_complete (record { left = feed; frames = [] }) p (loop a.1)) ∙ a.0
   where
     from_a : (p : ℕ) → IsIn p (1 ∷ 4 ∷ []) → net.sender p ≡ 0

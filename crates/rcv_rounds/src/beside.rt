@@ -4,6 +4,7 @@ use crate::flag::Flag;
 use crate::inputs::setup_of;
 use rcv_core::book::Book;
 use rcv_core::outcome::Outcome;
+use rcv_core::setup::Setup;
 use rcv_journal::text::text_of;
 use rcv_super::session::{Session, Turn};
 use rcv_top::Gate;
@@ -85,21 +86,32 @@ fn journal<R: AllocGlobal + Threads + Sync>(
     rt: &R,
     gate: &Both,
 ) -> Result<Option<String>, AllocError> {
-    let alloc = rt.alloc();
-    let Some(setup) = setup_of(alloc, BESIDE)? else {
-        return Ok(None);
-    };
-    let mut session = Session::new(alloc, &setup)?;
+    match setup_of(rt.alloc(), BESIDE)? {
+        Some(setup) => journal_in(rt, &setup, gate),
+        None => Ok(None),
+    }
+}
+
+// The same of the session of a setup.
+fn journal_in<R: AllocGlobal + Threads + Sync>(
+    rt: &R,
+    setup: &Setup,
+    gate: &Both,
+) -> Result<Option<String>, AllocError> {
+    let mut session = Session::new(rt.alloc(), setup)?;
+    turn_to_end(rt, &mut session, gate);
+    limited_text(rt.alloc(), session.book())
+}
+
+fn turn_to_end<R: AllocGlobal + Threads + Sync>(rt: &R, session: &mut Session<'_>, gate: &Both) {
     for _ in 0..TURNS {
-        let turn = session.turn(rt, alloc, 2, gate);
-        if turn != Ok(Turn::More) {
-            break;
+        if session.turn(rt, rt.alloc(), 2, gate) != Ok(Turn::More) {
+            return;
         }
         if has_crash(session.book()) {
             gate.crashed.set();
         }
     }
-    limited_text(alloc, session.book())
 }
 
 // Whether a book has a crash.

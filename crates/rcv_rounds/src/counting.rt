@@ -3,6 +3,7 @@
 use crate::alone::completes;
 use crate::inputs::{PING, setup_of};
 use rcv_core::book::Book;
+use rcv_core::setup::Setup;
 use rcv_super::session::{Session, Turn};
 use rcv_top::{Gate, NoGate};
 use rcv_tree::entry::Entry;
@@ -53,24 +54,38 @@ fn counts(book: &Book<'_>, before: usize) -> (usize, usize) {
 // Turns a session of Ping to its end with one worker, behind a first turn of several or of none, and says whether it
 // completes with recoveries and each entry passed the gate once.
 fn passes_once<R: AllocGlobal + Threads + Sync>(rt: &R, several: bool) -> Result<bool, AllocError> {
-    let alloc = rt.alloc();
-    let Some(setup) = setup_of(alloc, PING)? else {
-        return Ok(false);
-    };
-    let mut session = Session::new(alloc, &setup)?;
-    if several && session.turn(rt, alloc, 2, &NoGate) != Ok(Turn::More) {
-        return Ok(false);
+    match setup_of(rt.alloc(), PING)? {
+        Some(setup) => passes_in(rt, &setup, several),
+        None => Ok(false),
+    }
+}
+
+// The same of a session of a setup.
+fn passes_in<R: AllocGlobal + Threads + Sync>(
+    rt: &R,
+    setup: &Setup,
+    several: bool,
+) -> Result<bool, AllocError> {
+    let mut session = Session::new(rt.alloc(), setup)?;
+    Ok(passes(rt, &mut session, several))
+}
+
+fn passes<R: AllocGlobal + Threads + Sync>(
+    rt: &R,
+    session: &mut Session<'_>,
+    several: bool,
+) -> bool {
+    if several && session.turn(rt, rt.alloc(), 2, &NoGate) != Ok(Turn::More) {
+        return false;
     }
     let before = session.book().len();
     let gate = Counter::new();
-    let completed = completes(rt, &mut session, &gate) == Ok(true);
+    let completed = completes(rt, session, &gate) == Ok(true);
     let (recoveries, steps) = counts(session.book(), before);
-    Ok(
-        completed
-            && recoveries > 0
-            && gate.recoveries.load(Ordering::SeqCst) == recoveries as u64
-            && gate.steps.load(Ordering::SeqCst) == steps as u64,
-    )
+    completed
+        && recoveries > 0
+        && gate.recoveries.load(Ordering::SeqCst) == recoveries as u64
+        && gate.steps.load(Ordering::SeqCst) == steps as u64
 }
 
 #[test]

@@ -7,6 +7,8 @@ ghost use Rattle.rcv_session.specs.Session.{roles_of};
 use crate::alone::{TURNS, completes};
 use crate::inputs::{TWO_BUYER, setup_of};
 use rcv_core::book::Book;
+use rcv_core::outcome::Outcome;
+use rcv_core::setup::Setup;
 use rcv_super::session::{Session, SessionError, Turn};
 use rcv_top::NoGate;
 use rcv_tree::entry::Entry;
@@ -121,19 +123,45 @@ fn keeps_by_turns<R: AllocGlobal + Threads + Sync>(
     input: &[u8],
     wanted: usize,
 ) -> Result<bool, AllocError> {
-    let alloc = rt.alloc();
-    let Some(setup) = setup_of(alloc, input)? else {
-        return Ok(false);
-    };
-    let mut alone = Session::new(alloc, &setup)?;
-    let mut turned = Session::new(alloc, &setup)?;
-    let completed = completes(rt, &mut alone, &NoGate) == Ok(true)
-        && completes_by_turns(rt, &mut turned) == Ok(true);
-    Ok(
-        completed
-            && recoveries(turned.book()) == wanted
-            && keep_the_same(alone.book(), turned.book()),
-    )
+    match setup_of(rt.alloc(), input)? {
+        Some(setup) => keeps_in(rt, &setup, wanted),
+        None => Ok(false),
+    }
+}
+
+// The same of the sessions of a setup: what one worker keeps comes first.
+fn keeps_in<R: AllocGlobal + Threads + Sync>(
+    rt: &R,
+    setup: &Setup,
+    wanted: usize,
+) -> Result<bool, AllocError> {
+    let mut alone = Session::new(rt.alloc(), setup)?;
+    let _completed = completes(rt, &mut alone, &NoGate);
+    keeps_beside(rt, setup, alone.book(), wanted)
+}
+
+// And then what is kept by turns.
+fn keeps_beside<R: AllocGlobal + Threads + Sync>(
+    rt: &R,
+    setup: &Setup,
+    alone: &Book<'_>,
+    wanted: usize,
+) -> Result<bool, AllocError> {
+    let mut turned = Session::new(rt.alloc(), setup)?;
+    let _completed = completes_by_turns(rt, &mut turned);
+    Ok(keep_both(alone, turned.book(), wanted))
+}
+
+// Whether two books are complete and keep the same, the second one behind so many recoveries.
+fn keep_both(alone: &Book<'_>, turned: &Book<'_>, wanted: usize) -> bool {
+    is_complete(alone)
+        && is_complete(turned)
+        && recoveries(turned) == wanted
+        && keep_the_same(alone, turned)
+}
+
+fn is_complete(book: &Book<'_>) -> bool {
+    matches!(book.final_state(), Outcome::Completed)
 }
 
 #[test]

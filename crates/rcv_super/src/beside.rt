@@ -34,7 +34,7 @@ fn run_place<'a, G: Gate>(place: &mut Option<Lane<'a>>, gate: &G)
     }
 }
 
-// The cells of a half run on so many threads.
+// The cells of a half run on at most so many threads.
 fn run_half<'a, G: Gate, R: Threads + Sync>(
     rt: &R,
     half: &mut [Option<Lane<'a>>],

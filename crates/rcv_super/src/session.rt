@@ -21,6 +21,7 @@ use rcv_tree::role::RoleId;
 use std::alloc::{AllocError, Global};
 use std::marker::Model;
 use std::thread::Threads;
+use thiserror::Error;
 
 /// A book, and the cells of its roles. Contracts see the book, and whether want of memory closed the session.
 #[derive(Drop)]
@@ -64,11 +65,13 @@ pub enum Turn {
 }
 
 /// Why a turn, a run to the end or a recovery failed.
-#[derive(Clone, Copy, Debug, PartialEq, Eq)]
+#[derive(Clone, Copy, Debug, PartialEq, Eq, Error)]
 pub enum SessionError {
     /// An earlier call found no memory.
+    #[error("the session is closed: an earlier call found no memory")]
     Closed,
     /// There is no memory. The session is closed from then on.
+    #[error("no memory is left, and the session is closed from now on")]
     Memory,
 }
 
@@ -106,7 +109,8 @@ impl<'a> Session<'a> {
     /// where there is work for them: behind a turn on threads that added fewer than 8 entries, the cells run on the
     /// caller's thread alone for the next 16 such turns. Where a role is crashed, the least such one recovers on one of
     /// the threads, while the cells that aren't concerned run on the others, and its Recover is added before what they
-    /// did.
+    /// did. Of a turn with several workers the clause says that legal entries were added, at least one, and first the
+    /// Recover of the least crashed role; not that a round was made.
     ///
     /// The gate is called before each step that a role attempts and before a recovery moves anything, on the thread
     /// that does it.

@@ -28,7 +28,9 @@ use Rattle.rcv_model.proofs.Same.{one_next}
 use Rattle.rcv_model.proofs.Session.{net, feed_proper, feed_accepted, rules, before, first_recover, meanwhile, rest, s0, s5, s6, s20, b_recovers, journal_legal}
 use Rattle.rcv_model.proofs.Stepping.{calm_by, due_not}
 use Rattle.rcv_model.proofs.Undoing.{put_same}
+use Rattle.rcv_model.proofs.HostSession as host
 use Rattle.rcv_theory.specs.Bystander.{KeepsAll}
+use Rattle.rcv_theory.specs.Foreseen.{IsSparedOrForeseen}
 use Rattle.rcv_theory.specs.Counts.{IsGreatestClosed, kept_counts, capped, IsLowered, IsLowest}
 use Rattle.rcv_theory.specs.Expected.{IsExpected}
 use Rattle.rcv_theory.specs.BystanderLaws.{IsRoundBeside}
@@ -40,6 +42,7 @@ use Rattle.rcv_theory.proofs.BesideRounds.{legal_front, beside_recovery}
 use Rattle.rcv_theory.proofs.Besides.{keeps}
 use Rattle.rcv_theory.proofs.Counting.{lost_of_group, lost_of_one, begins, ends, greatest_kept, reaches}
 use Rattle.rcv_theory.proofs.Expecting.{unexpected}
+use Rattle.rcv_theory.proofs.Foreseeing.{recoveries_are_foreseen}
 use Rattle.rcv_theory.proofs.Following.{follows_log, bystander_follows, concerned_goes_back}
 use Rattle.rcv_theory.proofs.Merging.{kept_log, legal_join, merged_round}
 use Rattle.rcv_theory.proofs.Owning.{logs_by_own, after_own, through_log, own_recovery}
@@ -327,6 +330,16 @@ c_keeps : KeepsAll (net_of four) q4 (after apart_rules q4 apart_recover) 0
 c_keeps =
     let run = accepted_runs apart_rules apart_journal four_proper four_accepted apart_legal apart_front (drop 4 apart_journal) refl in
     keeps apart_rules q4 2 0 (record { 0 = 14 }) (replicate 8 0) 2 four_proper run apart_recovers (omega arith) (λ e. cc)
+
+-- where B and D share a host, B's recovery spares A, and C and D restart where the table says
+host_session : IsSession host.rules
+host_session = record { proper = feed_proper; accepted = feed_accepted }
+
+host_foreseen : (q : ℕ) → q < 8 → IsSparedOrForeseen host.rules (reading host.rules host.front) (reading host.rules (host.front ++ host.back ∷ [])) 1 (record { 0 = 14 }) q
+host_foreseen = recoveries_are_foreseen host.rules host.front host.rest 1 (record { 0 = 14 }) (replicate 8 0) 4 host_session host.legal
+
+host_spares_a : KeepsAll net (reading host.rules host.front) (reading host.rules (host.front ++ host.back ∷ [])) 0
+host_spares_a = (host_foreseen 0 (omega arith)).spared (λ e. cc)
 
 -- B's Recv is lost, as one of the group's own and as B's own
 b_lost : (e : Event) × (slice_get s5.kept 1 ≡ Some e) × IsIn e.role (group_of rules 1) × (durable rules s5 e.role ≤ length (acts e.role (take 1 s5.kept)))

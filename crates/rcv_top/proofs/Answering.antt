@@ -1,5 +1,5 @@
 -- What the top call says, from what it read and wrote.
-use Rattle.std.proofs.Common.{◌≡◌, ℕ, Bool, Some, None, Option, List, [], ◌∷◌, ◌++◌, length, refl, sym, ◌∙◌, ap, subst, ◌⊎◌, inl, inr, ⊎_elim, append-nil, arith}
+use Rattle.std.proofs.Common.{◌≡◌, ℕ, Bool, Some, None, Option, List, [], length, refl, sym, ◌∙◌, ap, subst, ◌⊎◌, inl, inr, ⊎_elim, append-nil, arith}
 use Rattle.std.specs.Prelude.{◌<◌, ◌≤◌, Result, Ok, Err, Vec}
 use Rattle.std.proofs.lemmas.Bool.{cases_lt}
 use Rattle.std.specs.declared.alloc.Global.{Global}
@@ -9,18 +9,17 @@ use Rattle.rcv_io.specs.declared.fault.ReadError.TheVariants as errors
 use Rattle.rcv_io.specs.Causes.{Rose}
 use Rattle.rcv_io.specs.Source.{Took, ReadsWhole}
 use Rattle.rcv_tree.specs.declared.entry.Entry.{Entry}
-use Rattle.rcv_tree.specs.declared.entry.Entry.TheVariants.{Recover}
-use Rattle.rcv_tree.specs.declared.role.RoleSet.{RoleSet}
-use Rattle.rcv_model.specs.Run.{IsRun}
-use Rattle.rcv_model.specs.Text.{body_of}
-use Rattle.rcv_model.specs.Undo.{bound_of}
-use Rattle.rcv_model.specs.Journal.{Rules, State, start, durable, group_of, reading, IsLegal}
+use Rattle.rcv_model.specs.Net.{Net}
+use Rattle.rcv_model.specs.Next.{IsProper, IsAccepted}
+use Rattle.rcv_model.specs.Text.{Body, body_of}
+use Rattle.rcv_model.specs.Premises.{IsSession, IsSessionOf}
+use Rattle.rcv_model.specs.Journal.{Rules, State, reading, IsLegal}
 use Rattle.rcv_model.specs.Final.{IsFinal}
-use Rattle.rcv_model.proofs.Cuts.{undo_exactly}
 use Rattle.rcv_model.proofs.Forms.{proper}
 use Rattle.rcv_model.proofs.Legal.{accepted_runs}
 use Rattle.rcv_model.proofs.Reached.{reach}
-use Rattle.rcv_model.proofs.StableLines.{reading_join}
+use Rattle.rcv_model.proofs.Telling.{tells_right}
+use Rattle.rcv_theory.proofs.Foreseeing.{recoveries_are_foreseen}
 use Rattle.rcv_accept.specs.Accepted.{IsAcceptedProtocol}
 use Rattle.rcv_session.specs.Session.{SessionView, rules_of}
 use Rattle.rcv_top.specs.declared.status.Status.{Status}
@@ -31,7 +30,7 @@ use Rattle.rcv_top.specs.Inputs.{ReadNothing, HasGot}
 use Rattle.rcv_top.specs.Running.{EndsAs, all_done, at_limit, IsSomeRun}
 use Rattle.rcv_top.specs.Outcome.{usage_line, most_bytes, Makes, IsAnswer, IsOutcome, usage, too_long, answered as answered_so, refused, made}
 use Rattle.rcv_top.specs.Laws.{SessionsAreLegal}
-use Rattle.rcv_top.specs.Headline.{IsExactRecovery, IsHeadline}
+use Rattle.rcv_top.specs.Headline.{IsHeadline}
 use Rattle.rcv_top.proofs.Asking.{one_command, text_given, gen_asks, none_asks}
 use Rattle.rcv_top.specs.Calls.{Around, Answers, TellsFault, WroteNothing, source_of, HasTaken, IsInput, TakesTooMuch, WantsMemory, FailsToRead, Says, WritesLegalJournal}
 use Rattle.rcv_top.specs.Writing.{Wrote}
@@ -127,24 +126,26 @@ no_read_fault m n later same = ⊎_elim (λ more. absurd (same more)) (λ few. o
 
 -- ---- the headline
 
--- a final legal journal of an accepted protocol is what the headline says
-pub headline_of : (session : SessionView) (journal : List Entry) → IsAcceptedProtocol session.protocol → IsLegal (rules_of session) journal → IsFinal (rules_of session) (reading (rules_of session) journal) → IsHeadline (rules_of session) journal
-headline_of session journal lawful legal final = record {
+-- a final legal journal of an accepted text is what the headline says
+pub headline_by : (rules : Rules) (body : Body) (journal : List Entry) → IsSessionOf rules body → IsLegal rules journal → IsFinal rules (reading rules journal) → IsHeadline rules journal
+headline_by rules body journal of_text legal final = record {
   legal = legal;
-  runs = λ front back e. run front back e;
-  reaches = λ front back e. reach (rules_of session) (body_of session.protocol.body) front back refl lawful.form lawful.accepted (subst (IsLegal (rules_of session)) (sym e) legal);
-  undoes = λ front back p concerned kept undone e. exact front (Recover p concerned kept undone ∷ back) p concerned kept undone e;
+  runs = accepted_runs rules journal is_session.proper is_session.accepted legal;
+  reaches = λ front back e. reach rules body front back of_text.net of_text.form of_text.accepted (subst (IsLegal rules) (sym e) legal);
+  undoes = λ front back p concerned kept undone e. tells_right rules front back p concerned kept undone (subst (IsLegal rules) (sym e) legal);
+  spares = λ front back p concerned kept undone e. recoveries_are_foreseen rules front back p concerned kept undone is_session (subst (IsLegal rules) (sym e) legal);
   final = final;
 }
   where
-    run : (front back : List Entry) → front ++ back ≡ journal → IsRun (rules_of session).net (reading (rules_of session) front).kept
-    run front back e = accepted_runs (rules_of session) journal (proper (body_of session.protocol.body) (length session.protocol.roles) lawful.form) lawful.accepted legal front back e
+    is_session : IsSession rules
+    is_session = record {
+      proper = subst (λ (n : Net). IsProper n rules.roles) (sym of_text.net) (proper body rules.roles of_text.form);
+      accepted = subst (λ (n : Net). IsAccepted n rules.roles) (sym of_text.net) of_text.accepted;
+    }
 
-    exact : (front rest : List Entry) (p : ℕ) (concerned : RoleSet) (kept : List ℕ) (undone : ℕ) → front ++ rest ≡ journal → IsExactRecovery (rules_of session) (reading (rules_of session) front) (reading (rules_of session) (front ++ Recover p concerned kept undone ∷ [])) p
-    exact front rest p concerned kept undone e =
-        let before = reading (rules_of session) front in
-        let sets = undo_exactly (rules_of session).net (bound_of (group_of (rules_of session) p) (durable (rules_of session) before) before.kept) before.kept (run front rest e).1.queued in
-        record { has = sets.0; exact = sets.1; left = ap (λ s. s.kept) (reading_join (rules_of session) (start (length session.protocol.roles)) front (Recover p concerned kept undone ∷ [])) }
+-- and of an accepted protocol
+pub headline_of : (session : SessionView) (journal : List Entry) → IsAcceptedProtocol session.protocol → IsLegal (rules_of session) journal → IsFinal (rules_of session) (reading (rules_of session) journal) → IsHeadline (rules_of session) journal
+headline_of session journal lawful = headline_by (rules_of session) (body_of session.protocol.body) journal (record { net = refl; form = lawful.form; accepted = lawful.accepted })
 
 pub session_headline : SessionsAreLegal
 session_headline json input session journal status bytes taken held = headline_of session journal taken.protocol.accepted held.legal held.final

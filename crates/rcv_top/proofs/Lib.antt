@@ -14,3 +14,4 @@ pub mod Again
 pub mod Traceless
 mod Examples
 mod Unseen
+mod HostHeadline

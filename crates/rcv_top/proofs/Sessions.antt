@@ -1,5 +1,5 @@
 -- What a command makes of a session is the answer to its input.
-use Rattle.std.proofs.Common.{◌≡◌, ℕ, Bool, false, List, [], refl, sym, ◌∙◌, ap, subst}
+use Rattle.std.proofs.Common.{◌≡◌, ℕ, Bool, false, List, [], sym, ◌∙◌, ap, subst}
 use Rattle.std.specs.Prelude.{Result, Ok, Err, IfOk}
 use Rattle.rcv_tree.specs.declared.entry.Entry.{Entry}
 use Rattle.rcv_model.specs.Final.{IsOneThread}
@@ -14,7 +14,7 @@ use Rattle.rcv_input.specs.Line.{refusal_line}
 use Rattle.rcv_core.specs.Book.{BookView, EndsAlone}
 use Rattle.rcv_super.specs.Super.{SuperView}
 use Rattle.rcv_words.specs.Commands.{CommandView}
-use Rattle.rcv_super.specs.Finish.{HasFinished}
+use Rattle.rcv_top.specs.Finishing.{FinishesAs}
 use Rattle.rcv_top.specs.declared.status.Status.TheVariants as statuses
 use Rattle.rcv_top.specs.declared.status.Status.{Status}
 use Rattle.rcv_top.specs.declared.output.Output.{Output}
@@ -29,43 +29,36 @@ pub record Ended (session : SessionView) (book : BookView) : Type 0 where
   pub is : book ≡ record { setup = session; entries = journal }
   pub alone : IsOneThread (rules_of session) journal
 
-pub ended : (session setup : SessionView) (first last : BookView) → setup ≡ session → first ≡ record { setup = setup; entries = [] } → EndsAlone first last → Ended session last
-ended session setup first last which empty ends = record { journal = here.more; is = here.added; alone = here.alone }
+pub ended : (session : SessionView) (first last : BookView) → first ≡ record { setup = session; entries = [] } → EndsAlone first last → Ended session last
+ended session first last empty ends = record { journal = here.more; is = here.added; alone = here.alone }
   where
-    begin : first ≡ record { setup = session; entries = [] }
-    begin = empty ∙ ap (λ (s : SessionView). record { setup = s; entries = [] }) which
-
     here : EndsAlone (record { setup = session; entries = [] }) last
-    here = subst (λ (b : BookView). EndsAlone b last) begin ends
+    here = subst (λ (b : BookView). EndsAlone b last) empty ends
 
 -- its journal is the one of one thread
 one_run : (json : Bool) (session : SessionView) (book : BookView) (status : Status) (bytes : List ℕ) → Ended session book → IsJournalOf json book.setup book.entries status bytes → IsOneThreadRun json session status bytes
 one_run json session book status bytes e held = record { journal = e.journal; is_journal = subst (λ (b : BookView). IsJournalOf json b.setup b.entries status bytes) e.is held; alone = e.alone }
 
 -- what workers brought to its end
-pub run_of : (workers : ℕ) (json : Bool) (session setup : SessionView) (first last : BookView) (status : Status) (bytes : List ℕ) → setup ≡ session → first ≡ record { setup = setup; entries = [] } → HasFinished workers first last → IsJournalOf json last.setup last.entries status bytes → IsRunOf workers json session status bytes
-run_of workers json session setup first last status bytes which empty finished held = record {
-  some = record { journal = last.entries; is_journal = subst (λ (s : SessionView). IsJournalOf json s last.entries status bytes) same held };
-  alone = λ one. one_run json session last status bytes (ended session setup first last which empty (finished.alone one)) held;
+run_of : (workers : ℕ) (json : Bool) (session : SessionView) (first : BookView) (status : Status) (bytes : List ℕ) → first ≡ record { setup = session; entries = [] } → FinishesAs workers json first status bytes → IsRunOf workers json session status bytes
+run_of workers json session first status bytes empty done = record {
+  some = record { journal = done.last.entries; is_journal = subst (λ (s : SessionView). IsJournalOf json s done.last.entries status bytes) same done.is_journal };
+  alone = λ one. one_run json session done.last status bytes (ended session first done.last empty (done.finished.alone one)) done.is_journal;
 }
   where
-    same : last.setup ≡ session
-    same = ap (λ (b : BookView). b.setup) finished.added ∙ ap (λ (b : BookView). b.setup) empty ∙ which
+    same : done.last.setup ≡ session
+    same = ap (λ (b : BookView). b.setup) done.finished.added ∙ ap (λ (b : BookView). b.setup) empty
 
 -- the same of a session's book
-pub ran : (workers : ℕ) (json : Bool) (session setup : SessionView) (first : SuperView) (last book : BookView) → setup ≡ session
-    → first ≡ record { book = record { setup = setup; entries = [] }; closed = false } → HasFinished workers first.book last → book ≡ last
-    → (status : Status) (bytes : List ℕ) → IsJournalOf json book.setup book.entries status bytes → IsRunOf workers json session status bytes
-ran workers json session setup first last book which empty finished same status bytes held =
-    run_of workers json session setup first.book last status bytes which (ap (λ (v : SuperView). v.book) empty) finished
-    (subst (λ (b : BookView). IsJournalOf json b.setup b.entries status bytes) same held)
+pub ran : (workers : ℕ) (json : Bool) (session : SessionView) (first : SuperView) → first ≡ record { book = record { setup = session; entries = [] }; closed = false }
+    → (status : Status) (bytes : List ℕ) → FinishesAs workers json first.book status bytes → IsRunOf workers json session status bytes
+ran workers json session first empty status bytes = run_of workers json session first.book status bytes (ap (λ (v : SuperView). v.book) empty)
 
 -- the summary of what a book alone brought to its end
-pub summed : (number : ℕ) (session setup : SessionView) (first last : BookView) (status : Status) (bytes : List ℕ) → setup ≡ session
-    → first ≡ record { setup = setup; entries = [] } → EndsAlone first last
+pub summed : (number : ℕ) (session : SessionView) (first last : BookView) (status : Status) (bytes : List ℕ) → first ≡ record { setup = session; entries = [] } → EndsAlone first last
     → IsSummaryOf last.setup last.entries number bytes → status ≡ statuses.Completed → IsSummaryRun number session status bytes
-summed number session setup first last status bytes which empty ends summary completed =
-    let e = ended session setup first last which empty ends in
+summed number session first last status bytes empty ends summary completed =
+    let e = ended session first last empty ends in
     let law = one_journal (rules_of session) e.journal e.journal in
     record {
       journal = e.journal;

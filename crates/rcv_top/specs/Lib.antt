@@ -1,6 +1,7 @@
 pub mod Commands
 pub mod Writing
 pub mod Running
+pub mod Finishing
 pub mod Generating
 pub mod Projection
 pub mod Recovering

@@ -52,12 +52,21 @@ pub fn answer<R: Threads + Sync, K: Sink, G: Gate>(
     match read_input(alloc, input) {
         Ok(taken) => match command {
             Command::Run { workers, json } => { run(rt, alloc, taken, *workers, *json, sink, gate) }
-            Command::Check => put(sink, check(alloc, taken.accepted.protocol())),
-            Command::Project { role } => put(
-                sink,
-                project_role(alloc, &taken.accepted, role.as_slice()),
-            ),
-            Command::Table => put(sink, write_tables(alloc, &taken.accepted)),
+            Command::Check => {
+                let made = check(alloc, taken.accepted.protocol());
+                drop(taken);
+                put(sink, made)
+            }
+            Command::Project { role } => {
+                let made = project_role(alloc, &taken.accepted, role.as_slice());
+                drop(taken);
+                put(sink, made)
+            }
+            Command::Table => {
+                let made = write_tables(alloc, &taken.accepted);
+                drop(taken);
+                put(sink, made)
+            }
             Command::Gen { number } => put(sink, run_generated(alloc, taken, *number)),
         },
         Err(error) => put(sink, refuse(alloc, error)),

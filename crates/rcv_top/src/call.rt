@@ -43,9 +43,9 @@ const USAGE: &[u8] =
 /// `gen` reads nothing from the source, however the call ends.
 ///
 /// `run` without `--workers` asks for one worker. One worker writes the one journal of the session that one thread
-/// makes; several ones run the roles on as many threads, and which journal of the session they write may differ from
-/// call to call. Under `run`, `gate` is called before each step that a role attempts, and with a failed
-/// role before its recovery; the other commands don't call it.
+/// makes; several ones run the roles on at most as many threads, and which journal of the session they write may differ
+/// from call to call. Under `run`, `gate` is called before each step that a role attempts, and with a failed role before
+/// its recovery; the other commands don't call it.
 ///
 /// Where the session completed and no script reads the attempt, what each role kept and each channel carried is, but
 /// for stamps, what one thread makes of the session without its crash lines, which completes, too.

@@ -30,24 +30,29 @@ pub fn run_generated(alloc: Global, taken: Input, number: u32) -> Result<Output,
         output.status output.bytes.items) }
 {
     let setup = Setup::new(alloc, taken.accepted, taken.scripts, taken.plan)?;
-    let mut book = Book::new(alloc, &setup)?;
+    run_setup(alloc, &setup, number)
+}
+
+// Runs the session of a setup. The setup stays the caller's, who frees it at one place.
+fn run_setup(alloc: Global, setup: &Setup, number: u32) -> Result<Output, AllocError>
+    ensures { IfOk result (λ output. IsSummaryRun number setup.now output.status output.bytes.items) }
+{
+    let mut book = Book::new(alloc, setup)?;
     book.run_alone();
-    Ok(Output {
-        status: Status::Completed,
-        bytes: summary_of(alloc, &book, number)?,
-    })
+    summary_of(alloc, &book, number)
 }
 
 // The summary of a book's journal.
-fn summary_of(alloc: Global, book: &Book<'_>, number: u32) -> Result<Vec<u8>, AllocError>
-    ensures { IfOk result (λ bytes. IsSummaryOf book.now.setup book.now.entries number bytes.items) }
+fn summary_of(alloc: Global, book: &Book<'_>, number: u32) -> Result<Output, AllocError>
+    ensures { IfOk result (λ output. (output.status ≡ Status.Completed)
+        × IsSummaryOf book.now.setup book.now.entries number output.bytes.items) }
 {
     let setup = book.setup();
     // Tells the proof that there are at most eight roles.
     let _protocol = setup.protocol();
     let lines = lines_of(alloc, book)?;
     let last = last_line_of(alloc, setup, lines.as_slice())?;
-    summary(
+    let bytes = summary(
         alloc,
         number,
         setup.roles(),
@@ -55,7 +60,11 @@ fn summary_of(alloc: Global, book: &Book<'_>, number: u32) -> Result<Vec<u8>, Al
         book.entries(),
         kept_in(lines.as_slice()),
         last.as_slice(),
-    )
+    )?;
+    Ok(Output {
+        status: Status::Completed,
+        bytes,
+    })
 }
 
 // How many events the lines say are kept.

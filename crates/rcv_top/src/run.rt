@@ -1,11 +1,11 @@
 // What `run` answers: the journal of the session that workers ran to its end.
 
-ghost use Rattle.std.specs.Prelude.{◌≤◌, true, false, length, OnOk};
+ghost use Rattle.std.specs.Prelude.{◌≤◌, true, false, length};
 ghost use Rattle.rcv_session.specs.Session.{rules_of};
 ghost use Rattle.rcv_script.specs.Scripts.{AreScriptsFor};
 ghost use Rattle.rcv_plan.specs.Lines.{IsPlanned};
 ghost use Rattle.rcv_core.specs.Book.{state_of, IsAtEnd};
-ghost use Rattle.rcv_super.specs.Finish.{HasFinished};
+ghost use Rattle.rcv_top.specs.Finishing.{FinishesAs};
 ghost use Rattle.rcv_top.specs.Running.{EndsAs, EndsSo, IsJournalOf, IsRunOf};
 ghost use Rattle.rcv_top.specs.Writing.{Writes};
 
@@ -46,25 +46,49 @@ pub fn run<R: Threads + Sync, K: Sink, G: Gate>(
         (K.written sink.old) (K.written sink.new) (K.faults sink.old) (K.faults sink.new) result }
 {
     let setup = Setup::new(alloc, taken.accepted, taken.scripts, taken.plan)?;
-    let mut session = Session::new(alloc, &setup)?;
-    finish(rt, alloc, &mut session, workers, gate)?;
-    write_journal(alloc, session.book(), json, sink)
+    run_setup(rt, alloc, &setup, workers, json, sink, gate)
 }
 
-/// Brings a session to its end with so many workers, from 1 to 8. It fails where memory runs out.
-pub fn finish<R: Threads + Sync, G: Gate>(
+// Runs the session of a setup. The setup stays the caller's, who frees it at one place: a large value is freed field by
+// field at each place where its owner may return.
+fn run_setup<R: Threads + Sync, K: Sink, G: Gate>(
+    rt: &R,
+    alloc: Global,
+    setup: &Setup,
+    workers: u32,
+    json: bool,
+    sink: &mut K,
+    gate: &G,
+) -> Result<Status, AllocError>
+    requires least { 1 ≤ workers }
+    requires most { workers ≤ 8 }
+    ensures later { K.faults sink.old ≤ K.faults sink.new }
+    ensures runs { Writes (IsRunOf workers json setup.now)
+        (K.written sink.old) (K.written sink.new) (K.faults sink.old) (K.faults sink.new) result }
+{
+    let mut session = Session::new(alloc, setup)?;
+    finish(rt, alloc, &mut session, workers, json, sink, gate)
+}
+
+// Brings a session to its end with so many workers, and writes its journal. The session stays the caller's, as the setup
+// does.
+fn finish<R: Threads + Sync, K: Sink, G: Gate>(
     rt: &R,
     alloc: Global,
     session: &mut Session<'_>,
     workers: u32,
+    json: bool,
+    sink: &mut K,
     gate: &G,
-) -> Result<(), AllocError>
+) -> Result<Status, AllocError>
     requires least { 1 ≤ workers }
     requires most { workers ≤ 8 }
-    ensures { OnOk result (HasFinished workers session.old.book session.new.book) }
+    ensures later { K.faults sink.old ≤ K.faults sink.new }
+    ensures finishes { Writes (FinishesAs workers json session.old.book)
+        (K.written sink.old) (K.written sink.new) (K.faults sink.old) (K.faults sink.new) result }
 {
     match session.finish(rt, alloc, workers, gate) {
-        Ok(()) => Ok(()),
+        Ok(()) => write_journal(alloc, session.book(), json, sink),
         Err(_) => Err(AllocError),
     }
 }

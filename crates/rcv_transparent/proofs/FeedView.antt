@@ -43,7 +43,7 @@ branches = blocks_from (block_from go_on (omega arith) ∷ block_from stop (omeg
 abbrev choice : Block
 choice = block_from (stmt.Choice 0 branches ∷ []) (omega arith)
 
-abbrev whole : Block
+abbrev pub whole : Block
 whole = block_from (stmt.Rec (88 ∷ []) choice ∷ []) (omega arith)
 
 abbrev go_on_body : Body
@@ -67,7 +67,7 @@ its_branches =
 its_choice : body_of choice ≡ Choose 0 (Or go_on_body (Or stop_body NoMore)) End
 its_choice = block_says (stmt.Choice 0 branches ∷ []) (omega arith) ∙ stmt_body-Choice 0 branches End ∙ ap (λ bs. Choose 0 bs End) its_branches
 
-its_body : body_of whole ≡ feed
+pub its_body : body_of whole ≡ feed
 its_body = block_says (stmt.Rec (88 ∷ []) choice ∷ []) (omega arith) ∙ stmt_body-Rec (88 ∷ []) choice End ∙ ap (λ b. Loop (88 ∷ []) b End) its_choice
 
 -- ---- the session: A counts and stops, B and D crash

@@ -1,93 +1,83 @@
-// Canonical texts of small protocols.
+// The canonical text of what isn't read yet: blocks beside each other, and a call of another protocol. The worked cases
+// have all other forms.
 
-ghost use Rattle.std.specs.Prelude.{◌<◌, length};
-
-use crate::builders::{A, B, branches, names, one, protocol, read, stream, with_sorts};
-use rcv_lexer::token::TextError;
 use rcv_printer::print_protocol;
-use rcv_tree::name::Name;
-use rcv_tree::protocol::{Decl, Decls, Protocol};
-use rcv_tree::role::Roles;
-use rcv_tree::statement::{Block, Stmt};
+use rcv_tree::name::{Name, Names};
+use rcv_tree::point::Point;
+use rcv_tree::protocol::{Decls, Protocol};
+use rcv_tree::role::{RoleId, Roles};
+use rcv_tree::statement::{Block, Blocks, Stmt};
 use std::alloc::{AllocError, Global};
 use std::test::Fail;
 
-// A declaration of a sort of Java's library.
-fn declaration(alloc: Global, class: &[u8], alias: &[u8]) -> Result<Decl, AllocError> {
-    Ok(Decl {
-        word: Name::of(alloc, b"type")?,
-        schema: Name::of(alloc, b"java")?,
-        extern_name: Name::of(alloc, class)?,
-        file: Name::of(alloc, b"rt.jar")?,
-        alias: Name::of(alloc, alias)?,
+const A: RoleId = RoleId(0);
+
+const B: RoleId = RoleId(1);
+
+// A list of two names.
+fn names(alloc: Global, first: &[u8], second: &[u8]) -> Result<Names, AllocError> {
+    let mut list = Names::new(alloc);
+    list.push(Name::of(alloc, first)?)?;
+    list.push(Name::of(alloc, second)?)?;
+    Ok(list)
+}
+
+// A message with two sorts.
+fn price(alloc: Global) -> Result<Stmt, AllocError> {
+    Ok(Stmt::Message {
+        label: Name::of(alloc, b"price")?,
+        sorts: names(alloc, b"String", b"Int")?,
+        sender: B,
+        receiver: A,
+        point: Point(1),
     })
 }
 
-// Blocks beside each other and a call, with declarations.
-fn beside(alloc: Global) -> Result<Protocol, AllocError> {
-    let mut decls = Decls::new(alloc);
-    decls.push(declaration(alloc, b"java.lang.String", b"String")?)?;
-    decls.push(declaration(alloc, b"java.lang.Integer", b"Int")?)?;
-    let sorts = names(alloc, &[b"String", b"Int"])?;
-    let first = one(alloc, with_sorts(alloc, b"price", sorts, B, A, 1)?)?;
+// A call of the protocol Pay, whose roles are B and A.
+fn pay(alloc: Global) -> Result<Stmt, AllocError> {
     let mut places = Roles::new(alloc);
     places.push(B)?;
     places.push(A)?;
-    let call = Stmt::Do {
+    Ok(Stmt::Do {
         protocol: Name::of(alloc, b"Pay")?,
         roles: places,
-    };
-    let both = Stmt::Par {
-        blocks: branches(alloc, first, one(alloc, call)?)?,
-    };
-    Ok(Protocol {
-        module: names(alloc, &[b"shop", b"main"])?,
-        decls,
-        name: Name::of(alloc, b"Sale")?,
-        roles: names(alloc, &[b"A", b"B"])?,
-        body: one(alloc, both)?,
     })
 }
 
-#[test]
-fn a_choice_in_a_recursion(rt: HostRuntime) -> Result<(), Fail> {
-    let alloc = rt.alloc();
-    let whole = protocol(
-        alloc,
-        names(alloc, &[b"stream"])?,
-        Name::of(alloc, b"Stream")?,
-        stream(alloc)?,
-    )?;
-    let text = print_protocol(alloc, &whole)?;
-    assert_eq!(rt;
-        text.as_slice(),
-        b"module stream;
-
-global protocol Stream(role A, role B, role C) {
-  rec X {
-    choice at A {
-      more(Int) from A to B;
-      continue X;
-    } or {
-      stop() from A to B;
-      stop() from A to C;
-    }
-  }
-}
-"
-            .as_slice()
-    );
-    Ok(())
+// A block of one statement.
+fn one(alloc: Global, only: Stmt) -> Result<Block, AllocError> {
+    let mut block = Block::new(alloc);
+    block.push(only)?;
+    Ok(block)
 }
 
-#[test]
-fn declarations_and_blocks_beside_each_other(rt: HostRuntime) -> Result<(), Fail> {
-    let text = print_protocol(rt.alloc(), &beside(rt.alloc())?)?;
-    assert_eq!(rt;
-        text.as_slice(),
-        b"module shop.main;
-type <java> \"java.lang.String\" from \"rt.jar\" as String;
-type <java> \"java.lang.Integer\" from \"rt.jar\" as Int;
+// Two blocks beside each other.
+fn beside(alloc: Global, left: Block, right: Block) -> Result<Stmt, AllocError> {
+    let mut blocks = Blocks::new(alloc);
+    blocks.push(left)?;
+    blocks.push(right)?;
+    Ok(Stmt::Par { blocks })
+}
+
+// Both beside each other.
+fn body(alloc: Global) -> Result<Block, AllocError> {
+    let left = one(alloc, price(alloc)?)?;
+    let right = one(alloc, pay(alloc)?)?;
+    one(alloc, beside(alloc, left, right)?)
+}
+
+// A protocol without declarations.
+fn sale(alloc: Global) -> Result<Protocol, AllocError> {
+    Ok(Protocol {
+        module: names(alloc, b"shop", b"main")?,
+        decls: Decls::new(alloc),
+        name: Name::of(alloc, b"Sale")?,
+        roles: names(alloc, b"A", b"B")?,
+        body: body(alloc)?,
+    })
+}
+
+const SALE_TEXT: &[u8] = b"module shop.main;
 
 global protocol Sale(role A, role B) {
   par {
@@ -96,70 +86,11 @@ global protocol Sale(role A, role B) {
     do Pay(B, A);
   }
 }
-"
-            .as_slice()
-    );
-    Ok(())
-}
-
-#[test]
-fn an_empty_body(rt: HostRuntime) -> Result<(), Fail> {
-    let alloc = rt.alloc();
-    let protocol = Protocol {
-        module: names(alloc, &[b"m"])?,
-        decls: Decls::new(alloc),
-        name: Name::of(alloc, b"P")?,
-        roles: names(alloc, &[b"A"])?,
-        body: Block::new(alloc),
-    };
-    let text = print_protocol(alloc, &protocol)?;
-    assert_eq!(rt;
-        text.as_slice(),
-        b"module m;\n\nglobal protocol P(role A) {\n}\n".as_slice()
-    );
-    Ok(())
-}
-
-// The canonical text of a text.
-fn printed_again(alloc: Global, text: &[u8]) -> Result<Vec<u8>, TextError>
-    requires { length text.now < 4000 }
-{
-    let protocol = read(alloc, text, 1)?;
-    Ok(print_protocol(alloc, &protocol)?)
-}
-
-#[test]
-fn each_receiver_has_a_line(rt: HostRuntime) -> Result<(), Fail> {
-    let text = printed_again(
-        rt.alloc(),
-        b"module shop.two; // with a comment
-type <java> \"java.lang.String\" from \"rt.jar\" as String;
-data <c>\"%% plan\" from \"\" as Int; global protocol TwoBuyer(role A, role B, role S) {
-  title(String) from A to S; quote(Int, String) from S to A, B;
-  choice at B { ok() from B to A, S; } or { quit() from B to A, S; }
-}",
-    )?;
-    let canonical = b"module shop.two;
-type <java> \"java.lang.String\" from \"rt.jar\" as String;
-data <c> \"%% plan\" from \"\" as Int;
-
-global protocol TwoBuyer(role A, role B, role S) {
-  title(String) from A to S;
-  quote(Int, String) from S to A;
-  quote(Int, String) from S to B;
-  choice at B {
-    ok() from B to A;
-    ok() from B to S;
-  } or {
-    quit() from B to A;
-    quit() from B to S;
-  }
-}
 ";
-    assert_eq!(rt; text.as_slice(), canonical.as_slice());
-    assert_eq!(rt;
-        printed_again(rt.alloc(), canonical)?.as_slice(),
-        canonical.as_slice()
-    );
+
+#[test]
+fn blocks_beside_each_other_and_a_call(rt: HostRuntime) -> Result<(), Fail> {
+    let text = print_protocol(rt.alloc(), &sale(rt.alloc())?)?;
+    assert!(rt; text.as_slice() == SALE_TEXT);
     Ok(())
 }

@@ -1,8 +1,8 @@
 -- The journal that the text spells, or its first wrong line.
-use Rattle.std.proofs.Common.{◌+◌, ℕ, ap, ◌∙◌, arith}
+use Rattle.std.proofs.Common.{◌+◌, refl, arith}
 use Rattle.rcv_session.specs.Session.{SessionView}
 use Rattle.rcv_form.specs.Journal.{bare}
-use Rattle.rcv_look.proofs.Journals.{few_entries, formed_said, malformed_said}
+use Rattle.rcv_look.proofs.Journals.{few_entries, few_wrong, formed_said, malformed_said}
 use Rattle.rcv_look.proofs.journal.text_answer.Goals as goal
 
 pub verdict-requires : goal.verdict-requires
@@ -11,12 +11,16 @@ verdict-requires c = let few = few_entries (bare c.accepted.result.now.protocol)
 pub returns-in-Ok : goal.returns-in-Ok
 returns-in-Ok c =
     let session : SessionView = record { protocol = c.args.taken.accepted.protocol; scripts = c.args.taken.scripts.lines; plan = c.args.taken.plan } in
-    formed_said c.verdict.result session c.in_ok-setup.setup c.accepted.result.now.protocol c.args.text.now c.args.line c.in-Ok.journal c.in_ok-setup.ensures c.accepted.ensures c.in-Ok.ensures.ok c.verdict.ensures
+    formed_said c.verdict.result session c.in_ok-setup.setup c.accepted.result.now.protocol c.args.text.now c.args.feeds c.in-Ok.journal c.in_ok-setup.ensures c.accepted.ensures c.in-Ok.ensures.ok c.verdict.ensures
+
+pub overflow_add-feeds : goal.overflow_add-feeds
+overflow_add-feeds c =
+    let few = few_wrong (bare c.accepted.result.now.protocol) c.args.text.now c.in-Err-Line.number (c.in-Err-Line.ensures.line c.in-Err-Line.number c.in-Err-Line.field-0-is) in
+    omega (arith, few, c.requires.feeds, c.requires.text)
 
 pub returns-in-Err-Line : goal.returns-in-Err-Line
 returns-in-Err-Line c =
     let session : SessionView = record { protocol = c.args.taken.accepted.protocol; scripts = c.args.taken.scripts.lines; plan = c.args.taken.plan } in
-    malformed_said c.malformed.result session c.in_ok-setup.setup c.accepted.result.now.protocol c.args.text.now c.args.line c.in-Err-Line.number (c.from.result + c.from-in-Err-Line.result)
+    malformed_said c.malformed.result session c.in_ok-setup.setup c.accepted.result.now.protocol c.args.text.now c.args.feeds c.in-Err-Line.number (c.args.feeds + c.in-Err-Line.number)
     c.in_ok-setup.ensures c.accepted.ensures (c.in-Err-Line.ensures.line c.in-Err-Line.number c.in-Err-Line.field-0-is)
-    (ap (λ (n : ℕ). n + c.from-in-Err-Line.result) c.from.ensures ∙ ap (λ (n : ℕ). c.args.line + n) c.from-in-Err-Line.ensures)
-    c.malformed.ensures.status c.malformed.ensures.bytes
+    refl c.malformed.ensures.status c.malformed.ensures.bytes

@@ -39,25 +39,25 @@ returns-in-Run-clause-answers g c =
 pub returns-in-Check-clause-answers : goal.returns-in-Check-clause-answers
 returns-in-Check-clause-answers g c =
     let session : SessionView = record { protocol = c.in-Ok.taken.accepted.protocol; scripts = c.in-Ok.taken.scripts.lines; plan = c.in-Ok.taken.plan } in
-    let written = subst (λ (p : Protocol). IfOk c.check.result (λ output. (output.status ≡ statuses.Completed) × (output.bytes.items ≡ canonical p))) c.protocol.ensures.value c.check.ensures in
+    let written = subst (λ (p : Protocol). IfOk c.check-made.result (λ output. (output.status ≡ statuses.Completed) × (output.bytes.items ≡ canonical p))) c.protocol.ensures.value c.check-made.ensures in
     as_asked c.args.command.now _ c.args.input.now (g.K.Sink.written c.args.sink.now) (g.K.Sink.written c.put.new.sink) (g.K.Sink.faults c.args.sink.now) (g.K.Sink.faults c.put.new.sink) c.put.result c.in-Check.is
     (put_writes (g.K.Sink.written c.args.sink.now) (g.K.Sink.written c.put.new.sink) (g.K.Sink.faults c.args.sink.now) (g.K.Sink.faults c.put.new.sink)
-    (IsAnswer Check c.args.input.now) c.check.result c.put.result (made_of c.args.input.now Check session c.check.result c.in-Ok.ensures.taken written) c.put.ensures.put)
+    (IsAnswer Check c.args.input.now) c.check-made.result c.put.result (made_of c.args.input.now Check session c.check-made.result c.in-Ok.ensures.taken written) c.put.ensures.put)
 
 pub returns-in-Project-clause-answers : goal.returns-in-Project-clause-answers
 returns-in-Project-clause-answers g c =
     let session : SessionView = record { protocol = c.in-Ok.taken.accepted.protocol; scripts = c.in-Ok.taken.scripts.lines; plan = c.in-Ok.taken.plan } in
-    let projected = subst (λ (name : List ℕ). IfOk c.project_role.result (λ output. IsProjection c.in-Ok.taken.accepted.protocol name output.status output.bytes.items)) c.as_slice.ensures c.project_role.ensures in
+    let projected = subst (λ (name : List ℕ). IfOk c.project_role-made.result (λ output. IsProjection c.in-Ok.taken.accepted.protocol name output.status output.bytes.items)) c.as_slice.ensures c.project_role-made.ensures in
     as_asked c.args.command.now _ c.args.input.now (g.K.Sink.written c.args.sink.now) (g.K.Sink.written c.put-in-Project.new.sink) (g.K.Sink.faults c.args.sink.now) (g.K.Sink.faults c.put-in-Project.new.sink) c.put-in-Project.result c.in-Project.is
     (put_writes (g.K.Sink.written c.args.sink.now) (g.K.Sink.written c.put-in-Project.new.sink) (g.K.Sink.faults c.args.sink.now) (g.K.Sink.faults c.put-in-Project.new.sink)
-    (IsAnswer (Project c.in-Project.role) c.args.input.now) c.project_role.result c.put-in-Project.result (made_of c.args.input.now (Project c.in-Project.role) session c.project_role.result c.in-Ok.ensures.taken projected) c.put-in-Project.ensures.put)
+    (IsAnswer (Project c.in-Project.role) c.args.input.now) c.project_role-made.result c.put-in-Project.result (made_of c.args.input.now (Project c.in-Project.role) session c.project_role-made.result c.in-Ok.ensures.taken projected) c.put-in-Project.ensures.put)
 
 pub returns-in-Table-clause-answers : goal.returns-in-Table-clause-answers
 returns-in-Table-clause-answers g c =
     let session : SessionView = record { protocol = c.in-Ok.taken.accepted.protocol; scripts = c.in-Ok.taken.scripts.lines; plan = c.in-Ok.taken.plan } in
     as_asked c.args.command.now _ c.args.input.now (g.K.Sink.written c.args.sink.now) (g.K.Sink.written c.put-in-Table.new.sink) (g.K.Sink.faults c.args.sink.now) (g.K.Sink.faults c.put-in-Table.new.sink) c.put-in-Table.result c.in-Table.is
     (put_writes (g.K.Sink.written c.args.sink.now) (g.K.Sink.written c.put-in-Table.new.sink) (g.K.Sink.faults c.args.sink.now) (g.K.Sink.faults c.put-in-Table.new.sink)
-    (IsAnswer Table c.args.input.now) c.write_tables.result c.put-in-Table.result (made_of c.args.input.now Table session c.write_tables.result c.in-Ok.ensures.taken c.write_tables.ensures) c.put-in-Table.ensures.put)
+    (IsAnswer Table c.args.input.now) c.write_tables-made.result c.put-in-Table.result (made_of c.args.input.now Table session c.write_tables-made.result c.in-Ok.ensures.taken c.write_tables-made.ensures) c.put-in-Table.ensures.put)
 
 pub returns-in-Gen-clause-answers : goal.returns-in-Gen-clause-answers
 returns-in-Gen-clause-answers g c =

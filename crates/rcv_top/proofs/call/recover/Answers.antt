@@ -31,14 +31,14 @@ pub returns-in-Ok-answer-clause-says : goal.returns-in-Ok-answer-clause-says
 returns-in-Ok-answer-clause-says g c =
     let w = c.in-Ok-answer.ensures.answers in
     answer_said (texts_of c.args.words.now) (around g.S.Source.rest g.S.Source.given g.S.Source.faults c.args.source.now c.input_of.new.source g.K.Sink.written g.K.Sink.faults c.args.sink.now c.answer.new.sink)
-    (view_of c.in-Ok.command) c.in-Ok-input_of.input w.bytes w.status c.in-Ok-answer.status c.in-Ok.ensures.command c.in-Ok-input_of.ensures.got c.in-Ok-input_of.ensures.short
+    (view_of c.in-Ok.command) c.in-Ok-input_of.input w.bytes w.status _ c.in-Ok.ensures.command c.in-Ok-input_of.ensures.got c.in-Ok-input_of.ensures.short
     (subst (λ (t : List ℕ). IsAnswer (view_of c.in-Ok.command) t w.status w.bytes) c.as_slice.ensures.value w.is_kind) w.wrote
 
 pub returns-in-Ok-answer-clause-headline : goal.returns-in-Ok-answer-clause-headline
 returns-in-Ok-answer-clause-headline g c workers json is_run ended =
     let w = c.in-Ok-answer.ensures.answers in
     wrote_headline (texts_of c.args.words.now) (around g.S.Source.rest g.S.Source.given g.S.Source.faults c.args.source.now c.input_of.new.source g.K.Sink.written g.K.Sink.faults c.args.sink.now c.answer.new.sink)
-    (view_of c.in-Ok.command) c.in-Ok-input_of.input w.bytes w.status c.in-Ok-answer.status workers json c.in-Ok.ensures.command is_run c.in-Ok-input_of.ensures.got
+    (view_of c.in-Ok.command) c.in-Ok-input_of.input w.bytes w.status _ workers json c.in-Ok.ensures.command is_run c.in-Ok-input_of.ensures.got
     (subst (λ (t : List ℕ). IsAnswer (view_of c.in-Ok.command) t w.status w.bytes) c.as_slice.ensures.value w.is_kind) w.wrote ended
 
 pub returns-in-Ok-answer-clause-source_faults : goal.returns-in-Ok-answer-clause-source_faults
@@ -46,7 +46,7 @@ returns-in-Ok-answer-clause-source_faults g c =
     let w = c.in-Ok-answer.ensures.answers in
     let read = c.in-Ok-input_of.ensures in
     source_tells (g.K.Sink.written c.args.sink.now) (g.K.Sink.written c.answer.new.sink) (g.K.Sink.faults c.args.sink.now) (g.K.Sink.faults c.answer.new.sink)
-    (g.S.Source.faults c.args.source.now) (g.S.Source.faults c.input_of.new.source) w.bytes w.status c.in-Ok-answer.status
+    (g.S.Source.faults c.args.source.now) (g.S.Source.faults c.input_of.new.source) w.bytes w.status _
     (not_read_fault (view_of c.in-Ok.command) c.as_slice.result.now w.status w.bytes w.is_kind)
     (no_read_fault (g.S.Source.faults c.args.source.now) (g.S.Source.faults c.input_of.new.source) read.later (λ more. let fault = read.fault_always more in cc))
     w.wrote
@@ -54,7 +54,7 @@ returns-in-Ok-answer-clause-source_faults g c =
 pub returns-in-Ok-answer-clause-sink_faults : goal.returns-in-Ok-answer-clause-sink_faults
 returns-in-Ok-answer-clause-sink_faults g c =
     let w = c.in-Ok-answer.ensures.answers in
-    sink_tells (g.K.Sink.written c.args.sink.now) (g.K.Sink.written c.answer.new.sink) (g.K.Sink.faults c.args.sink.now) (g.K.Sink.faults c.answer.new.sink) w.bytes w.status c.in-Ok-answer.status
+    sink_tells (g.K.Sink.written c.args.sink.now) (g.K.Sink.written c.answer.new.sink) (g.K.Sink.faults c.args.sink.now) (g.K.Sink.faults c.answer.new.sink) w.bytes w.status _
     (not_write_fault (view_of c.in-Ok.command) c.as_slice.result.now w.status w.bytes w.is_kind)
     c.answer.ensures.later w.wrote
 

@@ -1,6 +1,5 @@
 -- What is counted is the session's, and the last line is that of the lines.
-use Rattle.std.proofs.Common.{◌≡◌, ℕ, List, ◌∙◌, ap}
-use Rattle.std.proofs.lemmas.Result.{IfOk-weaker}
+use Rattle.std.proofs.Common.{◌≡◌, ℕ, List, refl, ◌∙◌, ap}
 use Rattle.rcv_tree.specs.declared.entry.Entry.{Entry}
 use Rattle.rcv_tree.specs.declared.protocol.Protocol.{Protocol}
 use Rattle.rcv_model.specs.Text.{body_of}
@@ -33,4 +32,4 @@ returns c =
     let last = c.as_slice-3.ensures.value ∙ c.in_ok-last.ensures ∙ ap (λ (v : SessionView). last_line v c.as_slice.result.now) c.setup-setup.ensures ∙ ap (last_line session) c.as_slice.ensures.value in
     let same = same_summary c.args.number c.roles.result (roles_of session) c.count.result (net_for session).count c.entries.result.now c.args.book.now.entries c.kept_in.result (kept_in lines) c.as_slice-3.result.now (last_line session lines)
     roles points c.entries.ensures.value kept last in
-    IfOk-weaker c.summary.result _ _ (λ bytes e. record { lines = lines; are_lines = c.in_ok-lines.ensures.lines; is_summary = e ∙ same }) c.summary.ensures
+    (refl, record { lines = lines; are_lines = c.in_ok-lines.ensures.lines; is_summary = c.in_ok-bytes.ensures ∙ same })
