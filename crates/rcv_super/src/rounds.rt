@@ -21,9 +21,9 @@ use rcv_tree::role::RoleId;
 use std::alloc::{AllocError, Global};
 use std::thread::Threads;
 
-// To make a thread and to join it costs some 50 microseconds, and several times that on a busy machine. Where one role
-// at a time has something to do, each round would pay that for a few entries. So behind a round on threads that added fewer than FEW entries, REST rounds are made on this
-// thread alone before threads are started again.
+// To make a thread and to join it costs some 50 microseconds, and several times that on a busy machine. If one role at
+// a time has something to do, each round would pay that for a few entries. So after a round on threads that added fewer
+// than FEW entries, REST rounds are made on this thread alone before threads are started again.
 const FEW: usize = 8;
 
 const REST: u32 = 16;

@@ -52,6 +52,7 @@ pub fn answer<R: Threads + Sync, K: Sink, G: Gate>(
     match read_input(alloc, input) {
         Ok(taken) => match command {
             Command::Run { workers, json } => { run(rt, alloc, taken, *workers, *json, sink, gate) }
+            // `taken` is dropped by name: at each exit behind it the prover would free it field by field.
             Command::Check => {
                 let made = check(alloc, taken.accepted.protocol());
                 drop(taken);
