@@ -1,18 +1,20 @@
 """The worked inputs of the repository, for the scripts beside this file: the cases and the examples that the gate
 runs."""
+import importlib.machinery
+import importlib.util
 import os
+import sys
 
 ROOT = os.path.dirname(os.path.dirname(os.path.abspath(__file__)))
 
 
 def gate():
-    """Returns the names that .ci/cases defines, without running it: what reads a case stands there alone."""
-    path = os.path.join(ROOT, ".ci", "cases")
-    with open(path) as file:
-        text = file.read()
-    names = {"__file__": path, "__name__": "cases"}
-    exec(compile(text[: text.rindex("\nmain()")] + "\n", path, "exec"), names)
-    return names
+    """Returns the names that .ci/cases defines: what reads a case stands there alone."""
+    sys.dont_write_bytecode = True
+    loader = importlib.machinery.SourceFileLoader("cases", os.path.join(ROOT, ".ci", "cases"))
+    module = importlib.util.module_from_spec(importlib.util.spec_from_loader("cases", loader))
+    loader.exec_module(module)
+    return vars(module)
 
 
 def runs():
