@@ -33,8 +33,18 @@ function counted(number) {
 }
 
 /** Returns in which line of a text a place is, from 1. */
-function lineAt(text, place) {
+function lineAt(text, place = text.length) {
   return text.slice(0, place).split('\n').length;
+}
+
+/** The same for places that ascend. */
+function linesAt(text, places) {
+  let [line, from] = [1, 0];
+  return places.map((place) => {
+    line += lineAt(text.slice(from, place)) - 1;
+    from = place;
+    return line;
+  });
 }
 
 /** Hands a file to the reader: bytes or text. */

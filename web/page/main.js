@@ -173,9 +173,12 @@ class Page {
   }
 
   #typed() {
+    const { text } = this.#editor;
     this.#isTyped = true;
     this.#nameTyped();
-    this.#link.follow(this.#editor.text);
+    // Kept from now on: the page may be loaded again before the programs are asked.
+    this.#kept.keep({ text, name: this.#chooser.name, isTyped: true });
+    this.#link.follow(text);
     this.#markCrashes();
     this.#later('longPause', 0, null);
     this.#later('pause', PAUSE, () => this.#show(true));
@@ -192,8 +195,7 @@ class Page {
 
   #markCrashes() {
     const { text } = this.#editor;
-    const lines = crashesOf(text).map((crash) => lineAt(text, crash.crashFrom));
-    this.#editor.mark('crash', lines);
+    this.#editor.mark('crash', linesAt(text, crashesOf(text).map((crash) => crash.crashFrom)));
   }
 
   /** Marks the line where a refusal stands, and those that it names besides. */

@@ -28,9 +28,9 @@ function stayWords(names) {
   return `${listed(names)} ${names.length === 1 ? 'is concerned and loses' : 'are concerned and lose'} nothing.`;
 }
 
-/** Who isn't concerned. */
+/** Who isn't concerned; nothing where all are. */
 function otherWords(names) {
-  if (!names.length) return 'Nobody else is concerned.';
+  if (!names.length) return '';
   return `${listed(names)} ${names.length === 1 ? "isn't concerned and goes" : "aren't concerned and go"} on.`;
 }
 
