@@ -2,22 +2,27 @@
 """Inputs of sessions that are worth several workers: bench/sessions.py NAME [LIMIT [ROOM]] writes one to standard
 output.
 
-NAME is `pipeline`, `ring8` or `star`, which have work in their `send` lines, a sum of 2,000 terms in each, so that
-what the roles compute takes the time; or `plain_pipeline`, `plain_ring8` or `plain_star`, the same without work,
-so that what is handed on takes it. All are loops that nobody leaves: they end where each role has come to the
-limit or waits for one that has. LIMIT is 4000 and ROOM 64 where none is given. It needs Python 3.8 and nothing
+NAME is `pipeline`, `ring8`, `star` or `lanes`, which have work in their `send` lines, a sum of 2,000 terms in each, so
+that what the roles compute takes the time; or `plain_pipeline`, `plain_ring8`, `plain_star` or `plain_lanes`, the same
+without work, so that what is handed on takes it. All are loops that nobody leaves: they end where each role has come to
+the limit or waits for one that has. LIMIT is 4000 and ROOM 64 where none is given. It needs Python 3.8 and nothing
 else."""
 import sys
 
 TERMS = 2000
 
 
-def bundle(messages, numbers, limit, room):
-    """Returns the input of a loop of messages among eight roles: triples of a label and its ends. The numbers say, by
-    their label, what goes with the messages of the roles that send more than 0."""
-    roles = ", ".join(f"role R{i}" for i in range(8))
+def loop(messages):
+    """Returns a loop of messages: triples of a label and its ends."""
     body = "".join(f"    {label}(Int) from R{sender} to R{receiver};\n" for label, sender, receiver in messages)
-    text = f"module sessions;\n\nglobal protocol Session({roles}) {{\n  rec X {{\n{body}    continue X;\n  }}\n}}\n"
+    return f"  rec X {{\n{body}    continue X;\n  }}\n"
+
+
+def bundle(messages, numbers, limit, room, body=None):
+    """Returns the input of messages among eight roles, which go round in one loop where no body is given. The numbers
+    say, by their label, what goes with the messages of the roles that send more than 0."""
+    roles = ", ".join(f"role R{i}" for i in range(8))
+    text = f"module sessions;\n\nglobal protocol Session({roles}) {{\n{body or loop(messages)}}}\n"
     senders = {}
     for label, sender, _ in messages:
         if label in numbers:
@@ -51,7 +56,16 @@ def star(limit=4000, room=64, terms=TERMS):
     return bundle(messages, {f"done{i}": work(terms) for i in range(1, 8)}, limit, room)
 
 
-SHAPES = {"pipeline": pipeline, "ring8": ring8, "star": star}
+def lanes(limit=4000, room=64, terms=TERMS):
+    """Four lanes of two roles: in each, one gives the other numbers and hears back, and both have work. No lane waits for
+    another one."""
+    pairs = [[(f"task{i}", i, i + 1), (f"done{i}", i + 1, i)] for i in (0, 2, 4, 6)]
+    body = "  par {\n" + "  } and {\n".join(loop(pair) for pair in pairs) + "  }\n"
+    messages = [message for pair in pairs for message in pair]
+    return bundle(messages, {label: work(terms) for label, _, _ in messages}, limit, room, body)
+
+
+SHAPES = {"pipeline": pipeline, "ring8": ring8, "star": star, "lanes": lanes}
 
 
 def main():

@@ -141,7 +141,7 @@ const PANES = {
   async protocol({ check, ask }) {
     const drawing = await ask('rcv-show protocol');
     return [
-      about('The messages in the order of the text, with its choices and loops.'),
+      about('The messages in the order of the text, with its choices, loops and lanes.'),
       drawn(drawing, 'The picture of the protocol'),
       written('rcv-show protocol', drawing, 'x.protocol.svg'),
       listing(check.text, 'The protocol in one layout'),

@@ -1,20 +1,20 @@
 -- The faults of a text, part by part.
-use Rattle.std.proofs.Common.{◌≡◌, ℕ, ◌+◌, ◌<◌, ◌≤◌, refl, sym, ◌∙◌, ap, subst, inl, inr, ⊎_elim, arith}
+use Rattle.std.proofs.Common.{◌≡◌, ℕ, ◌+◌, ◌<◌, ◌≤◌, refl, sym, ◌∙◌, ap, subst, ◌⊎◌, inl, inr, ⊎_elim, arith}
 use Rattle.std.specs.Prelude.{Option, Some, None}
 use Rattle.std.proofs.lemmas.Bool.{cases_lt}
 use Rattle.rcv_model.specs.Text.{Body}
-use Rattle.rcv_model.specs.Next.{IsPlaceOf, IsAccepted}
+use Rattle.rcv_model.specs.Next.{IsPlaceOf, HasLater, CanEnd, IsAccepted}
 use Rattle.rcv_model.specs.Places.{net_of}
 use Rattle.rcv_model.specs.Form.{HasForm}
-use Rattle.rcv_model.specs.Accept.{HasSubjects, IsReached, Fails, unreachable, IsNotAfter}
+use Rattle.rcv_model.specs.Accept.{HasSubjects, IsReached, Fails, unreachable, lane_end, IsNotAfter}
 use Rattle.rcv_model.proofs.Decided.{faultless}
-use Rattle.rcv_model.proofs.Refusals.{Case, IsUnreached, SubjectIsSilent}
+use Rattle.rcv_model.proofs.Refusals.{Case, IsUnreached, IsUnending, SubjectIsSilent}
 use Rattle.rcv_model.proofs.LeastRefusal.{told}
 use Rattle.rcv_accept.specs.declared.rule.Rule.{Rule}
-use Rattle.rcv_accept.specs.declared.rule.Rule.TheVariants.{Unreachable}
+use Rattle.rcv_accept.specs.declared.rule.Rule.TheVariants.{Unreachable, LaneEnd}
 use Rattle.rcv_accept.specs.Rules.{code_of}
 use Rattle.rcv_accept.specs.declared.fault.Fault.{Fault}
-use Rattle.rcv_accept.specs.Faults.{IsFirst, IsEarlier, FailsWithin, FailsAtRole, FailsAtPlace, FailsAtPoint}
+use Rattle.rcv_accept.specs.Faults.{IsFirst, IsEarlier, FailsWithin, FailsAtRole, FailsAtPlace, FailsAtPoint, FailsAtEnd}
 use Rattle.rcv_accept.specs.Lists.{IsLeastRule}
 use Rattle.rcv_accept.proofs.Firsts.{first_same, first_both}
 
@@ -28,19 +28,23 @@ BeforeRole body roles i c r n = FailsWithin body roles 21 25 c r n × (r < i)
 abbrev pub BeforePoint : Body → ℕ → ℕ → ℕ → ℕ → ℕ → Type 0
 BeforePoint body roles i c r n = FailsWithin body roles 26 26 c r n × (n ≤ i)
 
+abbrev pub BeforeEnd : Body → ℕ → ℕ → ℕ → ℕ → ℕ → Type 0
+BeforeEnd body roles i c r n = FailsWithin body roles 28 28 c r n × (n ≤ i)
+
 module _ (body : Body) (roles : ℕ) (form : HasForm body roles) where
-  -- codes go from 20 to 26
-  pub codes : {c r n : ℕ} → Fails body roles c r n → (20 ≤ c) × (c ≤ 26)
+  -- codes go from 20 to 26, and there is 28
+  pub codes : {c r n : ℕ} → Fails body roles c r n → ((20 ≤ c) × (c ≤ 26)) ⊎ (c ≡ 28)
   codes {c = c} {r = r} {n = n} f = go (told body roles form f)
     where
-      go : Case body roles form c r n → (20 ≤ c) × (c ≤ 26)
-      go (inl a) = let e = a.0 in (omega arith, omega arith)
-      go (inr (inl a)) = let e = a.0 in (omega arith, omega arith)
-      go (inr (inr (inl a))) = let e = a.0 in (omega arith, omega arith)
-      go (inr (inr (inr (inl a)))) = let e = a.0 in (omega arith, omega arith)
-      go (inr (inr (inr (inr (inl a))))) = let e = a.0 in (omega arith, omega arith)
-      go (inr (inr (inr (inr (inr (inl a)))))) = let e = a.0 in (omega arith, omega arith)
-      go (inr (inr (inr (inr (inr (inr a)))))) = let e = a.0 in (omega arith, omega arith)
+      go : Case body roles form c r n → ((20 ≤ c) × (c ≤ 26)) ⊎ (c ≡ 28)
+      go (inl a) = let e = a.0 in inl (omega arith, omega arith)
+      go (inr (inl a)) = let e = a.0 in inl (omega arith, omega arith)
+      go (inr (inr (inl a))) = let e = a.0 in inl (omega arith, omega arith)
+      go (inr (inr (inr (inl a)))) = let e = a.0 in inl (omega arith, omega arith)
+      go (inr (inr (inr (inr (inl a))))) = let e = a.0 in inl (omega arith, omega arith)
+      go (inr (inr (inr (inr (inr (inl a)))))) = let e = a.0 in inl (omega arith, omega arith)
+      go (inr (inr (inr (inr (inr (inr (inl a))))))) = let e = a.0 in inl (omega arith, omega arith)
+      go (inr (inr (inr (inr (inr (inr (inr a))))))) = inr a.0
 
   -- the rules on what a role does next fail at places of a role
   pub placed : {c r n : ℕ} → FailsWithin body roles 21 25 c r n → (r < roles) × IsPlaceOf (net_of body) r n
@@ -53,7 +57,8 @@ module _ (body : Body) (roles : ℕ) (form : HasForm body roles) where
       go (inr (inr (inr (inl a)))) = (a.1.0, a.1.1)
       go (inr (inr (inr (inr (inl a))))) = (a.1.0, a.1.1)
       go (inr (inr (inr (inr (inr (inl a)))))) = (a.1.0, a.1.1)
-      go (inr (inr (inr (inr (inr (inr a)))))) = let e = a.0 in let high = f.1 in absurd (omega arith)
+      go (inr (inr (inr (inr (inr (inr (inl a))))))) = let e = a.0 in let high = f.1 in absurd (omega arith)
+      go (inr (inr (inr (inr (inr (inr (inr a))))))) = let e = a.0 in let high = f.1 in absurd (omega arith)
 
   pub silent : {c r n : ℕ} → FailsWithin body roles 20 20 c r n → (c ≡ 20) × SubjectIsSilent body roles form r n
   silent {c = c} {r = r} {n = n} f = go (told body roles form f.2)
@@ -65,7 +70,8 @@ module _ (body : Body) (roles : ℕ) (form : HasForm body roles) where
       go (inr (inr (inr (inl a)))) = let e = a.0 in let high = f.1 in absurd (omega arith)
       go (inr (inr (inr (inr (inl a))))) = let e = a.0 in let high = f.1 in absurd (omega arith)
       go (inr (inr (inr (inr (inr (inl a)))))) = let e = a.0 in let high = f.1 in absurd (omega arith)
-      go (inr (inr (inr (inr (inr (inr a)))))) = let e = a.0 in let high = f.1 in absurd (omega arith)
+      go (inr (inr (inr (inr (inr (inr (inl a))))))) = let e = a.0 in let high = f.1 in absurd (omega arith)
+      go (inr (inr (inr (inr (inr (inr (inr a))))))) = let e = a.0 in let high = f.1 in absurd (omega arith)
 
   pub unreached : {c r n : ℕ} → FailsWithin body roles 26 26 c r n → (c ≡ 26) × IsUnreached body roles form r n
   unreached {c = c} {r = r} {n = n} f = go (told body roles form f.2)
@@ -77,20 +83,39 @@ module _ (body : Body) (roles : ℕ) (form : HasForm body roles) where
       go (inr (inr (inr (inl a)))) = let e = a.0 in let low = f.0 in absurd (omega arith)
       go (inr (inr (inr (inr (inl a))))) = let e = a.0 in let low = f.0 in absurd (omega arith)
       go (inr (inr (inr (inr (inr (inl a)))))) = let e = a.0 in let low = f.0 in absurd (omega arith)
-      go (inr (inr (inr (inr (inr (inr a)))))) = (a.0, a.1)
+      go (inr (inr (inr (inr (inr (inr (inl a))))))) = (a.0, a.1)
+      go (inr (inr (inr (inr (inr (inr (inr a))))))) = let e = a.0 in let high = f.1 in absurd (omega arith)
+
+  pub unending : {c r n : ℕ} → FailsWithin body roles 28 28 c r n → (c ≡ 28) × IsUnending body roles form r n
+  unending {c = c} {r = r} {n = n} f = go (told body roles form f.2)
+    where
+      go : Case body roles form c r n → (c ≡ 28) × IsUnending body roles form r n
+      go (inl a) = let e = a.0 in let low = f.0 in absurd (omega arith)
+      go (inr (inl a)) = let e = a.0 in let low = f.0 in absurd (omega arith)
+      go (inr (inr (inl a))) = let e = a.0 in let low = f.0 in absurd (omega arith)
+      go (inr (inr (inr (inl a)))) = let e = a.0 in let low = f.0 in absurd (omega arith)
+      go (inr (inr (inr (inr (inl a))))) = let e = a.0 in let low = f.0 in absurd (omega arith)
+      go (inr (inr (inr (inr (inr (inl a)))))) = let e = a.0 in let low = f.0 in absurd (omega arith)
+      go (inr (inr (inr (inr (inr (inr (inl a))))))) = let e = a.0 in let low = f.0 in absurd (omega arith)
+      go (inr (inr (inr (inr (inr (inr (inr a))))))) = (a.0, a.1)
 
   -- the first fault of a text
-  pub first_of_all : (a b ab d first : Option Fault) → IsFirst (FailsWithin body roles 20 20) a → IsFirst (FailsWithin body roles 21 25) b → IsEarlier a b ab → IsFirst (FailsWithin body roles 26 26) d → IsEarlier ab d first → IsFirst (Fails body roles) first
-  first_of_all a b ab d first x y e z f =
-      first_both (FailsWithin body roles 20 25) (FailsWithin body roles 26 26) (Fails body roles) ab d first
-      (first_both (FailsWithin body roles 20 20) (FailsWithin body roles 21 25) (FailsWithin body roles 20 25) a b ab x y e
+  pub first_of_all : (a b ab d abd e first : Option Fault) → IsFirst (FailsWithin body roles 20 20) a → IsFirst (FailsWithin body roles 21 25) b → IsEarlier a b ab → IsFirst (FailsWithin body roles 26 26) d → IsEarlier ab d abd → IsFirst (FailsWithin body roles 28 28) e → IsEarlier abd e first → IsFirst (Fails body roles) first
+  first_of_all a b ab d abd e first x y ab_is z abd_is t first_is =
+      first_both (FailsWithin body roles 20 26) (FailsWithin body roles 28 28) (Fails body roles) abd e first
+      (first_both (FailsWithin body roles 20 25) (FailsWithin body roles 26 26) (FailsWithin body roles 20 26) ab d abd
+      (first_both (FailsWithin body roles 20 20) (FailsWithin body roles 21 25) (FailsWithin body roles 20 25) a b ab x y ab_is
       (λ c r n w. (w.0, let high = w.1 in omega arith, w.2))
       (λ c r n w. (let low = w.0 in omega arith, w.1, w.2))
       (λ c r n w. ⊎_elim (λ lt. inl (w.0, omega arith, w.2)) (λ ge. inr (ge, w.1, w.2)) (cases_lt c 21)))
-      z f
+      z abd_is
+      (λ c r n w. (w.0, let high = w.1 in omega arith, w.2))
+      (λ c r n w. (let low = w.0 in omega arith, w.1, w.2))
+      (λ c r n w. ⊎_elim (λ lt. inl (w.0, omega arith, w.2)) (λ ge. inr (ge, w.1, w.2)) (cases_lt c 26)))
+      t first_is
       (λ c r n w. w.2)
       (λ c r n w. w.2)
-      (λ c r n w. ⊎_elim (λ lt. inl ((codes w).0, omega arith, w)) (λ ge. inr (ge, (codes w).1, w)) (cases_lt c 26))
+      (λ c r n w. ⊎_elim (λ k. inl (k.0, k.1, w)) (λ k. inr (omega (arith, k), omega (arith, k), w)) (codes w))
 
   pub accepted : IsFirst (Fails body roles) None → IsAccepted (net_of body) roles × HasSubjects body
   accepted none = (faultless body roles form).0 none
@@ -174,3 +199,35 @@ module _ (body : Body) (roles : ℕ) (form : HasForm body roles) where
       first_same (BeforePoint body roles i) (FailsWithin body roles 26 26) o a
       (λ c q m x. x.0)
       (λ c q m x. (x, let k = (unreached x).1.2 in omega arith))
+
+  -- at a lane's point, and at the first of them
+  pub end_none : (p : ℕ) → CanEnd (net_of body) p ⊎ (HasLater (net_of body) p → ⊥) → IsFirst (FailsAtEnd body roles p) None
+  end_none p (inl way) c q m x = (unending x.0).1.3.1 (subst (CanEnd (net_of body)) (sym x.1) way)
+  end_none p (inr none) c q m x = none (subst (HasLater (net_of body)) x.1 (unending x.0).1.3.0)
+
+  pub end_some : (p s : ℕ) → (CanEnd (net_of body) p → ⊥) → HasLater (net_of body) p → 1 ≤ p → p ≤ (net_of body).count → (net_of body).sender p ≡ s → IsFirst (FailsAtEnd body roles p) (Some (record { rule = LaneEnd; role = s; number = p }))
+  end_some p s none later low high e = (((omega arith, omega arith, lane_end e low high later none), refl), λ d q m x. inr (sym (unending x.0).0, inr (sym e ∙ ap (net_of body).sender (sym x.1) ∙ (unending x.0).1.0, let g = x.1 in omega arith)))
+
+  pub ends_none : IsFirst (BeforeEnd body roles 0) None
+  ends_none c q m x = let b = x.1 in let low = (unending x.0).1.1 in omega arith
+
+  pub ends_next : (i : ℕ) (old one new : Option Fault) → IsFirst (BeforeEnd body roles i) old → IsFirst (FailsAtEnd body roles (i + 1)) one → IsEarlier old one new → IsFirst (BeforeEnd body roles (i + 1)) new
+  ends_next i old one new a b e =
+      first_both (BeforeEnd body roles i) (FailsAtEnd body roles (i + 1)) (BeforeEnd body roles (i + 1)) old one new a b e
+      (λ c q m x. (x.0, let lt = x.1 in omega arith))
+      (λ c q m x. (x.0, let g = x.1 in omega arith))
+      (λ c q m x. ⊎_elim (λ lt. inr (x.0, let le = x.1 in omega arith)) (λ ge. inl (x.0, ge)) (cases_lt i m))
+
+  pub ends_all : (i : ℕ) (o : Option Fault) → (net_of body).count ≤ i → IsFirst (BeforeEnd body roles i) o → IsFirst (FailsWithin body roles 28 28) o
+  ends_all i o high a =
+      first_same (BeforeEnd body roles i) (FailsWithin body roles 28 28) o a
+      (λ c q m x. x.0)
+      (λ c q m x. (x, let k = (unending x).1.2 in omega arith))
+
+  -- where there is one lane, no stage is left behind
+  pub one_lane_ends : ((p : ℕ) → (net_of body).lane p < 1) → IsFirst (FailsWithin body roles 28 28) None
+  one_lane_ends one c q m x =
+      let later = (unending x).1.3.0 in
+      let a : (net_of body).lane m ≡ 0 = (let lt = one m in omega (arith, lt)) in
+      let b : (net_of body).lane later.0 ≡ 0 = (let lt = one later.0 in omega (arith, lt)) in
+      omega (arith, later.3, ap (net_of body).stage a, ap (net_of body).stage b)

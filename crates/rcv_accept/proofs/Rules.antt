@@ -7,8 +7,8 @@ use Rattle.rcv_model.specs.Next.{IsOf, AreNext, IsPlaceOf, IsEnabledBy, IsProper
 use Rattle.rcv_model.specs.Places.{net_of}
 use Rattle.rcv_model.specs.Form.{HasForm}
 use Rattle.rcv_model.specs.Accept.{Fails, mixed, senders, labels, not_enabled, maybe_done, AreAlike}
-use Rattle.rcv_model.proofs.Same.{text_rises, enabled_both}
-use Rattle.rcv_model.proofs.NextLists.{next_offered}
+use Rattle.rcv_model.proofs.Same.{met_text_rises, enabled_both}
+use Rattle.rcv_model.proofs.Ways.{next_in_text as in_text}
 use Rattle.rcv_model.proofs.Refusals.{Case, AtPlace}
 use Rattle.rcv_model.proofs.Refusals as rules
 use Rattle.rcv_model.proofs.LeastRefusal.{told}
@@ -45,7 +45,7 @@ module _ (body : Body) (roles : ℕ) (form : HasForm body roles) (r k : ℕ) (lt
 
   not_left : (IsNotEnabled (net_of body) r k zs → ⊥) → rules.IsLeftBehind body roles form r k → ⊥
   not_left n a =
-      let refused : IsEnabledBy (net_of body) r k zs → ⊥ = λ by. a.2 ((enabled_both (net_of body) r k zs (text_rises body) ahead.next).1 by) in
+      let refused : IsEnabledBy (net_of body) r k zs → ⊥ = λ by. a.2 ((enabled_both (net_of body) r k zs (met_text_rises body r) ahead.next).1 by) in
       refused (λ some own. let z = some_in zs some in absurd (n ((z.0, z.1, own z.0 z.1), λ met. refused (λ some own. met))))
 
   forgotten_of : rules.IsForgotten body roles form r k → MayBeDone zs may_end
@@ -78,7 +78,7 @@ module _ (body : Body) (roles : ℕ) (form : HasForm body roles) (r k : ℕ) (lt
       labels a.0 b.0 lt place nx ny (alike a.0 b.0 nx.own ny.own b.2.label b.2.receiver) b.2.apart
 
   fails_enabled : (IsMixed (net_of body) r zs → ⊥) → IsNotEnabled (net_of body) r k zs → Fails body roles 24 r k
-  fails_enabled unmixed a = not_enabled lt place (λ rule. a.1 ((enabled_both (net_of body) r k zs (text_rises body) ahead.next).0 rule (is_some a.0.0 zs a.0.1) (sent unmixed a.0)))
+  fails_enabled unmixed a = not_enabled lt place (λ rule. a.1 ((enabled_both (net_of body) r k zs (met_text_rises body r) ahead.next).0 rule (is_some a.0.0 zs a.0.1) (sent unmixed a.0)))
 
   fails_done : MayBeDone zs may_end → Fails body roles 25 r k
   fails_done a =
@@ -97,7 +97,8 @@ module _ (body : Body) (roles : ℕ) (form : HasForm body roles) (r k : ℕ) (lt
       go (inr (inr (inr (inl a)))) = subst T (sym a.0) (l (twins_of a.1))
       go (inr (inr (inr (inr (inl a))))) = subst T (sym a.0) (e a.1)
       go (inr (inr (inr (inr (inr (inl a)))))) = subst T (sym a.0) (b (forgotten_of a.1))
-      go (inr (inr (inr (inr (inr (inr a)))))) = let g = a.0 in absurd (omega arith)
+      go (inr (inr (inr (inr (inr (inr (inl a))))))) = let g = a.0 in absurd (omega arith)
+      go (inr (inr (inr (inr (inr (inr (inr a))))))) = let g = a.0 in absurd (omega arith)
 
   least_mixed : IsMixed (net_of body) r zs → IsLeastRule body roles r k (Some Mixed)
   least_mixed a = (omega arith, omega arith, fails_mixed a, λ d low high f. low)
@@ -121,34 +122,33 @@ module _ (body : Body) (roles : ℕ) (form : HasForm body roles) (r k : ℕ) (lt
 pub next_in_text : (net : Net) (roles r k : ℕ) (zs items : List ℕ) → zs ≡ items → IsProper net roles → AreNext net r k items → AreInText net zs
 next_in_text net roles r k zs items which proper next z i =
     let n = next.sound z (subst (IsIn z) which i) in
-    let j = next_offered net r k z n in
-    proper.in_text j.0 z j.1
+    in_text net roles r k z proper n
 
 -- The same where the list was found in the points of the text.
 module _ (body : Body) (roles : ℕ) (points : PointsView) (are : AreOf body roles points) (r k : ℕ) (lt : r < roles) (zs items : List ℕ) (which : zs ≡ items) (may_end : Bool) (place : IsPlaceOf (net_in points) r k) (ahead : IsAhead (net_in points) r k items may_end) where
   same : net_in points ≡ net_of body
   same = same_net body roles points are.form are.all
 
-  here : IsPlaceOf (net_of body) r k
-  here = subst (λ net. IsPlaceOf net r k) same place
+  at_here : IsPlaceOf (net_of body) r k
+  at_here = subst (λ net. IsPlaceOf net r k) same place
 
   found : IsAhead (net_of body) r k zs may_end
   found = subst (λ net. IsAhead net r k zs may_end) same (subst (λ l. IsAhead (net_in points) r k l may_end) (sym which) ahead)
 
   pub rule_mixed : IsMixed (net_in points) r zs → IsLeastRule body roles r k (Some Mixed)
-  rule_mixed a = least_mixed body roles are.form r k lt here zs may_end found (subst (λ net. IsMixed net r zs) same a)
+  rule_mixed a = least_mixed body roles are.form r k lt at_here zs may_end found (subst (λ net. IsMixed net r zs) same a)
 
   pub rule_senders : (IsMixed (net_in points) r zs → ⊥) → ReceivesFromTwo (net_in points) r zs → IsLeastRule body roles r k (Some Senders)
-  rule_senders m a = least_senders body roles are.form r k lt here zs may_end found (subst (λ net. IsMixed net r zs → ⊥) same m) (subst (λ net. ReceivesFromTwo net r zs) same a)
+  rule_senders m a = least_senders body roles are.form r k lt at_here zs may_end found (subst (λ net. IsMixed net r zs → ⊥) same m) (subst (λ net. ReceivesFromTwo net r zs) same a)
 
   pub rule_labels : (IsMixed (net_in points) r zs → ⊥) → (ReceivesFromTwo (net_in points) r zs → ⊥) → HasTwins (net_in points) zs → IsLeastRule body roles r k (Some Labels)
-  rule_labels m s a = least_labels body roles are.form r k lt here zs may_end found (subst (λ net. IsMixed net r zs → ⊥) same m) (subst (λ net. ReceivesFromTwo net r zs → ⊥) same s) (subst (λ net. HasTwins net zs) same a)
+  rule_labels m s a = least_labels body roles are.form r k lt at_here zs may_end found (subst (λ net. IsMixed net r zs → ⊥) same m) (subst (λ net. ReceivesFromTwo net r zs → ⊥) same s) (subst (λ net. HasTwins net zs) same a)
 
   pub rule_enabled : (IsMixed (net_in points) r zs → ⊥) → (ReceivesFromTwo (net_in points) r zs → ⊥) → (HasTwins (net_in points) zs → ⊥) → IsNotEnabled (net_in points) r k zs → IsLeastRule body roles r k (Some NotEnabled)
-  rule_enabled m s l a = least_enabled body roles are.form r k lt here zs may_end found (subst (λ net. IsMixed net r zs → ⊥) same m) (subst (λ net. ReceivesFromTwo net r zs → ⊥) same s) (subst (λ net. HasTwins net zs → ⊥) same l) (subst (λ net. IsNotEnabled net r k zs) same a)
+  rule_enabled m s l a = least_enabled body roles are.form r k lt at_here zs may_end found (subst (λ net. IsMixed net r zs → ⊥) same m) (subst (λ net. ReceivesFromTwo net r zs → ⊥) same s) (subst (λ net. HasTwins net zs → ⊥) same l) (subst (λ net. IsNotEnabled net r k zs) same a)
 
   pub rule_done : (IsMixed (net_in points) r zs → ⊥) → (ReceivesFromTwo (net_in points) r zs → ⊥) → (HasTwins (net_in points) zs → ⊥) → (IsNotEnabled (net_in points) r k zs → ⊥) → MayBeDone items may_end → IsLeastRule body roles r k (Some MaybeDone)
-  rule_done m s l e a = least_done body roles are.form r k lt here zs may_end found (subst (λ net. IsMixed net r zs → ⊥) same m) (subst (λ net. ReceivesFromTwo net r zs → ⊥) same s) (subst (λ net. HasTwins net zs → ⊥) same l) (subst (λ net. IsNotEnabled net r k zs → ⊥) same e) (subst (λ l. MayBeDone l may_end) (sym which) a)
+  rule_done m s l e a = least_done body roles are.form r k lt at_here zs may_end found (subst (λ net. IsMixed net r zs → ⊥) same m) (subst (λ net. ReceivesFromTwo net r zs → ⊥) same s) (subst (λ net. HasTwins net zs → ⊥) same l) (subst (λ net. IsNotEnabled net r k zs → ⊥) same e) (subst (λ l. MayBeDone l may_end) (sym which) a)
 
   pub rule_none : (IsMixed (net_in points) r zs → ⊥) → (ReceivesFromTwo (net_in points) r zs → ⊥) → (HasTwins (net_in points) zs → ⊥) → (IsNotEnabled (net_in points) r k zs → ⊥) → (MayBeDone items may_end → ⊥) → IsLeastRule body roles r k None
-  rule_none m s l e b = least_none body roles are.form r k lt here zs may_end found (subst (λ net. IsMixed net r zs → ⊥) same m) (subst (λ net. ReceivesFromTwo net r zs → ⊥) same s) (subst (λ net. HasTwins net zs → ⊥) same l) (subst (λ net. IsNotEnabled net r k zs → ⊥) same e) (λ a. b (subst (λ l. MayBeDone l may_end) which a))
+  rule_none m s l e b = least_none body roles are.form r k lt at_here zs may_end found (subst (λ net. IsMixed net r zs → ⊥) same m) (subst (λ net. ReceivesFromTwo net r zs → ⊥) same s) (subst (λ net. HasTwins net zs → ⊥) same l) (subst (λ net. IsNotEnabled net r k zs → ⊥) same e) (λ a. b (subst (λ l. MayBeDone l may_end) which a))

@@ -9,6 +9,9 @@ use rcv_tree::name::Names;
 use rcv_tree::role::RoleId;
 use std::alloc::{AllocError, Global};
 
+/// A protocol has at most so many roles.
+pub const ROLES: usize = 8;
+
 /// A name in lines.
 #[derive(Drop)]
 pub struct Heading {
@@ -26,12 +29,38 @@ pub struct Headings {
 pub struct Columns {
     pub left: Pixels,
     pub width: Pixels,
+    /// In front of which columns there is a gap, and how much of it belongs to what is left and right of it.
+    pub gaps: [bool; ROLES],
+    pub behind: Pixels,
+    pub before: Pixels,
 }
 
 impl Columns {
+    /// Columns without gaps.
+    pub fn close(left: Pixels, width: Pixels) -> Columns {
+        Columns {
+            left,
+            width,
+            gaps: [false; ROLES],
+            behind: Pixels(0),
+            before: Pixels(0),
+        }
+    }
+
     /// Where the column of a role starts.
     pub fn start(self, role: RoleId) -> Pixels {
-        self.left + self.width * u32::from(role.0)
+        let mut start = self.left + self.width * u32::from(role.0);
+        for column in 0..ROLES {
+            if self.gaps[column] && column <= role.0 as usize {
+                start = start + self.behind + self.before;
+            }
+        }
+        start
+    }
+
+    /// Where it ends.
+    pub fn end(self, role: RoleId) -> Pixels {
+        self.start(role) + self.width
     }
 
     /// The middle of the column of a role.

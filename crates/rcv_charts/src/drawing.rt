@@ -53,6 +53,13 @@ impl Drawing {
         self.down = self.down + more;
     }
 
+    /// It goes on so far down, which may be further up than it has come.
+    pub fn go_to(&mut self, down: Pixels)
+        ensures { self.new ≡ self.old }
+    {
+        self.down = down;
+    }
+
     /// Adds a shape below the groups. Fails where memory runs out.
     pub fn put_below(&mut self, shape: Shape) -> Result<(), AllocError>
         ensures { self.new ≡ self.old }

@@ -1,5 +1,7 @@
 // How much room a protocol's picture needs.
 
+use crate::beside::{Span, are_apart};
+use crate::columns::ROLES;
 use crate::letters::{PLAIN, width};
 use crate::messages::{Message, name_of};
 use crate::words::Notes;
@@ -22,6 +24,8 @@ pub struct Extent {
     pub again: Pixels,
     /// How wide a picture has to be for each tag to fit into its frame.
     pub tags: Pixels,
+    /// The columns with which a lane begins that has one to its left.
+    pub gaps: [bool; ROLES],
     /// The labels that are cut.
     pub notes: Notes,
 }
@@ -45,6 +49,7 @@ impl Extent {
             label: Pixels(0),
             again: Pixels(0),
             tags: Pixels(0),
+            gaps: [false; ROLES],
             notes: Notes::new(alloc),
         };
         extent.block(roles, inset, block)?;
@@ -65,6 +70,18 @@ impl Extent {
     fn tag(&mut self, inset: Pixels, words: &[u8], more: &[u8]) {
         let tag = tag_width(words) + width(more, PLAIN) + Pixels(8);
         self.tags = self.tags.max(inset * 2 + tag);
+    }
+
+    // Takes lanes beside each other into account.
+    fn lanes(&mut self, blocks: &Blocks) {
+        if are_apart(blocks) {
+            for block in blocks.as_slice() {
+                let first = Span::of(block).first.0 as usize;
+                if 0 < first && first < ROLES {
+                    self.gaps[first] = true;
+                }
+            }
+        }
     }
 
     // Takes the statements of a block into account.
@@ -121,6 +138,7 @@ impl Extent {
             }
             Stmt::Par { blocks } => {
                 self.tag(inset, b"in parallel", b"");
+                self.lanes(blocks);
                 self.blocks(roles, inset + INSET, blocks)
             }
             Stmt::Do { .. } => Ok(()),

@@ -3,6 +3,7 @@
 
 ghost use Rattle.rcv_charts.specs.Laws.{RowsAreLines};
 
+mod beside;
 mod boxes;
 mod columns;
 mod drawing;

@@ -7,7 +7,7 @@ ghost use Rattle.rcv_charts.specs.Titles.{titles_of};
 
 use crate::columns::{Columns, Headings};
 use crate::drawing::Drawing;
-use crate::extent::Extent;
+use crate::extent::{Extent, INSET};
 use crate::letters::{BIG, width};
 use crate::sequence::{Chart, draw_block};
 use crate::shapes::{line, rect, text};
@@ -28,15 +28,24 @@ const DESCRIPTION: &[u8] = b"The messages in order, with choices and loops in fr
 // How far down the boxes of the roles are.
 const TOP: Pixels = Pixels(42);
 
-// Where the columns stand: right of each frame and each way back, and so wide that each label has room.
+// Where the columns stand: right of each frame and each way back, and so wide that each label has room. A gap between lanes
+// has room for the frames of both.
 fn columns_of(headings: &Headings, extent: &Extent) -> Columns {
     let width = (headings.width() + Pixels(20))
         .max(extent.label + Pixels(44))
         .max(Pixels(120));
     let back = extent.deepest + extent.again + Pixels(30) - width.half();
+    let left = (extent.deepest + Pixels(40)).max(back);
+    if !extent.gaps.contains(&true) {
+        return Columns::close(left, width);
+    }
+    let before = (extent.deepest + extent.again + Pixels(20) - width.half()).max(Pixels(14));
     Columns {
-        left: (extent.deepest + Pixels(40)).max(back),
-        width,
+        left: left.max(MARGIN + INSET + before),
+        width: width.max(extent.tags.half()),
+        gaps: extent.gaps,
+        behind: (extent.deepest - MARGIN - INSET).max(Pixels(14)),
+        before,
     }
 }
 
@@ -123,7 +132,8 @@ pub fn protocol_picture(alloc: Global, protocol: &Protocol) -> Result<Picture, A
         alloc,
         roles: &protocol.roles,
         columns,
-        wide,
+        left: Pixels(0),
+        right: wide,
     };
     let drawing = drawn(&chart, protocol, TOP + headings.height() + Pixels(4))?;
     let mut ground = Vec::new(alloc);

@@ -4,6 +4,7 @@ ghost use Rattle.std.specs.Prelude.{◌≡◌, ◌++◌, OnOk};
 ghost use Rattle.rcv_model.specs.Text.{Body, body_of, bodies_of, stmt_body};
 ghost use Rattle.rcv_charts.specs.MessageTitles.{message_titles, titles_beside};
 
+use crate::beside::{Span, are_apart};
 use crate::columns::Columns;
 use crate::drawing::Drawing;
 use crate::extent::{INSET, tag_width};
@@ -13,16 +14,33 @@ use crate::words::joined;
 use rcv_picture::look::Look;
 use rcv_picture::pixels::{Pixels, place};
 use rcv_tree::name::{Name, Names};
+use rcv_tree::role::RoleId;
 use rcv_tree::statement::{Block, Blocks, Stmt};
 use std::alloc::{AllocError, Global};
 
-/// What is the same for the whole picture: the roles, their columns, and how wide it is.
+/// What is the same for the whole picture, or for a lane: the roles, their columns, and between which edges frames stand.
 #[derive(Clone, Copy, Drop)]
 pub struct Chart<'a> {
     pub alloc: Global,
     pub roles: &'a Names,
     pub columns: Columns,
-    pub wide: Pixels,
+    pub left: Pixels,
+    pub right: Pixels,
+}
+
+impl<'a> Chart<'a> {
+    // The same for a lane beside others, which stands in its own columns.
+    fn lane(&self, span: Span) -> Chart<'a>
+        ensures { result.roles.now ≡ self.now.roles.now }
+    {
+        Chart {
+            alloc: self.alloc,
+            roles: self.roles,
+            columns: self.columns,
+            left: self.columns.start(span.first) + Pixels(4) - self.columns.before,
+            right: self.columns.end(span.last) + self.columns.behind - Pixels(4),
+        }
+    }
 }
 
 /// A loop that encloses the place that is drawn: where a way back to it goes up, and where it ends.
@@ -55,20 +73,21 @@ fn close_frame(
     ensures { OnOk result (drawing.new ≡ drawing.old) }
 {
     drawing.skip(Pixels(16));
+    let left = chart.left + inset;
     let height = drawing.down() - top;
-    let width = chart.wide - inset * 2;
-    drawing.put_below(rect(place(inset, top), width, height, 4, Look::Grid))?;
-    let right = inset + tag_width(tag.as_slice());
+    let width = chart.right - inset - left;
+    drawing.put_below(rect(place(left, top), width, height, 4, Look::Grid))?;
+    let right = left + tag_width(tag.as_slice());
     let corners = [
-        place(inset, top),
+        place(left, top),
         place(right, top),
         place(right, top + Pixels(12)),
         place(right - Pixels(8), top + TAG),
-        place(inset, top + TAG),
-        place(inset, top),
+        place(left, top + TAG),
+        place(left, top),
     ];
     drawing.put_above(path(chart.alloc, &corners, Look::Tag)?)?;
-    drawing.put_above(text(inset + Pixels(7), top + Pixels(14), Look::Bold, tag))
+    drawing.put_above(text(left + Pixels(7), top + Pixels(14), Look::Bold, tag))
 }
 
 // Draws the line between two blocks of a frame. Fails where memory runs out.
@@ -82,12 +101,39 @@ fn draw_divider(
 {
     drawing.skip(Pixels(10));
     let y = drawing.down();
-    let from = place(inset, y);
-    let to = place(chart.wide - inset, y);
-    drawing.put_below(line(from, to, Look::Divider))?;
+    let left = chart.left + inset;
+    let to = place(chart.right - inset, y);
+    drawing.put_below(line(place(left, y), to, Look::Divider))?;
     let word = Vec::from_slice(chart.alloc, word)?;
-    drawing.put_above(text(inset + Pixels(8), y + Pixels(13), Look::Note, word))?;
+    drawing.put_above(text(left + Pixels(8), y + Pixels(13), Look::Note, word))?;
     drawing.skip(Pixels(8));
+    Ok(())
+}
+
+// Draws the lines between lanes beside each other, which begin here: one to the left of each but the leftmost. Fails where
+// memory runs out.
+fn draw_sides(
+    chart: &Chart<'_>,
+    drawing: &mut Drawing,
+    top: Pixels,
+    blocks: &Blocks,
+) -> Result<(), AllocError>
+    ensures { OnOk result (drawing.new ≡ drawing.old) }
+{
+    let leftmost = blocks.as_slice().iter().fold(
+        RoleId(u8::MAX),
+        |least, block| least.min(Span::of(block).first),
+    );
+    let bottom = drawing.down() + Pixels(16);
+    for block in blocks.as_slice() {
+        let first = Span::of(block).first;
+        if first != leftmost {
+            let x = chart.columns.start(first) - chart.columns.before;
+            drawing.put_below(line(place(x, top), place(x, bottom), Look::Divider))?;
+            let word = Vec::from_slice(chart.alloc, b"and")?;
+            drawing.put_above(text(x + Pixels(5), top + Pixels(13), Look::Note, word))?;
+        }
+    }
     Ok(())
 }
 
@@ -103,15 +149,16 @@ fn draw_continue(
 {
     drawing.skip(Pixels(26));
     let y = drawing.down();
+    let left = chart.left + inset;
     let words = joined(chart.alloc, b"again ", name.as_slice())?;
-    drawing.put_above(text(inset + Pixels(14), y + Pixels(4), Look::Again, words))?;
+    drawing.put_above(text(left + Pixels(14), y + Pixels(4), Look::Again, words))?;
     let enclosing = loops
         .iter()
         .rev()
         .find(|enclosing| enclosing.name.as_slice() == name.as_slice());
     if let Some(enclosing) = enclosing {
         let places = [
-            place(inset + Pixels(10), y),
+            place(left + Pixels(10), y),
             place(enclosing.x, y),
             place(enclosing.x, enclosing.end),
         ];
@@ -163,6 +210,33 @@ fn draw_blocks<'t>(
     Ok(())
 }
 
+// Draws the lanes of a `par`: beside each other where each has columns of its own, else one below the other. Fails where
+// memory runs out.
+#[cycle(draw)]
+fn draw_lanes<'t>(
+    chart: &Chart<'_>,
+    drawing: &mut Drawing,
+    loops: &mut Vec<Loop<'t>>,
+    inset: Pixels,
+    blocks: &'t Blocks,
+) -> Result<(), AllocError>
+    ensures { OnOk result (drawing.new ≡ drawing.old ++ titles_beside chart.now.roles.now (bodies_of blocks.now)) }
+{
+    if !are_apart(blocks) {
+        return draw_blocks(chart, drawing, loops, inset, b"and", blocks);
+    }
+    let top = drawing.down();
+    let mut end = top;
+    for block in blocks.as_slice() {
+        let lane = chart.lane(Span::of(block));
+        drawing.go_to(top + Pixels(14));
+        draw_block(&lane, drawing, loops, Pixels(0), block)?;
+        end = end.max(drawing.down());
+    }
+    drawing.go_to(end);
+    draw_sides(chart, drawing, top, blocks)
+}
+
 // Draws a statement. Fails where memory runs out.
 #[cycle(draw)]
 fn draw_stmt<'t>(
@@ -203,7 +277,7 @@ fn draw_stmt<'t>(
             let top = open_frame(drawing);
             loops.push(Loop {
                 name,
-                x: inset + INSET.half(),
+                x: chart.left + inset + INSET.half(),
                 end: top + TAG,
             })?;
             drawing.skip(Pixels(14));
@@ -215,7 +289,7 @@ fn draw_stmt<'t>(
         Stmt::Par { blocks } => {
             let tag = Vec::from_slice(chart.alloc, b"in parallel")?;
             let top = open_frame(drawing);
-            draw_blocks(chart, drawing, loops, inset, b"and", blocks)?;
+            draw_lanes(chart, drawing, loops, inset, blocks)?;
             close_frame(chart, drawing, inset, top, tag)
         }
         // The reader refuses a call, so none comes here.

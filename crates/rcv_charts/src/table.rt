@@ -45,10 +45,7 @@ fn columns_of(
         let words = point_label(alloc, points, point)?;
         cells = cells.max(width(words.as_slice(), PLAIN) + Pixels(26));
     }
-    Ok(Columns {
-        left: MARGIN + deeds + Pixels(20),
-        width: cells,
-    })
+    Ok(Columns::close(MARGIN + deeds + Pixels(20), cells))
 }
 
 // The labels that are cut elsewhere.

@@ -25,7 +25,7 @@ use Rattle.rcv_core.specs.Failing.{AreUnlisted}
 use Rattle.rcv_core.specs.Standings.{Stand, AreBehind, AreFew}
 use Rattle.rcv_core.specs.Book.{IsBook}
 use Rattle.rcv_core.proofs.Numbers.{IsKnown, stand_recovery}
-use Rattle.rcv_core.proofs.Books.{two_ends, low_role, few_entries, left_by, is_proper, sizes, run_now, queued_now, stands_at, few_attempts, few_clocks, log_is, made, crashed_low}
+use Rattle.rcv_core.proofs.Books.{low_role, few_entries, left_by, is_proper, sizes, run_now, queued_now, stands_at, few_attempts, few_clocks, log_is, made, crashed_low}
 
 -- two tests that hold together are the same
 pub same_tests : (a b : Bool) → (a ≡ true → b ≡ true) → (b ≡ true → a ≡ true) → a ≡ b
@@ -59,7 +59,7 @@ module _ (setup : SessionView) (entries : List Entry) (standings : List Standing
 
   pub concerned_is : (q : ℕ) → q < 8 → has_bit concerned.0 q ≡ is_listed (concerned_in (rules_of setup) (left_by setup entries) p) q
   concerned_is q lt =
-      let by_list = listed (rules_of setup) (left_by setup entries) p (is_proper setup entries standings ledger kept) q in
+      let by_list = listed (rules_of setup) (left_by setup entries) p (is_proper setup entries standings ledger kept) kept.protocol.accepted.lanes_end q in
       same_tests (has_bit concerned.0 q) (is_listed (concerned_in (rules_of setup) (left_by setup entries) p) q)
       (λ t. by_list.1 ((may.concerned q lt).0 t))
       (λ t. (may.concerned q lt).1 (by_list.0 t))
@@ -68,7 +68,7 @@ module _ (setup : SessionView) (entries : List Entry) (standings : List Standing
   keeps_all : (q : ℕ) → (IsConcernedIn (rules_of setup) (left_by setup entries) p q → ⊥) → length (acts q (kept_by (rules_of setup) (left_by setup entries) p)) ≡ length (acts q (left_by setup entries).kept)
   keeps_all q free =
       as_many q (kept_by (rules_of setup) (left_by setup entries) p)
-      ∙ ap length (group_keeps (net_for setup) (group_of (rules_of setup) p) (durable (rules_of setup) (left_by setup entries)) (left_by setup entries).kept (two_ends setup kept.protocol) (run_now setup entries standings ledger kept) q free)
+      ∙ ap length (group_keeps (net_for setup) (group_of (rules_of setup) p) (durable (rules_of setup) (left_by setup entries)) (left_by setup entries).kept (roles_of setup, is_proper setup entries standings ledger kept) (run_now setup entries standings ledger kept) q free)
       ∙ sym (as_many q (left_by setup entries).kept)
 
   module _ (counts : List ℕ) (are : AreUnlisted ledger.logs concerned.0 listed_ counts) where

@@ -8,6 +8,7 @@ use Rattle.rcv_tree.specs.declared.entry.Entry.{Entry}
 use Rattle.rcv_tree.specs.declared.entry.Entry.TheVariants.{Send, Recv}
 use Rattle.rcv_model.specs.Text.{Body}
 use Rattle.rcv_model.specs.Form.{HasForm}
+use Rattle.rcv_model.specs.Net.{HasOneLane}
 use Rattle.rcv_model.specs.Places.{net_of}
 use Rattle.rcv_model.specs.Plan.{session_rules}
 use Rattle.rcv_model.specs.Journal.{Rules, State, start, after, reading, IsLegal}
@@ -15,6 +16,7 @@ use Rattle.rcv_model.specs.Final.{IsFinal}
 use Rattle.rcv_model.proofs.Cases.{says, hears}
 use Rattle.rcv_model.proofs.Checked.{next_by, send_by, recv_by}
 use Rattle.rcv_model.proofs.Forms.{proper}
+use Rattle.rcv_model.proofs.OneLane.{one_lane}
 use Rattle.rcv_model.proofs.Stepping.{final_by}
 use Rattle.rcv_session.specs.Session.{lines_of, roles_of, rules_of}
 use Rattle.rcv_journal.specs.declared.line.RoleLine.{RoleLine}
@@ -50,17 +52,20 @@ line_of r = record { role = r; kept = 1; raw = 1; word = Done }
 abbrev lines : List RoleLine
 lines = line_of 0 ∷ line_of 1 ∷ []
 
+one_one : HasOneLane (net_of one)
+one_one = one_lane one tt
+
 one_legal : IsLegal rules entries
-one_legal = (send_by rules (start 2) (says 0 1 0 1) refl refl refl refl refl refl refl, (recv_by rules begun (hears 1 1 0 2 1) [] refl refl refl refl refl, tt))
+one_legal = (send_by rules one_one (start 2) (says 0 1 0 1) refl refl refl refl refl refl refl, (recv_by rules one_one begun (hears 1 1 0 2 1) [] refl refl refl refl refl, tt))
 
 one_final : IsFinal rules over
-one_final = final_by rules over (proper one 2 (subst (λ (b : Body). HasForm b 2) its_body taken.protocol.accepted.form)).two_ends refl
+one_final = final_by rules over ((proper one 2 (subst (λ (b : Body). HasForm b 2) its_body taken.protocol.accepted.form)).two_ends, one_one) refl
 
 first_line : IsLineOf rules over 0 (line_of 0)
-first_line = record { role = refl; kept = refl; raw = refl; word = λ z next. (next_by (net_of one) 0 1 refl).complete z next }
+first_line = record { role = refl; kept = refl; raw = refl; word = λ z next. (next_by (net_of one) one_one 0 1 refl).complete z next }
 
 second_line : IsLineOf rules over 1 (line_of 1)
-second_line = record { role = refl; kept = refl; raw = refl; word = λ z next. (next_by (net_of one) 1 1 refl).complete z next }
+second_line = record { role = refl; kept = refl; raw = refl; word = λ z next. (next_by (net_of one) one_one 1 1 refl).complete z next }
 
 one_lines : AreLinesOf rules over lines
 one_lines = record { all = refl; each = each }

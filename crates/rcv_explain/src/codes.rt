@@ -7,8 +7,7 @@ use crate::explanation::Explanation;
 use crate::{journals, plans, rules, scripts, texts};
 use std::alloc::{AllocError, Global};
 
-/// The explanation of a code: of those that docs/FORMATS.md lists, which are 10 to 27, 30 to 36, 40 to 43, and 50 and
-/// 51. None of any other number.
+/// The explanation of a code: of those that docs/FORMATS.md lists, which are 10 to 36, 40 to 43, and 50 and 51. None of any other number.
 pub fn explain(code: u8) -> Option<Explanation>
     ensures some { IfSome result (λ e. IsNamed code e.name.now) }
     ensures none { IfNone result (HasRule code → ⊥) }
@@ -32,6 +31,8 @@ pub fn explain(code: u8) -> Option<Explanation>
         25 => Some(rules::MAYBE_DONE),
         26 => Some(rules::UNREACHABLE),
         27 => Some(rules::NO_ROLE),
+        28 => Some(rules::LANE_END),
+        29 => Some(texts::SHARED),
         30 => Some(scripts::TOKEN),
         31 => Some(scripts::ROLE),
         32 => Some(scripts::LABEL),

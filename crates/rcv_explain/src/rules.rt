@@ -1,4 +1,4 @@
-// What the codes of a protocol that was read say, 20 to 26, and that of a role which isn't declared, 27.
+// What the codes of a protocol that was read say, 20 to 26 and 28, and that of a role which isn't declared, 27.
 
 use crate::explanation::Explanation;
 
@@ -126,7 +126,8 @@ couldn't tell which way was taken. One label in two blocks is refused where both
 pub const NOT_ENABLED: Explanation = Explanation {
     name: b"NotEnabled",
     rule: b"Between a role's last message, or the start, and its next send there is no choice of others; else it would send into a
-way that isn't decided, also where it sends the same either way.",
+way that isn't decided, also where it sends the same either way. Where there are lanes (`par`), those in which it has no
+part don't count.",
     example: b"    module m;
     global protocol P(role A, role B, role C) {
       choice at A {
@@ -227,6 +228,55 @@ pub const NO_ROLE: Explanation = Explanation {
     module m;
     global protocol P(role A, role B) {
       m() from A to B;
+    }
+",
+};
+
+/// Code 28.
+pub const LANE_END: Explanation = Explanation {
+    name: b"LaneEnd",
+    rule: b"A way comes to what stands behind a `par` only where each of its blocks is at its end, and to a `par` only where what
+stands in front of it is. So from each message there a way leads to the end: of its block, or of what stands in front.",
+    example: b"    module m;
+    global protocol P(role A, role B, role C, role D) {
+      choice at A {
+        x() from A to B;
+        rec X {
+          t() from A to B;
+          continue X;
+        }
+      } or {
+        y() from A to B;
+      }
+      par {
+        u() from A to B;
+      } and {
+        v() from C to D;
+      }
+    }
+",
+    refusal: b"refused 28 LaneEnd A 1",
+    repair: b"give the loop a block that leaves it, or put nothing behind it.",
+    repaired: b"    module m;
+    global protocol P(role A, role B, role C, role D) {
+      choice at A {
+        x() from A to B;
+        rec X {
+          choice at A {
+            t() from A to B;
+            continue X;
+          } or {
+            s() from A to B;
+          }
+        }
+      } or {
+        y() from A to B;
+      }
+      par {
+        u() from A to B;
+      } and {
+        v() from C to D;
+      }
     }
 ",
 };

@@ -1,4 +1,4 @@
-// What the codes of a protocol's text say: 10 to 19.
+// What the codes of a protocol's text say: 10 to 19, and 29.
 
 use crate::explanation::Explanation;
 
@@ -182,18 +182,37 @@ pub const TOO_MANY: Explanation = Explanation {
 /// Code 19.
 pub const NOT_YET: Explanation = Explanation {
     name: b"NotYet",
-    rule: b"`par`, `do` and a second `global protocol` aren't built yet.",
+    rule: b"`par` in a block other than the protocol's own, `do` and a second `global protocol` aren't built yet.",
     example: b"    module m;
-    global protocol P(role A, role B) {
-      par { m() from A to B; } and { n() from A to B; }
+    global protocol P(role A, role B, role C, role D) {
+      rec X { par { m() from A to B; } and { n() from C to D; } continue X; }
     }
 ",
     refusal: b"refused 19 NotYet line 3",
     repair: b"write the messages out in one order; each role waits for its own messages alone. In the place of a `do` write
 the statements that it stands for.",
     repaired: b"    module m;
-    global protocol P(role A, role B) {
-      m() from A to B; n() from A to B;
+    global protocol P(role A, role B, role C, role D) {
+      rec X { m() from A to B; n() from C to D; continue X; }
+    }
+",
+};
+
+/// Code 29.
+pub const SHARED: Explanation = Explanation {
+    name: b"Shared",
+    rule: b"A role stands in one block of a `par` alone.",
+    example: b"    module m;
+    global protocol P(role A, role B, role C) {
+      par { m() from A to B; } and { n() from B to C; }
+    }
+",
+    refusal: b"refused 29 Shared line 3",
+    repair: b"write the messages of the role into one block, or one behind the other; each role waits for its own messages
+alone.",
+    repaired: b"    module m;
+    global protocol P(role A, role B, role C) {
+      m() from A to B; n() from B to C;
     }
 ",
 };

@@ -9,19 +9,19 @@ use Rattle.rcv_tree.specs.declared.statement.Stmt.TheOpen.{Block-F, Blocks-F}
 use Rattle.rcv_tree.specs.declared.statement.Stmt.TheViews.{roll-Block, out-roll-Block, roll-Blocks, out-roll-Blocks}
 use Rattle.rcv_tree.specs.declared.statement.Block.{Block}
 use Rattle.rcv_tree.specs.declared.statement.Blocks.{Blocks}
-use Rattle.rcv_machine.specs.Words.{Or, Close, Symbol, Is, symbols_of, role_at, roles_at, points, points_of, singles, tree_of, trees_of, IsFit, AreFit, Decl, Place, State, Answer, Taken, Refuses, behind, inside, inside_rec, outermost, reading}
+use Rattle.rcv_machine.specs.Words.{Or, And, Close, Open, Symbol, Is, symbols_of, role_at, roles_at, points, points_of, singles, tree_of, trees_of, IsFit, AreFit, Decl, Named, nobody, Place, State, Answer, Taken, Refuses, behind, beside, inside, inside_rec, outermost, reading}
 use Rattle.rcv_tree.specs.declared.protocol.Protocol.{Protocol}
 use Rattle.rcv_model.specs.Text.{Body, Bodies, stmt_body, body_of, bodies_of, joined, alternatives}
-use Rattle.rcv_model.proofs.Text.{body_of_lem, bodies_of_lem, stmt_body-Message, stmt_body-Choice, stmt_body-Rec, stmt_body-Continue}
+use Rattle.rcv_model.proofs.Text.{body_of_lem, bodies_of_lem, stmt_body-Message, stmt_body-Choice, stmt_body-Rec, stmt_body-Continue, stmt_body-Par}
 use Rattle.rcv_lexer.specs.declared.token.Span.{Span}
 use Rattle.rcv_lexer.specs.declared.token.Token.{Token}
 use Rattle.rcv_lexer.specs.Tokens.{AreTokens}
 use Rattle.rcv_lexer.proofs.Once.{one_reading, tokens_few}
-use Rattle.rcv_syntax.specs.Grammar.{Written, NoStmt, AMessage, AChoice, ARec, AContinue, Blocks as Blocks', NoBlock, ABlock, Source, Spells, stmts, blocks_behind, names_behind, sort_list, dotted, decls, roles_behind}
+use Rattle.rcv_syntax.specs.Grammar.{Written, NoStmt, AMessage, AChoice, ARec, AContinue, APar, ADo, Blocks as Blocks', NoBlock, ABlock, Source, Spells, stmts, blocks_behind, names_behind, sort_list, dotted, decls, roles_behind}
 use Rattle.rcv_reader.specs.Refusals.{IsRead}
 use Rattle.rcv_machine.proofs.Exactly.{refusal_is_first, taken_is_free, one_first}
 use Rattle.rcv_grammar.specs.Laws.{IsReadPart, IsRefusedPart, HasRefusal, PartsHaveOneAnswer}
-use Rattle.rcv_grammar.proofs.Passing.{Passes, PassAll, receivers_fit}
+use Rattle.rcv_machine.proofs.Passing.{named_by, Passes, PassAll, PassBeside, receivers_fit}
 use Rattle.rcv_grammar.proofs.Canonizing.{body_passes}
 
 -- ---- a block for each list of statements
@@ -76,14 +76,14 @@ module _ (roles : List (List ℕ)) where
         → IsFit roles w × HasStmts (tree_of roles n w) (length next) (length (stmts w next))
     has_stmts n p NoStmt next h lt = (tt, ([], refl, omega arith))
     has_stmts n p (AMessage label ss s r rs rest) next h lt =
-        let more = has_stmts (n + (1 + length rs)) (behind p false) rest next h.3 (omega (arith, length-names)) in
+        let more = has_stmts (n + (1 + length rs)) (behind p false) rest next h.4 (omega (arith, length-names)) in
         let all = has_singles label ss (role_at roles s) (r ∷ rs) n _ (length next) (length (stmts rest next)) more.1 in
-        ((h.1, receivers_fit roles _ n [] (r ∷ rs) h.2, more.0), (all.0, all.1, omega (arith, length-names)))
+        ((h.1, receivers_fit roles p.earlier _ n [] (r ∷ rs) h.3, more.0), (all.0, all.1, omega (arith, length-names)))
     has_stmts n p (AChoice s f os rest) next h lt =
         let us = stmts rest next in
-        let first = has_stmts n (inside p) f (Is Close ∷ blocks_behind Or os us) h.3 (omega arith) in
-        let others = all_have (n + points f) p os us h.4 (omega arith) in
-        let more = has_stmts (n + (points f + points_of os)) (behind p false) rest next h.5 (omega arith) in
+        let first = has_stmts n (inside p) f (Is Close ∷ blocks_behind Or os us) h.4 (omega arith) in
+        let others = all_have (n + points f) p os us h.5 (omega arith) in
+        let more = has_stmts (n + (points f + points_of os)) (behind p false) rest next h.6 (omega arith) in
         let block = block_of first.1.0 (omega arith) in
         let blocks = blocks_of (block.0 ∷ others.1.0) (omega arith) in
         let all = stmt.Choice (role_at roles s) blocks.0 ∷ more.1.0 in
@@ -96,7 +96,20 @@ module _ (roles : List (List ℕ)) where
     has_stmts n p (AContinue name rest) next h lt =
         let more = has_stmts n (behind p true) rest next h.3 (omega arith) in
         (more.0, (stmt.Continue name ∷ more.1.0, rw (stmt_body-Continue, more.1.1) refl, omega arith))
-    has_stmts n p _ next h lt = absurd h
+    has_stmts n p (APar f g os rest) next h lt =
+        let us = stmts rest next in
+        let vs = Is Close ∷ blocks_behind And os us in
+        let one = named_by nobody f in
+        let first = has_stmts n (inside (beside p nobody)) f (Is Close ∷ Is And ∷ Is Open ∷ stmts g vs) h.2.1 (omega arith) in
+        let second = has_stmts (n + points f) (inside (beside p one)) g vs h.2.3 (omega arith) in
+        let others = beside_have (n + points f + points g) p (named_by one g) os us h.2.4 (omega arith) in
+        let more = has_stmts (n + (points f + (points g + points_of os))) (behind p false) rest next h.3 (omega arith) in
+        let block = block_of first.1.0 (omega arith) in
+        let block_too = block_of second.1.0 (omega arith) in
+        let blocks = blocks_of (block.0 ∷ block_too.0 ∷ others.1.0) (omega arith) in
+        let all = stmt.Par blocks.0 ∷ more.1.0 in
+        (assumption, (all, rw (stmt_body-Par, blocks.1, block.1, block_too.1, first.1.1, second.1.1, others.1.1, more.1.1) refl, omega arith))
+    has_stmts n p (ADo x r rs rest) next h lt = absurd h
 
     all_have : (n : ℕ) (p : Place) (os : Blocks') (next : List Symbol) → PassAll roles n p os
         → length (blocks_behind Or os next) < 2 ^ 63
@@ -105,6 +118,16 @@ module _ (roles : List (List ℕ)) where
     all_have n p (ABlock f os) next h lt =
         let first = has_stmts n (inside p) f (Is Close ∷ blocks_behind Or os next) h.1 (omega arith) in
         let others = all_have (n + points f) p os next h.2 (omega arith) in
+        let block = block_of first.1.0 (omega arith) in
+        ((first.0, others.0), (block.0 ∷ others.1.0, rw (block.1, first.1.1, others.1.1) refl, omega arith))
+
+    beside_have : (n : ℕ) (p : Place) (since : Named) (os : Blocks') (next : List Symbol) → PassBeside roles n p since os
+        → length (blocks_behind And os next) < 2 ^ 63
+        → AreFit roles os × HasBlocks (trees_of roles n os) (length next) (length (blocks_behind And os next))
+    beside_have n p since NoBlock next h lt = (tt, ([], refl, omega arith))
+    beside_have n p since (ABlock f os) next h lt =
+        let first = has_stmts n (inside (beside p since)) f (Is Close ∷ blocks_behind And os next) h.1 (omega arith) in
+        let others = beside_have (n + points f) p (named_by since f) os next h.2 (omega arith) in
         let block = block_of first.1.0 (omega arith) in
         ((first.0, others.0), (block.0 ∷ others.1.0, rw (block.1, first.1.1, others.1.1) refl, omega arith))
 

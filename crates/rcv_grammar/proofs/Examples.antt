@@ -3,13 +3,14 @@ use Rattle.std.proofs.Common.{◌≡◌, ℕ, true, codes, List, [], ◌∷◌, 
 use Rattle.rcv_lexer.specs.Parts.{parts_of}
 use Rattle.rcv_lexer.specs.Tokens.{line_at}
 use Rattle.rcv_machine.specs.Words.{Module, Global, Choice, At, Rec, Continue, Par, And, Do, Open, Close, Left, Right, Comma, Semicolon, Symbol, Is, Word, line_before, Written, NoStmt, AMessage, AChoice, ARec, AContinue, APar, ADo, NoBlock, ABlock, Source, IsDerived, spelling, tree_of, code_of, Decl}
-use Rattle.rcv_machine.specs.Words.{State, RoleName, Receiver, Rest, Answer, Taken, Refuses, answer, reading, known}
+use Rattle.rcv_machine.specs.Words.{nobody, with_role, RoleName, Receiver, Rest, Answer, Taken, Refuses, answer, reading, known}
 use Rattle.rcv_model.specs.Text as trees
 use Rattle.rcv_tree.specs.declared.protocol.Protocol as tree
 use Rattle.rcv_reader.specs.Refusals.{IsRead}
+use Rattle.rcv_machine.proofs.Passing.{named_by}
 use Rattle.rcv_grammar.proofs.Answered.{source_read}
 use Rattle.rcv_grammar.specs.Canonical.{written_of}
-use Rattle.rcv_syntax.proofs.Texts.{a, b, c, x, y, both, text, sends, message, rec_x, again_x, nested, alias_a, more_roles}
+use Rattle.rcv_syntax.proofs.Texts.{a, b, c, x, y, both, text, text_of_four, of_others, begins, sends, message, in_par, beside, rec_x, again_x, nested, alias_a, more_roles}
 
 -- the code, and what is left from the wrong symbol on
 abbrev shown : Answer → Option (ℕ × List Symbol)
@@ -21,16 +22,21 @@ refusal symbols = shown (reading symbols)
 
 -- where a receiver is awaited behind so many points, and where a ninth role is
 abbrev at_receiver : ℕ → List ℕ → List Symbol → Option (ℕ × List Symbol)
-at_receiver count before symbols = shown (answer (known both count) (Receiver 0 before ∷ []) symbols)
+at_receiver count before symbols = shown (answer (known both count nobody) (Receiver nobody 0 before ∷ []) symbols)
 
 abbrev at_ninth : Symbol → Option (ℕ × List Symbol)
-at_ninth role = shown (answer (known (both ++ more_roles) 0) (RoleName ∷ []) (role ∷ []))
+at_ninth role = shown (answer (known (both ++ more_roles) 0 nobody) (RoleName ∷ []) (role ∷ []))
+
+-- where a receiver is awaited that isn't one of A
+abbrev shared_receiver : ℕ → List ℕ → List Symbol → Option (ℕ × List Symbol)
+shared_receiver sender before symbols =
+    shown (answer (known both 0 nobody) (Receiver (with_role nobody (codes "A")) sender before ∷ []) symbols)
 
 -- behind a continue
 abbrev at_ended : List Symbol → Option (ℕ × List Symbol)
 at_ended symbols =
-    let place = Rest (record { depth = 2; recs = codes "X" ∷ []; comes = 1; ended = true }) in
-    shown (answer (known both 0) (place ∷ []) symbols)
+    let place = Rest (record { depth = 2; recs = codes "X" ∷ []; comes = 1; ended = true; earlier = nobody }) in
+    shown (answer (known both 0 nobody) (place ∷ []) symbols)
 
 -- an answer, the code that it has, and what is left
 abbrev Case : Type 0
@@ -62,8 +68,9 @@ refused : AreRefused (
     -- a ninth role, and a point behind 256
     ∷ (at_ninth (Word (codes "I")), 18, Word (codes "I") ∷ [])
     ∷ (at_receiver 256 [] (b ∷ Is Semicolon ∷ []), 18, b ∷ Is Semicolon ∷ [])
-    -- what waits: par, do and a second protocol; no other symbol behind a protocol
-    ∷ (refusal (text (Is Par ∷ [])), 19, Is Par ∷ []) ∷ (refusal (text (Is Do ∷ [])), 19, Is Do ∷ [])
+    -- what waits: a par in another block, a do and a second protocol; no other symbol behind a protocol
+    ∷ (refusal (text (rec_x (Is Par ∷ []))), 19, Is Par ∷ []) ∷ (refusal (text (in_par (Is Par ∷ []))), 19, Is Par ∷ [])
+    ∷ (refusal (text (Is Do ∷ [])), 19, Is Do ∷ [])
     ∷ (refusal (text (Is Close ∷ Is Global ∷ [])), 19, Is Global ∷ [])
     ∷ (refusal (text (Is Close ∷ Is Close ∷ [])), 11, Is Close ∷ [])
     -- code 17 at the word, before its name is read
@@ -78,6 +85,14 @@ refused : AreRefused (
     ∷ (at_receiver 256 [] (a ∷ []), 15, a ∷ [])
     -- a ninth role with the name of the first
     ∷ (at_ninth a, 14, a ∷ [])
+    -- a role of another block of a par; where it is the sender, or stands before in the list
+    ∷ (refusal (text (in_par (message (beside (begins (a ∷ [])))))), 29, a ∷ [])
+    ∷ (shared_receiver 0 [] (a ∷ []), 15, a ∷ []) ∷ (shared_receiver 1 (0 ∷ []) (a ∷ []), 14, a ∷ [])
+    ∷ (shared_receiver 1 [] (a ∷ []), 29, a ∷ []) ∷ (shared_receiver 1 [] (c ∷ []), 13, c ∷ [])
+    -- a par of one block, and empty blocks
+    ∷ (refusal (text (in_par (message (Is Close ∷ Is Close ∷ [])))), 11, Is Close ∷ [])
+    ∷ (refusal (text (in_par (Is Close ∷ []))), 11, Is Close ∷ [])
+    ∷ (refusal (text (in_par (message (beside (Is Close ∷ []))))), 11, Is Close ∷ [])
     -- behind a continue, at a place to which a walk comes
     ∷ (at_ended (Is Continue ∷ x ∷ []), 16, Is Continue ∷ x ∷ []) ∷ [])
 refused = refl
@@ -88,17 +103,30 @@ refused = refl
 abbrev never_left : List Symbol → List Symbol
 never_left next = rec_x (Is Rec ∷ y ∷ Is Open ∷ message (again_x (Is Close ∷ next)))
 
--- an answer, and the state that it has
-abbrev AreTaken : List (Answer × State) → Type 0
-AreTaken cases = map (λ (c : Answer × State). c.0) cases ≡ map (λ (c : Answer × State). Taken c.1) cases
+abbrev four : List (List ℕ)
+four = codes "A" ∷ codes "B" ∷ codes "C" ∷ codes "D" ∷ []
+
+-- the roles and the number of points behind what is taken
+abbrev Known : Type 0
+Known = List (List ℕ) × ℕ
+
+abbrev known_behind : Answer → Option Known
+known_behind (Taken state) = Some (state.roles, state.count)
+known_behind (Refuses fault left) = None
+
+abbrev AreTaken : List (Answer × Known) → Type 0
+AreTaken cases = map (λ (c : Answer × Known). known_behind c.0) cases ≡ map (λ (c : Answer × Known). Some c.1) cases
 
 are_taken : AreTaken (
-    (reading (text (message (Is Close ∷ []))), known both 1)
+    (reading (text (message (Is Close ∷ []))), (both, 1))
     -- behind 255 points there is one more
-    ∷ (answer (known both 255) (Receiver 0 [] ∷ []) (b ∷ Is Semicolon ∷ []), known both 256)
+    ∷ (answer (known both 255 nobody) (Receiver nobody 0 [] ∷ []) (b ∷ Is Semicolon ∷ []), (both, 256))
     -- what stands behind a body that is never left isn't behind a continue of its own block
-    ∷ (reading (text (never_left (again_x (Is Close ∷ Is Close ∷ [])))), known both 1)
-    ∷ (reading (text (never_left (message (Is Close ∷ Is Close ∷ [])))), known both 2) ∷ [])
+    ∷ (reading (text (never_left (again_x (Is Close ∷ Is Close ∷ [])))), (both, 1))
+    ∷ (reading (text (never_left (message (Is Close ∷ Is Close ∷ [])))), (both, 2))
+    -- a par, and behind it another one that has the roles in other blocks
+    ∷ (reading (text_of_four (in_par (message (beside (of_others (Is Close ∷ in_par (of_others (beside (message (Is Close ∷ Is Close ∷ [])))))))))), (four, 4))
+    ∷ [])
 are_taken = refl
 
 -- ---- the line of a part's end
@@ -129,7 +157,7 @@ two_receivers = refl
 abbrev source_with : Written → Source
 source_with w = record { module_name = codes "X"; module_more = []; declared = []; name = codes "Y"; role = codes "A"; other_roles = codes "B" ∷ []; body = w }
 
--- a par of two blocks and a do: derived, though not read yet
+-- a par of two blocks, of which the second is a do: derived, though a do isn't read yet
 par_and_do : IsDerived (text (Is Par ∷ Is Open ∷ message (Is Close ∷ Is And ∷ Is Open ∷ Is Do ∷ y ∷ Is Left ∷ a ∷ Is Comma ∷ b ∷ Is Right ∷ Is Semicolon ∷ Is Close ∷ Is Close ∷ [])))
 par_and_do = (
   source_with (APar (an_x [] [] NoStmt) (ADo (codes "Y") (codes "A") (codes "B" ∷ []) NoStmt) NoBlock NoStmt),
@@ -155,10 +183,27 @@ each_production =
 
 each_is_read : (p : tree.Protocol) × IsRead (spelling each_production) p
 each_is_read =
-    source_read (spelling each_production) each_production (known three 4) (omega arith) ((refl, (refl, tt)), (tt, (tt, tt, (tt, tt, tt), tt), tt), refl) refl
+    source_read (spelling each_production) each_production (known three 4 (named_by nobody each_production.body)) (omega arith) ((refl, (refl, tt)), (tt, (tt, tt, (tt, tt, tt), tt), tt), refl) refl
 
 its_tree : tree_of three 0 each_production.body
     ≡ trees.Loop (codes "X") (trees.Choose 0 (trees.Or
     (trees.Single (codes "X") (codes "T" ∷ codes "U" ∷ []) 0 1 1 (trees.Single (codes "X") (codes "T" ∷ codes "U" ∷ []) 0 2 2 (trees.Again (codes "X") trees.End)))
     (trees.Or (trees.Single (codes "X") [] 0 1 3 (trees.Single (codes "Y") [] 1 2 4 trees.End)) trees.NoMore)) trees.End) trees.End
 its_tree = refl
+
+-- a par, with a message behind it
+abbrev beside_each_other : Source
+beside_each_other =
+    record (source_with (APar (an_x [] [] NoStmt) (AMessage (codes "Y") [] (codes "C") (codes "D") [] NoStmt) NoBlock
+    (AMessage (codes "Z") [] (codes "B") (codes "C") [] NoStmt))) {
+      other_roles = codes "B" ∷ codes "C" ∷ codes "D" ∷ [];
+    }
+
+par_is_read : (p : tree.Protocol) × IsRead (spelling beside_each_other) p
+par_is_read =
+    source_read (spelling beside_each_other) beside_each_other (known four 3 (named_by nobody beside_each_other.body)) (omega arith) (tt, (tt, tt, tt, tt, tt, tt), refl) refl
+
+par_tree : tree_of four 0 beside_each_other.body
+    ≡ trees.Parallel (trees.Or (trees.Single (codes "X") [] 0 1 1 trees.End) (trees.Or (trees.Single (codes "Y") [] 2 3 2 trees.End) trees.NoMore))
+    (trees.Single (codes "Z") [] 1 2 3 trees.End)
+par_tree = refl

@@ -1,4 +1,3 @@
-pub mod Passing
 pub mod Headings
 pub mod Canonizing
 pub mod Filling

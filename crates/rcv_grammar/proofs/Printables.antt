@@ -3,8 +3,8 @@
 use Rattle.std.proofs.Common.{◌≡◌, ℕ, ◌+◌, true, false, List, [], ◌∷◌, length, Option, Some, None, refl, All}
 use Rattle.std.proofs.lemmas.List.Elements.{All-append, All-cons, All-head, All-nil, All-tail}
 use Rattle.rcv_tree.specs.Words.{IsWord}
-use Rattle.rcv_machine.specs.Words.{Sign, Or, Symbol, Is, Word, Text, Number, reserved, sign_or, symbol_by, symbols_of, Written, NoStmt, AMessage, AChoice, ARec, AContinue, Blocks, NoBlock, ABlock, dotted, names_behind, sort_list, roles_behind, decls, stmts, blocks_behind, AreDecls}
-use Rattle.rcv_machine.specs.Words.{role_at, roles_at, points, points_of, singles, tree_of, trees_of, IsDeclared, Decl, Place, behind, inside, inside_rec, outermost}
+use Rattle.rcv_machine.specs.Words.{Sign, Or, And, Symbol, Is, Word, Text, Number, reserved, sign_or, symbol_by, symbols_of, Written, NoStmt, AMessage, AChoice, ARec, AContinue, APar, ADo, Blocks, NoBlock, ABlock, dotted, names_behind, sort_list, roles_behind, decls, stmts, blocks_behind, AreDecls}
+use Rattle.rcv_machine.specs.Words.{role_at, roles_at, points, points_of, singles, tree_of, trees_of, IsDeclared, Decl, Named, nobody, Place, behind, beside, inside, inside_rec, outermost}
 use Rattle.rcv_tree.specs.declared.protocol.Protocol.{Protocol}
 use Rattle.rcv_model.specs.Text as trees
 use Rattle.rcv_model.specs.Places as places
@@ -17,7 +17,7 @@ use Rattle.rcv_lexer.proofs.TokenBytes.{words_are_words}
 use Rattle.rcv_reader.specs.Refusals.{IsRead}
 use Rattle.rcv_grammar.specs.Canonical.{name_at}
 use Rattle.rcv_grammar.specs.Printable.{IsName, AreNames, ArePrintableDecls, IsPrintableBody, ArePrintableBlocks, IsPrintable}
-use Rattle.rcv_grammar.proofs.Passing.{AreTaken, Passes, PassAll}
+use Rattle.rcv_machine.proofs.Passing.{named_by, AreTaken, Passes, PassAll, PassBeside}
 use Rattle.rcv_grammar.proofs.Canonizing.{name_of, body_passes, source_taken}
 
 -- ---- what tokens say
@@ -89,13 +89,13 @@ module _ (roles : List (List ℕ)) where
   role_name n is h = rw (name_of roles n is) h
 
   -- one message for each receiver
-  fine_singles : (label : List ℕ) (sorts : List (List ℕ)) (sender : ℕ) (rs : List (List ℕ)) (n : ℕ) (before : List ℕ)
+  fine_singles : (earlier : Named) (label : List ℕ) (sorts : List (List ℕ)) (sender : ℕ) (rs : List (List ℕ)) (n : ℕ) (before : List ℕ)
       (rest : trees.Body) → IsName label → AreNames sorts → IsName (name_at roles sender)
-      → AreTaken roles sender n before rs → AreNames rs → IsSaid rest
+      → AreTaken roles earlier sender n before rs → AreNames rs → IsSaid rest
       → IsSaid (singles label sorts sender (roles_at roles rs) n rest)
-  fine_singles label sorts sender [] n before rest l ss from may names h = h
-  fine_singles label sorts sender (r ∷ rs) n before rest l ss from may names h =
-      let more = fine_singles label sorts sender rs (n + 1) _ rest l ss from may.4 names.1 h in
+  fine_singles earlier label sorts sender [] n before rest l ss from may names h = h
+  fine_singles earlier label sorts sender (r ∷ rs) n before rest l ss from may names h =
+      let more = fine_singles earlier label sorts sender rs (n + 1) _ rest l ss from may.5 names.1 h in
       ((l, ss, from, role_name r may.0 names.0, more.0), All-cons HasLabel _ _ l.0 more.1)
 
   mutual
@@ -106,12 +106,12 @@ module _ (roles : List (List ℕ)) where
         let ss = (fine_names sorts _).3 f.1.1 in
         let from = role_name sender h.1 ss.1.1.1.0 in
         let receivers = (fine_names others _).0 ss.1.1.1.1.1.1 in
-        let more = fine_body (n + (1 + length others)) (behind p false) rest next h.3 receivers.1.1 in
-        (fine_singles label sorts _ (receiver ∷ others) n [] _ f.0 ss.0 from h.2 (ss.1.1.1.1.1.0, receivers.0) more.0, more.1)
+        let more = fine_body (n + (1 + length others)) (behind p false) rest next h.4 receivers.1.1 in
+        (fine_singles p.earlier label sorts _ (receiver ∷ others) n [] _ f.0 ss.0 from h.3 (ss.1.1.1.1.1.0, receivers.0) more.0, more.1)
     fine_body n p (AChoice subject first others rest) next h f =
-        let block = fine_body n (inside p) first _ h.3 f.1.1.1.1 in
-        let blocks = fine_blocks (n + points first) p others _ h.4 block.1.1 in
-        let more = fine_body (n + (points first + points_of others)) (behind p false) rest next h.5 blocks.1 in
+        let block = fine_body n (inside p) first _ h.4 f.1.1.1.1 in
+        let blocks = fine_blocks (n + points first) p others _ h.5 block.1.1 in
+        let more = fine_body (n + (points first + points_of others)) (behind p false) rest next h.6 blocks.1 in
         let labels = All-append HasLabel _ _ (All-append HasLabel _ _ block.0.1 blocks.0.1) more.0.1 in
         (((role_name subject h.1 f.1.1.0, (block.0.0, blocks.0.0), more.0.0), labels), more.1)
     fine_body n p (ARec name body rest) next h f =
@@ -121,7 +121,15 @@ module _ (roles : List (List ℕ)) where
     fine_body n p (AContinue name rest) next h f =
         let more = fine_body n (behind p true) rest next h.3 f.1.1.1 in
         (((f.1.0, more.0.0), more.0.1), more.1)
-    fine_body n p _ next h f = absurd h
+    fine_body n p (APar first second others rest) next h f =
+        let one = named_by nobody first in
+        let block = fine_body n (inside (beside p nobody)) first _ h.2.1 f.1.1 in
+        let next_block = fine_body (n + points first) (inside (beside p one)) second _ h.2.3 block.1.1.1.1 in
+        let blocks = fine_beside (n + points first + points second) p (named_by one second) others _ h.2.4 next_block.1.1 in
+        let more = fine_body (n + (points first + (points second + points_of others))) (behind p false) rest next h.3 blocks.1 in
+        let labels = All-append HasLabel _ _ (All-append HasLabel _ _ block.0.1 (All-append HasLabel _ _ next_block.0.1 blocks.0.1)) more.0.1 in
+        ((((block.0.0, (next_block.0.0, blocks.0.0)), more.0.0), labels), more.1)
+    fine_body n p (ADo x r rs rest) next h f = absurd h
 
     fine_blocks : (n : ℕ) (p : Place) (bs : Blocks) (next : List Symbol) → PassAll roles n p bs
         → AreFine (blocks_behind Or bs next) → AreSaid (trees_of roles n bs) × AreFine next
@@ -129,6 +137,14 @@ module _ (roles : List (List ℕ)) where
     fine_blocks n p (ABlock first others) next h f =
         let block = fine_body n (inside p) first _ h.1 f.1.1 in
         let blocks = fine_blocks (n + points first) p others next h.2 block.1.1 in
+        (((block.0.0, blocks.0.0), All-append HasLabel _ _ block.0.1 blocks.0.1), blocks.1)
+
+    fine_beside : (n : ℕ) (p : Place) (since : Named) (bs : Blocks) (next : List Symbol) → PassBeside roles n p since bs
+        → AreFine (blocks_behind And bs next) → AreSaid (trees_of roles n bs) × AreFine next
+    fine_beside n p since NoBlock next h f = ((tt, All-nil HasLabel), f)
+    fine_beside n p since (ABlock first others) next h f =
+        let block = fine_body n (inside (beside p since)) first _ h.1 f.1.1 in
+        let blocks = fine_beside (n + points first) p (named_by since first) others next h.2 block.1.1 in
         (((block.0.0, blocks.0.0), All-append HasLabel _ _ block.0.1 blocks.0.1), blocks.1)
 
 -- ---- the whole protocol

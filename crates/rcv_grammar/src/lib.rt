@@ -10,7 +10,7 @@ pub fn canonical_sources_are_read()
 {}
 
 /// In a text that was read each `continue` is bound, guarded by a message and the last of its block. No inner block is
-/// empty, and there is no `par` and no `do`.
+/// empty, a `par` stands in the protocol's own block alone, and there is no `do`.
 pub fn read_texts_are_full()
     ensures { ReadTextsAreFull }
 {}

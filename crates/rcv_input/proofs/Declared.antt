@@ -4,8 +4,9 @@ use Rattle.std.proofs.lemmas.Bool.{cases_eq}
 use Rattle.rcv_model.specs.Text.{Body, End, Single, Choose, Loop, Again, Parallel, Call, Bodies, NoMore, Or}
 use Rattle.rcv_model.specs.Places.{Frame, Behind, Inside, Spot, SingleMessage, singles}
 use Rattle.rcv_model.specs.Form.{IsNumberedFrom, HasForm, HaveSubjects, HaveSubjectsIn}
-use Rattle.rcv_model.specs.Accept.{choices, choices_of, IsFirstOf, Fails, subject, mixed, senders, labels, not_enabled, maybe_done, unreachable, IsRefusal}
-use Rattle.rcv_model.proofs.Forms.{Has, ends_of}
+use Rattle.rcv_model.specs.Accept.{choices, choices_of, IsFirstOf, Fails, subject, mixed, senders, labels, not_enabled, maybe_done, unreachable, lane_end, IsRefusal}
+use Rattle.rcv_model.proofs.Forms.{ends_of}
+use Rattle.rcv_model.proofs.LanesOfText.{Has}
 
 first_of_either : (a b : List (ℕ × Spot)) (s p : ℕ) → IsFirstOf (a ++ b) s p → IsFirstOf a s p ⊎ IsFirstOf b s p
 first_of_either [] b s p h = inr h
@@ -44,6 +45,7 @@ role_declared body roles c r n form (labels x y declared place next other alike 
 role_declared body roles c r n form (not_enabled declared place closed) = declared
 role_declared body roles c r n form (maybe_done z w declared place next walk ended none) = declared
 role_declared body roles c r n form (unreachable sends first last unreached) = subst (λ (q : ℕ). q < roles) sends (ends_of roles n (singles body) form.ends (has_numbered 1 n (singles body) form.numbered first (omega (arith, last)))).0
+role_declared body roles c r n form (lane_end sends first last later never) = subst (λ (q : ℕ). q < roles) sends (ends_of roles n (singles body) form.ends (has_numbered 1 n (singles body) form.numbered first (omega (arith, last)))).0
 
 pub refused_role_declared : (body : Body) (roles c r n : ℕ) → HasForm body roles → IsRefusal body roles c r n → r < roles
 refused_role_declared body roles c r n form refusal = role_declared body roles c r n form refusal.fails

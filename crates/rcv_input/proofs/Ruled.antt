@@ -15,14 +15,14 @@ use Rattle.rcv_model.specs.Text.{Body, End, Single, Choose, NoMore, Or, stmt_bod
 use Rattle.rcv_model.proofs.Text.{body_of_lem, bodies_of_lem, stmt_body-Message, stmt_body-Choice}
 use Rattle.rcv_model.specs.Net.{IsIn}
 use Rattle.rcv_model.specs.Places.{branch, single}
-use Rattle.rcv_model.specs.Accept.{choices, IsFirstOf, Fails, subject, mixed, senders, labels, not_enabled, maybe_done, unreachable, IsNotAfter, IsRefusal}
+use Rattle.rcv_model.specs.Accept.{choices, IsFirstOf, Fails, subject, mixed, senders, labels, not_enabled, maybe_done, unreachable, lane_end, IsNotAfter, IsRefusal}
 use Rattle.rcv_model.proofs.PlacesLemmas.{offers_complete}
 use Rattle.rcv_lexer.specs.declared.piece.Piece.{Piece}
 use Rattle.rcv_lexer.specs.declared.token.Token.{Token}
 use Rattle.rcv_lexer.specs.Tokens.{tokens_of}
 use Rattle.rcv_syntax.specs.Symbols.{Symbol, symbols_of}
 use Rattle.rcv_syntax.specs.Grammar.{NoStmt, AMessage, AChoice, NoBlock, Source}
-use Rattle.rcv_machine.specs.Machine.{known}
+use Rattle.rcv_machine.specs.Machine.{known, nobody, with_role}
 use Rattle.rcv_reader.specs.Refusals.{IsRead}
 use Rattle.rcv_reader.proofs.Answering.{read_of}
 use Rattle.rcv_input.specs.declared.refused.Refused.TheVariants.{Rule}
@@ -127,7 +127,7 @@ its_body =
 
 is_read : IsRead symbols protocol
 is_read = read_of symbols protocol (
-  known both 1,
+  known both 1 (with_role (with_role (with_role nobody (codes "B")) (codes "A")) (codes "B")),
   refl,
   record {
     source = source;
@@ -164,6 +164,7 @@ none_before (labels x y declared place next other alike differ) = inl (omega ari
 none_before (not_enabled declared place closed) = inl (omega arith)
 none_before (maybe_done z w declared place next walk ended none) = inl (omega arith)
 none_before (unreachable sends first last unreached) = inl (omega arith)
+none_before (lane_end sends first last later never) = inl (omega arith)
 
 refusal : IsRefusal (body_of protocol.body) (length protocol.roles) 20 1 1
 refusal = subst (λ (b : Body). IsRefusal b 2 20 1 1) (sym its_body) (record { fails = wrong_subject; least = λ d q m fails. none_before fails })

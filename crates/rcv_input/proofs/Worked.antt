@@ -26,7 +26,7 @@ use Rattle.rcv_lexer.specs.Parts.{parts_of}
 use Rattle.rcv_lexer.specs.Tokens.{tokens_of}
 use Rattle.rcv_syntax.specs.Symbols.{Symbol, symbols_of}
 use Rattle.rcv_syntax.specs.Grammar.{NoStmt, AMessage, Source}
-use Rattle.rcv_machine.specs.Machine.{known}
+use Rattle.rcv_machine.specs.Machine.{known, nobody, with_role}
 use Rattle.rcv_reader.specs.Refusals.{IsRead}
 use Rattle.rcv_reader.proofs.Answering.{read_of}
 use Rattle.rcv_grammar.proofs.Filling.{read_texts_are_full}
@@ -114,7 +114,7 @@ its_body =
 
 pub is_read : IsRead symbols protocol
 is_read = read_of symbols protocol (
-  known both 1,
+  known both 1 (with_role (with_role nobody (codes "A")) (codes "B")),
   refl,
   record {
     source = source;

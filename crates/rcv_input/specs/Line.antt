@@ -12,6 +12,7 @@ code_names =
     ∷ (20, codes "Subject") ∷ (21, codes "Mixed")
     ∷ (22, codes "Senders") ∷ (23, codes "Labels") ∷ (24, codes "NotEnabled") ∷ (25, codes "MaybeDone")
     ∷ (26, codes "Unreachable") ∷ (27, codes "NoRole")
+    ∷ (28, codes "LaneEnd") ∷ (29, codes "Shared")
     ∷ (30, codes "Token") ∷ (31, codes "Role") ∷ (32, codes "Label")
     ∷ (33, codes "Variable") ∷ (34, codes "AttemptInState") ∷ (35, codes "NoPayload")
     ∷ (36, codes "TooMany")

@@ -25,9 +25,10 @@ pub struct Input {
 
 /// The accepted protocol, the scripts and the plan that the input's text says. The input has fewer than 2^32 - 1 bytes.
 ///
-/// Refused with the first of these that holds: 10 at a bad letter of the protocol part; 11 to 19 where the reader
-/// refuses the protocol; 20 to 26 where a rule of acceptance fails, at a role and a number; 10 at a bad letter of the
-/// scripts; 30 to 36 where the scripts are refused; 10 at a bad letter of the plan; 40 to 43 where the plan is refused.
+/// Refused with the first of these that holds: 10 at a bad letter of the protocol part; 11 to 19 and 29 where the
+/// reader refuses the protocol; 20 to 26 and 28 where a rule of acceptance fails, at a role and a number; 10 at a bad
+/// letter of the scripts; 30 to 36 where the scripts are refused; 10 at a bad letter of the plan; 40 to 43 where the plan
+/// is refused.
 /// docs/FORMATS.md lists the codes. `Memory` where no memory is left.
 pub fn read_input(alloc: Global, input: &[u8]) -> Result<Input, InputError>
     requires { length input.now + 1 < 2 ^ 32 }

@@ -30,6 +30,8 @@ fn name_of(code: u8) -> &'static [u8]
         25 => b"MaybeDone",
         26 => b"Unreachable",
         27 => b"NoRole",
+        28 => b"LaneEnd",
+        29 => b"Shared",
         30 => b"Token",
         31 => b"Role",
         32 => b"Label",

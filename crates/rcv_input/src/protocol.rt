@@ -1,9 +1,9 @@
 // Reads the protocol part of an input, and has its protocol accepted.
 
-ghost use Rattle.std.specs.Prelude.{◌≡◌, [], ◌+◌, ◌^◌, ◌<◌, ◌≤◌, length, slice_get, Some, IfOk, MatchResult};
+ghost use Rattle.std.specs.Prelude.{◌≡◌, ◌+◌, ◌^◌, ◌<◌, ◌≤◌, length, slice_get, Some, IfOk, MatchResult};
 ghost use Rattle.rcv_model.specs.Form.{HasForm};
 ghost use Rattle.rcv_model.specs.Names.{HasNames};
-ghost use Rattle.rcv_model.specs.Places.{IsFull};
+ghost use Rattle.rcv_model.specs.Places.{IsFullText};
 ghost use Rattle.rcv_model.specs.Text.{body_of};
 ghost use Rattle.rcv_lexer.specs.Parts.{LiesIn, parts_of};
 ghost use Rattle.rcv_input.specs.Input.{IsProtocolOf};
@@ -61,7 +61,7 @@ fn ruled_out(alloc: Global, roles: &Names, refusal: Refusal) -> Result<Refused, 
 /// The protocol, which is of the reader's form, as an accepted one, or the refusal by a rule of acceptance.
 pub fn accepted_of(alloc: Global, protocol: Protocol) -> Result<Accepted, InputError>
     requires form { HasForm (body_of protocol.body) (length protocol.roles) }
-    requires full { IsFull [] [] (body_of protocol.body) }
+    requires full { IsFullText (body_of protocol.body) }
     requires names { HasNames protocol.roles (body_of protocol.body) }
     ensures { MatchResult result (λ a. a.protocol ≡ protocol) (IsRuledOut protocol) }
 {

@@ -10,9 +10,8 @@ use Rattle.rcv_model.specs.Net.{IsIn}
 use Rattle.rcv_model.specs.Next.{IsNext, AreNext, IsProper}
 use Rattle.rcv_model.specs.Journal.{State, start, group_of, after, May, IsLegalFrom, IsLegal}
 use Rattle.rcv_model.proofs.Forms.{proper}
-use Rattle.rcv_model.proofs.NextLists.{next_offered}
 use Rattle.rcv_model.proofs.Numbers.{length_unmarked}
-use Rattle.rcv_model.proofs.Ways.{ends_declared}
+use Rattle.rcv_model.proofs.Ways.{ends_declared, next_in_text}
 use Rattle.rcv_accept.specs.Accepted.{IsAcceptedProtocol}
 use Rattle.rcv_session.specs.Session.{SessionView, text_of, roles_of, net_for, rules_of}
 use Rattle.rcv_journal.specs.JournalText.{IsNamedEvent, IsNamed, AreNamed}
@@ -27,8 +26,7 @@ module _ (setup : SessionView) (form : IsProper (net_for setup) (roles_of setup)
   at_next : (e : Event) (k : ℕ) (offered : List ℕ) → e.role < roles_of setup → AreNext (net_for setup) e.role k offered → IsIn e.point offered → IsNamedEvent setup e
   at_next e k offered declared next among =
       let n : IsNext (net_for setup) e.role k e.point = next.sound e.point among in
-      let there = next_offered (net_for setup) e.role k e.point n in
-      let inside = form.in_text there.0 e.point there.1 in
+      let inside = next_in_text (net_for setup) (roles_of setup) e.role k e.point form n in
       record { role = declared; first = inside.0; last = inside.1 }
 
   named : (s : State) (e : Entry) → length s.crashed ≡ roles_of setup → May (rules_of setup) s e → IsNamed setup e

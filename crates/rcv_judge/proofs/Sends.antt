@@ -1,5 +1,5 @@
 -- What a role did, where that leaves it, and what it sends next, whether or not its channel has room.
-use Rattle.std.proofs.Common.{◌≡◌, ℕ, zero, suc, ◌+◌, ◌<◌, ◌≤◌, Bool, true, false, ◌==◌, cond, None, Some, Option, List, [], ◌∷◌, ◌++◌, length, take, refl, sym, ◌∙◌, ap, subst, add-one, arith}
+use Rattle.std.proofs.Common.{◌≡◌, ℕ, zero, suc, ◌+◌, ◌<◌, ◌≤◌, Bool, true, false, ◌==◌, cond, None, Some, Option, List, [], ◌∷◌, ◌++◌, length, take, refl, sym, ◌∙◌, ap, subst, add-one, append_assoc, arith}
 use Rattle.std.specs.Prelude.{slice_get, slice_index, ℤ}
 use Rattle.std.specs.List.{cons_option}
 use Rattle.std.proofs.lemmas.Bool.Decides.{nat_tests}
@@ -16,6 +16,7 @@ use Rattle.rcv_model.specs.Final.{IsCrashed}
 use Rattle.rcv_model.proofs.Choosing.{chosen_in}
 use Rattle.rcv_model.proofs.Forms.{proper}
 use Rattle.rcv_model.proofs.Legal.{accepted_runs}
+use Rattle.rcv_model.proofs.Lanes.{walk_in_text}
 use Rattle.rcv_model.proofs.Located.{item}
 use Rattle.rcv_model.proofs.Numbers.{bounded}
 use Rattle.rcv_model.proofs.Parts.{cut}
@@ -108,14 +109,15 @@ at_its_point net r p a is = go (net.sender p == r) (net.receiver p == r) is
     go false true is = ap (λ (y : Act). y.point) (same_Some (record { dir = Got; point = p }) a is)
     go false false is = absurd (none-some a is)
 
-part_at_points : (net : Net) (roles r k : ℕ) (w : List ℕ) → IsProper net roles → IsWalk net k w → AreAtPoints net (part net r w)
-part_at_points net roles r k [] form walk = λ n a at. absurd (none-some a at)
-part_at_points net roles r k (p ∷ w) form walk =
-    one_act_more net (act_at net r p) (part net r w) (λ a is. subst (λ q. (1 ≤ q) × (q ≤ net.count)) (at_its_point net r p a is) (form.in_text k p walk.0)) (part_at_points net roles r p w form walk.1)
+part_at_points : (net : Net) (roles r k : ℕ) (front w : List ℕ) → IsProper net roles → IsWalk net k (front ++ w) → AreAtPoints net (part net r w)
+part_at_points net roles r k front [] form walk = λ n a at. absurd (none-some a at)
+part_at_points net roles r k front (p ∷ w) form walk =
+    one_act_more net (act_at net r p) (part net r w) (λ a is. subst (λ q. (1 ≤ q) × (q ≤ net.count)) (at_its_point net r p a is) (walk_in_text net roles k p front w form walk))
+    (part_at_points net roles r k (front ++ p ∷ []) w form (subst (IsWalk net k) (sym (append_assoc front (p ∷ []) w)) walk))
 
 run_at_points : (net : Net) (roles r : ℕ) (h : List Event) → IsProper net roles → IsRun net h → AreAtPoints net (acts r h)
 run_at_points net roles r h form run n a at =
-    part_at_points net roles r 0 run.0 form run.1.walk n a
+    part_at_points net roles r 0 [] run.0 form run.1.walk n a
     (sym (ap (λ done. slice_get done n) (run.1.parts r).1) ∙ get_left (acts r h) (run.1.parts r).0 n (slice_get_within (acts r h) n a at) ∙ at)
 
 -- ---- a book's roles

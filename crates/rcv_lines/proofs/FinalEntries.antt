@@ -22,6 +22,7 @@ use Rattle.rcv_model.proofs.Forms.{proper}
 use Rattle.rcv_model.proofs.Legal.{accepted_runs, legal_more}
 use Rattle.rcv_model.proofs.Numbers.{bounded}
 use Rattle.rcv_model.proofs.StableLines.{reading_join}
+use Rattle.rcv_model.proofs.Lanes.{walk_in_text}
 use Rattle.rcv_model.proofs.Ways.{ends_declared}
 use Rattle.rcv_accept.specs.Accepted.{IsAcceptedProtocol}
 use Rattle.rcv_plan.specs.Lines.{IsPlanned}
@@ -89,9 +90,11 @@ module _ (net : Net) (roles : ℕ) (lawful : IsProper net roles) where
       go true = All-cons (λ q. q < roles) (net.receiver x) marked (All-head HasReceiver x ws all) are
       go false = are
 
-  walk_declared : (k : ℕ) (w : List ℕ) → IsWalk net k w → All HasReceiver w
-  walk_declared k [] walk = All-nil HasReceiver
-  walk_declared k (x ∷ w) walk = All-cons HasReceiver x w (lawful.receivers k x walk.0) (walk_declared x w walk.1)
+  walk_declared : (k : ℕ) (front w : List ℕ) → IsWalk net k (front ++ w) → All HasReceiver w
+  walk_declared k front [] walk = All-nil HasReceiver
+  walk_declared k front (x ∷ w) walk =
+      let t = walk_in_text net roles k x front w lawful walk in
+      All-cons HasReceiver x w (lawful.receivers x t.0 t.1) (walk_declared k (front ++ x ∷ []) w (subst (IsWalk net k) (sym (append_assoc front (x ∷ []) w)) walk))
 
   -- the receiver at an act of a run is declared
   act_declared : (h : List Event) (p i : ℕ) (a : Act) → IsRun net h → slice_get (acts p h) i ≡ Some a → HasReceiver a.point
@@ -121,7 +124,7 @@ module _ (net : Net) (roles : ℕ) (lawful : IsProper net roles) where
       spread : (p n : ℕ) → p < roles → HasReceiver n → (r z : ℕ) → IsMarkedAt net p n r z → r < roles
       spread p n lt start r z at =
           let first : All (λ x. x < roles) (p ∷ []) = All-cons (λ x. x < roles) p [] lt (All-nil (λ x. x < roles)) in
-          let walked : All HasReceiver (n ∷ at.walk.0) = All-cons HasReceiver n at.walk.0 start (walk_declared n at.walk.0 at.walk.1) in
+          let walked : All HasReceiver (n ∷ at.walk.0) = All-cons HasReceiver n at.walk.0 start (walk_declared n [] at.walk.0 at.walk.1) in
           let front : All HasReceiver (at.before ++ z ∷ []) = front_all HasReceiver (at.before ++ z ∷ []) at.after (subst (All HasReceiver) (sym at.walk.2 ∙ sym (append_assoc at.before (z ∷ []) at.after)) walked) in
           among (λ x. x < roles) (marks net (p ∷ []) (at.before ++ z ∷ [])) r (marked_declared (p ∷ []) (at.before ++ z ∷ []) first front) at.now
 

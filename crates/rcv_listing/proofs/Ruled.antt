@@ -9,7 +9,7 @@ use Rattle.rcv_model.specs.Text.{Body, body_of}
 use Rattle.rcv_model.specs.Form.{HasForm}
 use Rattle.rcv_model.specs.Places.{net_of}
 use Rattle.rcv_model.specs.Next.{IsPlaceOf}
-use Rattle.rcv_model.specs.Accept.{Fails, subject, mixed, senders, labels, not_enabled, maybe_done, unreachable}
+use Rattle.rcv_model.specs.Accept.{Fails, subject, mixed, senders, labels, not_enabled, maybe_done, unreachable, lane_end}
 use Rattle.rcv_lexer.specs.declared.token.TextError.TheVariants as errors
 use Rattle.rcv_points.specs.Follow.{PointsView, ChoiceView, IsChosen, ArePointsOf, net_in}
 use Rattle.rcv_points.proofs.Whole.{same_net}
@@ -33,6 +33,7 @@ rule_of body roles c r n (labels x y declared place next other alike differ) = (
 rule_of body roles c r n (not_enabled declared place closed) = (codes "NotEnabled", inr (inr (inr (inr (inr (inr (inr (inr (inr (inr (inr (inr (inr (inr (inl (refl, refl))))))))))))))))
 rule_of body roles c r n (maybe_done z w declared place next walk ended none) = (codes "MaybeDone", inr (inr (inr (inr (inr (inr (inr (inr (inr (inr (inr (inr (inr (inr (inr (inl (refl, refl)))))))))))))))))
 rule_of body roles c r n (unreachable sends first last unreached) = (codes "Unreachable", inr (inr (inr (inr (inr (inr (inr (inr (inr (inr (inr (inr (inr (inr (inr (inr (inl (refl, refl))))))))))))))))))
+rule_of body roles c r n (lane_end sends first last later never) = (codes "LaneEnd", inr (inr (inr (inr (inr (inr (inr (inr (inr (inr (inr (inr (inr (inr (inr (inr (inr (inr (inl (refl, refl))))))))))))))))))))
 
 -- a choice with this first point
 chosen_at : (vs : List ChoiceView) (s p : ℕ) → IsChosen vs s p → (j : ℕ) × (j < length vs) × IsIn p (get_or vs j no_choice).offered
@@ -55,6 +56,7 @@ number_of body roles c r n points are (labels x y declared place next other alik
 number_of body roles c r n points are (not_enabled declared place closed) = at_place (net_of body) r n 24 place refl
 number_of body roles c r n points are (maybe_done z w declared place next walk ended none) = at_place (net_of body) r n 25 place refl
 number_of body roles c r n points are (unreachable sends first last unreached) = (last, λ h. first)
+number_of body roles c r n points are (lane_end sends first last later never) = (last, λ h. first)
 
 pub is_rule_in : (p : Protocol) (points : PointsView) (r : Refusal) → HasForm (body_of p.body) (length p.roles) → ArePointsOf (body_of p.body) points → IsRefusedBy (body_of p.body) (length p.roles) (errors.Refused r) → IsRuleIn (net_in points) r
 is_rule_in p points (refusals.Rule c role n) form are h =

@@ -42,18 +42,22 @@ stand_text lines place =
 abbrev pub place_text : List (List ℕ) → List ℕ → ℕ → ℕ → List ℕ
 place_text roles lines role place = name_of roles role ++ stand_text lines place ++ codes ". Its next points there:\n"
 
--- What is wrong with a point: another role than the one that decides sends it, or no way comes to it.
+-- What is wrong with a point: another role than the one that decides sends it, no way comes to it, or none leads from it
+-- to the end of its lane.
 abbrev pub subject_text : List (List ℕ) → ℕ → List ℕ
 subject_text roles role = name_of roles role ++ codes " decides, but another role sends this first message:\n"
 
 abbrev pub unreached_text : List (List ℕ) → ℕ → List ℕ
 unreached_text roles role = name_of roles role ++ codes " sends this message, but no way from the start comes to it:\n"
 
+abbrev pub endless_text : List (List ℕ) → ℕ → List ℕ
+endless_text roles role = name_of roles role ++ codes " sends this message, but no way leads from it to the end of its lane, and a stage follows:\n"
+
 -- What is said of the place or the point where a rule fails, in front of the points that are shown.
 abbrev pub where_text : List (List ℕ) → List ℕ → ℕ → ℕ → ℕ → List ℕ
 where_text roles lines code role number =
     if is_at_place code then place_text roles lines role number
-    else (if code == 20 then subject_text roles role else unreached_text roles role)
+    else (if code == 20 then subject_text roles role else (if code == 28 then endless_text roles role else unreached_text roles role))
 
 -- These points are shown: the role's next ones at the place, or the one that is wrong.
 pub record AreShown (net : Net) (code role number : ℕ) (shown : List ℕ) : Type 0 where

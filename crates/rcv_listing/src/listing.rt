@@ -1,9 +1,9 @@
 // The text of a protocol's points.
 
-ghost use Rattle.std.specs.Prelude.{◌≡◌, [], ◌+◌, ◌^◌, ◌<◌, length, IfOk, MatchResult};
+ghost use Rattle.std.specs.Prelude.{◌≡◌, ◌+◌, ◌^◌, ◌<◌, length, IfOk, MatchResult};
 ghost use Rattle.rcv_model.specs.Text.{body_of};
 ghost use Rattle.rcv_model.specs.Form.{HasForm};
-ghost use Rattle.rcv_model.specs.Places.{IsFull};
+ghost use Rattle.rcv_model.specs.Places.{IsFullText};
 ghost use Rattle.rcv_model.specs.Names.{HasNames};
 ghost use Rattle.rcv_listing.specs.Listing.{IsListing, IsListingOf, IsUnreadable};
 
@@ -30,7 +30,7 @@ pub enum Listing {
 // The listing of a protocol that was read.
 fn listing_of(alloc: Global, source: Source) -> Result<Listing, InputError>
     requires form { HasForm (body_of source.protocol.body) (length source.protocol.roles) }
-    requires full { IsFull [] [] (body_of source.protocol.body) }
+    requires full { IsFullText (body_of source.protocol.body) }
     requires names { HasNames source.protocol.roles (body_of source.protocol.body) }
     ensures { MatchResult result (IsListingOf source.protocol source.lines.items) (λ e. e ≡ InputError.Memory) }
 {
@@ -62,7 +62,7 @@ fn listing_of(alloc: Global, source: Source) -> Result<Listing, InputError>
 /// The points of the protocol in the input's protocol part, with their lines; the scripts and the plan are left as they
 /// are. The input has fewer than 2^32 - 1 bytes.
 ///
-/// Refused where the protocol part isn't read: by 10 at a bad letter, by 11 to 19 where the reader refuses it. `Memory`
+/// Refused where the protocol part isn't read: by 10 at a bad letter, by 11 to 19 and 29 where the reader refuses it. `Memory`
 /// where no memory is left.
 pub fn points_text(alloc: Global, input: &[u8]) -> Result<Listing, InputError>
     requires { length input.now + 1 < 2 ^ 32 }

@@ -5,7 +5,7 @@ ghost use Rattle.rcv_points.specs.Follow.{net_in};
 ghost use Rattle.rcv_input.specs.Line.{refusal_line};
 ghost use Rattle.rcv_input.specs.declared.refused.Refused.TheVariants.{Rule};
 ghost use Rattle.rcv_explain.specs.Explained.{HasRule};
-ghost use Rattle.rcv_listing.specs.Lines.{name_of, rule_text, stand_text, place_text, subject_text, unreached_text};
+ghost use Rattle.rcv_listing.specs.Lines.{name_of, rule_text, stand_text, place_text, subject_text, unreached_text, endless_text};
 ghost use Rattle.rcv_listing.specs.Lines.{where_text};
 ghost use Rattle.rcv_listing.specs.Lines as lines;
 ghost use Rattle.rcv_listing.specs.Lines.{IsNumberIn, IsRuleIn, AddsTold, AddsRefusal};
@@ -74,6 +74,16 @@ fn write_unreached(text: &mut Writer, table: &Table<'_>, role: RoleId) -> Result
     text.word(b" sends this message, but no way from the start comes to it:\n")
 }
 
+// What is wrong with a point of the role from which no way leads to the end of its lane.
+fn write_endless(text: &mut Writer, table: &Table<'_>, role: RoleId) -> Result<(), AllocError>
+    ensures { OnOk result (text.new ≡ text.old ++ endless_text table.now.roles.now role) }
+{
+    text.word(table.name(role))?;
+    text.word(
+        b" sends this message, but no way leads from it to the end of its lane, and a stage follows:\n",
+    )
+}
+
 // What is said of the place or the point where a rule fails, in front of the points that are shown.
 fn write_where(
     text: &mut Writer,
@@ -88,6 +98,8 @@ fn write_where(
         write_place(text, table, role, number)
     } else if code == 20 {
         write_subject(text, table, role)
+    } else if code == 28 {
+        write_endless(text, table, role)
     } else {
         write_unreached(text, table, role)
     }

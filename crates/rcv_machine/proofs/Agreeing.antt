@@ -4,9 +4,9 @@ use Rattle.std.proofs.Common.{◌≡◌, ℕ, Bool, true, false, cond, List, [],
 use Rattle.std.proofs.lemmas.Bool.Decides.{nat_tests}
 use Rattle.std.proofs.lemmas.Slice.Eq.{bytes_eq-Decides}
 use denote.Enum.Bare.{same_true}
-use Rattle.rcv_machine.specs.Words.{Global, To, Or, Choice, Rec, Continue, Par, Do, Open, Close, Right, Comma, Semicolon, Dot, Fault, Token, Deep, NoName, Twice, SelfMessage, AfterContinue, Unguarded, TooMany, Symbol, Is, Word, Text, Number}
+use Rattle.rcv_machine.specs.Words.{Global, To, Or, Choice, Rec, Continue, Par, And, Do, Open, Close, Right, Comma, Semicolon, Dot, Fault, Token, Deep, NoName, Twice, SelfMessage, AfterContinue, Unguarded, TooMany, NotYet, Shared, Symbol, Is, Word, Text, Number}
 use Rattle.rcv_machine.specs.Words.{Written, NoStmt, AMessage, AChoice, ARec, AContinue, APar, ADo, Blocks, NoBlock, ABlock, dotted, names_behind, sort_list, roles_behind, decls, stmts, blocks_behind, IsBegun, IsProper, AreProper, is_decl_word, AreDecls, Source, IsDerived, place_of, is_listed, is_among, Decl}
-use Rattle.rcv_machine.specs.Words.{Place, Item, This, AnyName, AnyQuoted, MoreModules, Decls, Alias, RoleName, MoreRoles, Sorts, MoreSorts, Subject, Sender, Receiver, MoreReceivers, RecName, AgainName, Opening, First, Rest, More, State, Outcome, On, Wrong, behind, unless, by_place, meets, is_open, begins, ends, branches, step, awaited}
+use Rattle.rcv_machine.specs.Words.{Place, Item, This, AnyName, AnyQuoted, MoreModules, Decls, Alias, RoleName, MoreRoles, Sorts, MoreSorts, Subject, Sender, Receiver, MoreReceivers, RecName, AgainName, Opening, First, Rest, More, Lane, Later, State, Outcome, On, Wrong, behind, unless, by_place, meets, is_open, begins, ends, branches, later, step, awaited}
 use Rattle.rcv_syntax.specs.contracts.sign.Sign.{the_type}
 
 -- A symbol meets no other one.
@@ -28,10 +28,10 @@ Front RoleName ts us = (n : List ℕ) × (ns : List (List ℕ)) × (ts ≡ Word 
 Front MoreRoles ts us = (ns : List (List ℕ)) × (ts ≡ roles_behind ns (Is Right ∷ us))
 Front Sorts ts us = (ns : List (List ℕ)) × (ts ≡ sort_list ns (Is Right ∷ us))
 Front MoreSorts ts us = (ns : List (List ℕ)) × (ts ≡ names_behind ns (Is Right ∷ us))
-Front Sender ts us =
+Front (Sender earlier) ts us =
     (s : List ℕ) × (r : List ℕ) × (ns : List (List ℕ)) × (ts ≡ Word s ∷ Is To ∷ Word r ∷ names_behind ns (Is Semicolon ∷ us))
-Front (Receiver sender before) ts us = (r : List ℕ) × (ns : List (List ℕ)) × (ts ≡ Word r ∷ names_behind ns (Is Semicolon ∷ us))
-Front (MoreReceivers sender before) ts us = (ns : List (List ℕ)) × (ts ≡ names_behind ns (Is Semicolon ∷ us))
+Front (Receiver earlier sender before) ts us = (r : List ℕ) × (ns : List (List ℕ)) × (ts ≡ Word r ∷ names_behind ns (Is Semicolon ∷ us))
+Front (MoreReceivers earlier sender before) ts us = (ns : List (List ℕ)) × (ts ≡ names_behind ns (Is Semicolon ∷ us))
 Front (RecName p) ts us =
     (n : List ℕ) × (b : Written) × IsBegun b × IsProper b × (ts ≡ Word n ∷ Is Open ∷ stmts b (Is Close ∷ us))
 Front (AgainName p) ts us = (n : List ℕ) × (ts ≡ Word n ∷ Is Semicolon ∷ us)
@@ -39,6 +39,8 @@ Front (Opening p) ts us = (b : Written) × IsBegun b × IsProper b × (ts ≡ Is
 Front (First p) ts us = (b : Written) × IsBegun b × IsProper b × (ts ≡ stmts b (Is Close ∷ us))
 Front (Rest p) ts us = (b : Written) × IsProper b × (ts ≡ stmts b (Is Close ∷ us))
 Front (More p) ts us = (bs : Blocks) × (b : Written) × AreProper bs × IsProper b × (ts ≡ blocks_behind Or bs (stmts b (Is Close ∷ us)))
+Front (Lane p) ts us = (b : Written) × IsBegun b × IsProper b × (ts ≡ Is Open ∷ stmts b (Is Close ∷ us))
+Front (Later p) ts us = (bs : Blocks) × (b : Written) × AreProper bs × IsProper b × (ts ≡ blocks_behind And bs (stmts b (Is Close ∷ us)))
 Front _ ts us = (n : List ℕ) × (ts ≡ Word n ∷ us)
 
 abbrev pub Derives : List Item → List Symbol → Type 0
@@ -54,13 +56,15 @@ some_front (This m) us = (_, refl)
 some_front (Decls aliases) us = (_, ([], tt, refl))
 some_front (Alias aliases) us = (_, ([], [], tt, refl))
 some_front RoleName us = (_, ([], [], refl))
-some_front Sender us = (_, ([], [], [], refl))
-some_front (Receiver sender before) us = (_, ([], [], refl))
+some_front (Sender earlier) us = (_, ([], [], [], refl))
+some_front (Receiver earlier sender before) us = (_, ([], [], refl))
 some_front (RecName p) us = (_, ([], one, tt, tt, refl))
 some_front (Opening p) us = (_, (one, tt, tt, refl))
 some_front (First p) us = (_, (one, tt, tt, refl))
 some_front (Rest p) us = (_, (NoStmt, tt, refl))
 some_front (More p) us = (_, (NoBlock, NoStmt, tt, tt, refl))
+some_front (Lane p) us = (_, (one, tt, tt, refl))
+some_front (Later p) us = (_, (NoBlock, NoStmt, tt, tt, refl))
 some_front _ us = (_, ([], refl))
 
 -- some list is derived
@@ -134,9 +138,12 @@ begins_agrees (Is Continue) ts s p k =
     (vs, (AContinue m rest, tt, is, simp (a, b)), more) in
     let some = has (First p ∷ k) (Is Continue) (AgainName p ∷ Rest (behind p true) ∷ k) o in
     tested p.ended AfterContinue _ _ _ some (asked (is_open p ts) Unguarded s _ _ _ o)
-begins_agrees (Is Par) ts s p k = let c = completion k in
-    let par : Has (First p ∷ k) (Is Par) = (_, (c.0, (APar one one NoBlock NoStmt, tt, (tt, tt, tt, tt, tt, tt), refl), c.1)) in
-    tested p.ended AfterContinue _ _ _ par (inl par)
+begins_agrees (Is Par) ts s p k =
+    let o : Offers (First p ∷ k) (Is Par) (Lane p ∷ This (Is And) ∷ Lane p ∷ Later p ∷ k) = λ us d.
+    let (_, (f, begun, proper, a), (_, b, (_, (g, more_begun, more_proper, c), (vs, (os, rest, are, is, e), more)))) = d in
+    (vs, (APar f g os rest, tt, (begun, proper, more_begun, more_proper, are, is), simp (a, b, c, e)), more) in
+    let some = has (First p ∷ k) (Is Par) (Lane p ∷ This (Is And) ∷ Lane p ∷ Later p ∷ k) o in
+    tested p.ended AfterContinue _ _ _ some (asked (nat_le 2 p.depth) NotYet _ _ _ _ o)
 begins_agrees (Is Do) ts s p k =
     let call : Has (First p ∷ k) (Is Do) = (_, (_, (ADo [] [] [] NoStmt, tt, tt, refl), (completion k).1)) in
     tested p.ended AfterContinue _ _ _ call (inl call)
@@ -154,12 +161,22 @@ branches_agrees t ts s p k =
     through (ends s (behind p false) t ts k) (More p) (Rest (behind p false)) k t (λ us d. (d.0, (NoBlock, d.1.0, tt, d.1.1, d.1.2), d.2))
     (ends_agrees t ts s (behind p false) k)
 
+later_agrees : (t : Symbol) (ts : List Symbol) (s : State) (p : Place) (k : List Item) → Agrees (later s p t ts k) (Later p ∷ k) t
+later_agrees (Is And) ts s p k = λ us (_, (f, begun, proper, a), (vs, (os, rest, are, is, b), more)).
+    (vs, (ABlock f os, rest, (begun, proper, are), is, simp (a, b)), more)
+later_agrees t ts s p k =
+    through (ends s (behind p false) t ts k) (Later p) (Rest (behind p false)) k t (λ us d. (d.0, (NoBlock, d.1.0, tt, d.1.1, d.1.2), d.2))
+    (ends_agrees t ts s (behind p false) k)
+
 pub agrees : (k : List Item) (t : Symbol) (ts : List Symbol) (s : State) → Agrees (step s t ts k) k t
 agrees [] (Is Global) ts s = inr (refl, refl)
 agrees (This m ∷ k) t ts s = chosen (meets t m) s _ t k (λ e us d. (us, ap (λ (x : Symbol). x ∷ us) (meets_only t m e), d))
 agrees (First p ∷ k) t ts s = begins_agrees t ts s p k
 agrees (Rest p ∷ k) t ts s = ends_agrees t ts s p k
 agrees (More p ∷ k) t ts s = branches_agrees t ts s p k
+agrees (Later p ∷ k) t ts s = later_agrees t ts s p k
+agrees (Lane p ∷ k) (Is Open) ts s = asked (nat_le 32 p.depth) Deep s _ _ _ (λ us (vs, (b, begun, proper, a), more).
+    (vs, (b, begun, proper, simp a), more))
 agrees (AnyName ∷ k) (Word n) ts s = λ us d. (us, (n, refl), d)
 agrees (AnyQuoted ∷ k) (Text q) ts s = λ us d. (us, (q, refl), d)
 agrees (MoreModules ∷ k) (Is Dot) ts s = λ us (_, (n, a), (vs, (ns, b), more)). (vs, (n ∷ ns, simp (a, b)), more)
@@ -181,20 +198,22 @@ agrees (Sorts ∷ k) (Word n) ts s = λ us (vs, (ns, a), more). (vs, (n ∷ ns, 
 agrees (Sorts ∷ k) (Is Right) ts s = λ us d. (us, ([], refl), d)
 agrees (MoreSorts ∷ k) (Is Comma) ts s = λ us (_, (n, a), (vs, (ns, b), more)). (vs, (n ∷ ns, simp (a, b)), more)
 agrees (MoreSorts ∷ k) (Is Right) ts s = λ us d. (us, ([], refl), d)
-agrees (Subject ∷ k) (Word n) ts s = let o : Offers (Subject ∷ k) (Word n) k = λ us d. (us, (n, refl), d) in
-    placed (place_of s.roles n) _ _ _ (has (Subject ∷ k) (Word n) k o) (λ r. o)
-agrees (Sender ∷ k) (Word n) ts s =
-    let o : (r : ℕ) → Offers (Sender ∷ k) (Word n) (This (Is To) ∷ Receiver r [] ∷ k) = λ r us d.
+agrees (Subject earlier ∷ k) (Word n) ts s = let o : Offers (Subject earlier ∷ k) (Word n) k = λ us d. (us, (n, refl), d) in
+    placed (place_of s.roles n) _ _ _ (has (Subject earlier ∷ k) (Word n) k o) (λ r. asked (earlier n) Shared _ _ _ _ o)
+agrees (Sender earlier ∷ k) (Word n) ts s =
+    let o : (r : ℕ) → Offers (Sender earlier ∷ k) (Word n) (This (Is To) ∷ Receiver earlier r [] ∷ k) = λ r us d.
     let (_, a, (vs, (m, ns, b), more)) = d in (vs, (n, m, ns, simp (a, b)), more) in
-    placed (place_of s.roles n) _ _ _ (has (Sender ∷ k) (Word n) (This (Is To) ∷ Receiver 0 [] ∷ k) (o 0)) o
-agrees (Receiver sender before ∷ k) (Word n) ts s =
-    let o : (r : ℕ) → Offers (Receiver sender before ∷ k) (Word n) (MoreReceivers sender (before ++ r ∷ []) ∷ k) = λ r us (vs, (ns, a), more).
+    placed (place_of s.roles n) _ _ _ (has (Sender earlier ∷ k) (Word n) (This (Is To) ∷ Receiver earlier 0 [] ∷ k) (o 0))
+    (λ r. asked (earlier n) Shared _ _ _ _ (o r))
+agrees (Receiver earlier sender before ∷ k) (Word n) ts s =
+    let o : (r : ℕ) → Offers (Receiver earlier sender before ∷ k) (Word n) (MoreReceivers earlier sender (before ++ r ∷ []) ∷ k) = λ r us (vs, (ns, a), more).
     (vs, (n, ns, simp a), more) in
-    let some = has (Receiver sender before ∷ k) (Word n) (MoreReceivers sender (before ++ 0 ∷ []) ∷ k) (o 0) in
+    let some = has (Receiver earlier sender before ∷ k) (Word n) (MoreReceivers earlier sender (before ++ 0 ∷ []) ∷ k) (o 0) in
     placed (place_of s.roles n) _ _ _ some (λ r. tested (is_listed r before) Twice _ _ _ some
-    (tested (r == sender) SelfMessage _ _ _ some (asked (nat_le 256 s.count) TooMany _ _ _ _ (o r))))
-agrees (MoreReceivers sender before ∷ k) (Is Comma) ts s = λ us (vs, (r, rs, a), more). (vs, (r ∷ rs, simp a), more)
-agrees (MoreReceivers sender before ∷ k) (Is Semicolon) ts s = λ us d. (us, ([], refl), d)
+    (tested (r == sender) SelfMessage _ _ _ some (tested (nat_le 256 s.count) TooMany _ _ _ some
+    (asked (earlier n) Shared _ _ _ _ (o r)))))
+agrees (MoreReceivers earlier sender before ∷ k) (Is Comma) ts s = λ us (vs, (r, rs, a), more). (vs, (r ∷ rs, simp a), more)
+agrees (MoreReceivers earlier sender before ∷ k) (Is Semicolon) ts s = λ us d. (us, ([], refl), d)
 agrees (RecName p ∷ k) (Word n) ts s = λ us (vs, (b, begun, proper, a), more). (vs, (n, b, begun, proper, simp a), more)
 agrees (AgainName p ∷ k) (Word n) ts s = asked _ NoName s _ _ _ (λ us (vs, a, more). (vs, (n, simp a), more))
 agrees (Opening p ∷ k) (Is Open) ts s = asked (nat_le 32 p.depth) Deep s _ _ _ (λ us (vs, (b, begun, proper, a), more).

@@ -46,7 +46,7 @@ FreeBefore front left =
 abbrev IsHere : List Symbol → Symbol → Type 0
 IsHere front t = IsBeginning (front ++ t ∷ []) ⊎ ((t ≡ Is Global) × IsDerived front)
 
-none_here : (front : List Symbol) (t : Symbol) (ts : List Symbol) → IsBeginning (front ++ t ∷ []) → NoneBelow 20 (backward front []) t ts
+none_here : (front : List Symbol) (t : Symbol) (ts : List Symbol) → IsBeginning (front ++ t ∷ []) → NoneBelow 30 (backward front []) t ts
     → (f : Fault) → HoldsAt f front (t ∷ ts) → ⊥
 none_here front t ts b none Token h = h.1 b
 none_here front t ts b none f h = none f (omega arith) h

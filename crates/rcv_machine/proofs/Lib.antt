@@ -3,3 +3,4 @@ pub mod Knowing
 pub mod Naming
 pub mod Telling
 pub mod Exactly
+pub mod Passing

@@ -1,16 +1,26 @@
 -- Reading one symbol after another, with a stack of what is awaited. Each item that needs it knows its place in the text.
-use Rattle.std.specs.Prelude.{ℕ, ◌+◌, ◌-◌, ◌==◌, nat_le, Bool, true, false, not, cond, codes, List, [], ◌∷◌, ◌++◌, length, drop, Option, Some, None}
+use Rattle.std.specs.Prelude.{ℕ, ◌+◌, ◌-◌, ◌==◌, nat_le, Bool, true, false, not, ◌||◌, cond, codes, List, [], ◌∷◌, ◌++◌, length, drop, Option, Some, None}
 use Rattle.std.specs.Str.{bytes_eq}
 use Rattle.rcv_syntax.specs.declared.sign.Sign.{Sign}
 use Rattle.rcv_syntax.specs.contracts.sign.Sign.{the_type}
 use denote.Enum.Bare.{sameb}
-use Rattle.rcv_syntax.specs.declared.sign.Sign.TheVariants.{Module, Global, Protocol, Role, From, To, Choice, At, Or, Rec, Continue, Par, Do, Open, Close, Left, Right, Comma, Semicolon, Dot, Less, Greater}
+use Rattle.rcv_syntax.specs.declared.sign.Sign.TheVariants.{Module, Global, Protocol, Role, From, To, Choice, At, Or, Rec, Continue, Par, And, Do, Open, Close, Left, Right, Comma, Semicolon, Dot, Less, Greater}
 use Rattle.rcv_syntax.specs.declared.fault.Fault.{Fault}
-use Rattle.rcv_syntax.specs.declared.fault.Fault.TheVariants.{Token, Deep, NoName, Twice, SelfMessage, AfterContinue, Unguarded, TooMany, NotYet}
+use Rattle.rcv_syntax.specs.declared.fault.Fault.TheVariants.{Token, Deep, NoName, Twice, SelfMessage, AfterContinue, Unguarded, TooMany, NotYet, Shared}
 use Rattle.rcv_syntax.specs.Symbols.{Symbol, Is, Word, Text, Number}
 use Rattle.rcv_syntax.specs.Grammar.{is_decl_word}
 use Rattle.rcv_syntax.specs.Codes.{is_among}
 use Rattle.rcv_syntax.specs.Trees.{place_of, is_listed}
+
+-- A set of roles, by their names: what it says of each name.
+abbrev pub Named : Type 0
+Named = List ℕ → Bool
+
+abbrev pub nobody : Named
+nobody = λ n. false
+
+abbrev pub with_role : Named → List ℕ → Named
+with_role named role = λ n. bytes_eq n role || named n
 
 -- A place in a block.
 pub record Place : Type 0 where
@@ -18,6 +28,7 @@ pub record Place : Type 0 where
   pub recs : List (List ℕ)  -- the names of the enclosing recursions, the innermost last
   pub comes : ℕ  -- so many of the innermost have a walk from the start of their body to here without a message
   pub ended : Bool  -- behind a `continue` of this block
+  pub earlier : Named  -- the roles of the earlier blocks, in a block of a par
 
 pub data Item : Type 0 where
   This : (symbol : Symbol) → Item
@@ -30,24 +41,27 @@ pub data Item : Type 0 where
   MoreRoles : Item  -- ("," "role" Name)* ")"
   Sorts : Item  -- [Name ("," Name)*] ")"
   MoreSorts : Item  -- ("," Name)* ")"
-  Subject : Item  -- Name
-  Sender : Item  -- Name "to" Name ("," Name)* ";"
-  Receiver : (sender : ℕ) (before : List ℕ) → Item  -- Name ("," Name)* ";"
-  MoreReceivers : (sender : ℕ) (before : List ℕ) → Item  -- ("," Name)* ";"
+  Subject : (earlier : Named) → Item  -- Name
+  Sender : (earlier : Named) → Item  -- Name "to" Name ("," Name)* ";"
+  Receiver : (earlier : Named) (sender : ℕ) (before : List ℕ) → Item  -- Name ("," Name)* ";"
+  MoreReceivers : (earlier : Named) (sender : ℕ) (before : List ℕ) → Item  -- ("," Name)* ";"
   RecName : (place : Place) → Item  -- Name block
   AgainName : (place : Place) → Item  -- Name ";"
   Opening : (place : Place) → Item  -- block
   First : (place : Place) → Item  -- stmt+ "}"
   Rest : (place : Place) → Item  -- stmt* "}"
   More : (place : Place) → Item  -- ("or" block)* stmt* "}"
+  Lane : (place : Place) → Item  -- block, of a par
+  Later : (place : Place) → Item  -- ("and" block)* stmt* "}"
 
--- The roles and the number of points so far.
+-- What is known so far: the roles, the number of points, and which roles are named since the last par began.
 pub record State : Type 0 where
   pub roles : List (List ℕ)
   pub count : ℕ
+  pub since : Named
 
-abbrev pub known : List (List ℕ) → ℕ → State
-known roles count = record { roles = roles; count = count }
+abbrev pub known : List (List ℕ) → ℕ → Named → State
+known roles count since = record { roles = roles; count = count; since = since }
 
 -- there is a step, or the fault with the least code that holds
 pub data Outcome : Type 0 where
@@ -56,13 +70,17 @@ pub data Outcome : Type 0 where
 
 -- Behind a statement no walk comes without a message.
 abbrev pub behind : Place → Bool → Place
-behind p ended = record { depth = p.depth; recs = p.recs; comes = 0; ended = ended }
+behind p ended = record { depth = p.depth; recs = p.recs; comes = 0; ended = ended; earlier = p.earlier }
 
 abbrev pub inside : Place → Place
-inside p = record { depth = p.depth + 1; recs = p.recs; comes = p.comes; ended = false }
+inside p = record { depth = p.depth + 1; recs = p.recs; comes = p.comes; ended = false; earlier = p.earlier }
 
 abbrev pub inside_rec : Place → List ℕ → Place
-inside_rec p name = record { depth = p.depth; recs = p.recs ++ name ∷ []; comes = p.comes + 1; ended = false }
+inside_rec p name = record { depth = p.depth; recs = p.recs ++ name ∷ []; comes = p.comes + 1; ended = false; earlier = p.earlier }
+
+-- where a par stands, for a block of it behind those that name these roles
+abbrev pub beside : Place → Named → Place
+beside p earlier = record { depth = p.depth; recs = p.recs; comes = 0; ended = false; earlier = earlier }
 
 -- the fault where the test holds, else what follows
 abbrev pub unless : Bool → Fault → Outcome → Outcome
@@ -76,9 +94,13 @@ abbrev pub by_place : Option ℕ → (ℕ → Outcome) → Outcome
 by_place None next = Wrong NoName
 by_place (Some r) next = next r
 
--- the name of a declared role
-abbrev pub role_named : State → Symbol → (ℕ → Outcome) → Outcome
-role_named s t next = named t (λ n. by_place (place_of s.roles n) next)
+-- the name of a declared role, with its place
+abbrev pub role_named : State → Symbol → (List ℕ → ℕ → Outcome) → Outcome
+role_named s t next = named t (λ n. by_place (place_of s.roles n) (next n))
+
+-- a role that sends or chooses, and stands in no earlier block of its par
+abbrev pub acts : State → Named → List Item → List ℕ → Outcome
+acts s earlier k n = unless (earlier n) Shared (On (record s { since = with_role s.since n }) k)
 
 abbrev pub meets : Symbol → Symbol → Bool
 meets (Is a) (Is b) = sameb the_type a b
@@ -108,12 +130,13 @@ sorts s (Is Right) k = On s k
 sorts s _ k = Wrong Token
 
 -- A receiver makes a point.
-abbrev pub receives : State → ℕ → List ℕ → List Item → ℕ → Outcome
-receives s sender before k r =
+abbrev pub receives : State → Named → ℕ → List ℕ → List Item → List ℕ → ℕ → Outcome
+receives s earlier sender before k n r =
     unless (is_listed r before) Twice
     (unless (r == sender) SelfMessage
     (unless (nat_le 256 s.count) TooMany
-    (On (record s { count = s.count + 1 }) (MoreReceivers sender (before ++ r ∷ []) ∷ k))))
+    (unless (earlier n) Shared
+    (On (record s { count = s.count + 1; since = with_role s.since n }) (MoreReceivers earlier sender (before ++ r ∷ []) ∷ k)))))
 
 abbrev pub declares_role : State → List Item → List ℕ → Outcome
 declares_role s k n =
@@ -133,12 +156,14 @@ is_open p _ = false
 -- the first symbol of a statement, with the symbols behind it
 abbrev pub begins : State → Place → Symbol → List Symbol → List Item → Outcome
 begins s p (Word n) ts k =
-    unless p.ended AfterContinue (On s (This (Is Left) ∷ Sorts ∷ This (Is From) ∷ Sender ∷ Rest (behind p false) ∷ k))
-begins s p (Is Choice) ts k = unless p.ended AfterContinue (On s (This (Is At) ∷ Subject ∷ Opening p ∷ More p ∷ k))
+    unless p.ended AfterContinue (On s (This (Is Left) ∷ Sorts ∷ This (Is From) ∷ Sender p.earlier ∷ Rest (behind p false) ∷ k))
+begins s p (Is Choice) ts k = unless p.ended AfterContinue (On s (This (Is At) ∷ Subject p.earlier ∷ Opening p ∷ More p ∷ k))
 begins s p (Is Rec) ts k = unless p.ended AfterContinue (On s (RecName p ∷ Rest (behind p false) ∷ k))
 begins s p (Is Continue) ts k =
     unless p.ended AfterContinue (unless (is_open p ts) Unguarded (On s (AgainName p ∷ Rest (behind p true) ∷ k)))
-begins s p (Is Par) ts k = unless p.ended AfterContinue (Wrong NotYet)
+begins s p (Is Par) ts k =
+    unless p.ended AfterContinue (unless (nat_le 2 p.depth) NotYet
+    (On (record s { since = nobody }) (Lane p ∷ This (Is And) ∷ Lane p ∷ Later p ∷ k)))
 begins s p (Is Do) ts k = unless p.ended AfterContinue (Wrong NotYet)
 begins s p _ ts k = Wrong Token
 
@@ -149,6 +174,10 @@ ends s p t ts k = begins s p t ts k
 abbrev pub branches : State → Place → Symbol → List Symbol → List Item → Outcome
 branches s p (Is Or) ts k = On s (Opening p ∷ More p ∷ k)
 branches s p t ts k = ends s (behind p false) t ts k
+
+abbrev pub later : State → Place → Symbol → List Symbol → List Item → Outcome
+later s p (Is And) ts k = On s (Lane p ∷ Later p ∷ k)
+later s p t ts k = ends s (behind p false) t ts k
 
 -- behind the protocol
 abbrev pub behind_all : Symbol → Outcome
@@ -168,16 +197,18 @@ step s t ts (RoleName ∷ k) = named t (declares_role s k)
 step s t ts (MoreRoles ∷ k) = either s t Comma (This (Is Role) ∷ RoleName ∷ k) Right k
 step s t ts (Sorts ∷ k) = sorts s t k
 step s t ts (MoreSorts ∷ k) = either s t Comma (AnyName ∷ MoreSorts ∷ k) Right k
-step s t ts (Subject ∷ k) = role_named s t (λ r. On s k)
-step s t ts (Sender ∷ k) = role_named s t (λ r. On s (This (Is To) ∷ Receiver r [] ∷ k))
-step s t ts (Receiver sender before ∷ k) = role_named s t (receives s sender before k)
-step s t ts (MoreReceivers sender before ∷ k) = either s t Comma (Receiver sender before ∷ k) Semicolon k
+step s t ts (Subject earlier ∷ k) = role_named s t (λ n r. acts s earlier k n)
+step s t ts (Sender earlier ∷ k) = role_named s t (λ n r. acts s earlier (This (Is To) ∷ Receiver earlier r [] ∷ k) n)
+step s t ts (Receiver earlier sender before ∷ k) = role_named s t (receives s earlier sender before k)
+step s t ts (MoreReceivers earlier sender before ∷ k) = either s t Comma (Receiver earlier sender before ∷ k) Semicolon k
 step s t ts (RecName p ∷ k) = named t (λ n. On s (Opening (inside_rec p n) ∷ k))
 step s t ts (AgainName p ∷ k) = named t (λ n. unless (not (is_among n p.recs)) NoName (On s (This (Is Semicolon) ∷ k)))
 step s t ts (Opening p ∷ k) = opens s p t k
 step s t ts (First p ∷ k) = begins s p t ts k
 step s t ts (Rest p ∷ k) = ends s p t ts k
 step s t ts (More p ∷ k) = branches s p t ts k
+step s t ts (Lane p ∷ k) = opens s (beside p s.since) t k
+step s t ts (Later p ∷ k) = later s p t ts k
 
 -- The answer: what is known behind all symbols, or the fault and what is left from its symbol on.
 pub data Answer : Type 0 where
@@ -198,11 +229,11 @@ answer s k (t ∷ ts) = after (step s t ts k) (t ∷ ts) (λ s' k'. answer s' k'
 
 -- what is awaited and known at first
 abbrev pub begin : State
-begin = record { roles = []; count = 0 }
+begin = known [] 0 nobody
 
 -- in the protocol's own block
 abbrev pub outermost : Place
-outermost = record { depth = 1; recs = []; comes = 0; ended = false }
+outermost = record { depth = 1; recs = []; comes = 0; ended = false; earlier = nobody }
 
 -- what is awaited in front of the body, and in all
 abbrev pub in_head : List Item → List Item

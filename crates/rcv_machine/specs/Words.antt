@@ -5,7 +5,7 @@ pub use Rattle.rcv_syntax.specs.declared.sign.Sign.TheVariants.{Close, Right, Co
 pub use Rattle.rcv_syntax.specs.declared.sign.Sign.TheVariants.{From, Left, Less, Greater, Module, And}
 pub use Rattle.rcv_syntax.specs.declared.fault.Fault.{Fault}
 pub use Rattle.rcv_syntax.specs.declared.fault.Fault.TheVariants.{Token, Deep, NoName, Twice, SelfMessage}
-pub use Rattle.rcv_syntax.specs.declared.fault.Fault.TheVariants.{AfterContinue, Unguarded, TooMany, NotYet}
+pub use Rattle.rcv_syntax.specs.declared.fault.Fault.TheVariants.{AfterContinue, Unguarded, TooMany, NotYet, Shared}
 pub use Rattle.rcv_syntax.specs.Symbols.{Symbol, Is, Word, Text, Number, symbols_of, line_before, IsNotNext, reserved}
 pub use Rattle.rcv_syntax.specs.Symbols.{sign_or, symbol_by}
 pub use Rattle.rcv_syntax.specs.Grammar.{Written, NoStmt, AMessage, AChoice, ARec, AContinue, APar, ADo, Blocks}
@@ -18,12 +18,14 @@ pub use Rattle.rcv_syntax.specs.Codes.{is_among, code_of, Holds, Standing, stand
 pub use Rattle.rcv_syntax.specs.Codes.{points_before, listed, sender, open_braces, recs_of, Comes, is_at_name, is_at}
 pub use Rattle.rcv_syntax.specs.Codes.{begins_a_statement, IsUnguarded, is_behind_continue, is_behind_all, FromItsStart}
 pub use Rattle.rcv_syntax.specs.Codes.{IntoRec, IntoChoice, IntoBranch, AsNewRole, AsAlias, AsActor, AsTarget, names_as}
-pub use Rattle.rcv_syntax.specs.Codes.{aliases_before}
+pub use Rattle.rcv_syntax.specs.Codes.{aliases_before, is_role, named_since_par, is_beside}
 pub use Rattle.rcv_syntax.specs.Refusing.{backward, HoldsAt, IsFree, IsFirst}
 pub use Rattle.rcv_tree.specs.declared.protocol.Decl.{Decl}
+pub use Rattle.rcv_machine.specs.Machine.{Named, nobody, with_role}
 pub use Rattle.rcv_machine.specs.Machine.{Place, Item, This, AnyName, AnyQuoted, MoreModules, Decls, Alias, RoleName}
 pub use Rattle.rcv_machine.specs.Machine.{MoreRoles, Sorts, MoreSorts, Subject, Sender, Receiver, MoreReceivers}
-pub use Rattle.rcv_machine.specs.Machine.{RecName, AgainName, Opening, First, Rest, More, State, Outcome, On, Wrong}
+pub use Rattle.rcv_machine.specs.Machine.{RecName, AgainName, Opening, First, Rest, More, Lane, Later}
+pub use Rattle.rcv_machine.specs.Machine.{State, Outcome, On, Wrong, beside, later}
 pub use Rattle.rcv_machine.specs.Machine.{behind, unless, by_place, meets, is_open, begins, ends, branches, step}
 pub use Rattle.rcv_machine.specs.Machine.{awaited, behind_all, after, Answer, Taken, Refuses, answer, reading, known}
 pub use Rattle.rcv_machine.specs.Machine.{inside, inside_rec, receives, outermost, in_head, begin}

@@ -15,7 +15,7 @@ use Rattle.rcv_model.specs.StableLine.{IsStable, IsStableLine, StableLineHolds}
 use Rattle.rcv_model.specs.Next.{IsEnabledAt, IsEnabledBy, AreNext}
 use Rattle.rcv_model.specs.Plain.{bare_rules}
 use Rattle.rcv_model.specs.Numbers.{crash_line_count, IsBounded}
-use Rattle.rcv_model.specs.Places.{loop, Spot, spot_of, offers_at, net_of, IsFull, IsEndIn}
+use Rattle.rcv_model.specs.Places.{loop, Spot, spot_of, offers_at, net_of, IsFullText, IsEndIn}
 use Rattle.rcv_model.specs.Run.{acts, channel, joint_of, IsReachedState, IsQueued}
 use Rattle.rcv_model.specs.Table.{IsConcernedByAny, concerned_by_any, AreRestarts, start_of}
 use Rattle.rcv_model.specs.Transparent.{AreBlind, IsSteady, without_crashes, DidTheSame}
@@ -52,7 +52,7 @@ use Rattle.rcv_model.proofs.Reached.{reach, roles_decide}
 use Rattle.rcv_model.proofs.Recoveries.{undo_in_journal}
 use Rattle.rcv_model.proofs.Recovering.{listed, recovery}
 use Rattle.rcv_model.proofs.RestartLists.{restart_list, one_restart_list}
-use Rattle.rcv_model.proofs.Same.{enabled_both, text_rises}
+use Rattle.rcv_model.proofs.Same.{enabled_both, met_text_rises}
 use Rattle.rcv_model.proofs.Session.{feed, net, feed_form, feed_proper, feed_accepted, scripts, rules, before, first_recover, meanwhile, rest, journal, s1, s5, s6, s7, s20, b_recovers, journal_legal, journal_final}
 use Rattle.rcv_model.proofs.StableLines.{line_holds, lines_join, never_falls}
 use Rattle.rcv_model.proofs.Steady.{steady}
@@ -61,6 +61,7 @@ use Rattle.rcv_model.proofs.Threads.{one_thread, step_or_final}
 use Rattle.rcv_model.proofs.Transparency.{transparent}
 use Rattle.rcv_model.proofs.Undoing.{blocked_iff_undone}
 use Rattle.rcv_model.proofs.Unique.{one_recovery, one_send, one_recv, not_both}
+use Rattle.rcv_model.proofs.Session.{feed_one}
 
 -- kept events are runs, and the protocol reaches the joint states
 pub runs : KeepsRuns rules journal
@@ -97,20 +98,20 @@ c_least = is_least_kept net lost s5.kept queued 2
 
 -- C restarts at the point that it lost, by the table from B's start
 c_foreseen : IsForeseen net (group_of rules 1) (durable rules s5) s5.kept 2 2
-c_foreseen = foreseen net (group_of rules 1) (durable rules s5) 2 s5.kept (record { dir = Got; point = 2 }) feed_proper.two_ends (runs before (first_recover ∷ meanwhile ++ rest) refl) refl
+c_foreseen = foreseen net (group_of rules 1) (durable rules s5) 2 s5.kept (record { dir = Got; point = 2 }) (4, feed_proper) (runs before (first_recover ∷ meanwhile ++ rest) refl) refl
 
 c_restarts : (zs : List ℕ) × AreRestarts net 1 1 2 zs
 c_restarts = restart_list net 4 1 1 2 feed_proper
 
 -- D isn't concerned: it loses nothing, nor does a channel to it
 d_free : IsConcernedByAny net (group_of rules 1) (start_of (durable rules s5) s5.kept) 3 → ⊥
-d_free c = let t = (listed rules s5 1 feed_proper 3).1 c in absurd (cc)
+d_free c = let t = (listed rules s5 1 feed_proper feed_accepted.lanes_end 3).1 c in absurd (cc)
 
 d_keeps : events_of 3 (keep_of net (group_of rules 1) (durable rules s5) s5.kept) ≡ events_of 3 s5.kept
-d_keeps = group_keeps net (group_of rules 1) (durable rules s5) s5.kept feed_proper.two_ends (runs before (first_recover ∷ meanwhile ++ rest) refl) 3 d_free
+d_keeps = group_keeps net (group_of rules 1) (durable rules s5) s5.kept (4, feed_proper) (runs before (first_recover ∷ meanwhile ++ rest) refl) 3 d_free
 
 d_channel : channel net 0 3 (keep_of net (group_of rules 1) (durable rules s5) s5.kept) ≡ channel net 0 3 s5.kept
-d_channel = group_channel_kept net (group_of rules 1) (durable rules s5) s5.kept feed_proper.two_ends (runs before (first_recover ∷ meanwhile ++ rest) refl) 3 d_free 0
+d_channel = group_channel_kept net (group_of rules 1) (durable rules s5) s5.kept (4, feed_proper) (runs before (first_recover ∷ meanwhile ++ rest) refl) 3 d_free 0
 
 -- the session isn't stuck on the way, and its end is as the laws say
 goes_on : IsNotStuck net 4 s5.kept
@@ -138,14 +139,14 @@ sees_none : IsSteady rules
 sees_none = steady rules scripts (record { chosen = λ r h a zs. refl; value = λ r h a p. refl }) blind
 
 all_done : AreDone rules (reading rules journal)
-all_done zero lt z n = (next_by net 0 (place s20 0) refl).complete z n
-all_done (suc zero) lt z n = (next_by net 1 (place s20 1) refl).complete z n
-all_done (suc (suc zero)) lt z n = (next_by net 2 (place s20 2) refl).complete z n
-all_done (suc (suc (suc zero))) lt z n = (next_by net 3 (place s20 3) refl).complete z n
+all_done zero lt z n = (next_by net feed_one 0 (place s20 0) refl).complete z n
+all_done (suc zero) lt z n = (next_by net feed_one 1 (place s20 1) refl).complete z n
+all_done (suc (suc zero)) lt z n = (next_by net feed_one 2 (place s20 2) refl).complete z n
+all_done (suc (suc (suc zero))) lt z n = (next_by net feed_one 3 (place s20 3) refl).complete z n
 all_done (suc (suc (suc (suc r)))) lt z n = omega arith
 
 calm : (other : List Entry) × IsOneThread (without_crashes rules) other
-calm = one_thread (without_crashes rules) feed_proper
+calm = one_thread (without_crashes rules) feed_proper feed_accepted.lanes_end
 
 same : IsCompleted (without_crashes rules) (reading (without_crashes rules) calm.0) × DidTheSame (reading rules journal) (reading (without_crashes rules) calm.0)
 same =
@@ -177,10 +178,10 @@ a_stays = line_holds rules before (first_recover ∷ meanwhile ++ rest) first_of
 
 -- on texts: the choice is enabled with lists and without; no rule fails; at most one recovery may come
 a_next : AreNext net 0 3 (1 ∷ 4 ∷ [])
-a_next = next_by net 0 3 refl
+a_next = next_by net feed_one 0 3 refl
 
 enabled : IsEnabledAt net 0 3 ↔ IsEnabledBy net 0 3 (1 ∷ 4 ∷ [])
-enabled = enabled_both net 0 3 (1 ∷ 4 ∷ []) (text_rises feed) a_next
+enabled = enabled_both net 0 3 (1 ∷ 4 ∷ []) (met_text_rises feed 0) a_next
 
 feed_decided : IsDecided feed 4
 feed_decided = decided feed 4 feed_form
@@ -188,11 +189,11 @@ feed_decided = decided feed 4 feed_form
 one : (concerned : RoleSet) (kept : List ℕ) (undone : ℕ) → May rules s5 (Recover 1 concerned kept undone) → Recover 1 concerned kept undone ≡ first_recover
 one concerned kept undone may = one_recovery rules s5 1 concerned _ kept _ undone _ may b_recovers
 
-pub feed_full : IsFull [] [] feed
+pub feed_full : IsFullText feed
 feed_full = ((λ n. n), (((λ n. n), (inl refl, (λ n. n), tt), ((λ n. n), tt, tt)), tt), tt)
 
 at_the_end : (s : Spot) → spot_of feed 6 ≡ Some s → (offers_at s ≡ []) ↔ IsEndIn s.frames s.left
-at_the_end s e = end_offers_nothing feed 6 s feed_full e
+at_the_end s e = end_offers_nothing feed 0 6 s feed_full e
 
 -- two lines that join: C's first event, and A's
 abbrev each_one : Rules
@@ -249,7 +250,7 @@ plain_reached = plain_reach ping 2 (λ r. []) plain_one.0 [] tt ping_form (subst
 
 -- a state in which a role can act isn't final, and a line that holds a Recv without its Send isn't stable
 not_final : IsFinal rules s6 → ⊥
-not_final f = f.none_acts 0 (omega arith) (Send (says 0 3 0 2), (refl, send_by rules s6 (says 0 3 0 2) refl refl refl refl refl refl refl, omega arith))
+not_final f = f.none_acts 0 (omega arith) (Send (says 0 3 0 2), (refl, send_by rules feed_one s6 (says 0 3 0 2) refl refl refl refl refl refl refl, omega arith))
 
 abbrev of_b : ℕ → ℕ
 of_b zero = 0
@@ -295,7 +296,7 @@ one_list : (zs : List ℕ) → AreRestarts net 1 1 2 zs → c_restarts.0 ≡ zs
 one_list zs are = one_restart_list net 1 1 2 c_restarts.0 zs c_restarts.1 are
 
 c_listed : IsIn 2 (concerned_by_any net 4 (group_of rules 1) (start_of (durable rules s5) s5.kept)) ↔ IsConcernedByAny net (group_of rules 1) (start_of (durable rules s5) s5.kept) 2
-c_listed = listed_concerned net 4 (start_of (durable rules s5) s5.kept) feed_proper (group_of rules 1) 2
+c_listed = listed_concerned net 4 (start_of (durable rules s5) s5.kept) feed_proper feed_accepted.lanes_end (group_of rules 1) 2
 
 b_alone : FailsAlone rules s5 1
 b_alone = lonely rules s5 1 refl
@@ -304,8 +305,8 @@ b_alone = lonely rules s5 1 refl
 d_next_exists : (zs : List ℕ) × AreNext net 3 0 zs
 d_next_exists = lists_exist net 4 3 0 feed_proper
 
-d_next_offered : (j : ℕ) × IsIn 6 (net.offers j)
-d_next_offered = next_offered net 3 0 6 ((next_by net 3 0 refl).sound 6 (inr (inl refl)))
+d_next_offered : ((j : ℕ) × IsIn 6 (net.offers j)) ⊎ ((l : ℕ) × IsIn 6 (net.begins l))
+d_next_offered = next_offered net 3 0 6 ((next_by net feed_one 3 0 refl).sound 6 (inr (inl refl)))
 
 -- one step may come, and it is there
 first_step : IsStep rules s5 first_recover
@@ -319,7 +320,7 @@ no_other : (e : Entry) → IsStep rules s5 e → first_recover ≡ e
 no_other e step = (one_step rules s5 first_recover e).same feed_proper.two_ends first_step step
 
 a_step : MaySend rules s5 (says 0 3 0 2)
-a_step = send_by rules s5 (says 0 3 0 2) refl refl refl refl refl refl refl
+a_step = send_by rules feed_one s5 (says 0 3 0 2) refl refl refl refl refl refl refl
 
 no_other_send : (f : Event) → 0 ≡ f.role → MaySend rules s5 f → says 0 3 0 2 ≡ f
 no_other_send f same may = one_send rules s5 (says 0 3 0 2) f same a_step may
@@ -328,16 +329,16 @@ no_recv_beside : (f : Event) → 0 ≡ f.role → MayRecv rules s5 f → ⊥
 no_recv_beside f same may = not_both rules s5 (says 0 3 0 2) f same feed_proper.two_ends a_step may
 
 d_step : MayRecv rules s7 (hears 3 3 0 3 2)
-d_step = recv_by rules s7 (hears 3 3 0 3 2) [] refl refl refl refl refl
+d_step = recv_by rules feed_one s7 (hears 3 3 0 3 2) [] refl refl refl refl refl
 
 no_other_recv : (f : Event) → 3 ≡ f.role → MayRecv rules s7 f → hears 3 3 0 3 2 ≡ f
 no_other_recv f same may = one_recv rules s7 (hears 3 3 0 3 2) f same d_step may
 
 some_step : ((e : Entry) × IsStep rules s5 e) ⊎ IsFinal rules s5
-some_step = step_or_final rules feed_proper s5 refl
+some_step = step_or_final rules feed_proper feed_accepted.lanes_end s5 refl
 
 b_has_one : (concerned : RoleSet) × (kept : List ℕ) × (undone : ℕ) × May rules s5 (Recover 1 concerned kept undone)
-b_has_one = (_, _, _, recovery rules s5 1 feed_proper refl)
+b_has_one = (_, _, _, recovery rules s5 1 feed_proper feed_accepted.lanes_end refl)
 
 -- with and without crashes the channel from A to B was used alike
 alike : UsedAlike net (reading rules journal) (reading (without_crashes rules) calm.0) 0 1
@@ -364,4 +365,4 @@ recovery_first : IsStep rules s5 (Send (says 0 3 0 2)) → ⊥
 recovery_first step = step.0 1 refl
 
 not_one_thread : IsOneThread rules journal → ⊥
-not_one_thread thread = thread.1.0.2.1 0 (omega arith) (Send (says 0 3 0 2), (refl, send_by rules s1 (says 0 3 0 2) refl refl refl refl refl refl refl, omega arith))
+not_one_thread thread = thread.1.0.2.1 0 (omega arith) (Send (says 0 3 0 2), (refl, send_by rules feed_one s1 (says 0 3 0 2) refl refl refl refl refl refl refl, omega arith))

@@ -23,7 +23,7 @@ use Rattle.rcv_model.proofs.Legal.{accepted_runs}
 use Rattle.rcv_model.proofs.OneThread.{one_journal}
 use Rattle.rcv_model.proofs.Recoveries.{undo_in_journal}
 use Rattle.rcv_model.proofs.Recovering.{may_recover}
-use Rattle.rcv_model.proofs.Session.{feed, net, feed_proper, feed_accepted, scripts}
+use Rattle.rcv_model.proofs.Session.{feed, net, feed_proper, feed_one, feed_accepted, scripts}
 use Rattle.rcv_model.proofs.Applied.{blind}
 use Rattle.rcv_model.proofs.AsPlanned.{crashes_are_as_planned}
 use Rattle.rcv_model.proofs.Telling.{tells_right}
@@ -119,14 +119,14 @@ abbrev s18 : State
 s18 = after rules s17 (Recv (hears 3 6 0 7 4))
 
 pub recovers : May rules s7 back
-recovers = may_recover rules s7 1 feed_proper 14 (replicate 8 0) 4 refl (omega arith) (below_8 (λ q. has_bit 14 q ≡ is_listed (concerned_in rules s7 1) q) refl refl refl refl refl refl refl refl) refl (below_8 (λ q. slice_index (replicate 8 0) q ≡ (if has_bit 14 q then length (acts q (kept_by rules s7 1)) else 0)) refl refl refl refl refl refl refl refl) refl
+recovers = may_recover rules s7 1 feed_proper feed_accepted.lanes_end 14 (replicate 8 0) 4 refl (omega arith) (below_8 (λ q. has_bit 14 q ≡ is_listed (concerned_in rules s7 1) q) refl refl refl refl refl refl refl refl) refl (below_8 (λ q. slice_index (replicate 8 0) q ≡ (if has_bit 14 q then length (acts q (kept_by rules s7 1)) else 0)) refl refl refl refl refl refl refl refl) refl
 
 pub legal : IsLegal rules journal
 legal =
-    (send_by rules s0 (says 0 1 10 1) refl refl refl refl refl refl refl, (send_by rules s1 (says 0 3 0 2) refl refl refl refl refl refl refl, (recv_by rules s2 (hears 1 1 10 2 1) [] refl refl refl refl refl, (send_by rules s3 (says 1 2 11 3) refl refl refl refl refl refl refl, (recv_by rules s4 (hears 3 3 0 3 2) [] refl refl refl refl refl, (recv_by rules s5 (hears 2 2 11 4 3) [] refl refl refl refl refl, ((omega arith, (refl, omega arith)), (recovers, (recv_by rules s8 (hears 1 1 10 6 1) [] refl refl refl refl refl, (recv_by rules s9 (hears 3 3 0 6 2) [] refl refl refl refl refl, (send_by rules s10 (says 1 2 11 7) refl refl refl refl refl refl refl, (recv_by rules s11 (hears 2 2 11 8 7) [] refl refl refl refl refl, (send_by rules s12 (says 0 4 0 3) refl refl refl refl refl refl refl, (recv_by rules s13 (hears 1 4 0 8 3) [] refl refl refl refl refl, (send_by rules s14 (says 1 5 0 9) refl refl refl refl refl refl refl, (recv_by rules s15 (hears 2 5 0 10 9) [] refl refl refl refl refl, (send_by rules s16 (says 0 6 0 4) refl refl refl refl refl refl refl, (recv_by rules s17 (hears 3 6 0 7 4) [] refl refl refl refl refl, tt))))))))))))))))))
+    (send_by rules feed_one s0 (says 0 1 10 1) refl refl refl refl refl refl refl, (send_by rules feed_one s1 (says 0 3 0 2) refl refl refl refl refl refl refl, (recv_by rules feed_one s2 (hears 1 1 10 2 1) [] refl refl refl refl refl, (send_by rules feed_one s3 (says 1 2 11 3) refl refl refl refl refl refl refl, (recv_by rules feed_one s4 (hears 3 3 0 3 2) [] refl refl refl refl refl, (recv_by rules feed_one s5 (hears 2 2 11 4 3) [] refl refl refl refl refl, ((omega arith, (refl, omega arith)), (recovers, (recv_by rules feed_one s8 (hears 1 1 10 6 1) [] refl refl refl refl refl, (recv_by rules feed_one s9 (hears 3 3 0 6 2) [] refl refl refl refl refl, (send_by rules feed_one s10 (says 1 2 11 7) refl refl refl refl refl refl refl, (recv_by rules feed_one s11 (hears 2 2 11 8 7) [] refl refl refl refl refl, (send_by rules feed_one s12 (says 0 4 0 3) refl refl refl refl refl refl refl, (recv_by rules feed_one s13 (hears 1 4 0 8 3) [] refl refl refl refl refl, (send_by rules feed_one s14 (says 1 5 0 9) refl refl refl refl refl refl refl, (recv_by rules feed_one s15 (hears 2 5 0 10 9) [] refl refl refl refl refl, (send_by rules feed_one s16 (says 0 6 0 4) refl refl refl refl refl refl refl, (recv_by rules feed_one s17 (hears 3 6 0 7 4) [] refl refl refl refl refl, tt))))))))))))))))))
 
 pub final : IsFinal rules s18
-final = final_by rules s18 feed_proper.two_ends refl
+final = final_by rules s18 (feed_proper.two_ends, feed_one) refl
 
 pub runs : KeepsRuns rules journal
 runs = accepted_runs rules journal feed_proper feed_accepted legal
@@ -148,10 +148,10 @@ d_as_planned = crashes_are_as_planned rules journal 3 legal final (omega arith)
 
 -- C restarts by B's start, and D by its own
 c_foreseen : IsForeseen net (group_of rules 1) (durable rules s7) s7.kept 2 2
-c_foreseen = foreseen net (group_of rules 1) (durable rules s7) 2 s7.kept (record { dir = Got; point = 2 }) feed_proper.two_ends (runs front (back ∷ rest) refl) refl
+c_foreseen = foreseen net (group_of rules 1) (durable rules s7) 2 s7.kept (record { dir = Got; point = 2 }) (4, feed_proper) (runs front (back ∷ rest) refl) refl
 
 d_foreseen : IsForeseen net (group_of rules 1) (durable rules s7) s7.kept 3 3
-d_foreseen = foreseen net (group_of rules 1) (durable rules s7) 3 s7.kept (record { dir = Got; point = 3 }) feed_proper.two_ends (runs front (back ∷ rest) refl) refl
+d_foreseen = foreseen net (group_of rules 1) (durable rules s7) 3 s7.kept (record { dir = Got; point = 3 }) (4, feed_proper) (runs front (back ∷ rest) refl) refl
 
 -- the crash is transparent, though it took two roles
 sees_none : IsSteady rules
@@ -161,14 +161,14 @@ chooses : ChoosesOffered rules
 chooses r events attempt zs some = chosen_in net scripts r events attempt zs some
 
 done : AreDone rules (reading rules journal)
-done zero lt z n = (next_by net 0 (place s18 0) refl).complete z n
-done (suc zero) lt z n = (next_by net 1 (place s18 1) refl).complete z n
-done (suc (suc zero)) lt z n = (next_by net 2 (place s18 2) refl).complete z n
-done (suc (suc (suc zero))) lt z n = (next_by net 3 (place s18 3) refl).complete z n
+done zero lt z n = (next_by net feed_one 0 (place s18 0) refl).complete z n
+done (suc zero) lt z n = (next_by net feed_one 1 (place s18 1) refl).complete z n
+done (suc (suc zero)) lt z n = (next_by net feed_one 2 (place s18 2) refl).complete z n
+done (suc (suc (suc zero))) lt z n = (next_by net feed_one 3 (place s18 3) refl).complete z n
 done (suc (suc (suc (suc r)))) lt z n = omega arith
 
 calm : (other : List Entry) × IsOneThread (without_crashes rules) other
-calm = one_thread (without_crashes rules) feed_proper
+calm = one_thread (without_crashes rules) feed_proper feed_accepted.lanes_end
 
 same : IsCompleted (without_crashes rules) (reading (without_crashes rules) calm.0) × DidTheSame (reading rules journal) (reading (without_crashes rules) calm.0)
 same =

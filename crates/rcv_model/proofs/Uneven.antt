@@ -10,6 +10,7 @@ use Rattle.rcv_model.specs.Journal.{Rules, start, reading, MaySend}
 use Rattle.rcv_model.specs.Final.{IsStep}
 use Rattle.rcv_model.proofs.Cases.{plain, ping, sent, got, says, send, recv, recover}
 use Rattle.rcv_model.proofs.Checked.{send_by}
+use Rattle.rcv_model.proofs.OneLane.{one_lane}
 
 -- A tells B three times, B tells C, and C tells A. A and B share a host: A saves each event, B each third one
 abbrev round_trip : Body
@@ -48,7 +49,7 @@ abbrev early : Rules
 early = session_rules ping 2 tells_attempt (CrashLine 0 0 ∷ [])
 
 first_attempt : MaySend early (reading early (Crash 0 ∷ recover 0 1 (replicate 8 0) 0 ∷ [])) (sent 0 1 2)
-first_attempt = send_by early (reading early (Crash 0 ∷ recover 0 1 (replicate 8 0) 0 ∷ [])) (sent 0 1 2) refl refl refl refl refl refl refl
+first_attempt = send_by early (one_lane ping tt) (reading early (Crash 0 ∷ recover 0 1 (replicate 8 0) 0 ∷ [])) (sent 0 1 2) refl refl refl refl refl refl refl
 
 not_one_more : MaySend early (reading early (Crash 0 ∷ recover 0 1 (replicate 8 0) 0 ∷ [])) (says 0 1 1 2) → ⊥
 not_one_more may = let x = may.value in absurd (apart (cc))

@@ -1,54 +1,19 @@
--- What the places that can come offer to a role, and whether one of them offers nothing, is what lies ahead.
-use Rattle.std.proofs.Common.{◌≡◌, ℕ, ◌+◌, ◌<◌, Bool, true, false, List, [], ◌∷◌, length, take, get_or, ◌||◌, ◌&&◌, refl, sym, ◌∙◌, ap, subst, inl, inr, ⊎_elim, arith}
-use Rattle.std.specs.Prelude.{◌↔◌, ◌==◌, IsTrue}
+-- What places offer, gathered in a set; and the role's own points of those that can come.
+use Rattle.std.proofs.Common.{◌≡◌, ℕ, ◌+◌, ◌<◌, Bool, true, false, List, [], ◌∷◌, length, take, get_or, ◌||◌, ◌&&◌, refl, sym, ◌∙◌, ap, subst, ◌⊎◌, inl, inr, ⊎_elim, arith}
+use Rattle.std.specs.Prelude.{◌↔◌, ◌==◌}
 use Rattle.std.proofs.lemmas.Bool.Decides.{nat_tests}
 use Rattle.std.specs.List.Sorted.{IsStrictlyIncreasing}
 use Rattle.rcv_tree.specs.Bits.{has_point, members, IsPoint}
 use Rattle.rcv_model.specs.Places.{union}
 use Rattle.rcv_model.proofs.PlacesLemmas.{union_left, union_right, union_only}
+use Rattle.rcv_model.proofs.Ways.{next_in_text}
 use Rattle.rcv_points.specs.Follow.{IsSetOfRole}
 use Rattle.rcv_points.proofs.Members.{in_members, of_members, members_rise, union_members}
-use Rattle.rcv_model.specs.Net.{Net, IsIn, last_of}
-use Rattle.rcv_model.specs.Next.{IsNext, AreNext, IsProper}
-use Rattle.rcv_model.proofs.Walks.{walk_join, walk_front, walk_back}
-use Rattle.rcv_next.specs.Ahead.{MayEnd, IsAhead}
-use Rattle.rcv_next.specs.Found.{IsOwnOf, IsOfferedBy, HasEnd, ArePlacesAhead}
+use Rattle.rcv_model.specs.Net.{Net, IsIn}
+use Rattle.rcv_model.specs.Next.{AreNext, IsProper}
+use Rattle.rcv_next.specs.Ahead.{MayComeTo}
+use Rattle.rcv_next.specs.Found.{IsOfferedBy, HasEnd}
 use Rattle.rcv_next.proofs.Adding.{in_more, last_in}
-
-module _ (net : Net) (r : ℕ) where
-  to_next : (k : ℕ) (js : List ℕ) (z : ℕ) → ArePlacesAhead net r k js → IsOwnOf net r js z → IsNext net r k z
-  to_next k js z all a =
-      let way = (all a.0).0 a.1 in
-      record { way = way.0; walk = walk_join net k way.0 (z ∷ []) way.1 (subst (λ x. IsIn z (net.offers x)) (sym way.3) a.2.0, tt); none = way.2; own = a.2.1 }
-
-  of_next : (k : ℕ) (js : List ℕ) (z : ℕ) → ArePlacesAhead net r k js → IsNext net r k z → IsOwnOf net r js z
-  of_next k js z all n = (
-    last_of k n.way,
-    (all (last_of k n.way)).1 (n.way, walk_front net k n.way (z ∷ []) n.walk, n.none, refl),
-    ((walk_back net k n.way (z ∷ []) n.walk).0, n.own),
-  )
-
-  pub next_of : (roles k : ℕ) (js zs words own : List ℕ) → IsProper net roles → ArePlacesAhead net r k js → IsSetOfRole net r (members own) → ((z : ℕ) → IsIn z (members words) ↔ (IsOfferedBy net js z × IsIn z (members own))) → zs ≡ members words → AreNext net r k zs
-  next_of roles k js zs words own proper all set both same = record {
-    ascending = subst IsStrictlyIncreasing (sym same) (members_rise words);
-    sound = λ z i. let a = (both z).0 (subst (IsIn z) same i) in to_next k js z all (a.0.0, a.0.1, (a.0.2, ((set z).0 a.1).2));
-    complete = λ z n.
-        let o = of_next k js z all n in
-        let text = proper.in_text o.0 z o.2.0 in
-        subst (IsIn z) (sym same) ((both z).1 ((o.0, o.1, o.2.0), (set z).1 (text.0, text.1, o.2.1)));
-  }
-
-  pub ends_of : (k : ℕ) (js : List ℕ) → ArePlacesAhead net r k js → HasEnd net js ↔ MayEnd net r k
-  ends_of k js all = (to, of)
-    where
-      to : HasEnd net js → MayEnd net r k
-      to a = let way = (all a.0).0 a.1 in (way.0, way.1, ap net.offers way.3 ∙ a.2, way.2)
-
-      of : MayEnd net r k → HasEnd net js
-      of a = (last_of k a.0, (all (last_of k a.0)).1 (a.0, a.1, a.3, refl), a.2)
-
-  pub ahead_of : (roles k : ℕ) (js zs words own : List ℕ) (ends : Bool) → IsProper net roles → ArePlacesAhead net r k js → IsSetOfRole net r (members own) → ((z : ℕ) → IsIn z (members words) ↔ (IsOfferedBy net js z × IsIn z (members own))) → zs ≡ members words → IsTrue ends ↔ HasEnd net js → IsAhead net r k zs ends
-  ahead_of roles k js zs words own ends proper all set both same e = record { next = next_of roles k js zs words own proper all set both same; ends = (λ t. (ends_of k js all).0 (e.0 t), λ m. e.1 ((ends_of k js all).1 m)) }
 
 -- what one more place offers
 pub offered_more : (net : Net) (js : List ℕ) (i j : ℕ) (old one new : List ℕ) → i < length js → j ≡ get_or js i 0 → net.offers j ≡ members one → ((p : ℕ) → IsPoint p → has_point new p ≡ (has_point old p || has_point one p)) → ((z : ℕ) → IsIn z (members old) ↔ IsOfferedBy net (take i js) z) → (z : ℕ) → IsIn z (members new) ↔ IsOfferedBy net (take (i + 1) js) z
@@ -69,6 +34,13 @@ offered_more net js i j old one new lt q says both all z = (to, from)
         (λ e. union_right z (members old) (members one) (subst (IsIn z) says (subst (λ x. IsIn z (net.offers x)) (e ∙ sym q) a.2)))
         (last_in a.0 js i lt a.1))
 
+-- the points of two sets
+pub in_both : (one other both : List ℕ) → ((p : ℕ) → IsPoint p → has_point both p ≡ (has_point one p || has_point other p)) → (z : ℕ) → IsIn z (members both) ↔ (IsIn z (members one) ⊎ IsIn z (members other))
+in_both one other both all z = (λ i. union_only z (members one) (members other) (subst (IsIn z) same i), λ a. subst (IsIn z) (sym same) (⊎_elim (λ m. union_left z (members one) (members other) m) (λ m. union_right z (members one) (members other) m) a))
+  where
+    same : members both ≡ union (members one) (members other)
+    same = union_members one other both all
+
 pub offered_none : (net : Net) (words : List ℕ) → ((p : ℕ) → has_point words p ≡ false) → (z : ℕ) → IsIn z (members words) ↔ IsOfferedBy net [] z
 offered_none net words none z = (λ m. let t = (of_members words z m).1 in let f = none z in absurd (cc), λ a. absurd a.1)
 
@@ -80,11 +52,21 @@ both_true : (a b : Bool) → a ≡ true → b ≡ true → (a && b) ≡ true
 both_true true b e f = f
 both_true false b e f = absurd (cc)
 
-pub offered_own : (net : Net) (js offered own new : List ℕ) → ((p : ℕ) → IsPoint p → has_point new p ≡ (has_point offered p && has_point own p)) → ((z : ℕ) → IsIn z (members offered) ↔ IsOfferedBy net js z) → (z : ℕ) → IsIn z (members new) ↔ (IsOfferedBy net js z × IsIn z (members own))
-offered_own net js offered own new both all z = (
-  λ m. let a = of_members new z m in let b = common (has_point offered z) (has_point own z) (sym (both z a.0) ∙ a.1) in ((all z).0 (in_members offered z a.0 b.0), in_members own z a.0 b.1),
-  λ a. let b = of_members offered z ((all z).1 a.0) in let c = of_members own z a.1 in in_members new z b.0 (both z b.0 ∙ both_true (has_point offered z) (has_point own z) b.1 c.1),
-)
+-- the role's own points of those that can come are its next points
+pub next_of : (net : Net) (roles r k : ℕ) (come own both zs : List ℕ) → IsProper net roles → ((z : ℕ) → IsIn z (members come) ↔ MayComeTo net r k z) → IsSetOfRole net r (members own) → ((p : ℕ) → IsPoint p → has_point both p ≡ (has_point come p && has_point own p)) → zs ≡ members both → AreNext net r k zs
+next_of net roles r k come own both zs proper all set meet same = record {
+  ascending = subst IsStrictlyIncreasing (sym same) (members_rise both);
+  sound = λ z i.
+      let m = of_members both z (subst (IsIn z) same i) in
+      let a = common (has_point come z) (has_point own z) (sym (meet z m.0) ∙ m.1) in
+      let way = (all z).0 (in_members come z m.0 a.0) in
+      record { way = way.0; walk = way.1; none = way.2; own = ((set z).0 (in_members own z m.0 a.1)).2 };
+  complete = λ z n.
+      let t = next_in_text net roles r k z proper n in
+      let mine = of_members own z ((set z).1 (t.0, t.1, n.own)) in
+      let came = of_members come z ((all z).1 (n.way, n.walk, n.none)) in
+      subst (IsIn z) (sym same) (in_members both z mine.0 (meet z mine.0 ∙ both_true (has_point come z) (has_point own z) came.1 mine.1));
+}
 
 -- one more place offers something
 pub no_end_more : (net : Net) (js : List ℕ) (i j : ℕ) → i < length js → j ≡ get_or js i 0 → (HasEnd net (take i js) → ⊥) → (net.offers j ≡ [] → ⊥) → HasEnd net (take (i + 1) js) → ⊥

@@ -1,8 +1,11 @@
 -- Offered points are those of the text, and these are few.
-use Rattle.std.proofs.Common.{◌≡◌, ℕ, ◌<◌, ◌≤◌, List, length, get_or, sym, subst, arith}
+use Rattle.std.proofs.Common.{◌≡◌, ℕ, ◌<◌, ◌≤◌, List, length, get_or, sym, ap, subst, arith}
 use Rattle.rcv_model.specs.Net.{IsIn}
-use Rattle.rcv_points.specs.Follow.{PointsView, AreWithin, offered_at}
+use Rattle.std.proofs.lemmas.List.{get_or_past}
+use Rattle.rcv_points.specs.Follow.{PointsView, AreWithin, no_lane, net_in}
+use Rattle.rcv_next.specs.Found.{AreInText}
 use Rattle.rcv_next.proofs.Adding.{in_at}
+use Rattle.rcv_next.proofs.Stages.{AreLanes}
 
 -- a point of the text
 pub record IsOfText (points : PointsView) (p : ℕ) : Type 0 where
@@ -10,13 +13,14 @@ pub record IsOfText (points : PointsView) (p : ℕ) : Type 0 where
   pub last : p ≤ length points.messages
   pub few : p ≤ 256
 
-pub of_text : (points : PointsView) (k p : ℕ) → AreWithin points → IsIn p (offered_at points k) → IsOfText points p
-of_text points k p within i =
-    let a = within.proper.in_text k p i in
+-- the point at an index of points of the text
+pub listed_is : (points : PointsView) (xs : List ℕ) (i x : ℕ) → AreWithin points → AreInText (net_in points) xs → i < length xs → x ≡ get_or xs i 0 → IsOfText points x
+listed_is points xs i x within text lt q =
+    let a = text x (subst (λ y. IsIn y xs) (sym q) (in_at xs i lt)) in
     let few = within.few in
     let last = a.1 in
     record { first = a.0; last = last; few = omega (arith, last, few) }
 
--- the point at an index of what a place offers
-pub offered_is : (points : PointsView) (k : ℕ) (xs : List ℕ) (i x : ℕ) → AreWithin points → xs ≡ offered_at points k → i < length xs → x ≡ get_or xs i 0 → IsOfText points x
-offered_is points k xs i x within same lt q = of_text points k x within (subst (λ l. IsIn x l) same (subst (λ y. IsIn y xs) (sym q) (in_at xs i lt)))
+-- the lanes of points are lanes
+pub are_lanes : (points : PointsView) → AreWithin points → AreLanes (net_in points) (length points.lanes)
+are_lanes points within = record { rising = within.rising; there = within.has_lane; beyond = λ l le. ap (λ v. v.begins) (get_or_past points.lanes l no_lane le) }

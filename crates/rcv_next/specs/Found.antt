@@ -1,8 +1,8 @@
 -- What a search has found so far, each place once.
-use Rattle.std.specs.Prelude.{◌≡◌, ◌↔◌, ℕ, ◌+◌, ◌⊎◌, Bool, true, false, not, List, [], ◌∷◌, length, take, slice_index_or}
+use Rattle.std.specs.Prelude.{◌≡◌, ◌↔◌, ℕ, ◌+◌, ◌≤◌, ◌⊎◌, Bool, true, false, not, List, [], ◌∷◌, length, take, slice_index_or}
 use Rattle.std.specs.List.{count_by}
 use Rattle.rcv_tree.specs.Bits.{has_point, IsPoint}
-use Rattle.rcv_model.specs.Net.{Net, IsIn, IsPrefix, IsWalk, last_of}
+use Rattle.rcv_model.specs.Net.{Net, IsIn, IsPrefix, IsLaneWalk, last_of}
 use Rattle.rcv_model.specs.Next.{IsOf, HasNone}
 
 -- Each of the first items has its flag, and each flag is of one of them; as many flags are left as there is room.
@@ -28,24 +28,28 @@ pub record Adds (These : ℕ → Type 0) (old now : List ℕ) : Type 0 where
   pub all : (j : ℕ) → These j → IsIn j now
   pub only : (j : ℕ) → IsIn j now → IsIn j old ⊎ These j
 
--- The place offers the point, which isn't one of role r; or which is.
-abbrev pub IsOther : Net → ℕ → ℕ → ℕ → Type 0
-IsOther net r k p = IsIn p (net.offers k) × (IsOf net r p → ⊥)
+-- It is a point of the text; and all of these are.
+abbrev pub IsInText : Net → ℕ → Type 0
+IsInText net p = (1 ≤ p) × (p ≤ net.count)
 
-abbrev pub IsOwn : Net → ℕ → ℕ → ℕ → Type 0
-IsOwn net r k p = IsIn p (net.offers k) × IsOf net r p
+abbrev pub AreInText : Net → List ℕ → Type 0
+AreInText net ps = (p : ℕ) → IsIn p ps → IsInText net p
 
--- A walk from place k comes to place j, and holds no point of role r.
+-- The point is one of these, and isn't one of role r.
+abbrev pub IsOther : Net → ℕ → List ℕ → ℕ → Type 0
+IsOther net r ps p = IsIn p ps × (IsOf net r p → ⊥)
+
+-- A walk within the lane of place k comes to place j, and holds no point of role r.
 abbrev pub IsWay : Net → ℕ → ℕ → ℕ → Type 0
-IsWay net r k j = (w : List ℕ) × IsWalk net k w × HasNone net r w × (last_of k w ≡ j)
+IsWay net r k j = (w : List ℕ) × IsLaneWalk net k w × HasNone net r w × (last_of k w ≡ j)
 
--- The places that can come from place k on with no point of role r before them.
-abbrev pub ArePlacesAhead : Net → ℕ → ℕ → List ℕ → Type 0
-ArePlacesAhead net r k js = (j : ℕ) → IsIn j js ↔ IsWay net r k j
+-- The same where one of these points comes first.
+abbrev pub IsWayFrom : Net → ℕ → List ℕ → ℕ → Type 0
+IsWayFrom net r ps j = (s : ℕ) × IsOther net r ps s × IsWay net r s j
 
--- Some of these places offers the point, which is one of role r.
-abbrev pub IsOwnOf : Net → ℕ → List ℕ → ℕ → Type 0
-IsOwnOf net r js p = (j : ℕ) × IsIn j js × IsOwn net r j p
+-- The places that can come where these points are offered first, with no point of role r.
+abbrev pub ArePlacesFrom : Net → ℕ → List ℕ → List ℕ → Type 0
+ArePlacesFrom net r ps js = (j : ℕ) → IsIn j js ↔ IsWayFrom net r ps j
 
 -- Some of these places offers the point.
 abbrev pub IsOfferedBy : Net → List ℕ → ℕ → Type 0
@@ -55,6 +59,13 @@ IsOfferedBy net js p = (j : ℕ) × IsIn j js × IsIn p (net.offers j)
 abbrev pub HasEnd : Net → List ℕ → Type 0
 HasEnd net js = (j : ℕ) × IsIn j js × (net.offers j ≡ [])
 
--- The place offers this point alone, which isn't one of role r.
-abbrev pub IsForced : Net → ℕ → ℕ → ℕ → Type 0
-IsForced net r k p = (net.offers k ≡ p ∷ []) × (IsOf net r p → ⊥)
+-- This point is offered alone, and isn't one of role r.
+abbrev pub IsForced : Net → ℕ → List ℕ → ℕ → Type 0
+IsForced net r ps p = (ps ≡ p ∷ []) × (IsOf net r p → ⊥)
+
+-- A point of the text offers nothing behind it; or it offers this one.
+abbrev pub IsEndPoint : Net → ℕ → Type 0
+IsEndPoint net k = IsInText net k × (net.offers k ≡ [])
+
+abbrev pub LeadsTo : Net → ℕ → ℕ → Type 0
+LeadsTo net p k = IsInText net k × IsIn p (net.offers k)

@@ -1,39 +1,30 @@
 -- What a role does at a place follows from its next points there.
-use Rattle.std.proofs.Common.{◌≡◌, ◌≢◌, ℕ, ◌<◌, ◌≤◌, List, [], ◌∷◌, ◌++◌, refl, sym, ◌∙◌, ap, subst, inl, ⊎_elim}
+use Rattle.std.proofs.Common.{◌≡◌, ◌≢◌, ℕ, ◌<◌, ◌≤◌, List, [], ◌∷◌, refl, sym, ◌∙◌, ap, subst, inl, ⊎_elim}
 use Rattle.std.proofs.lemmas.Bool.{cases_eq}
-use Rattle.rcv_model.specs.Net.{Net, IsIn, IsWalk, HasTwoEnds}
+use Rattle.rcv_model.specs.Net.{Net, IsIn, HasTwoEnds}
 use Rattle.rcv_model.specs.Text.{Body}
 use Rattle.rcv_model.specs.Places.{net_of}
 use Rattle.rcv_model.specs.Form.{HasForm}
 use Rattle.rcv_model.specs.Next.{IsNext, AreNext, IsPlaceOf, IsProper, IsAccepted}
 use Rattle.rcv_model.proofs.Forms.{proper}
+use Rattle.rcv_model.proofs.Ways.{next_in_text as in_text}
 use Rattle.rcv_model.proofs.NextLists.{lists_exist}
 use Rattle.rcv_model.proofs.Same.{one_next}
 use Rattle.rcv_project.specs.Act.{ActView, Sending, Receiving, Ended, AreSentBy, AreReceivedBy, IsActAt}
 
--- the last point of a walk is offered somewhere
-last_offered : (net : Net) (k z : ℕ) (way : List ℕ) → IsWalk net k (way ++ z ∷ []) → (j : ℕ) × IsIn z (net.offers j)
-last_offered net k z [] walk = (k, walk.0)
-last_offered net k z (p ∷ way) walk = last_offered net p z way walk.1
-
 -- a next point stands in the text
 pub next_in_text : (net : Net) (roles r k z : ℕ) → IsProper net roles → IsNext net r k z → (1 ≤ z) × (z ≤ net.count)
-next_in_text net roles r k z form next =
-    let there = last_offered net k z next.way next.walk in
-    form.in_text there.0 z there.1
+next_in_text = in_text
 
 -- and is sent by a role of the protocol
 pub sender_declared : (net : Net) (roles r k z : ℕ) → IsProper net roles → IsNext net r k z → net.sender z < roles
 sender_declared net roles r k z form next =
-    let there = last_offered net k z next.way next.walk in
-    form.senders there.0 z there.1
+    let there = in_text net roles r k z form next in
+    form.senders z there.0 there.1
 
 -- each point of an accepted text is received by a role of the protocol
 pub receiver_declared : (body : Body) (roles p : ℕ) → HasForm body roles → IsAccepted (net_of body) roles → 1 ≤ p → p ≤ (net_of body).count → (net_of body).receiver p < roles
-receiver_declared body roles p form accepted low high =
-    let way = accepted.reached p low high in
-    let there = last_offered (net_of body) 0 p way.0 way.1 in
-    (proper body roles form).receivers there.0 p there.1
+receiver_declared body roles p form accepted low high = (proper body roles form).receivers p low high
 
 -- the next points of a role that sends one of them, and of one that doesn't
 module _ (net : Net) (roles r k : ℕ) (accepted : IsAccepted net roles) (declared : r < roles) (at : IsPlaceOf net r k) where

@@ -4,6 +4,7 @@ use Rattle.std.proofs.lemmas.Bool.Decides.{nat_tests}
 use Rattle.std.proofs.lemmas.List.Quantifiers.{position-Some}
 use Rattle.rcv_model.specs.Text as trees
 use Rattle.rcv_model.specs.Places as places
+use Rattle.rcv_model.specs.Places.{HasLanesApart}
 use Rattle.rcv_model.specs.Form.{IsNumberedFrom, HaveEnds, HaveSubjects, HaveSubjectsIn, HasForm}
 use Rattle.rcv_machine.specs.Words.{Written, NoStmt, AMessage, AChoice, ARec, AContinue, APar, ADo, Blocks, NoBlock, ABlock, or_first, role_at, roles_at, points, points_of, singles, tree_of, trees_of, IsDeclared, MayReceive, IsFit, AreFit}
 
@@ -81,9 +82,10 @@ mutual
       let first = part_of roles n (n + points f) m f _ h.0 refl more.0 in
       (simp append_assoc first.0, (first.1, more.1))
 
-pub tree_has_form : (roles : List (List ℕ)) (w : Written) → IsFit roles w → length roles ≤ 8 → points w ≤ 256 → HasForm (tree_of roles 0 w) (length roles)
-tree_has_form roles w fit few short =
+pub tree_has_form : (roles : List (List ℕ)) (w : Written) → IsFit roles w → HasLanesApart (tree_of roles 0 w) → length roles ≤ 8
+    → points w ≤ 256 → HasForm (tree_of roles 0 w) (length roles)
+tree_has_form roles w fit apart few short =
     let all = part_of roles 0 (points w) (points w) w [] fit (omega arith) (record { long = omega arith; numbered = tt; ends = tt }) in
     let part = rw append-nil at all.0 in
     let long = part.long in
-    record { numbered = part.numbered; ends = part.ends; subjects = all.1; few_roles = few; few_points = omega (arith, long, short) }
+    record { numbered = part.numbered; ends = part.ends; subjects = all.1; apart = apart; few_roles = few; few_points = omega (arith, long, short) }

@@ -1,7 +1,10 @@
 pub mod Stops
+pub mod Named
+pub mod Acting
 pub mod Reading
 pub mod Blocks
 pub mod Formed
+pub mod Apart
 pub mod Whole
 pub mod Answering
 pub mod Examples

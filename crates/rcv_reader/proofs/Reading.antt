@@ -1,12 +1,12 @@
 -- The loops over names: modules, sorts, roles and receivers; and over the declarations.
-use Rattle.std.proofs.Common.{◌≡◌, ℕ, ◌+◌, ◌<◌, ◌≤◌, true, false, Some, List, [], ◌∷◌, ◌++◌, length, refl, sym, ap, ◌∙◌, arith, append_assoc, append-nil, length-append, take, slice_index_or, ◌≢◌, ◌==◌, Bor}
+use Rattle.std.proofs.Common.{◌≡◌, ℕ, ◌+◌, ◌<◌, ◌≤◌, true, false, Some, List, [], ◌∷◌, ◌++◌, length, refl, sym, ap, subst, ◌∙◌, arith, append_assoc, append-nil, length-append, take, slice_index_or, ◌≢◌, ◌==◌, Bor}
 use Rattle.std.proofs.lemmas.List.{length-take-le, map-append, take_more}
 use Rattle.std.specs.BTreeSet.{BTreeSet}
 use Rattle.rcv_machine.specs.Words.{Sign, Right, Role, Comma, Semicolon, Dot, Symbol, Is, Word, dotted, names_behind, roles_behind, sort_list, decl, decls, AreDecls, is_decl_word, or_first, place_of, is_listed, role_at, roles_at, MayReceive, Decl}
 use Rattle.rcv_machine.specs.Words.{Item, This, AnyName, MoreModules, Decls, RoleName, MoreRoles, MoreSorts, Receiver, MoreReceivers}
 use Rattle.rcv_tree.specs.declared.statement.Stmt.{Stmt}
 use Rattle.rcv_tree.specs.declared.statement.Stmt.TheVariants as statements
-use Rattle.rcv_reader.specs.Descent.{Standing, at, with_roles, answers, IsNameList, module_list, names_of_roles, messages, AddsName, AreTaken, HasThese, IsReceived, AreReceived}
+use Rattle.rcv_reader.specs.Descent.{Standing, at, with_roles, named_in, answers, IsNameList, module_list, names_of_roles, messages, AddsName, AreTaken, HasThese, IsReceived, AreReceived}
 
 -- What is spelled one behind another: one more at the end.
 one_more : {X : Type 0} (spell : List X → List Symbol → List Symbol) (one : X → List Symbol → List Symbol)
@@ -73,6 +73,7 @@ roles_push = one_behind names_of_roles roles_behind (λ n next. Is Comma ∷ Is 
 
 -- The first roles were read, and one more has to stand behind them.
 pub record RolesSoFar (old now : Standing) : Type 0 where
+  pub none : now.since ≡ 0
   pub goes : (k : List Item) → answers old (This (Is Role) ∷ RoleName ∷ k) ≡ answers now (This (Is Role) ∷ RoleName ∷ k)
   pub read : (n : List ℕ) (next : List Symbol) → now.rest ≡ Is Role ∷ Word n ∷ next
       → old ≡ with_roles now [] (Is Role ∷ names_of_roles (now.roles ++ n ∷ []) next)
@@ -92,6 +93,7 @@ roles_next old p q r new so_far e goes adds f =
     let so = rw e at so_far in
     let (some, read) = rw f at (role_read old p q r so_far e adds) in
     record {
+      none = rw (adds.spelled, f) at so.none;
       goes = λ k. so.goes k ∙ goes k ∙ ap (λ (x : Standing). answers x (MoreRoles ∷ k)) f;
       read = λ n next is. rw (roles_push new.roles n next some, ← is) read;
     }
@@ -128,8 +130,9 @@ decls_next old p q new aliases aliases' ds ds' d so_far e goes kept is added =
 
 -- ---- receivers
 
-pub record ReceiversSoFar (old now : Standing) (sender : ℕ) (before : List ℕ) : Type 0 where
-  pub goes : (k : List Item) → answers old (Receiver sender [] ∷ k) ≡ answers now (MoreReceivers sender before ∷ k)
+pub record ReceiversSoFar (old now : Standing) (earlier sender : ℕ) (before : List ℕ) : Type 0 where
+  pub goes : (k : List Item) → answers old (Receiver (named_in old.roles earlier) sender [] ∷ k)
+      ≡ answers now (MoreReceivers (named_in old.roles earlier) sender before ∷ k)
   pub received : AreReceived old now sender before
   pub shorter : length now.rest < length old.rest
 
@@ -142,10 +145,11 @@ may_push roles sender before [] n r is first apart may =
 may_push roles sender before (m ∷ names) n r is first apart may =
     (may.0, may.1, may.2, may_push roles sender (before ++ role_at roles m ∷ []) names n r is (rw append_assoc first) apart may.3)
 
-pub receivers_first : (old new : Standing) (sender : ℕ) (none after : List ℕ) → none ≡ []
-    → ((k : List Item) → answers old (Receiver sender none ∷ k) ≡ answers new (MoreReceivers sender after ∷ k))
-    → ((r : ℕ) × IsReceived old new sender none r × (after ≡ none ++ r ∷ [])) → ReceiversSoFar old new sender after
-receivers_first old new sender none after empty goes received =
+pub receivers_first : (old new : Standing) (earlier sender : ℕ) (none after : List ℕ) → none ≡ []
+    → ((k : List Item) → answers old (Receiver (named_in old.roles earlier) sender none ∷ k)
+    ≡ answers new (MoreReceivers (named_in old.roles earlier) sender after ∷ k))
+    → ((r : ℕ) × IsReceived old new sender none r × (after ≡ none ++ r ∷ [])) → ReceiversSoFar old new earlier sender after
+receivers_first old new earlier sender none after empty goes received =
     let (role, is, pushed) = rw empty at received in
     let place : role_at new.roles is.name ≡ role = ap or_first is.is_role in
     record {
@@ -161,17 +165,21 @@ receivers_first old new sender none after empty goes received =
       shorter = rw is.spelled (omega arith);
     }
 
-pub receivers_next : (old p q new : Standing) (sender : ℕ) (before after : List ℕ)
-    → ReceiversSoFar old p sender before → p ≡ at q (Is Comma ∷ q.rest)
-    → ((k : List Item) → answers q (Receiver sender before ∷ k) ≡ answers new (MoreReceivers sender after ∷ k))
-    → ((r : ℕ) × IsReceived q new sender before r × (after ≡ before ++ r ∷ [])) → ReceiversSoFar old new sender after
-receivers_next old p q new sender before after so_far e goes (role, is, pushed) =
+pub receivers_next : (old p q new : Standing) (earlier sender : ℕ) (before after : List ℕ)
+    → ReceiversSoFar old p earlier sender before → p ≡ at q (Is Comma ∷ q.rest)
+    → ((k : List Item) → answers q (Receiver (named_in q.roles earlier) sender before ∷ k)
+    ≡ answers new (MoreReceivers (named_in q.roles earlier) sender after ∷ k))
+    → ((r : ℕ) × IsReceived q new sender before r × (after ≡ before ++ r ∷ [])) → ReceiversSoFar old new earlier sender after
+receivers_next old p q new earlier sender before after so_far e goes (role, is, pushed) =
     let here = rw e at so_far in
     let so = rw is.spelled at here in
     let had = so.received in
     let place : role_at new.roles is.name ≡ role = ap or_first is.is_role in
+    let roles : q.roles ≡ old.roles = sym (ap (λ (x : Standing). x.roles) here.received.spelled) in
+    let on = λ (k : List Item). subst (λ (all : List (List ℕ)). answers q (Receiver (named_in all earlier) sender before ∷ k)
+    ≡ answers new (MoreReceivers (named_in all earlier) sender after ∷ k)) roles (goes k) in
     record {
-      goes = λ k. here.goes k ∙ goes k;
+      goes = λ k. here.goes k ∙ on k;
       received = record {
         first = had.first;
         others = had.others ++ is.name ∷ [];

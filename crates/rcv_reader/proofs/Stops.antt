@@ -1,9 +1,9 @@
 -- Where the machine stops, or goes on otherwise, at a sign that isn't awaited.
 use Rattle.std.proofs.Common.{◌≡◌, Bool, true, false, List, [], ◌∷◌, ◌++◌, Some, Result, Ok, Err, IsErrAnd, refl, ap, ◌∙◌, cond}
-use Rattle.rcv_machine.specs.Words.{Sign, Close, Or, Right, Comma, Dot, Token, Symbol, Is, IsNotNext, Item, This, MoreModules, MoreRoles, Sorts, MoreSorts, MoreReceivers, Rest, More, State, Outcome, On, Wrong, meets, step, after, Refuses, answer, known}
+use Rattle.rcv_machine.specs.Words.{Sign, Close, Or, And, Right, Comma, Dot, Token, Symbol, Is, IsNotNext, Item, This, MoreModules, MoreRoles, Sorts, MoreSorts, MoreReceivers, Rest, More, Later, State, Outcome, On, Wrong, meets, step, after, Refuses, answer, known}
 use Rattle.rcv_machine.proofs.Agreeing.{meets_only}
 use Rattle.rcv_reader.specs.declared.stop.Stop.TheVariants as errors
-use Rattle.rcv_reader.specs.Descent.{Stop, Standing, answers, going_on, IsOver, Halts, Consumes}
+use Rattle.rcv_reader.specs.Descent.{Stop, Standing, answers, going_on, named_in, IsOver, Halts, Consumes}
 
 -- What halts behind others halts in front of them.
 pub halts_behind : {X : Type 0} (r : Result X Stop) (e : Stop) (p q new : Standing) (front item over : List Item → List Item)
@@ -39,9 +39,10 @@ over_step s MoreModules sign k (Is Dot) ts is h = absurd (h cc)
 over_step s MoreRoles sign k (Is Comma) ts is h = absurd (h cc)
 over_step s Sorts sign k (Is Right) ts is h = absurd (h cc)
 over_step s MoreSorts sign k (Is Comma) ts is h = absurd (h cc)
-over_step s (MoreReceivers sender before) sign k (Is Comma) ts is h = absurd (h cc)
+over_step s (MoreReceivers earlier sender before) sign k (Is Comma) ts is h = absurd (h cc)
 over_step s (Rest p) sign k (Is Close) ts is h = absurd (h cc)
 over_step s (More p) sign k (Is Or) ts is h = absurd (h cc)
+over_step s (Later p) sign k (Is And) ts is h = absurd (h cc)
 over_step s _ sign k _ ts is h = refl
 
 over_at : (s : State) (sign : Sign) (ts : List Symbol) → IsNotNext (Is sign) ts → (i : Item) (k : List Item) → (going_on i).0 ≡ Some sign
@@ -53,6 +54,6 @@ over_at s sign (t ∷ ts) h i k is =
 pub is_over : (sign : Sign) (p : Standing) → IsNotNext (Is sign) p.rest → IsOver sign p
 is_over sign p h = record {
   unlike = h;
-  stops = stops_at (known p.roles p.count) sign p.rest h;
-  over = over_at (known p.roles p.count) sign p.rest h;
+  stops = stops_at (known p.roles p.count (named_in p.roles p.since)) sign p.rest h;
+  over = over_at (known p.roles p.count (named_in p.roles p.since)) sign p.rest h;
 }

@@ -7,21 +7,21 @@ use Rattle.std.specs.Ordering.{nat_cmp}
 use Rattle.rcv_tree.specs.declared.statement.Stmt.{Stmt}
 use Rattle.rcv_tree.specs.declared.statement.Stmt.TheVariants as statements
 use Rattle.rcv_tree.specs.declared.statement.Block.{Block}
-use Rattle.rcv_machine.specs.Words.{Decl, Sign, Module, Global, Protocol, Role, Left, Right, Open, Close, Or, Semicolon, Symbol, Is, Word, Written, stmts, names_behind, roles_behind, dotted, decls, AreDecls, blocks_behind, IsBegun, IsProper, AreProper, is_among}
-use Rattle.rcv_machine.specs.Words.{place_of, is_listed, roles_at, points, points_of, tree_of, trees_of, MayReceive, IsFit, AreFit, IsFirst, Item, This, AnyName, Refuses, Place}
+use Rattle.rcv_machine.specs.Words.{Decl, Sign, Module, Global, Protocol, Role, Left, Right, Open, Close, Semicolon, Symbol, Is, Word, Written, stmts, names_behind, roles_behind, dotted, decls, AreDecls, blocks_behind, IsBegun, IsProper, AreProper, is_among}
+use Rattle.rcv_machine.specs.Words.{place_of, is_listed, roles_at, points, points_of, tree_of, trees_of, MayReceive, IsFit, AreFit, IsFirst, Item, This, AnyName, Refuses, Named, Place}
 use Rattle.rcv_model.specs.Text as trees
 use Rattle.rcv_syntax.specs.Grammar as grammar
 pub use Rattle.rcv_reader.specs.declared.parser.Spot.{Spot}
 pub use Rattle.rcv_reader.specs.declared.stop.Stop.{Stop}
 use Rattle.rcv_reader.specs.declared.stop.Stop.TheVariants as errors
-pub use Rattle.rcv_reader.specs.Standing.{Standing, IsSmall, at, back_at, with_roles, within, answers, going_on, IsOver}
+pub use Rattle.rcv_reader.specs.Standing.{Standing, IsSmall, at, back_at, with_roles, within, has_place, named_in, answers, going_on, IsOver}
 
-abbrev pub place_at : List (List ℕ) → ℕ → ℕ → Bool → Place
-place_at recs depth comes ended = record { depth = depth; recs = recs; comes = comes; ended = ended }
+abbrev pub place_at : List (List ℕ) → ℕ → ℕ → Bool → Named → Place
+place_at recs depth comes ended earlier = record { depth = depth; recs = recs; comes = comes; ended = ended; earlier = earlier }
 
 -- where the parser stands in its block
 abbrev pub place_of_spot : Standing → Spot → Place
-place_of_spot p spot = place_at p.recs spot.depth spot.comes spot.ended
+place_of_spot p spot = place_at p.recs spot.depth spot.comes spot.ended (named_in p.roles spot.earlier.0)
 
 -- From what is awaited in front the machine comes to what is awaited behind, or stops; k is awaited after that.
 abbrev pub Halts : Stop → Standing → Standing → (List Item → List Item) → Type 0
@@ -57,7 +57,7 @@ pub record IsReceived (old new : Standing) (sender : ℕ) (before : List ℕ) (r
   pub first : is_listed role before ≡ false
   pub apart : (role == sender) ≡ false
   pub counted : new.count ≡ old.count + 1
-  pub spelled : old ≡ back_at new old.count (Word name ∷ new.rest)
+  pub spelled : old ≡ back_at new old.count old.since (Word name ∷ new.rest)
 
 -- Receivers of a message were read.
 pub record AreReceived (old new : Standing) (sender : ℕ) (receivers : List ℕ) : Type 0 where
@@ -66,7 +66,7 @@ pub record AreReceived (old new : Standing) (sender : ℕ) (receivers : List ℕ
   pub may : MayReceive new.roles sender [] (first ∷ others)
   pub places : receivers ≡ roles_at new.roles (first ∷ others)
   pub counted : new.count ≡ old.count + length receivers
-  pub spelled : old ≡ back_at new old.count (Word first ∷ names_behind others new.rest)
+  pub spelled : old ≡ back_at new old.count old.since (Word first ∷ names_behind others new.rest)
 
 -- Statements in front of next, behind n points and with m points behind them: how they are written, which is proper and
 -- fit for these roles, with their symbols and their tree.
@@ -77,11 +77,11 @@ pub record AreStmts (roles : List (List ℕ)) (n m : ℕ) (body : trees.Body) (t
   pub counted : m ≡ n + points written
   pub tree : body ≡ tree_of roles n written
 
--- The same of blocks, each behind the word or.
-pub record AreBlocks (roles : List (List ℕ)) (n m : ℕ) (bodies : trees.Bodies) (ts next : List Symbol) : Type 0 where
+-- The same of blocks, each behind this word.
+pub record AreBlocks (word : Sign) (roles : List (List ℕ)) (n m : ℕ) (bodies : trees.Bodies) (ts next : List Symbol) : Type 0 where
   pub written : grammar.Blocks
   pub sound : AreProper written × AreFit roles written
-  pub spelled : ts ≡ blocks_behind Or written next
+  pub spelled : ts ≡ blocks_behind word written next
   pub counted : m ≡ n + points_of written
   pub tree : bodies ≡ trees_of roles n written
 
@@ -100,16 +100,16 @@ pub record Adds (some : Bool) (roles : List (List ℕ)) (n n' : ℕ) (block bloc
 
 -- Statements were read, and added to the block, with what may stand before the first of their symbols.
 abbrev pub TakesAll : Standing → Standing → List Stmt → List Stmt → Type 0
-TakesAll old new block block' = (old ≡ back_at new old.count old.rest)
+TakesAll old new block block' = (old ≡ back_at new old.count old.since old.rest)
     × Adds false new.roles old.count new.count block block' old.rest (Is Close ∷ new.rest)
 
 abbrev pub TakesSome : Standing → Standing → List Symbol → List Stmt → List Stmt → Type 0
-TakesSome old new sign block block' = (old ≡ back_at new old.count old.rest)
+TakesSome old new sign block block' = (old ≡ back_at new old.count old.since old.rest)
     × Adds true new.roles old.count new.count block block' (sign ++ old.rest) new.rest
 
 -- A block was read, with its braces.
 abbrev pub TakesBlock : Standing → Standing → Block → Type 0
-TakesBlock old new b = (old ≡ back_at new old.count old.rest) × (inner : List Symbol) × (old.rest ≡ Is Open ∷ inner)
+TakesBlock old new b = (old ≡ back_at new old.count old.since old.rest) × (inner : List Symbol) × (old.rest ≡ Is Open ∷ inner)
     × (w : AreStmts new.roles old.count new.count (trees.body_of b) inner (Is Close ∷ new.rest)) × IsBegun w.written
 
 -- ---- the head
@@ -159,7 +159,7 @@ pub record IsHead (modules : List (List ℕ)) (ds : List Decl) (name : List ℕ)
 
 -- nothing is read yet
 abbrev pub at_first : List Symbol → Standing
-at_first ts = record { roles = []; recs = []; count = 0; rest = ts }
+at_first ts = record { roles = []; recs = []; count = 0; since = 0; rest = ts }
 
 -- the whole answer
 abbrev pub Ends : Stop → List Symbol → List Symbol → Type 0

@@ -1,12 +1,14 @@
 -- Where the parser stands, and what the machine says there.
-use Rattle.std.specs.Prelude.{◌≡◌, ℕ, ◌≤◌, false, List, [], ◌++◌, ◌∷◌, Option, Some, None}
-use Rattle.rcv_machine.specs.Words.{Symbol, Is, IsNotNext, Sign, Right, Close, Or, Comma, Semicolon, Dot, Token, Item, This, AnyName, MoreModules, MoreRoles, Sorts, MoreSorts, MoreReceivers, First, Rest, More, Answer, Refuses, behind, answer, known}
+use Rattle.std.specs.Prelude.{◌≡◌, ℕ, ◌≤◌, Bool, false, List, [], ◌++◌, ◌∷◌, Option, Some, None}
+use Rattle.rcv_tree.specs.Bits.{has_bit}
+use Rattle.rcv_machine.specs.Words.{place_of, Named, Symbol, Is, IsNotNext, Sign, Right, Close, Or, And, Comma, Semicolon, Dot, Token, Item, This, AnyName, MoreModules, MoreRoles, Sorts, MoreSorts, MoreReceivers, First, Rest, More, Later, Answer, Refuses, behind, answer, known}
 
 -- what the parser knows, and the symbols that it has still to read
 pub record Standing : Type 0 where
   pub roles : List (List ℕ)
   pub recs : List (List ℕ)  -- the names of the enclosing recursions, the innermost last
   pub count : ℕ  -- so many points
+  pub since : ℕ  -- the set of the roles that are named since the last par began
   pub rest : List Symbol
 
 -- There is a place for each role, and each point.
@@ -14,22 +16,30 @@ pub record IsSmall (roles count : ℕ) : Type 0 where
   pub few : roles ≤ 8
   pub short : count ≤ 256
 
--- the same in front of these symbols; with so many points; with these roles; inside these recursions
+-- the same in front of these symbols; with so many points and these roles named; with these roles; inside these recursions
 abbrev pub at : Standing → List Symbol → Standing
-at p ts = record { roles = p.roles; recs = p.recs; count = p.count; rest = ts }
+at p ts = record { roles = p.roles; recs = p.recs; count = p.count; since = p.since; rest = ts }
 
-abbrev pub back_at : Standing → ℕ → List Symbol → Standing
-back_at p n ts = record { roles = p.roles; recs = p.recs; count = n; rest = ts }
+abbrev pub back_at : Standing → ℕ → ℕ → List Symbol → Standing
+back_at p n named ts = record { roles = p.roles; recs = p.recs; count = n; since = named; rest = ts }
 
 abbrev pub with_roles : Standing → List (List ℕ) → List Symbol → Standing
-with_roles p roles ts = record { roles = roles; recs = p.recs; count = p.count; rest = ts }
+with_roles p roles ts = record { roles = roles; recs = p.recs; count = p.count; since = p.since; rest = ts }
 
 abbrev pub within : Standing → List (List ℕ) → Standing
-within p recs = record { roles = p.roles; recs = recs; count = p.count; rest = p.rest }
+within p recs = record { roles = p.roles; recs = recs; count = p.count; since = p.since; rest = p.rest }
+
+-- what the bits of a set say of the place of a role, and of a name
+abbrev pub has_place : ℕ → Option ℕ → Bool
+has_place bits None = false
+has_place bits (Some r) = has_bit bits r
+
+abbrev pub named_in : List (List ℕ) → ℕ → Named
+named_in roles bits = λ n. has_place bits (place_of roles n)
 
 -- what the machine answers from here on, where these are awaited
 abbrev pub answers : Standing → List Item → Answer
-answers p k = answer (known p.roles p.count) k p.rest
+answers p k = answer (known p.roles p.count (named_in p.roles p.since)) k p.rest
 
 -- the sign with which an item goes on, and what is awaited in its place where another symbol is next
 abbrev pub going_on : Item → Option Sign × Item × List Item
@@ -37,9 +47,10 @@ going_on MoreModules = (Some Dot, This (Is Semicolon), [])
 going_on MoreRoles = (Some Comma, This (Is Right), [])
 going_on Sorts = (Some Right, AnyName, MoreSorts ∷ [])
 going_on MoreSorts = (Some Comma, This (Is Right), [])
-going_on (MoreReceivers sender before) = (Some Comma, This (Is Semicolon), [])
+going_on (MoreReceivers earlier sender before) = (Some Comma, This (Is Semicolon), [])
 going_on (Rest p) = (Some Close, First p, [])
 going_on (More p) = (Some Or, Rest (behind p false), [])
+going_on (Later p) = (Some And, Rest (behind p false), [])
 going_on i = (None, i, [])
 
 -- The sign isn't next.

@@ -33,9 +33,8 @@ impl<'a> Parser<'a> {
     }
 
     /// Takes the roles, each behind the word `role`, and the parenthesis and the brace behind them.
-    #[tactic(auto, using(crate::proofs::Reading::roles_next))]
     pub fn role_names(&mut self, alloc: Global) -> Result<(), Stop>
-        requires none { self.old.roles ≡ [] }
+        requires none { (self.old.roles ≡ []) × (self.old.since ≡ 0) }
         ensures goes { Takes result self.old self.new (λ k. This (Is Sign.Role) ∷ RoleName
             ∷ This (Is Sign.Open) ∷ k) (λ x k. k) }
         ensures read { OnOk result ((self.new.roles ≢ []) × (self.old ≡ with_roles self.new []

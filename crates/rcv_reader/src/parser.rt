@@ -12,8 +12,8 @@ ghost use Rattle.rcv_syntax.specs.Codes.{is_among};
 ghost use Rattle.rcv_syntax.specs.Trees.{place_of, is_listed};
 ghost use Rattle.rcv_machine.specs.Machine.{Place, Item, This, AnyName, RoleName, MoreRoles, Sorts, Subject};
 ghost use Rattle.rcv_machine.specs.Machine.{Sender, Receiver, MoreReceivers, RecName, AgainName, Opening};
-ghost use Rattle.rcv_machine.specs.Machine.{First, Rest, More, Refuses, inside, behind, is_open};
-ghost use Rattle.rcv_reader.specs.Standing.{IsSmall, at, within, answers, IsOver};
+ghost use Rattle.rcv_machine.specs.Machine.{First, Rest, More, Lane, Later, Refuses, inside, beside, behind, is_open};
+ghost use Rattle.rcv_reader.specs.Standing.{Standing, IsSmall, at, back_at, within, named_in, answers, IsOver};
 ghost use Rattle.rcv_reader.specs.Descent.{AddsName, IsReceived, AreReceived, messages, Takes, Consumes, TakesSome};
 ghost use Rattle.rcv_reader.specs.Descent.{TakesAll, TakesBlock, IsNameList, place_at, place_of_spot, at_first};
 
@@ -23,29 +23,48 @@ use rcv_scan::{Ahead, Lexeme};
 use rcv_syntax::{Fault, Sign};
 use rcv_tree::name::{Name, Names};
 use rcv_tree::point::Point;
-use rcv_tree::role::{RoleId, Roles};
+use rcv_tree::role::{RoleId, RoleSet, Roles};
 use rcv_tree::statement::{Block, Blocks, Stmt};
 use std::alloc::{AllocError, Global};
 use std::marker::Model;
 use std::mem;
 
 /// A place in a block: how many blocks are open, for how many of the innermost recursions a walk comes from the start
-/// of their body without a message, and whether a `continue` of this block stands before.
+/// of their body without a message, whether a `continue` of this block stands before, and, in a block of a `par`, the
+/// roles that its earlier blocks name.
 #[derive(Clone, Copy)]
 pub struct Spot {
     pub depth: u32,
     pub comes: usize,
     pub ended: bool,
+    pub earlier: RoleSet,
+}
+
+impl Spot {
+    // The same for a block of a `par`, of which the blocks before name these roles.
+    fn beside(self, earlier: RoleSet) -> Spot
+        ensures place { (p : Standing) → place_of_spot p result
+            ≡ beside (place_of_spot p self) (named_in p.roles earlier.0) }
+        ensures start { result.comes ≡ 0 }
+    {
+        Spot {
+            depth: self.depth,
+            comes: 0,
+            ended: false,
+            earlier,
+        }
+    }
 }
 
 /// What is still to be read, and what is known from before: the roles, the names of the enclosing recursions with the
-/// innermost last, and the number of points.
+/// innermost last, the number of points, and the roles that are named since the last `par` began.
 #[derive(Drop)]
 pub struct Parser<'a> {
     rest: Ahead<'a, Sign>,
     roles: Names,
     recs: Vec<Name>,
     count: u16,
+    since: RoleSet,
 }
 
 impl<'a> Model for Parser<'a> {
@@ -54,7 +73,7 @@ impl<'a> Model for Parser<'a> {
 
     ghost Value = { Standing };
 
-    ghost view = { λ a. record { roles = a.roles; recs = a.recs.items; count = a.count; rest = a.rest } };
+    ghost view = { λ a. record { roles = a.roles; recs = a.recs.items; count = a.count; since = a.since.0; rest = a.rest } };
 
     ghost invariant = { λ a. IsSmall (length a.roles) a.count };
 }
@@ -113,6 +132,7 @@ impl<'a> Parser<'a> {
             roles: Names::new(alloc),
             recs: Vec::new(alloc),
             count: 0,
+            since: RoleSet(0),
         }
     }
 
@@ -207,6 +227,7 @@ impl<'a> Parser<'a> {
 
     /// Takes the name of one more role.
     pub fn add_role(&mut self, alloc: Global) -> Result<(), Stop>
+        requires none { self.old.since ≡ 0 }
         ensures goes { Takes result self.old self.new (λ k. RoleName ∷ k) (λ x k. MoreRoles ∷ k) }
         ensures read { OnOk result (AddsName self.old self.new) }
     {
@@ -241,13 +262,16 @@ impl<'a> Parser<'a> {
         roles.iter().position(|role| role.as_slice() == name)
     }
 
-    // Takes this word, and the name of a role behind it: the subject of a choice, or a sender.
-    fn role(&mut self, sign: Sign) -> Result<RoleId, Stop>
-        ensures subject { Takes result self.old self.new (λ k. This (Is sign) ∷ Subject ∷ k) (λ r k. k) }
-        ensures sender { Takes result self.old self.new (λ k. This (Is sign) ∷ Sender ∷ k)
-            (λ r k. This (Is Sign.To) ∷ Receiver r [] ∷ k) }
+    // Takes this word, and the name of a role behind it, which isn't one of the earlier ones: the subject of a choice, or
+    // a sender.
+    fn role(&mut self, sign: Sign, earlier: RoleSet) -> Result<RoleId, Stop>
+        ensures subject { Takes result self.old self.new
+            (λ k. This (Is sign) ∷ Subject (named_in self.old.roles earlier.0) ∷ k) (λ r k. k) }
+        ensures sender { Takes result self.old self.new
+            (λ k. This (Is sign) ∷ Sender (named_in self.old.roles earlier.0) ∷ k)
+            (λ r k. This (Is Sign.To) ∷ Receiver (named_in self.old.roles earlier.0) r [] ∷ k) }
         ensures read { IfOk result (λ r. (n : List ℕ) × (place_of self.new.roles n ≡ Some r)
-            × (self.old ≡ at self.new (Is sign ∷ Word n ∷ self.new.rest))) }
+            × (self.old ≡ back_at self.new self.new.count self.old.since (Is sign ∷ Word n ∷ self.new.rest))) }
     {
         self.expect(sign)?;
         let Some((Lexeme::Word(bytes), after)) = self.next() else {
@@ -256,8 +280,13 @@ impl<'a> Parser<'a> {
         let Some(place) = self.place_of(bytes) else {
             return Err(Stop::Refused(Fault::NoName));
         };
+        let role = RoleId(place as u8);
+        if earlier.has(role) {
+            return Err(Stop::Refused(Fault::Shared));
+        }
+        self.since = self.since.with(role);
         self.go_to(after);
-        Ok(RoleId(place as u8))
+        Ok(role)
     }
 
     // Takes sorts, and the parenthesis behind them.
@@ -272,10 +301,16 @@ impl<'a> Parser<'a> {
         self.names(alloc, Sign::Comma, Sign::Right)
     }
 
-    // Takes one more receiver of a message, which makes a point.
-    fn add_receiver(&mut self, sender: RoleId, receivers: &mut Roles) -> Result<(), Stop>
-        ensures goes { Takes result self.old self.new (λ k. Receiver sender receivers.old ∷ k)
-            (λ x k. MoreReceivers sender receivers.new ∷ k) }
+    // Takes one more receiver of a message, which makes a point and isn't one of the earlier ones.
+    fn add_receiver(
+        &mut self,
+        earlier: RoleSet,
+        sender: RoleId,
+        receivers: &mut Roles,
+    ) -> Result<(), Stop>
+        ensures goes { Takes result self.old self.new
+            (λ k. Receiver (named_in self.old.roles earlier.0) sender receivers.old ∷ k)
+            (λ x k. MoreReceivers (named_in self.old.roles earlier.0) sender receivers.new ∷ k) }
         ensures read { OnOk result ((r : ℕ) × IsReceived self.old self.new sender receivers.old r
             × (receivers.new ≡ receivers.old ++ r ∷ [])) }
     {
@@ -295,39 +330,51 @@ impl<'a> Parser<'a> {
         if self.count >= 256 {
             return Err(Stop::Refused(Fault::TooMany));
         }
+        if earlier.has(receiver) {
+            return Err(Stop::Refused(Fault::Shared));
+        }
         receivers.push(receiver)?;
         self.count += 1;
+        self.since = self.since.with(receiver);
         self.go_to(after);
         Ok(())
     }
 
     // Takes all receivers of a message, and the mark behind them.
     #[tactic(auto, using(crate::proofs::Reading::receivers_first))]
-    fn receivers(&mut self, alloc: Global, sender: RoleId) -> Result<Roles, Stop>
-        ensures goes { Consumes result self.old self.new (λ k. Receiver sender [] ∷ k) (λ x k. k) }
+    fn receivers(&mut self, alloc: Global, earlier: RoleSet, sender: RoleId) -> Result<Roles, Stop>
+        ensures goes { Consumes result self.old self.new
+            (λ k. Receiver (named_in self.old.roles earlier.0) sender [] ∷ k) (λ x k. k) }
         ensures read { IfOk result (AreReceived self.old (at self.new (Is Sign.Semicolon ∷ self.new.rest)) sender) }
     {
         let mut receivers = Roles::new(alloc);
-        self.add_receiver(sender, &mut receivers)?;
+        self.add_receiver(earlier, sender, &mut receivers)?;
         while self.takes(Sign::Comma) {
-            self.add_receiver(sender, &mut receivers)?;
+            self.add_receiver(earlier, sender, &mut receivers)?;
         }
         self.expect(Sign::Semicolon)?;
         Ok(receivers)
     }
 
     // Takes a message, of which the label is taken.
-    fn message(&mut self, alloc: Global, label: &[u8], block: &mut Block) -> Result<(), Stop>
+    fn message(
+        &mut self,
+        alloc: Global,
+        earlier: RoleSet,
+        label: &[u8],
+        block: &mut Block,
+    ) -> Result<(), Stop>
         ensures goes { Consumes result self.old self.new
-            (λ k. This (Is Sign.Left) ∷ Sorts ∷ This (Is Sign.From) ∷ Sender ∷ k) (λ x k. k) }
+            (λ k. This (Is Sign.Left) ∷ Sorts ∷ This (Is Sign.From)
+            ∷ Sender (named_in self.old.roles earlier.0) ∷ k) (λ x k. k) }
         ensures read { OnOk result (TakesSome self.old self.new (Word label.now ∷ [])
             (statements block.old) (statements block.new)) }
     {
         self.expect(Sign::Left)?;
         let sorts = self.sorts(alloc)?;
-        let sender = self.role(Sign::From)?;
+        let sender = self.role(Sign::From, earlier)?;
         self.expect(Sign::To)?;
-        let receivers = self.receivers(alloc, sender)?;
+        let receivers = self.receivers(alloc, earlier, sender)?;
         let list = receivers.as_slice();
         Ok(add_messages(alloc, label, &sorts, sender, list, self.count, block)?)
     }
@@ -396,7 +443,8 @@ impl<'a> Parser<'a> {
     // Takes the name of a recursion, and enters its body.
     fn enter(&mut self, alloc: Global, spot: Spot) -> Result<(), Stop>
         ensures goes { Takes result self.old self.new (λ k. RecName (place_of_spot self.old spot) ∷ k)
-            (λ x k. Opening (place_at self.new.recs spot.depth (spot.comes + 1) false) ∷ k) }
+            (λ x k. Opening (place_at self.new.recs spot.depth (spot.comes + 1) false
+            (named_in self.new.roles spot.earlier.0)) ∷ k) }
         ensures read { OnOk result ((n : List ℕ) × (self.old ≡ at self.old (Word n ∷ self.new.rest))
             × (self.new ≡ within (at self.old self.new.rest) (self.old.recs ++ n ∷ []))) }
         ensures room { OnOk result (length self.new.recs < 2 ^ 63) }
@@ -433,6 +481,7 @@ impl<'a> Parser<'a> {
             depth: spot.depth,
             comes: spot.comes + 1,
             ended: false,
+            earlier: spot.earlier,
         };
         let body = self.block(alloc, inner)?;
         let name = self.leave();
@@ -444,12 +493,12 @@ impl<'a> Parser<'a> {
     fn choice(&mut self, alloc: Global, spot: Spot, block: &mut Block) -> Result<(), Stop>
         requires comes { spot.comes ≤ length self.old.recs }
         ensures goes { let p = place_of_spot self.old spot in
-            Consumes result self.old self.new (λ k. This (Is Sign.At) ∷ Subject ∷ Opening p ∷ More p ∷ k)
+            Consumes result self.old self.new (λ k. This (Is Sign.At) ∷ Subject p.earlier ∷ Opening p ∷ More p ∷ k)
             (λ x k. Rest (behind (place_of_spot self.new spot) false) ∷ k) }
         ensures read { OnOk result (TakesSome self.old self.new (Is Sign.Choice ∷ [])
             (statements block.old) (statements block.new)) }
     {
-        let subject = self.role(Sign::At)?;
+        let subject = self.role(Sign::At, spot.earlier)?;
         let mut branches = Blocks::new(alloc);
         loop {
             branches.push(self.block(alloc, spot)?)?;
@@ -458,6 +507,44 @@ impl<'a> Parser<'a> {
             }
         }
         Ok(block.push(Stmt::Choice { subject, branches })?)
+    }
+
+    // Goes on behind the word `par`: no role is named since.
+    fn begin_par(&mut self, after: Ahead<'a, Sign>)
+        ensures { self.new ≡ back_at self.old self.old.count 0 after.entry }
+    {
+        self.since = RoleSet(0);
+        self.rest = after;
+    }
+
+    // Takes a par, of which the word is taken. No two of its blocks name the same role.
+    #[cycle(descent)]
+    fn par(&mut self, alloc: Global, spot: Spot, block: &mut Block) -> Result<(), Stop>
+        ensures goes { let p = place_of_spot self.old spot in
+            Consumes result self.old self.new (λ k. Lane p ∷ This (Is Sign.And) ∷ Lane p ∷ Later p ∷ k)
+            (λ x k. Rest (behind (place_of_spot self.new spot) false) ∷ k) }
+        ensures read { OnOk result (TakesSome self.old self.new (Is Sign.Par ∷ [])
+            (statements block.old) (statements block.new)) }
+    {
+        let mut blocks = Blocks::new(alloc);
+        blocks.push(self.lane(alloc, spot)?)?;
+        self.expect(Sign::And)?;
+        loop {
+            blocks.push(self.lane(alloc, spot)?)?;
+            if !self.takes(Sign::And) {
+                break;
+            }
+        }
+        Ok(block.push(Stmt::Par { blocks })?)
+    }
+
+    // Takes a block of a par. Those before it name the roles that are named since the word.
+    #[cycle(descent)]
+    fn lane(&mut self, alloc: Global, spot: Spot) -> Result<Block, Stop>
+        ensures goes { Consumes result self.old self.new (λ k. Lane (place_of_spot self.old spot) ∷ k) (λ x k. k) }
+        ensures read { IfOk result (λ b. TakesBlock self.old self.new b) }
+    {
+        self.block(alloc, spot.beside(self.since))
     }
 
     // Takes a block of at least one statement, with its braces.
@@ -509,7 +596,7 @@ impl<'a> Parser<'a> {
         match self.next() {
             Some((Lexeme::Word(label), after)) => {
                 self.go_to(after);
-                self.message(alloc, label, block)
+                self.message(alloc, here.earlier, label, block)
             }
             Some((Lexeme::Is(Sign::Choice), after)) => {
                 self.go_to(after);
@@ -527,7 +614,14 @@ impl<'a> Parser<'a> {
                 spot.ended = true;
                 self.again(alloc, here, block)
             }
-            Some((Lexeme::Is(Sign::Par | Sign::Do), _)) => Err(Stop::Refused(Fault::NotYet)),
+            Some((Lexeme::Is(Sign::Par), after)) => {
+                if here.depth >= 2 {
+                    return Err(Stop::Refused(Fault::NotYet));
+                }
+                self.begin_par(after);
+                self.par(alloc, here, block)
+            }
+            Some((Lexeme::Is(Sign::Do), _)) => Err(Stop::Refused(Fault::NotYet)),
             _ => Err(Stop::Refused(Fault::Token)),
         }
     }

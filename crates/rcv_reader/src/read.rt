@@ -18,6 +18,7 @@ use rcv_syntax::{Fault, Sign};
 use rcv_tree::name::{Name, Names};
 use rcv_tree::protocol::{Decls, Protocol};
 use rcv_tree::refusal::Refusal;
+use rcv_tree::role::RoleSet;
 use rcv_tree::statement::Block;
 use std::alloc::Global;
 
@@ -25,7 +26,7 @@ impl<'a> Parser<'a> {
     // Takes what stands before the body, with its first brace. The roles are kept.
     #[tactic(auto, using(crate::proofs::Reading::modules_are_listed))]
     fn head(&mut self, alloc: Global) -> Result<(Names, Decls, Name), Stop>
-        requires none { self.old.roles ≡ [] }
+        requires none { (self.old.roles ≡ []) × (self.old.since ≡ 0) }
         ensures goes { Takes result self.old self.new in_head (λ x k. k) }
         ensures read { IfOk result (λ h. IsHead h.0 (declarations h.1) h.2 self.old self.new) }
     {
@@ -62,6 +63,7 @@ impl<'a> Parser<'a> {
             depth: 1,
             comes: 0,
             ended: false,
+            earlier: RoleSet(0),
         };
         self.stmts(alloc, spot, &mut body)?;
         self.end()?;
@@ -84,7 +86,8 @@ impl<'a> Parser<'a> {
 /// role that isn't declared or the name of no enclosing recursion, 14 at a role, an alias or a receiver that stands
 /// before, 15 at a receiver that is the sender, 16 at a statement behind a `continue`, 17 at a `continue` to which a
 /// walk comes without a message, 18 at the ninth role or the receiver that makes the 257th point, 19 at what isn't read
-/// yet: `par`, `do` and a second protocol. `Memory` where no memory is left.
+/// yet: a `par` in another block than the protocol's own, a `do` and a second protocol, 29 at a role in a block of a
+/// `par` that an earlier block of this `par` names. `Memory` where no memory is left.
 pub fn read_protocol(
     alloc: Global,
     bundle: &[u8],

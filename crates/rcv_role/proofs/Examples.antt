@@ -8,11 +8,13 @@ use Rattle.rcv_tree.specs.declared.event.Event.{Event}
 use Rattle.rcv_tree.specs.declared.event.Message.{Message}
 use Rattle.rcv_tree.specs.declared.event.Dir.TheVariants.{Sent, Got}
 use Rattle.rcv_tree.specs.declared.protocol.Protocol.{Protocol}
-use Rattle.rcv_model.specs.Net.{Net, IsIn, IsWalk}
+use Rattle.rcv_model.specs.Net.{Net, IsIn, IsLaneWalk, HasOneLane}
 use Rattle.rcv_model.specs.Text.{Single, End as Ended}
 use Rattle.rcv_model.specs.Places.{net_of}
 use Rattle.rcv_model.specs.Plan.{PlanLine, EveryLine, HostLine}
 use Rattle.rcv_model.specs.Table.{marks, IsConcerned}
+use Rattle.rcv_model.proofs.OneLane.{one_lane}
+use Rattle.rcv_model.proofs.Walks.{to_lane_walk}
 use Rattle.rcv_session.specs.Session.{SessionView, net_for}
 use Rattle.rcv_ring.specs.Shown.{RingId}
 use Rattle.rcv_ring.specs.Shown as rings
@@ -116,6 +118,9 @@ took_one_more ring taken = let n = ap (λ (x : End). length x.list) (taken.again
 abbrev ping : Net
 ping = net_of (Single [] [] 0 1 1 (Single [] [] 1 0 2 Ended))
 
+ping_one : HasOneLane ping
+ping_one = one_lane (Single [] [] 0 1 1 (Single [] [] 1 0 2 Ended)) tt
+
 abbrev sent_ping : Event
 sent_ping = record { role = 0; dir = Sent; point = 1; value = pos 0; stamp = 1; sent = 1 }
 
@@ -191,7 +196,7 @@ none_raised : (p : PartView) → IsFencedBy p 0 → ⊥
 none_raised p fenced = let word = fenced.pair.code_is in omega (arith, word)
 
 -- A that goes back to its Recv of the pong concerns nobody else.
-none_behind_the_pong : (before after w : List ℕ) (z : ℕ) → IsWalk ping 2 w → before ++ z ∷ after ≡ 2 ∷ w → IsIn 1 (marks ping (0 ∷ []) (before ++ z ∷ [])) → ⊥
+none_behind_the_pong : (before after w : List ℕ) (z : ℕ) → IsLaneWalk ping 2 w → before ++ z ∷ after ≡ 2 ∷ w → IsIn 1 (marks ping (0 ∷ []) (before ++ z ∷ [])) → ⊥
 none_behind_the_pong before after (x ∷ w) z walk e now = walk.0
 none_behind_the_pong (y ∷ before) after [] z walk e now = let n = ap length e in omega (arith, length-append before (z ∷ after), n)
 none_behind_the_pong [] after [] z walk e now = ⊎_elim (λ f. omega (arith, f)) (λ none. none) (subst (λ n. IsIn 1 (marks ping (0 ∷ []) (n ∷ []))) (ap (λ l. get_or l 0 0) e) now)
@@ -202,7 +207,7 @@ b_is_not_reached protocol is reached = ⊎_elim (λ f. absurd (cc)) (λ f. not_c
     not_concerned : IsConcerned ping 0 2 1 → ⊥
     not_concerned concerned = ⊎_elim
         (λ f. let e = f.0 in omega (arith, e))
-        (λ f. none_behind_the_pong f.1.before f.1.after f.1.walk.0 concerned.0 f.1.walk.1 f.1.walk.2 f.1.now)
+        (λ f. none_behind_the_pong f.1.before f.1.after f.1.walk.0 concerned.0 (to_lane_walk ping 2 f.1.walk.0 ping_one f.1.walk.1) f.1.walk.2 f.1.now)
         concerned.1
 
 -- A run that looks once and is fenced, and then polls no more.

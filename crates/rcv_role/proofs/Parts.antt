@@ -13,7 +13,7 @@ use Rattle.rcv_tree.specs.declared.entry.Timed.{Timed}
 use Rattle.rcv_tree.specs.declared.event.Event.{Event}
 use Rattle.rcv_tree.specs.declared.event.Dir.{Dir}
 use Rattle.rcv_tree.specs.declared.event.Dir.TheVariants.{Sent, Got}
-use Rattle.rcv_model.specs.Net.{Net, IsIn, last_of}
+use Rattle.rcv_model.specs.Net.{Net, IsIn}
 use Rattle.rcv_model.specs.Run.{acts, place_of, taken, takes_on}
 use Rattle.rcv_model.specs.Next.{AreNext, IsPlaceOf, IsProper, IsAccepted, IsNext}
 use Rattle.rcv_model.specs.Plan.{PlanLine, crashes_in}
@@ -23,7 +23,7 @@ use Rattle.rcv_model.proofs.Forms.{proper}
 use Rattle.rcv_model.proofs.Keeping.{is_recv}
 use Rattle.rcv_model.proofs.Lists.{some_same}
 use Rattle.rcv_model.proofs.Steps.{not_taken}
-use Rattle.rcv_model.proofs.Walks.{walk_back}
+use Rattle.rcv_model.proofs.Ways.{next_in_text}
 use Rattle.rcv_theory.specs.Own.{Own, own_place, own_event, own_after, own_back, IsOwnDue, MayOwnSend}
 use Rattle.rcv_plan.proofs.Few.{plans_are_short}
 use Rattle.rcv_session.specs.Session.{SessionView, text_of, roles_of, net_for, lines_of, rules_of, IsPointOf}
@@ -272,9 +272,8 @@ module _ (p : PartView) (stack : StackView) (zs : List ℕ) (part : IsPartOf p s
   pub text_point : (z : ℕ) → IsIn z zs → (1 ≤ z) × (z ≤ (net_for p.setup).count) × ((net_for p.setup).sender z < roles_of p.setup) × ((net_for p.setup).receiver z < roles_of p.setup)
   text_point z i =
       let next : IsNext (net_for p.setup) p.role (own_place p.role p.own) z = offers.sound z i in
-      let on : IsIn z ((net_for p.setup).offers (last_of (own_place p.role p.own) next.way)) = (walk_back (net_for p.setup) (own_place p.role p.own) next.way (z ∷ []) next.walk).0 in
-      let k : ℕ = last_of (own_place p.role p.own) next.way in
-      ((known.in_text k z on).0, (known.in_text k z on).1, known.senders k z on, known.receivers k z on)
+      let there = next_in_text (net_for p.setup) (roles_of p.setup) p.role (own_place p.role p.own) z known next in
+      (there.0, there.1, known.senders z there.0 there.1, known.receivers z there.0 there.1)
 
   -- next points are all sends, or all receives from one role
   pub all_sends : (x : ℕ) → IsIn x zs → (net_for p.setup).sender x ≡ p.role → AllSends p zs

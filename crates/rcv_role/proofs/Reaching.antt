@@ -1,14 +1,13 @@
 -- Whom a failure reaches, as the table and the plan tell it.
-use Rattle.std.proofs.Common.{◌≡◌, ℕ, ◌<◌, ◌≤◌, Bool, true, false, [], ◌∷◌, length, refl, sym, ◌∙◌, ap, subst, ◌⊎◌, inl, inr, ⊎_elim, arith}
+use Rattle.std.proofs.Common.{◌≡◌, ℕ, ◌<◌, ◌≤◌, Bool, true, false, [], length, refl, sym, ◌∙◌, ap, subst, ◌⊎◌, inl, inr, ⊎_elim, arith}
 use Rattle.std.specs.Prelude.{◌↔◌, IsTrue}
 use Rattle.std.proofs.lemmas.Option.{get_or_from_slice_get}
 use Rattle.rcv_tree.specs.Bits.{has_bit}
-use Rattle.rcv_model.specs.Net.{Net, IsIn, last_of}
+use Rattle.rcv_model.specs.Net.{Net}
 use Rattle.rcv_model.specs.Next.{IsProper}
 use Rattle.rcv_model.specs.Table.{IsConcerned}
 use Rattle.rcv_model.proofs.Forms.{proper}
 use Rattle.rcv_model.proofs.Located.{item}
-use Rattle.rcv_model.proofs.Walks.{walk_back}
 use Rattle.rcv_accept.specs.Accepted.{IsAcceptedProtocol}
 use Rattle.rcv_plan.specs.Plans.{IsGroup}
 use Rattle.rcv_points.specs.Follow.{PointsView, net_in}
@@ -24,10 +23,7 @@ module _ (setup : SessionView) (accepted : IsAcceptedProtocol setup.protocol) (n
   known = proper (text_of setup) (roles_of setup) accepted.form
 
   ends : 1 ≤ n → n ≤ (net_for setup).count → ((net_for setup).sender n < roles_of setup) × ((net_for setup).receiver n < roles_of setup)
-  ends first last =
-      let way = accepted.accepted.reached n first last in
-      let on : IsIn n ((net_for setup).offers (last_of 0 way.0)) = (walk_back (net_for setup) 0 way.0 (n ∷ []) way.1).0 in
-      (known.senders (last_of 0 way.0) n on, known.receivers (last_of 0 way.0) n on)
+  ends first last = (known.senders n first last, known.receivers n first last)
 
   pub owner : (q : ℕ) → IsOwnPoint (net_for setup) q n → q < roles_of setup
   owner q own = ⊎_elim

@@ -13,6 +13,7 @@ use Rattle.rcv_model.specs.Next.{AreNext}
 use Rattle.rcv_model.specs.Text.{Single, End as Ended}
 use Rattle.rcv_model.specs.Places.{net_of}
 use Rattle.rcv_model.proofs.Checked.{next_by}
+use Rattle.rcv_model.proofs.OneLane.{one_lane}
 use Rattle.rcv_theory.specs.Own.{Own, own_through, MayOwnSend}
 use Rattle.rcv_tree.specs.declared.entry.Timed.{Timed}
 use Rattle.rcv_session.specs.Session.{SessionView, roles_of, net_for, rules_of}
@@ -123,10 +124,10 @@ module _ (protocol : Protocol) (is : net_for (session protocol) ≡ single) (two
 
   -- A sends next, and B receives next
   a_next : AreNext (net_for (session protocol)) 0 0 (1 ∷ [])
-  a_next = subst (λ net. AreNext net 0 0 (1 ∷ [])) (sym is) (next_by single 0 0 refl)
+  a_next = subst (λ net. AreNext net 0 0 (1 ∷ [])) (sym is) (next_by single (one_lane (Single [] [] 0 1 1 Ended) tt) 0 0 refl)
 
   b_next : AreNext (net_for (session protocol)) 1 0 (1 ∷ [])
-  b_next = subst (λ net. AreNext net 1 0 (1 ∷ [])) (sym is) (next_by single 1 0 refl)
+  b_next = subst (λ net. AreNext net 1 0 (1 ∷ [])) (sym is) (next_by single (one_lane (Single [] [] 0 1 1 Ended) tt) 1 0 refl)
 
   a_may : MayOwnSend (rules_of (session protocol)) (first_part (session protocol) 0).own the_event
   a_may = record {

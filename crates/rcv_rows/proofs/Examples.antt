@@ -16,7 +16,7 @@ use Rattle.rcv_rows.proofs.Counting.{same_number}
 use Rattle.rcv_rows.proofs.Kept.{entry_undone}
 
 abbrev net : Net
-net = record { count = 1; offers = λ k. []; sender = λ p. 0; receiver = λ p. 1; label = λ p. [] }
+net = record { count = 1; offers = λ k. []; sender = λ p. 0; receiver = λ p. 1; label = λ p. []; lane = λ p. 0; stage = λ l. 0; begins = λ l. [] }
 
 abbrev sent_event : Event
 sent_event = record { role = 0; dir = Sent; point = 1; value = pos 0; stamp = 1; sent = 1 }

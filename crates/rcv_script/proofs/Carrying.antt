@@ -59,7 +59,7 @@ module _ (scripts : List (List Line)) (messages : List PointView) (acts : List (
       → a ≡ acts_on ((net_by messages).label p) (lines_at scripts r)
   filed p a (first, last) found =
       let f : PointView → ActsView = λ (message : PointView). acts_on message.label (lines_at scripts r) in
-      let at : get_or messages (p - 1) no_message ≡ message_at (record { places = []; messages = messages; choices = [] }) p
+      let at : get_or messages (p - 1) no_message ≡ message_at (record { places = []; messages = messages; choices = []; lanes = []; lane_numbers = [] }) p
       = grind (arith, nat_tests, first) in
       sym (get_or_from_slice_get row (p - 1) a a found) ∙ ap (λ (xs : List ActsView). get_or xs (p - 1) a) filed_row
       ∙ get_or-map f messages (p - 1) no_message a (omega (arith, first, last)) ∙ ap f at

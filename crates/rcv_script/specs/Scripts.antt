@@ -18,7 +18,7 @@ pub record ScriptsView : Type 0 where
 
 -- What messages say of a protocol, without its places.
 abbrev pub net_by : List PointView → Net
-net_by messages = net_in (record { places = []; messages = messages; choices = [] })
+net_by messages = net_in (record { places = []; messages = messages; choices = []; lanes = []; lane_numbers = [] })
 
 -- A point among the messages.
 abbrev pub HasPoint : List PointView → ℕ → Type 0

@@ -66,7 +66,7 @@ module _ (book : BookView) (accepted : IsAcceptedProtocol book.setup.protocol) (
 
   -- who isn't concerned has what it had
   pub keeps_there : (q : ℕ) → May (rules_of book.setup) (state_of book) (Recover p concerned kept undone) → q < roles_of book.setup → has_bit concerned.0 q ≡ false → KeepsAll (net_for book.setup) (state_of book) (state_of (with_recover book p concerned kept undone)) q
-  keeps_there q may lt free = subst (λ s. KeepsAll (net_for book.setup) (state_of book) s q) (sym (recovered book p concerned kept undone)) (keeps (rules_of book.setup) (state_of book) p q concerned kept undone is_proper run may (let few = accepted.form.few_roles in omega (arith, few, lt)) (λ t. let e = sym free ∙ t in cc))
+  keeps_there q may lt free = subst (λ s. KeepsAll (net_for book.setup) (state_of book) s q) (sym (recovered book p concerned kept undone)) (keeps (rules_of book.setup) (state_of book) p q concerned kept undone is_proper accepted.accepted.lanes_end run may (let few = accepted.form.few_roles in omega (arith, few, lt)) (λ t. let e = sym free ∙ t in cc))
 
   -- a role keeps some of its first events; of the failed group no more than it has saved
   kept_few : (r : ℕ) → length (acts r (kept_by (rules_of book.setup) (state_of book) p)) ≤ length (events_of r (state_of book).kept)

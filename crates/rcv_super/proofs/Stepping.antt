@@ -8,7 +8,7 @@ use Rattle.rcv_tree.specs.declared.entry.Entry.TheVariants.{Send, Recv, Crash}
 use Rattle.rcv_tree.specs.declared.entry.Timed.{Timed}
 use Rattle.rcv_tree.specs.declared.event.Event.{Event}
 use Rattle.rcv_tree.specs.declared.event.Message.{Message}
-use Rattle.rcv_model.specs.Net.{IsIn, HasTwoEnds, last_of}
+use Rattle.rcv_model.specs.Net.{HasTwoEnds}
 use Rattle.rcv_model.specs.Run.{put, taken, channel}
 use Rattle.rcv_model.specs.Next.{IsNext, IsProper}
 use Rattle.rcv_model.specs.Journal.{place, reading_from, May, IsLegal}
@@ -17,7 +17,7 @@ use Rattle.rcv_model.proofs.Forms.{proper}
 use Rattle.rcv_model.proofs.Keeping.{put_through, taken_through}
 use Rattle.rcv_model.proofs.Located.{item}
 use Rattle.rcv_model.proofs.Numbers.{bounded}
-use Rattle.rcv_model.proofs.Walks.{walk_back}
+use Rattle.rcv_model.proofs.Ways.{next_in_text}
 use Rattle.rcv_theory.specs.Own.{Own, own_of, IsOwnDue}
 use Rattle.rcv_theory.specs.Round.{role_of, entries, IsLog}
 use Rattle.rcv_ring.specs.Lists.{Begins}
@@ -374,17 +374,17 @@ pub record IsBetween (setup : SessionView) (p : ℕ) : Type 0 where
 
 between : (setup : SessionView) (r k p : ℕ) → IsAcceptedProtocol setup.protocol → IsNext (net_for setup) r k p → IsBetween setup p
 between setup r k p accepted next = record {
-  first = (known.in_text (last_of k next.way) p offered).0;
-  last = (known.in_text (last_of k next.way) p offered).1;
-  sender = known.senders (last_of k next.way) p offered;
-  receiver = known.receivers (last_of k next.way) p offered;
+  first = in_text.0;
+  last = in_text.1;
+  sender = known.senders p in_text.0 in_text.1;
+  receiver = known.receivers p in_text.0 in_text.1;
 }
   where
     known : IsProper (net_for setup) (roles_of setup)
     known = proper (text_of setup) (roles_of setup) accepted.form
 
-    offered : IsIn p ((net_for setup).offers (last_of k next.way))
-    offered = (walk_back (net_for setup) k next.way (p ∷ []) next.walk).0
+    in_text : (1 ≤ p) × (p ≤ (net_for setup).count)
+    in_text = next_in_text (net_for setup) (roles_of setup) r k p known next
 
 module _ (book : BookView) (accepted : IsAcceptedProtocol book.setup.protocol) (entry : Entry) (e : Event) (next : IsNextEvent book entry e) where
   as_send : entry ≡ Send e → IsStep (rules_of book.setup) (state_of book) (Send e)

@@ -1,17 +1,20 @@
 -- Worked cases of the table, by codes: what stands before, and at what the code holds or doesn't.
 use Rattle.std.proofs.Common.{◌≡◌, ℕ, zero, suc, false, codes, List, [], ◌∷◌, refl}
-use Rattle.rcv_syntax.specs.declared.sign.Sign.TheVariants.{Module, Global, From, Choice, At, Or, Rec, Continue, Par, Do, Open, Close, Left, Right, Comma, Semicolon, Less, Greater}
-use Rattle.rcv_syntax.specs.declared.fault.Fault.TheVariants.{Deep, NoName, Twice, SelfMessage, AfterContinue, Unguarded, TooMany, NotYet}
+use Rattle.rcv_syntax.specs.declared.sign.Sign.TheVariants.{Module, Global, From, To, Choice, At, Or, Rec, Continue, Par, Do, Open, Close, Left, Right, Comma, Semicolon, Less, Greater}
+use Rattle.rcv_syntax.specs.declared.fault.Fault.TheVariants.{Deep, NoName, Twice, SelfMessage, AfterContinue, Unguarded, TooMany, NotYet, Shared}
 use Rattle.rcv_syntax.specs.Symbols.{Symbol, Is, Word, Text}
 use Rattle.rcv_syntax.specs.Codes.{FromItsStart, IntoRec, IntoChoice, IntoBranch, is_behind_continue, is_at}
 use Rattle.rcv_syntax.specs.Refusing.{backward, HoldsAt}
-use Rattle.rcv_syntax.proofs.Texts.{a, b, c, x, y, text, sends, message, rec_x, again_x, nested, alias_a, more_roles, with_roles}
+use Rattle.rcv_syntax.proofs.Texts.{a, b, c, x, y, text, begins, sends, message, in_par, beside, rec_x, again_x, nested, alias_a, more_roles, with_roles}
 
--- 12 at the brace of the 33rd nested block, and not at that of the 32nd; what is closed doesn't count
+-- 12 at the brace of the 33rd nested block, and not at that of the 32nd; what is closed doesn't count, and a block of a
+-- par does
 deep : HoldsAt Deep (text (nested 31 (Is Rec ∷ x ∷ []))) (Is Open ∷ [])
     × (is_at Deep (backward (text (nested 30 (Is Rec ∷ x ∷ []))) []) (Is Open) ≡ false)
     × (is_at Deep (backward (text (nested 30 (rec_x (message (Is Close ∷ Is Rec ∷ x ∷ []))))) []) (Is Open) ≡ false)
-deep = (refl, refl, refl)
+    × HoldsAt Deep (text (in_par (nested 30 (Is Rec ∷ x ∷ [])))) (Is Open ∷ [])
+    × (is_at Deep (backward (text (in_par (nested 29 (Is Rec ∷ x ∷ [])))) []) (Is Open) ≡ false)
+deep = (refl, refl, refl, refl, refl)
 
 -- 13 at a sender, a receiver, the subject of a choice and the name of a continue; a rec that is closed doesn't enclose;
 -- a sort may have any name
@@ -50,10 +53,47 @@ abbrev messages : ℕ → List Symbol → List Symbol
 messages zero next = next
 messages (suc n) next = message (messages n next)
 
--- 18 at the ninth role and behind 256 receivers; 19 at par, at do and at a second protocol
+-- 18 at the ninth role and behind 256 receivers; 19 at a par in another block, which may be one of a par, at do and at a
+-- second protocol; not at a par in the protocol's own block, also behind another one
 too_many_or_later : HoldsAt TooMany (with_roles more_roles []) (Word (codes "I") ∷ [])
     × HoldsAt TooMany (text (messages 256 (sends []))) (b ∷ [])
-    × HoldsAt NotYet (text []) (Is Par ∷ [])
+    × HoldsAt NotYet (text (rec_x [])) (Is Par ∷ [])
+    × HoldsAt NotYet (text (in_par (message []))) (Is Par ∷ [])
+    × (is_at NotYet (backward (text []) []) (Is Par) ≡ false)
+    × (is_at NotYet (backward (text (in_par (message (beside (message (Is Close ∷ [])))))) []) (Is Par) ≡ false)
     × HoldsAt NotYet (text (message [])) (Is Do ∷ [])
     × HoldsAt NotYet (text (rec_x (message (Is Close ∷ Is Close ∷ [])))) (Is Global ∷ [])
-too_many_or_later = (refl, refl, refl, refl, refl)
+too_many_or_later = (refl, refl, refl, refl, refl, refl, refl, refl)
+
+-- X() from C to C; which no text has, but it names no other role
+abbrev by_c : List Symbol → List Symbol
+by_c next = begins (c ∷ Is To ∷ c ∷ Is Semicolon ∷ next)
+
+-- 29 in the second block of a par, at a sender, a receiver and the subject of a choice that the first one names; in the
+-- third block; within a choice there; at one that is only the subject of a choice before; and behind a par within a block
+shared : HoldsAt Shared (text (in_par (message (beside (begins []))))) (a ∷ [])
+    × HoldsAt Shared (text (in_par (message (beside (begins (c ∷ Is To ∷ [])))))) (b ∷ [])
+    × HoldsAt Shared (text (in_par (message (beside (begins (c ∷ Is To ∷ c ∷ Is Comma ∷ [])))))) (b ∷ [])
+    × HoldsAt Shared (text (in_par (message (beside (Is Choice ∷ Is At ∷ []))))) (b ∷ [])
+    × HoldsAt Shared (text (in_par (message (beside (by_c (beside (begins []))))))) (a ∷ [])
+    × HoldsAt Shared (text (in_par (message (beside (Is Choice ∷ Is At ∷ c ∷ Is Open ∷ begins []))))) (a ∷ [])
+    × HoldsAt Shared (text (in_par (Is Choice ∷ Is At ∷ c ∷ Is Open ∷ message (Is Close ∷ beside (begins []))))) (c ∷ [])
+    × HoldsAt Shared (text (in_par (message (in_par (by_c (beside (by_c (Is Close ∷ beside (begins []))))))))) (a ∷ [])
+shared = (refl, refl, refl, refl, refl, refl, refl, refl)
+
+-- the first role of what is sent next isn't shared
+abbrev IsFree : List Symbol → Symbol → Type 0
+IsFree front t = is_at Shared (backward front []) t ≡ false
+
+-- not in the same block; not behind the par, nor in another one; not where it is named before the par; a label or a sort
+-- isn't a role, where it stands or before
+not_shared : IsFree (text (in_par (message (begins [])))) a
+    × IsFree (text (in_par (message (beside (by_c (begins [])))))) c
+    × IsFree (text (in_par (message (beside (by_c (Is Close ∷ begins [])))))) a
+    × IsFree (text (in_par (message (beside (by_c (Is Close ∷ in_par (begins []))))))) a
+    × IsFree (text (in_par (message (beside (by_c (Is Close ∷ in_par (by_c (beside (begins []))))))))) a
+    × IsFree (text (message (in_par (by_c (beside (begins [])))))) a
+    × IsFree (text (in_par (message (beside [])))) a
+    × IsFree (text (in_par (message (beside (x ∷ Is Left ∷ []))))) a
+    × IsFree (text (in_par (a ∷ Is Left ∷ b ∷ Is Right ∷ Is From ∷ c ∷ Is To ∷ c ∷ Is Semicolon ∷ beside (begins [])))) a
+not_shared = (refl, refl, refl, refl, refl, refl, refl, refl, refl)

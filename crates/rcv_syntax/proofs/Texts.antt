@@ -1,6 +1,6 @@
 -- Pieces of texts, for worked cases.
 use Rattle.std.proofs.Common.{ℕ, zero, suc, codes, List, [], ◌∷◌}
-use Rattle.rcv_syntax.specs.declared.sign.Sign.TheVariants.{Module, Global, Protocol, Role, From, To, Rec, Continue, Open, Left, Right, Comma, Semicolon, Less, Greater}
+use Rattle.rcv_syntax.specs.declared.sign.Sign.TheVariants.{Module, Global, Protocol, Role, From, To, Rec, Continue, Par, And, Open, Close, Left, Right, Comma, Semicolon, Less, Greater}
 use Rattle.rcv_syntax.specs.Symbols.{Symbol, Is, Word, Text}
 use Rattle.rcv_syntax.specs.Grammar.{roles_behind}
 
@@ -31,13 +31,32 @@ heading next = Is Module ∷ x ∷ Is Semicolon ∷ Is Global ∷ Is Protocol �
 abbrev pub text : List Symbol → List Symbol
 text next = heading (Is Right ∷ Is Open ∷ next)
 
+-- module X; global protocol Y(role A, role B, role C, role D) {
+abbrev pub text_of_four : List Symbol → List Symbol
+text_of_four next = heading (roles_behind (codes "C" ∷ codes "D" ∷ []) (Is Right ∷ Is Open ∷ next))
+
+-- X() from
+abbrev pub begins : List Symbol → List Symbol
+begins next = x ∷ Is Left ∷ Is Right ∷ Is From ∷ next
+
 -- X() from A to
 abbrev pub sends : List Symbol → List Symbol
-sends next = x ∷ Is Left ∷ Is Right ∷ Is From ∷ a ∷ Is To ∷ next
+sends next = begins (a ∷ Is To ∷ next)
 
 -- X() from A to B;
 abbrev pub message : List Symbol → List Symbol
 message next = sends (b ∷ Is Semicolon ∷ next)
+
+-- X() from C to D;
+abbrev pub of_others : List Symbol → List Symbol
+of_others next = begins (c ∷ Is To ∷ Word (codes "D") ∷ Is Semicolon ∷ next)
+
+-- par { and, behind a block of it, } and {
+abbrev pub in_par : List Symbol → List Symbol
+in_par next = Is Par ∷ Is Open ∷ next
+
+abbrev pub beside : List Symbol → List Symbol
+beside next = Is Close ∷ Is And ∷ Is Open ∷ next
 
 -- rec X { and continue X;
 abbrev pub rec_x : List Symbol → List Symbol

@@ -1,11 +1,11 @@
 -- The codes from 12 on, each by the symbols alone. Everywhere back are the symbols before, the nearest first, t is the
 -- symbol at which the code is to hold, and ts are the symbols behind it.
-use Rattle.std.specs.Prelude.{◌≡◌, ℕ, ◌==◌, nat_le, Bool, true, false, not, cond, List, [], ◌∷◌, ◌++◌, length, drop}
+use Rattle.std.specs.Prelude.{◌≡◌, ℕ, ◌==◌, nat_le, Bool, true, false, not, ◌||◌, cond, List, [], ◌∷◌, ◌++◌, length, drop}
 use Rattle.std.specs.List.{list_any}
 use Rattle.std.specs.Str.{bytes_eq}
-use Rattle.rcv_syntax.specs.declared.sign.Sign.TheVariants.{Global, Role, From, To, Choice, At, Or, Rec, Continue, Par, Do, Open, Close, Comma, Semicolon}
+use Rattle.rcv_syntax.specs.declared.sign.Sign.TheVariants.{Global, Role, From, To, Choice, At, Or, Rec, Continue, Par, And, Do, Open, Close, Comma, Semicolon}
 use Rattle.rcv_syntax.specs.declared.fault.Fault.{Fault}
-use Rattle.rcv_syntax.specs.declared.fault.Fault.TheVariants.{Token, Deep, NoName, Twice, SelfMessage, AfterContinue, Unguarded, TooMany, NotYet}
+use Rattle.rcv_syntax.specs.declared.fault.Fault.TheVariants.{Token, Deep, NoName, Twice, SelfMessage, AfterContinue, Unguarded, TooMany, NotYet, Shared}
 use Rattle.rcv_syntax.specs.Symbols.{Symbol, Is, Word, Text}
 
 abbrev pub code_of : Fault → ℕ
@@ -18,6 +18,7 @@ code_of AfterContinue = 16
 code_of Unguarded = 17
 code_of TooMany = 18
 code_of NotYet = 19
+code_of Shared = 29
 
 -- the name is one of these
 abbrev pub is_among : List ℕ → List (List ℕ) → Bool
@@ -107,6 +108,30 @@ pub data Comes : List ℕ → List Symbol → Type 0 where
       → Comes x (Is Open ∷ first)
       → Comes x (Is Open ∷ Is Or ∷ Is Close ∷ back)
 
+-- ---- a role in another block of a par
+
+-- as a role that sends, chooses or receives
+abbrev pub is_role : Standing → Bool
+is_role AsActor = true
+is_role AsReceiver = true
+is_role _ = false
+
+-- The roles that are named since the last word par before which no more blocks than these are open, the nearest first.
+abbrev pub named_since_par : ℕ → List Symbol → List (List ℕ)
+named_since_par depth [] = []
+named_since_par depth (Is Par ∷ back) = cond (nat_le (length (open_braces back)) depth) [] (named_since_par depth back)
+named_since_par depth (Word n ∷ back) =
+    cond (is_role (standing back)) (n ∷ named_since_par depth back) (named_since_par depth back)
+named_since_par depth (_ ∷ back) = named_since_par depth back
+
+-- For each `{` that is open what stands before it is given. One of them begins a block of a par, behind the word and, and
+-- the role is named in a block of the same par before it: between this par's word and this `{`. The par's own word is the
+-- last one before which no more blocks are open than before the `{`, since a par within one of its blocks has that one open.
+abbrev pub is_beside : List ℕ → List (List Symbol) → Bool
+is_beside n [] = false
+is_beside n ((Is And ∷ back) ∷ braces) = is_among n (named_since_par (length braces) back) || is_beside n braces
+is_beside n (_ ∷ braces) = is_beside n braces
+
 -- ---- the table
 
 -- The codes at a name, by what it stands as.
@@ -124,6 +149,9 @@ is_at_name SelfMessage AsReceiver back n = bytes_eq n (sender back)
 -- 18: the name of the ninth role, or the receiver that makes the 257th point
 is_at_name TooMany AsNewRole back n = nat_le 8 (length (roles_before back))
 is_at_name TooMany AsReceiver back n = nat_le 256 (points_before back)
+-- 29: a role in a block of a par that is named in an earlier block of this par
+is_at_name Shared AsActor back n = is_beside n (open_braces back)
+is_at_name Shared AsReceiver back n = is_beside n (open_braces back)
 is_at_name _ _ back n = false
 
 abbrev pub is_behind_continue : List Symbol → Bool
@@ -149,11 +177,12 @@ abbrev pub is_at : Fault → List Symbol → Symbol → Bool
 is_at Deep back (Is Open) = nat_le 32 (length (open_braces back))
 -- 16: the first symbol of a statement behind a continue in the same block
 is_at AfterContinue back t = cond (begins_a_statement t) (is_behind_continue back) false
--- 19: the words par and do; the word global of a second protocol, which is behind the first one's last }
-is_at NotYet back (Is Par) = true
+-- 19: the word par where a block is open in the protocol's own; the word do; the word global of a second protocol, which
+-- is behind the first one's last }
+is_at NotYet back (Is Par) = nat_le 2 (length (open_braces back))
 is_at NotYet back (Is Do) = true
 is_at NotYet back (Is Global) = is_behind_all back
--- 13, 14, 15 and 18
+-- 13, 14, 15, 18 and 29
 is_at f back (Word n) = is_at_name f (standing back) back n
 is_at f back _ = false
 

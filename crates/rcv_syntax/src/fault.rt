@@ -24,6 +24,8 @@ pub enum Fault {
     TooMany = 18,
     /// Text that isn't read yet.
     NotYet = 19,
+    /// A role that stands in an earlier block of the same `par`.
+    Shared = 29,
 }
 
 impl Fault {

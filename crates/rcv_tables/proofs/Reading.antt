@@ -7,13 +7,14 @@ use Rattle.rcv_model.specs.Net.{Net}
 use Rattle.rcv_model.specs.Table.{IsConcerned, AreRestarts}
 use Rattle.rcv_model.specs.Places.{net_of}
 use Rattle.rcv_model.proofs.Forms.{proper}
-use Rattle.rcv_model.proofs.Walks.{walk_back}
 use Rattle.rcv_points.specs.Follow.{PointsView, ArePointsOf, net_in}
 use Rattle.rcv_points.proofs.Whole.{same_net}
 use Rattle.rcv_accept.specs.Accepted.{AcceptedView, IsAcceptedProtocol, text_of, roles_of}
+use Rattle.rcv_tables.specs.Line.{HasLine}
 use Rattle.rcv_tables.specs.Starts.{IsOwnPoint, HaveEnds}
 use Rattle.rcv_tables.specs.Rows.{RowView, TableView, no_row, rows_at, row_at, IsRowOf, IsTable}
 use Rattle.rcv_tables.specs.Told.{HaveRows, AreStarts, AreConcernedBelow}
+use Rattle.rcv_tables.proofs.TextLanes.{lanes_rise}
 
 -- the item at a place
 pub got : {A : Type 0} (xs : List A) (i : ℕ) (d : A) → i < length xs → slice_get xs i ≡ Some (get_or xs i d)
@@ -54,10 +55,12 @@ have_ends accepted points is are = subst HaveEnds (sym (same_net (text_of accept
       where
         ends : (z : ℕ) → 1 ≤ z → z ≤ (net_of (text_of accepted)).count → ((net_of (text_of accepted)).sender z < roles_of accepted) × ((net_of (text_of accepted)).receiver z < roles_of accepted)
         ends z low high =
-            let way = is.accepted.reached z low high in
-            let offered = (walk_back (net_of (text_of accepted)) 0 way.0 (z ∷ []) way.1).0 in
             let form = proper (text_of accepted) (roles_of accepted) is.form in
-            (form.senders _ z offered, form.receivers _ z offered)
+            (form.senders z low high, form.receivers z low high)
+
+-- and it has a line
+pub have_line : (accepted : AcceptedView) (points : PointsView) → IsAcceptedProtocol accepted.protocol → ArePointsOf (text_of accepted) points → HasLine (net_in points)
+have_line accepted points is are = subst HasLine (sym (same_net (text_of accepted) (roles_of accepted) points is.form are)) (record { rises = lanes_rise (text_of accepted) is.form.numbered; ends = is.accepted.lanes_end })
 
 -- no start concerns a role, and one start more
 pub none_concerned : (net : Net) (failed : ℕ) (starts : List ℕ) → AreConcernedBelow net failed starts 0 failed

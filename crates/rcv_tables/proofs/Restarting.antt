@@ -10,12 +10,14 @@ use Rattle.rcv_model.specs.Table.{mark, IsMarkedAt, IsConcerned, AreRestarts}
 use Rattle.rcv_tables.proofs.Rising.{rises_last}
 use Rattle.rcv_next.proofs.Finding.{in_left, in_right, in_either}
 use Rattle.rcv_accept.proofs.Rows.{each_pushed, long_pushed}
+use Rattle.rcv_tables.specs.Line.{HasLine, line}
 use Rattle.rcv_tables.specs.Ahead.{IsAhead, offered_here, behind_one}
 use Rattle.rcv_tables.specs.Starts.{has_any, AreFirstMarks, AreListed, AreReceived, IsOwnPoint}
 use Rattle.std.specs.List.Sorted.{IsStrictlyIncreasing}
 use Rattle.std.proofs.lemmas.List.{take_all}
 use Rattle.rcv_model.proofs.Same.{tail_rises, above_each}
 use Rattle.rcv_next.proofs.Adding.{in_at, in_more, last_in}
+use Rattle.rcv_tables.proofs.LineFacts.{line_proper}
 use Rattle.rcv_tables.proofs.Starting.{of_marked, to_marked}
 
 -- one point more of a set
@@ -75,8 +77,8 @@ ahead_in_text net proper (offered_here {marked = m} {k = k} {z = z} i g) = prope
 ahead_in_text net proper (behind_one i a) = ahead_in_text net proper a
 
 -- the others restart where they are first marked
-pub other_restarts : (net : Net) (p n q : ℕ) (words marked zs : List ℕ) → IsProper net 8 → net.count ≤ 256 → (q ≡ p → ⊥) → IsOwnPoint net p n → AreFirstMarks net p n words → AreListed words net.count marked → AreReceived net marked q zs → AreRestarts net p n q zs
-other_restarts net p n q words marked zs proper few apart start marks listed are = record {
+pub other_restarts : (net : Net) (has : HasLine net) (p n q : ℕ) (words marked zs : List ℕ) → IsProper net 8 → net.count ≤ 256 → (q ≡ p → ⊥) → IsOwnPoint net p n → AreFirstMarks (line net) p n words → AreListed words net.count marked → AreReceived net marked q zs → AreRestarts net p n q zs
+other_restarts net has p n q words marked zs proper few apart start marks listed are = record {
   ascending = are.ascending;
   sound = λ z i.
       let a = are.sound z i in
@@ -84,15 +86,15 @@ other_restarts net p n q words marked zs proper few apart start marks listed are
       let low = b.0 in
       let high = b.1 in
       let m = (marks z (record { first = low; last = omega (arith, high, few) })).0 b.2 in
-      inr (apart, subst (λ r. IsMarkedAt net p n r z) a.1 (to_marked net p n z (λ e. apart (sym a.1 ∙ e)) m));
-  complete = λ z r. ⊎_elim (λ a. absurd (apart a.0)) (λ a. to_list z (of_marked net p n q z apart a.1)) r;
+      inr (apart, subst (λ r. IsMarkedAt net p n r z) a.1 (to_marked net proper has p n start z (λ e. apart (sym a.1 ∙ e)) m));
+  complete = λ z r. ⊎_elim (λ a. absurd (apart a.0)) (λ a. to_list z (of_marked net proper has p n start q z apart a.1)) r;
 }
   where
-    in_text : (z : ℕ) → ((z ≡ n) × (net.sender n ≡ p)) ⊎ IsAhead net (mark net (p ∷ []) n) n z → (1 ≤ z) × (z ≤ net.count)
+    in_text : (z : ℕ) → ((z ≡ n) × (net.sender n ≡ p)) ⊎ IsAhead (line net) (mark net (p ∷ []) n) n z → (1 ≤ z) × (z ≤ net.count)
     in_text z (inl a) = subst (λ k. (1 ≤ k) × (k ≤ net.count)) (sym a.0) (start.0, start.1)
-    in_text z (inr a) = ahead_in_text net proper a
+    in_text z (inr a) = ahead_in_text (line net) (line_proper net 8 proper) a
 
-    to_list : (z : ℕ) → (q ≡ net.receiver z) × (((z ≡ n) × (net.sender n ≡ p)) ⊎ IsAhead net (mark net (p ∷ []) n) n z) → IsIn z zs
+    to_list : (z : ℕ) → (q ≡ net.receiver z) × (((z ≡ n) × (net.sender n ≡ p)) ⊎ IsAhead (line net) (mark net (p ∷ []) n) n z) → IsIn z zs
     to_list z a =
         let t = in_text z a.1 in
         let low = t.0 in

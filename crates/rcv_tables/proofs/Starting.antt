@@ -7,20 +7,22 @@ use Rattle.std.proofs.lemmas.Bool.{cases_eq}
 use Rattle.std.proofs.lemmas.Bool.Decides.{nat_tests}
 use Rattle.rcv_tree.specs.Bits.{has_bit, has_point, IsPoint}
 use Rattle.rcv_tree.specs.declared.point.PointSet.{PointSet}
-use Rattle.rcv_model.specs.Net.{Net, IsIn, IsWalk}
-use Rattle.rcv_model.specs.Next.{IsOf}
+use Rattle.rcv_model.specs.Net.{Net, IsIn, IsLaneWalk}
+use Rattle.rcv_model.specs.Next.{IsOf, IsProper}
 use Rattle.rcv_model.specs.Table.{mark, marks, IsMarkedAt}
 use Rattle.rcv_model.proofs.Marks.{mark_here, mark_cases, mark_keeps}
-use Rattle.rcv_model.proofs.Walks.{walk_front}
+use Rattle.rcv_model.proofs.Walks.{lane_front}
 use Rattle.rcv_accept.proofs.Rows.{read_at}
+use Rattle.rcv_tables.specs.Line.{HasLine, line, IsLaneMarkedAt}
 use Rattle.rcv_tables.specs.Ahead.{IsAhead, offered_here, behind_one, Holds, IsEnd, AreEnds}
 use Rattle.rcv_tables.specs.Wanted.{IsWanted, HasSender}
 use Rattle.rcv_tables.specs.Sets.{has_at, IsExact, AreAll}
-use Rattle.rcv_tables.specs.Starts.{AreFirstMarks}
+use Rattle.rcv_tables.specs.Starts.{AreFirstMarks, IsOwnPoint}
+use Rattle.rcv_tables.proofs.MarksInLine.{marks_in_line}
 
--- a role that is first marked behind a walk, and what lies ahead
+-- a role that is first marked behind a walk within a lane, and what lies ahead
 module _ (net : Net) where
-  pub ahead_of_walk : (q z : ℕ) (b : List ℕ) (m : List ℕ) (k : ℕ) → IsWalk net k (b ++ z ∷ []) → (IsIn q (marks net m b) → ⊥) → IsIn q (marks net m (b ++ z ∷ [])) → IsAhead net m k z × (q ≡ net.receiver z)
+  pub ahead_of_walk : (q z : ℕ) (b : List ℕ) (m : List ℕ) (k : ℕ) → IsLaneWalk net k (b ++ z ∷ []) → (IsIn q (marks net m b) → ⊥) → IsIn q (marks net m (b ++ z ∷ [])) → IsAhead net m k z × (q ≡ net.receiver z)
   ahead_of_walk q z [] m k walk not_yet now = go (mark_cases net m z q now)
     where
       go : IsIn q m ⊎ ((q ≡ net.receiver z) × IsIn (net.sender z) m) → IsAhead net m k z × (q ≡ net.receiver z)
@@ -30,15 +32,15 @@ module _ (net : Net) where
       let a = ahead_of_walk q z b (mark net m y) y walk.1 not_yet now in
       (behind_one walk.0 a.0, a.1)
 
-  pub walk_of_ahead : {m : List ℕ} {k z : ℕ} → IsAhead net m k z → (b : List ℕ) × IsWalk net k (b ++ z ∷ []) × (IsIn (net.receiver z) (marks net m b) → ⊥) × IsIn (net.receiver z) (marks net m (b ++ z ∷ []))
+  pub walk_of_ahead : {m : List ℕ} {k z : ℕ} → IsAhead net m k z → (b : List ℕ) × IsLaneWalk net k (b ++ z ∷ []) × (IsIn (net.receiver z) (marks net m b) → ⊥) × IsIn (net.receiver z) (marks net m (b ++ z ∷ []))
   walk_of_ahead (offered_here {marked = m} {k = k} {z = z} i g) = ([], (i, tt), g.1, mark_here net m z g.0)
   walk_of_ahead (behind_one {marked = m} {k = k} {y = y} {z = z} i a) =
       let r = walk_of_ahead a in
       (y ∷ r.0, (i, r.1), r.2, r.3)
 
   -- so for a start
-  pub of_marked : (p n q z : ℕ) → (q ≡ p → ⊥) → IsMarkedAt net p n q z → (q ≡ net.receiver z) × (((z ≡ n) × (net.sender n ≡ p)) ⊎ IsAhead net (mark net (p ∷ []) n) n z)
-  of_marked p n q z apart at' = go at'.before at'.walk.2 at'.not_yet at'.now
+  of_lane_marked : (p n q z : ℕ) → (q ≡ p → ⊥) → IsLaneMarkedAt net p n q z → (q ≡ net.receiver z) × (((z ≡ n) × (net.sender n ≡ p)) ⊎ IsAhead net (mark net (p ∷ []) n) n z)
+  of_lane_marked p n q z apart at' = go at'.before at'.walk.2 at'.not_yet at'.now
     where
       w : List ℕ
       w = at'.walk.0
@@ -54,19 +56,19 @@ module _ (net : Net) where
       go (y ∷ b) e not_yet now =
           let f : y ≡ n = cc in
           let g : b ++ z ∷ at'.after ≡ at'.walk.0 = cc in
-          let walk : IsWalk net n (b ++ z ∷ []) = walk_front net n (b ++ z ∷ []) at'.after (subst (IsWalk net n) (sym g ∙ sym (append_assoc b (z ∷ []) at'.after)) at'.walk.1) in
+          let walk : IsLaneWalk net n (b ++ z ∷ []) = lane_front net n (b ++ z ∷ []) at'.after (subst (IsLaneWalk net n) (sym g ∙ sym (append_assoc b (z ∷ []) at'.after)) at'.walk.1) in
           let r = ahead_of_walk q z b (mark net (p ∷ []) n) n walk (subst (λ x. IsIn q (marks net (mark net (p ∷ []) x) b) → ⊥) f not_yet) (subst (λ x. IsIn q (marks net (mark net (p ∷ []) x) (b ++ z ∷ []))) f now) in
           (r.1, inr r.0)
 
-  pub to_marked : (p n z : ℕ) → (net.receiver z ≡ p → ⊥) → ((z ≡ n) × (net.sender n ≡ p)) ⊎ IsAhead net (mark net (p ∷ []) n) n z → IsMarkedAt net p n (net.receiver z) z
-  to_marked p n z apart (inl a) = record {
+  to_lane_marked : (p n z : ℕ) → (net.receiver z ≡ p → ⊥) → ((z ≡ n) × (net.sender n ≡ p)) ⊎ IsAhead net (mark net (p ∷ []) n) n z → IsLaneMarkedAt net p n (net.receiver z) z
+  to_lane_marked p n z apart (inl a) = record {
     before = [];
     after = [];
     walk = ([], tt, ap (λ x. x ∷ []) a.0);
     not_yet = λ i. ⊎_elim (λ e. apart e) (λ none. none) i;
     now = mark_here net (p ∷ []) z (inl (ap net.sender a.0 ∙ a.1));
   }
-  to_marked p n z apart (inr a) =
+  to_lane_marked p n z apart (inr a) =
       let r = walk_of_ahead a in
       record {
         before = n ∷ r.0;
@@ -75,6 +77,14 @@ module _ (net : Net) where
         not_yet = r.2;
         now = r.3;
       }
+
+-- on walks with lanes: what lies ahead in the line
+module _ (net : Net) (proper : IsProper net 8) (has : HasLine net) (p n : ℕ) (start : IsOwnPoint net p n) where
+  pub of_marked : (q z : ℕ) → (q ≡ p → ⊥) → IsMarkedAt net p n q z → (q ≡ net.receiver z) × (((z ≡ n) × (net.sender n ≡ p)) ⊎ IsAhead (line net) (mark net (p ∷ []) n) n z)
+  of_marked q z apart m = of_lane_marked (line net) p n q z apart ((marks_in_line net 8 p n q z proper has start.0 start.1 start.2 apart).0 m)
+
+  pub to_marked : (z : ℕ) → (net.receiver z ≡ p → ⊥) → ((z ≡ n) × (net.sender n ≡ p)) ⊎ IsAhead (line net) (mark net (p ∷ []) n) n z → IsMarkedAt net p n (net.receiver z) z
+  to_marked z apart a = (marks_in_line net 8 p n (net.receiver z) z proper has start.0 start.1 start.2 apart).1 (to_lane_marked (line net) p n z apart a)
 
 -- the row of a set of roles
 pub all_at : (net : Net) (rows : List (Vec PointSet Global)) (bits : ℕ) (row : Vec PointSet Global) → AreAll net rows → bits ≤ 255 → IsWanted net bits → row ≡ get_or rows (255 - bits) row → IsExact net bits row.items

@@ -48,6 +48,8 @@ use Rattle.rcv_theory.proofs.Merging.{kept_log, legal_join, merged_round}
 use Rattle.rcv_theory.proofs.Owning.{logs_by_own, after_own, through_log, own_recovery}
 use Rattle.rcv_theory.proofs.StampLists.{stamp_orders, one_order}
 use Rattle.rcv_theory.proofs.Stamps.{never_falls, order_kept, stamp_order}
+use Rattle.rcv_model.proofs.OneLane.{one_lane}
+use Rattle.rcv_model.proofs.Session.{feed_one}
 
 -- B's recovery: what is kept follows the walk, begins what was done, and is counted by the greatest closed counts
 abbrev lost : ℕ → ℕ
@@ -77,10 +79,10 @@ counts = refl
 
 -- A and D keep everything
 a_keeps : KeepsAll net s5 (after rules s5 first_recover) 0
-a_keeps = keeps rules s5 1 0 (record { 0 = 6 }) (replicate 8 0) 3 feed_proper run b_recovers (omega arith) (λ e. cc)
+a_keeps = keeps rules s5 1 0 (record { 0 = 6 }) (replicate 8 0) 3 feed_proper feed_accepted.lanes_end run b_recovers (omega arith) (λ e. cc)
 
 d_keeps : KeepsAll net s5 (after rules s5 first_recover) 3
-d_keeps = keeps rules s5 1 3 (record { 0 = 6 }) (replicate 8 0) 3 feed_proper run b_recovers (omega arith) (λ e. cc)
+d_keeps = keeps rules s5 1 3 (record { 0 = 6 }) (replicate 8 0) 3 feed_proper feed_accepted.lanes_end run b_recovers (omega arith) (λ e. cc)
 
 -- behind the recovery B expects A's message again
 run_then : IsRun net s6.kept
@@ -92,10 +94,10 @@ from_a z (inr (inl e)) = (ap net.receiver e, ap net.sender e)
 from_a z (inr (inr i)) = absurd i
 
 b_next : AreNext net 1 0 (1 ∷ 4 ∷ [])
-b_next = next_by net 1 0 refl
+b_next = next_by net feed_one 1 0 refl
 
 b_expects : IsExpected net run_then.0 s6.kept 1 1
-b_expects = unexpected net run_then.0 s6.kept 1 0 (record { point = 1; value = pos 10; stamp = 1 }) [] feed_proper.two_ends run_then.1 (1, b_next.sound 1 (inl refl)) (λ z n. from_a z (b_next.complete z n)) refl
+b_expects = unexpected net run_then.0 s6.kept 1 0 (record { point = 1; value = pos 10; stamp = 1 }) [] (4, feed_proper) run_then.1 (1, b_next.sound 1 (inl refl)) (λ z n. from_a z (b_next.complete z n)) refl
 
 -- nobody is crashed or due there, and the session isn't stuck
 no_due : (r : ℕ) → r < 4 → IsDue rules (reading rules (before ++ first_recover ∷ [])) r → ⊥
@@ -126,7 +128,7 @@ logs (suc (suc (suc zero))) = d_hears ∷ d_crashes ∷ []
 logs (suc (suc (suc (suc r)))) = []
 
 may_a : MaySend rules s5 (says 0 3 0 2)
-may_a = send_by rules s5 (says 0 3 0 2) refl refl refl refl refl refl refl
+may_a = send_by rules feed_one s5 (says 0 3 0 2) refl refl refl refl refl refl refl
 
 to_d : (z : ℕ) → IsIn z (3 ∷ 6 ∷ []) → (net.receiver z ≡ 3) × (net.sender z ≡ 0)
 to_d z (inl e) = (ap net.receiver e, ap net.sender e)
@@ -134,7 +136,7 @@ to_d z (inr (inl e)) = (ap net.receiver e, ap net.sender e)
 to_d z (inr (inr i)) = absurd i
 
 may_d : IsLocalRecv rules s5 (hears 3 3 0 3 2)
-may_d = record { free = record { declared = omega arith; running = refl; not_due = due_not rules s5 3 refl; below_limit = omega arith }; offered = 3 ∷ 6 ∷ []; some = λ e. cc; from = 0; next = next_by net 3 0 refl; receives = to_d; is_recv = refl; sender = refl; stamp = refl }
+may_d = record { free = record { declared = omega arith; running = refl; not_due = due_not rules s5 3 refl; below_limit = omega arith }; offered = 3 ∷ 6 ∷ []; some = λ e. cc; from = 0; next = next_by net feed_one 3 0 refl; receives = to_d; is_recv = refl; sender = refl; stamp = refl }
 
 each_log : (r : ℕ) → IsLog rules r s5 (logs r)
 each_log zero = (refl, (refl, may_a), tt)
@@ -148,7 +150,7 @@ abbrev all : List Event
 all = s5.kept ++ says 0 3 0 2 ∷ hears 3 3 0 3 2 ∷ []
 
 legal_all : IsLegal rules (before ++ Send (says 0 3 0 2) ∷ Recv (hears 3 3 0 3 2) ∷ [])
-legal_all = legal_join rules s0 before (Send (says 0 3 0 2) ∷ Recv (hears 3 3 0 3 2) ∷ []) (legal_front rules s0 before (first_recover ∷ meanwhile ++ rest) journal_legal) (may_a, (recv_by rules (after rules s5 (Send (says 0 3 0 2))) (hears 3 3 0 3 2) [] refl refl refl refl refl, tt))
+legal_all = legal_join rules s0 before (Send (says 0 3 0 2) ∷ Recv (hears 3 3 0 3 2) ∷ []) (legal_front rules s0 before (first_recover ∷ meanwhile ++ rest) journal_legal) (may_a, (recv_by rules feed_one (after rules s5 (Send (says 0 3 0 2))) (hears 3 3 0 3 2) [] refl refl refl refl refl, tt))
 
 run_all : IsRun net all
 run_all = accepted_runs rules (before ++ Send (says 0 3 0 2) ∷ Recv (hears 3 3 0 3 2) ∷ []) feed_proper feed_accepted legal_all (before ++ Send (says 0 3 0 2) ∷ Recv (hears 3 3 0 3 2) ∷ []) [] refl
@@ -320,16 +322,16 @@ not_a_round m = let p = m.match 0 3 in nothing_begins p.0 p.1
 
 -- a role that is done takes nothing
 b_is_done : IsLocalRecv rules s20 (hears 1 4 0 11 3) → ⊥
-b_is_done m = m.some (one_next net 1 (place s20 1) m.offered [] m.next (next_by net 1 (place s20 1) refl))
+b_is_done m = m.some (one_next net 1 (place s20 1) m.offered [] m.next (next_by net feed_one 1 (place s20 1) refl))
 
 -- with a host: A and D fail, and C, which isn't concerned, keeps everything
 four_accepted : IsAccepted (net_of four) 4
-four_accepted = accepted_by (net_of four) 4 refl
+four_accepted = accepted_by (net_of four) (one_lane four tt) 4 four_proper refl
 
 c_keeps : KeepsAll (net_of four) q4 (after apart_rules q4 apart_recover) 0
 c_keeps =
     let run = accepted_runs apart_rules apart_journal four_proper four_accepted apart_legal apart_front (drop 4 apart_journal) refl in
-    keeps apart_rules q4 2 0 (record { 0 = 14 }) (replicate 8 0) 2 four_proper run apart_recovers (omega arith) (λ e. cc)
+    keeps apart_rules q4 2 0 (record { 0 = 14 }) (replicate 8 0) 2 four_proper four_accepted.lanes_end run apart_recovers (omega arith) (λ e. cc)
 
 -- where B and D share a host, B's recovery spares A, and C and D restart where the table says
 host_session : IsSession host.rules

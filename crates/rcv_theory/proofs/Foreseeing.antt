@@ -22,7 +22,7 @@ recoveries_are_foreseen rules front back p concerned kept undone session legal q
     let may = may_at rules (start rules.roles) front back recover legal in
     let same : reading rules (front ++ recover ∷ []) ≡ after rules (reading rules front) recover = reading_join rules (start rules.roles) front (recover ∷ []) in
     record {
-      spared = λ none. subst (λ (s : State). KeepsAll rules.net (reading rules front) s q) (sym same) (keeps rules (reading rules front) p q concerned kept undone session.proper run may few none);
-      restarts = λ own e. foreseen rules.net (group_of rules p) (durable rules (reading rules front)) q (reading rules front).kept own session.proper.two_ends run
+      spared = λ none. subst (λ (s : State). KeepsAll rules.net (reading rules front) s q) (sym same) (keeps rules (reading rules front) p q concerned kept undone session.proper session.accepted.lanes_end run may few none);
+      restarts = λ own e. foreseen rules.net (group_of rules p) (durable rules (reading rules front)) q (reading rules front).kept own (rules.roles, session.proper) run
           (subst (λ (s : State). slice_get (acts q (reading rules front).kept) (length (acts q s.kept)) ≡ Some own) same e);
     }

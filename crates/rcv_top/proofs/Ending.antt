@@ -119,7 +119,7 @@ end_of input session taken = record {
     lawful = proper (body_of session.protocol.body) (length session.protocol.roles) taken.protocol.accepted.form
 
     one : (journal : List Entry) × IsOneThread rules journal
-    one = one_thread rules lawful
+    one = one_thread rules lawful taken.protocol.accepted.accepted.lanes_end
 
     law : OneJournal rules one.0 one.0
     law = one_journal rules one.0 one.0

@@ -15,3 +15,6 @@ pub mod Traceless
 mod Examples
 mod Unseen
 mod HostHeadline
+mod LaneProtocol
+mod LaneTold
+mod LaneHeadline

@@ -6,7 +6,7 @@ use Rattle.rcv_tree.specs.Bits.{has_bit, is_listed}
 use Rattle.rcv_tree.specs.declared.entry.Entry.{Entry}
 use Rattle.rcv_tree.specs.declared.entry.Entry.TheVariants.{Send, Recv, Crash}
 use Rattle.rcv_model.specs.Form.{HasForm}
-use Rattle.rcv_model.specs.Net.{Net}
+use Rattle.rcv_model.specs.Net.{Net, HasOneLane}
 use Rattle.rcv_model.specs.Next.{IsProper}
 use Rattle.rcv_model.specs.Places.{net_of}
 use Rattle.rcv_model.specs.Plan.{session_rules}
@@ -17,6 +17,7 @@ use Rattle.rcv_model.proofs.Cases.{says, hears, recover}
 use Rattle.rcv_model.proofs.Checked.{next_by, send_by, recv_by}
 use Rattle.rcv_model.proofs.Forms.{proper}
 use Rattle.rcv_model.proofs.Journals.{below_8}
+use Rattle.rcv_model.proofs.OneLane.{one_lane, one_ends}
 use Rattle.rcv_model.proofs.Recovering.{may_recover}
 use Rattle.rcv_model.proofs.Stepping.{final_by}
 use Rattle.rcv_session.specs.Session.{lines_of, rules_of}
@@ -41,10 +42,13 @@ same_rules : rules_of session ≡ rules
 same_rules = ap (λ b. session_rules b 2 (lines_of session) session.plan) its_body
 
 form : HasForm one 2
-form = record { numbered = (refl, tt); ends = (omega arith, omega arith, (λ e. omega arith), tt); subjects = tt; few_roles = omega arith; few_points = omega arith }
+form = record { numbered = (refl, tt); ends = (omega arith, omega arith, (λ e. omega arith), tt); subjects = tt; apart = tt; few_roles = omega arith; few_points = omega arith }
 
 lawful : IsProper net 2
 lawful = proper one 2 form
+
+net_one : HasOneLane net
+net_one = one_lane one tt
 
 -- A has saved what it sent, so nothing is taken back, and both clocks are raised
 abbrev back : Entry
@@ -69,18 +73,18 @@ abbrev s4 : State
 s4 = after rules s3 (Recv (hears 1 1 0 3 1))
 
 goes_back : May rules s2 back
-goes_back = may_recover rules s2 0 lawful 3 (1 ∷ replicate 7 0) 0 refl (omega arith) (below_8 (λ q. has_bit 3 q ≡ is_listed (concerned_in rules s2 0) q) refl refl refl refl refl refl refl refl) refl (below_8 (λ q. slice_index (1 ∷ replicate 7 0) q ≡ (if has_bit 3 q then length (acts q (kept_by rules s2 0)) else 0)) refl refl refl refl refl refl refl refl) refl
+goes_back = may_recover rules s2 0 lawful (one_ends net net_one) 3 (1 ∷ replicate 7 0) 0 refl (omega arith) (below_8 (λ q. has_bit 3 q ≡ is_listed (concerned_in rules s2 0) q) refl refl refl refl refl refl refl refl) refl (below_8 (λ q. slice_index (1 ∷ replicate 7 0) q ≡ (if has_bit 3 q then length (acts q (kept_by rules s2 0)) else 0)) refl refl refl refl refl refl refl refl) refl
 
 legal : IsLegal rules journal
-legal = (send_by rules s0 (says 0 1 0 1) refl refl refl refl refl refl refl, ((omega arith, (refl, omega arith)), (goes_back, (recv_by rules s3 (hears 1 1 0 3 1) [] refl refl refl refl refl, tt))))
+legal = (send_by rules net_one s0 (says 0 1 0 1) refl refl refl refl refl refl refl, ((omega arith, (refl, omega arith)), (goes_back, (recv_by rules net_one s3 (hears 1 1 0 3 1) [] refl refl refl refl refl, tt))))
 
 done : AreDone rules (reading rules journal)
-done zero lt z n = (next_by net 0 (place s4 0) refl).complete z n
-done (suc zero) lt z n = (next_by net 1 (place s4 1) refl).complete z n
+done zero lt z n = (next_by net net_one 0 (place s4 0) refl).complete z n
+done (suc zero) lt z n = (next_by net net_one 1 (place s4 1) refl).complete z n
 done (suc (suc r)) lt z n = omega arith
 
 final : IsFinal rules (reading rules journal)
-final = final_by rules s4 lawful.two_ends refl
+final = final_by rules s4 (lawful.two_ends, net_one) refl
 
 text : (bytes : List ℕ) × IsWritten false session journal bytes
 text = has_text false session journal (subst (λ (x : Rules). IsProper x.net x.roles) (sym same_rules) lawful)

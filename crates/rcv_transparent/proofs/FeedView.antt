@@ -21,7 +21,7 @@ use Rattle.rcv_model.proofs.Checked.{next_by}
 use Rattle.rcv_model.specs.Run.{put}
 use Rattle.rcv_model.specs.ThreadLaws.{OneJournal}
 use Rattle.rcv_model.proofs.OneThread.{one_journal}
-use Rattle.rcv_model.proofs.Session.{feed, net, feed_form, feed_accepted, scripts, plan, rules, before, first_recover, meanwhile, rest, journal, s20, journal_legal}
+use Rattle.rcv_model.proofs.Session.{feed, net, feed_form, feed_accepted, feed_one, scripts, plan, rules, before, first_recover, meanwhile, rest, journal, s20, journal_legal}
 use Rattle.rcv_session.specs.Session.{SessionView, lines_of, net_for, rules_of}
 use Rattle.rcv_transparent.specs.Calm.{without_crash_lines, calm, IsBlindSession, IsDoneJournal}
 use Rattle.rcv_transparent.specs.Traces.{AreBeginnings, said_by, AreAlike, LeavesNoTrace}
@@ -103,10 +103,10 @@ is_blind = record {
 
 -- nothing is next for any role at the end
 done : AreDone rules (reading rules journal)
-done zero lt z n = (next_by net 0 (place s20 0) refl).complete z n
-done (suc zero) lt z n = (next_by net 1 (place s20 1) refl).complete z n
-done (suc (suc zero)) lt z n = (next_by net 2 (place s20 2) refl).complete z n
-done (suc (suc (suc zero))) lt z n = (next_by net 3 (place s20 3) refl).complete z n
+done zero lt z n = (next_by net feed_one 0 (place s20 0) refl).complete z n
+done (suc zero) lt z n = (next_by net feed_one 1 (place s20 1) refl).complete z n
+done (suc (suc zero)) lt z n = (next_by net feed_one 2 (place s20 2) refl).complete z n
+done (suc (suc (suc zero))) lt z n = (next_by net feed_one 3 (place s20 3) refl).complete z n
 done (suc (suc (suc (suc r)))) lt z n = omega arith
 
 pub is_done : IsDoneJournal view journal

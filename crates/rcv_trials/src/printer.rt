@@ -1,4 +1,4 @@
-// The canonical text of what isn't read yet: blocks beside each other, and a call of another protocol. The worked cases
+// The canonical text of what isn't read yet: a call of another protocol, in a block beside another. The worked cases
 // have all other forms.
 
 use rcv_printer::print_protocol;

@@ -37,12 +37,12 @@ draw_stmt-returns-in_ok-draw_block-in-Rec t c =
     ∙ sym (ap (λ (b : Body). c.args.drawing.now ++ message_titles roles b) (ap (λ s. stmt_body s rest) c.in-Rec.is ∙ stmt_body-Rec c.in-Rec.name c.in-Rec.body rest)))
     c.close_frame-in-Rec.ensures
 
-pub draw_stmt-returns-in_ok-draw_blocks-in-Par : goal.draw_stmt-returns-in_ok-draw_blocks-in-Par
-draw_stmt-returns-in_ok-draw_blocks-in-Par t c =
+pub draw_stmt-returns-in_ok-draw_lanes-in-Par : goal.draw_stmt-returns-in_ok-draw_lanes-in-Par
+draw_stmt-returns-in_ok-draw_lanes-in-Par t c =
     let roles = c.args.chart.now.roles.now in
     on_ok_weaker c.close_frame-in-Par.result
     (λ closed rest.
     some_more (message_title roles) c.args.drawing.now c.close_frame-in-Par.new.drawing (singles_of (bodies_of c.in-Par.blocks)) (singles rest)
-    (closed ∙ c.in_ok-draw_blocks-in-Par.ensures ∙ ap (λ titles. titles ++ map (message_title roles) (singles_of (bodies_of c.in-Par.blocks))) c.open_frame-top-in-Par.ensures)
+    (closed ∙ c.in_ok-draw_lanes-in-Par.ensures ∙ ap (λ titles. titles ++ map (message_title roles) (singles_of (bodies_of c.in-Par.blocks))) c.open_frame-top-in-Par.ensures)
     ∙ sym (ap (λ (b : Body). c.args.drawing.now ++ message_titles roles b) (ap (λ s. stmt_body s rest) c.in-Par.is ∙ stmt_body-Par c.in-Par.blocks rest)))
     c.close_frame-in-Par.ensures

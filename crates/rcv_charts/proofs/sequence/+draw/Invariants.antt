@@ -10,3 +10,7 @@ invariant-draw_block-loop-stmt l =
 abbrev pub invariant-draw_blocks-loop-block : goal.invariant-draw_blocks-loop-block
 invariant-draw_blocks-loop-block l =
     l.drawing ++ titles_beside l.chart.roles.now (bodies_from (drop l.block-index l.block-items)) ≡ l.fn.drawing ++ titles_beside l.fn.chart.roles.now (bodies_of l.fn.blocks)
+
+abbrev pub invariant-draw_lanes-loop-block : goal.invariant-draw_lanes-loop-block
+invariant-draw_lanes-loop-block l =
+    l.drawing ++ titles_beside l.chart.roles.now (bodies_from (drop l.block-index l.block-items)) ≡ l.fn.drawing ++ titles_beside l.fn.chart.roles.now (bodies_of l.fn.blocks)

@@ -1,7 +1,10 @@
--- What the places that can come offer is what lies ahead.
+-- The role's own points of those that can come are its next ones.
 use Rattle.rcv_points.specs.Follow.{net_in}
-use Rattle.rcv_next.proofs.Gathering.{ahead_of}
+use Rattle.rcv_next.proofs.Gathering.{next_of}
 use Rattle.rcv_next.proofs.ahead.look_ahead_past.Goals as goal
 
 pub returns : goal.returns
-returns c = ahead_of (net_in c.args.points.now) c.args.role 8 c.args.place c.places_ahead-places.result c.in_ok-next.next.items c.own_points.result.0 c.args.own.0 c.some_ends-may_end.result c.count.ensures.within.proper c.places_ahead-places.ensures.ahead c.requires.own c.own_points.ensures c.in_ok-next.ensures c.some_ends-may_end.ensures
+returns c = record {
+  next = next_of (net_in c.args.points.now) 8 c.args.role c.args.place c.reach_from-ahead.result.come.0 c.args.own.0 c.intersection.result.0 c.in_ok-next.next.items c.count.ensures.within.proper c.reach_from-ahead.ensures.all c.requires.own c.intersection.ensures c.in_ok-next.ensures;
+  ends = c.reach_from-ahead.ensures.end;
+}

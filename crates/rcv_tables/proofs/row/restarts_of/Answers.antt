@@ -19,4 +19,4 @@ received-requires-clause-ascending c = c.requires.marked.2.ascending
 pub returns-else-eq : goal.returns-else-eq
 returns-else-eq c =
     let apart : c.args.other ≡ c.args.role → ⊥ = (λ s. let f = c.if-eq.false in let g = c.eq.ensures in absurd (grind (arith, nat_tests))) in
-    IfOk-weaker c.received.result (λ (found : Vec ℕ Global). AreReceived (net_in c.args.points.now) c.args.marked.now c.args.other found.items) (λ (found : Vec ℕ Global). AreRestarts (net_in c.args.points.now) c.args.role c.args.point c.args.other found.items) (λ found are. other_restarts (net_in c.args.points.now) c.args.role c.args.point c.args.other c.requires.marked.0 c.args.marked.now found.items c.count.ensures.within.proper c.count.ensures.within.few apart c.requires.start c.requires.marked.1 c.requires.marked.2 are) c.received.ensures
+    IfOk-weaker c.received.result (λ (found : Vec ℕ Global). AreReceived (net_in c.args.points.now) c.args.marked.now c.args.other found.items) (λ (found : Vec ℕ Global). AreRestarts (net_in c.args.points.now) c.args.role c.args.point c.args.other found.items) (λ found are. other_restarts (net_in c.args.points.now) c.requires.lanes c.args.role c.args.point c.args.other c.requires.marked.0 c.args.marked.now found.items c.count.ensures.within.proper c.count.ensures.within.few apart c.requires.start c.requires.marked.1 c.requires.marked.2 are) c.received.ensures

@@ -1,13 +1,14 @@
-use Rattle.std.proofs.Common.{◌∷◌, false, true, refl, arith}
+use Rattle.std.proofs.Common.{◌∷◌, false, true, refl, ap, subst, arith}
 use Rattle.std.proofs.lemmas.Grind.{common_steps}
-use Rattle.rcv_machine.specs.Words.{At, Left, From, Choice, Rec, Continue, Is, Word, This, Sorts, Sender, Subject, RecName, AgainName, Opening, Rest, More, behind}
-use Rattle.rcv_reader.specs.Descent.{place_of_spot}
-use Rattle.rcv_reader.proofs.Blocks.{rec_read, choice_next, choice_read, block_read, stmts_next, statement}
+use Rattle.rcv_machine.specs.Words.{At, Left, From, Choice, Rec, Continue, Place, Is, Word, This, Sorts, Sender, Subject, RecName, AgainName, Opening, Rest, More, behind}
+use Rattle.rcv_reader.specs.Descent.{Standing, named_in, place_of_spot}
+use Rattle.rcv_reader.proofs.Acting.{is_few}
+use Rattle.rcv_reader.proofs.Blocks.{rec_read, choice_next, choice_read, IsBeside, lane_opens, par_first, par_next, par_read, par_statement, block_read, stmts_next, statement}
 use Rattle.rcv_reader.proofs.parser.Parser.+descent.Goals as goal
 
 pub block-returns-clause-read : goal.block-returns-clause-read
 block-returns-clause-read t c =
-    block_read _ _ _ _ c.stmts.new.block _ _ c.in_ok-open.ensures.read.0 c.new-block.ensures c.in_ok-stmt.ensures.read
+    block_read _ _ _ c.stmts.new.self c.stmts.new.block _ _ c.in_ok-open.ensures.read.0 c.new-block.ensures c.in_ok-stmt.ensures.read
     c.in_ok-stmts.ensures.read
 
 pub choice-loop-branches-preserved : goal.choice-loop-branches-preserved
@@ -19,6 +20,26 @@ pub choice-returns-clause-read : goal.choice-returns-clause-read
 choice-returns-clause-read t c =
     choice_read _ _ _ _ _ _ _ c.push.new.self c.in_ok-block.field-0 _ _ c.loop-branches.invariant c.in_ok-block.ensures.read
     c.in_ok-push.ensures.ok c.in_ok-block.ensures.goes.1 (c.takes.ensures.no c.if-not-takes.true).0 c.in_ok-push-2.ensures.ok
+
+pub lane-returns-clause-goes : goal.lane-returns-clause-goes
+lane-returns-clause-goes t c =
+    lane_opens _ _ _ c.args.spot c.beside.result
+    (subst (λ (x : Standing). IsBeside c.args.spot c.beside.result x.since) c.block.view_is c.beside.ensures.place) c.block-2.ensures.goes
+
+pub par-loop-blocks-init : goal.par-loop-blocks-init
+par-loop-blocks-init t c =
+    par_first _ _ _ _ _ _ c.in_ok-lane.field-0 c.in_ok-lane.ensures.goes.0 c.in_ok-lane.ensures.read c.new-blocks.ensures
+    c.in_ok-push.ensures.ok c.in_ok-lane.ensures.goes.1 c.in_ok-expect.ensures.read
+
+pub par-loop-blocks-preserved : goal.par-loop-blocks-preserved
+par-loop-blocks-preserved t c =
+    par_next _ _ _ _ _ _ _ c.in_ok-lane-2.field-0 c.loop-blocks.invariant c.in_ok-lane-2.ensures.goes.0 c.in_ok-lane-2.ensures.read
+    c.in_ok-push-2.ensures.ok c.in_ok-lane-2.ensures.goes.1 (c.takes.ensures.yes c.if-not-takes.false)
+
+pub par-returns-clause-read : goal.par-returns-clause-read
+par-returns-clause-read t c =
+    par_read _ _ _ _ _ _ c.push-in-loop-blocks.new.self c.in_ok-lane-2.field-0 _ _ c.loop-blocks.invariant c.in_ok-lane-2.ensures.read
+    c.in_ok-push-2.ensures.ok (c.takes.ensures.no c.if-not-takes.true).0 c.in_ok-push-3.ensures.ok
 
 pub recursion-returns-clause-read : goal.recursion-returns-clause-read
 recursion-returns-clause-read t c =
@@ -35,16 +56,17 @@ stmt-returns-in-Some-Word-default-clause-goes t c =
     let arm = c.in-Some-Word-default in
     let new = c.go_to.new.self in
     statement _ c.args.spot.now.ended c.args.self.now new c.message.new.self c.args.spot.now (Word arm.label.now)
-    (λ k. This (Is Left) ∷ Sorts ∷ This (Is From) ∷ Sender ∷ k) (λ k. Rest (behind (place_of_spot new c.args.spot.now) false) ∷ k)
+    (λ k. This (Is Left) ∷ Sorts ∷ This (Is From) ∷ Sender (named_in new.roles c.args.spot.now.earlier.0) ∷ k) (λ k. Rest (behind (place_of_spot new c.args.spot.now) false) ∷ k)
     (λ k. k) _ _ c.message.ensures.goes (c.go_to.ensures.taken _ (rw arm.field-0-0-is at arm.ensures.some))
-    (λ k. rw c.if-here.false refl) c.message.ensures.read (λ e k. rw (e, c.if-here.false) refl)
+    (λ k. rw c.if-here.false refl) c.message.ensures.read
+    (λ e k. rw c.if-here.false (ap (λ (x : Place). Rest (behind x false) ∷ k) e))
 
 pub stmt-returns-in-Some-Is-Choice-default-clause-goes : goal.stmt-returns-in-Some-Is-Choice-default-clause-goes
 stmt-returns-in-Some-Is-Choice-default-clause-goes t c =
     let arm = c.in-Some-Is-Choice-default in
     let new = c.go_to-in-Some-Is-Choice-default.new.self in
     let p = place_of_spot new c.args.spot.now in
-    statement _ c.args.spot.now.ended c.args.self.now new c.choice.new.self c.args.spot.now (Is Choice) (λ k. This (Is At) ∷ Subject ∷ Opening p ∷ More p ∷ k) (λ k. k)
+    statement _ c.args.spot.now.ended c.args.self.now new c.choice.new.self c.args.spot.now (Is Choice) (λ k. This (Is At) ∷ Subject p.earlier ∷ Opening p ∷ More p ∷ k) (λ k. k)
     (λ k. Rest (behind (place_of_spot c.choice.new.self c.args.spot.now) false) ∷ k) _ _ c.choice.ensures.goes
     (c.go_to-in-Some-Is-Choice-default.ensures.taken _ (rw (arm.field-0-0-is, arm.field-0-0-0-is) at arm.ensures.some))
     (λ k. rw c.if-here.false refl) c.choice.ensures.read (λ e k. rw c.if-here.false refl)
@@ -56,7 +78,8 @@ stmt-returns-in-Some-Is-Rec-default-clause-goes t c =
     let p = place_of_spot new c.args.spot.now in
     statement _ c.args.spot.now.ended c.args.self.now new c.recursion.new.self c.args.spot.now (Is Rec) (λ k. RecName p ∷ k) (λ k. Rest (behind p false) ∷ k)
     (λ k. k) _ _ c.recursion.ensures.goes (c.go_to-in-Some-Is-Rec-default.ensures.taken _ (rw (arm.field-0-0-is, arm.field-0-0-0-is) at arm.ensures.some))
-    (λ k. rw c.if-here.false refl) c.recursion.ensures.read (λ e k. rw (e, c.if-here.false) refl)
+    (λ k. rw c.if-here.false refl) c.recursion.ensures.read
+    (λ e k. rw c.if-here.false (ap (λ (x : Place). Rest (behind x false) ∷ k) e))
 
 pub stmt-returns-else-is_unguarded-clause-goes : goal.stmt-returns-else-is_unguarded-clause-goes
 stmt-returns-else-is_unguarded-clause-goes t c =
@@ -65,4 +88,11 @@ stmt-returns-else-is_unguarded-clause-goes t c =
     let p = place_of_spot new c.args.spot.now in
     statement _ true c.args.self.now new c.again.new.self c.args.spot.now (Is Continue) (λ k. AgainName p ∷ k) (λ k. Rest (behind p true) ∷ k)
     (λ k. k) _ _ c.again.ensures.goes (c.go_to-in-Some-Is-Continue-default.ensures.taken _ (rw (arm.field-0-0-is, arm.field-0-0-0-is) at arm.ensures.some))
-    (λ k. grind (arith, common_steps)) c.again.ensures.read (λ e k. rw e refl)
+    (λ k. grind (arith, common_steps)) c.again.ensures.read (λ e k. ap (λ (x : Place). Rest (behind x true) ∷ k) e)
+
+pub stmt-returns-else-here-ge2-clause-goes : goal.stmt-returns-else-here-ge2-clause-goes
+stmt-returns-else-here-ge2-clause-goes t c =
+    let arm = c.in-Some-Is-Par-default in
+    par_statement _ c.args.spot.now.ended c.args.self.now c.begin_par.new.self c.par.new.self c.args.spot.now arm.after c.par.ensures.goes
+    (rw (arm.field-0-0-is, arm.field-0-0-0-is) at arm.ensures.some) c.begin_par.ensures c.if-here.false
+    (is_few c.args.spot.now.depth 2 c.if-here-ge2.false) c.if-here.false

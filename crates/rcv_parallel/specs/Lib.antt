@@ -1,0 +1,3 @@
+pub mod TextOrder
+pub mod ByStages
+pub mod TextOrderLaws
