@@ -9,7 +9,7 @@ _rcv_complete() {
     case $before in
     --workers) COMPREPLY=($(compgen -W "1 2 3 4 5 6 7 8" -- "$current")) && return ;;
     --code)
-        COMPREPLY=($(compgen -W "$(echo {10..36} {40..43} {50..51})" -- "$current")) && return
+        COMPREPLY=($(compgen -W "$(echo {10..36} {40..43} {50..54})" -- "$current")) && return
         ;;
     --role | --number) COMPREPLY=() && return ;;
     esac

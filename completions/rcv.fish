@@ -19,4 +19,4 @@ complete -c rcv-show -n __fish_use_subcommand -a protocol -d 'draw the protocol 
 complete -c rcv-show -n __fish_use_subcommand -a points -d 'list the points with their lines, and say what a refusal says'
 complete -c rcv-show -n __fish_use_subcommand -a explain -d 'write the rule of a code, an example and its repair'
 complete -c rcv-show -n '__fish_seen_subcommand_from role' -l role -x -d 'the role'
-complete -c rcv-show -n '__fish_seen_subcommand_from explain' -l code -x -a '(seq 10 36; seq 40 43; seq 50 51)' -d 'the code of a refusal'
+complete -c rcv-show -n '__fish_seen_subcommand_from explain' -l code -x -a '(seq 10 36; seq 40 43; seq 50 54)' -d 'the code of a refusal'

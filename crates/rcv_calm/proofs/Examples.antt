@@ -113,7 +113,7 @@ lines_read =
 
 taken : IsTaken text session
 taken = record {
-  protocol = record { text = record { tokens = worked.tokens; cut = cut; read = worked.is_read }; accepted = worked.taken.protocol.accepted };
+  protocol = record { text = record { tokens = worked.tokens; whole = worked.alone worked.protocol; cut = cut; read = (worked.is_read, refl); expanded = worked.expanded }; accepted = worked.taken.protocol.accepted };
   are_scripts = record { tokens = []; cut = ([], refl, refl); read = no_scripts_read worked.both (messages_of worked.protocol) };
   plan = record { tokens = plan_tokens; cut = plan_cut; read = lines_read };
 }

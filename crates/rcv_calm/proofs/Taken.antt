@@ -1,9 +1,12 @@
 -- A text without its crash lines is taken as the session without them.
-use Rattle.std.proofs.Common.{◌≡◌, ◌∙◌, ℕ, List, sym, ap, subst}
+use Rattle.std.proofs.Common.{◌≡◌, ◌∙◌, ℕ, List, refl, sym, ap, subst}
+use Rattle.rcv_tree.specs.Lists as tree
+use Rattle.rcv_tree.specs.declared.module.Module.{Module}
 use Rattle.rcv_session.specs.Session.{SessionView}
 use Rattle.rcv_lexer.specs.Parts.{parts_of}
 use Rattle.rcv_lexer.proofs.Once.{one_reading}
 use Rattle.rcv_syntax.specs.Symbols as protocols
+use Rattle.rcv_syntax.specs.Trees.{lines_of_calls}
 use Rattle.rcv_reader.specs.Refusals as reader
 use Rattle.rcv_script.specs.Symbols as scripts
 use Rattle.rcv_script.specs.Refusals.{AreRead}
@@ -22,10 +25,23 @@ module _ (text other : List ℕ) (session : SessionView) where
   protocol_of is same =
       let symbols : protocols.symbols_of text is.tokens ≡ protocols.symbols_of other same.other_tokens =
       ap (protocols.symbols_of text) (one_reading.tokens text (parts_of text).protocol is.tokens same.tokens is.cut same.cut) ∙ same.same in
+      let lines = lines_of_calls other same.other_tokens in
+      let whole : Module = record { main = is.whole.main; others = is.whole.others; dos = lines } in
+      let read = subst (λ (read : List protocols.Symbol). reader.AreReadAs read is.whole.main (tree.protocols is.whole.others)) symbols is.read.0 in
+      let expanded = is.expanded in
       record {
         tokens = same.other_tokens;
+        whole = whole;
         cut = same.other_cut;
-        read = subst (λ (read : List protocols.Symbol). reader.IsRead read session.protocol) symbols is.read;
+        read = (read, refl);
+        expanded = record {
+          free = expanded.free;
+          modules = expanded.modules;
+          declared = expanded.declared;
+          named = expanded.named;
+          role_names = expanded.role_names;
+          body = expanded.body;
+        };
       }
 
   scripts_of : AreScriptsOf text session.protocol session.scripts → HaveSameScripts text other

@@ -1,10 +1,12 @@
 // How much room a protocol's picture needs.
 
 use crate::beside::{Span, are_apart};
+use crate::calls::Calls;
 use crate::columns::ROLES;
 use crate::letters::{PLAIN, width};
 use crate::messages::{Message, name_of};
 use crate::words::Notes;
+use rcv_module::Called;
 use rcv_picture::pixels::Pixels;
 use rcv_tree::name::Names;
 use rcv_tree::statement::{Block, Blocks, Stmt};
@@ -12,6 +14,15 @@ use std::alloc::{AllocError, Global};
 
 /// How much further in each frame stands than the one around it.
 pub const INSET: Pixels = Pixels(14);
+
+/// Where a block is drawn: how far in its frame stands, within the frames of how many calls, and within how many other
+/// frames that stand in that of the innermost call.
+#[derive(Clone, Copy, Drop)]
+pub struct Within {
+    pub inset: Pixels,
+    pub calls: usize,
+    pub blocks: u8,
+}
 
 /// What was found in the text.
 #[derive(Drop)]
@@ -26,6 +37,9 @@ pub struct Extent {
     pub tags: Pixels,
     /// The columns with which a lane begins that has one to its left.
     pub gaps: [bool; ROLES],
+    /// Whether there are lanes, and whether there are calls.
+    pub has_lanes: bool,
+    pub has_calls: bool,
     /// The labels that are cut.
     pub notes: Notes,
 }
@@ -35,24 +49,52 @@ pub fn tag_width(tag: &[u8]) -> Pixels {
     width(tag, PLAIN) + Pixels(16)
 }
 
+impl Within {
+    /// At this edge of the picture or of a lane.
+    pub fn at(self, inset: Pixels) -> Within {
+        Within { inset, ..self }
+    }
+
+    /// Within one frame more, of a choice, a loop or lanes.
+    pub fn in_frame(self) -> Within {
+        Within {
+            inset: self.inset + INSET,
+            calls: self.calls,
+            blocks: self.blocks.saturating_add(1),
+        }
+    }
+
+    /// Within the frame of one call more.
+    pub fn in_call(self) -> Within {
+        Within {
+            inset: self.inset + INSET,
+            calls: self.calls.saturating_add(1),
+            blocks: 0,
+        }
+    }
+}
+
 impl Extent {
-    /// What a block needs, in a frame so far in. Fails where memory runs out.
+    /// What a block needs that stands there, whose points came through these calls. Fails where memory runs out.
     pub fn of(
         alloc: Global,
         roles: &Names,
-        inset: Pixels,
+        calls: Calls<'_>,
+        within: Within,
         block: &Block,
     ) -> Result<Extent, AllocError> {
         let mut extent = Extent {
             alloc,
-            deepest: inset,
+            deepest: within.inset,
             label: Pixels(0),
             again: Pixels(0),
             tags: Pixels(0),
             gaps: [false; ROLES],
+            has_lanes: false,
+            has_calls: false,
             notes: Notes::new(alloc),
         };
-        extent.block(roles, inset, block)?;
+        extent.block(roles, calls, within, block)?;
         Ok(extent)
     }
 
@@ -74,6 +116,7 @@ impl Extent {
 
     // Takes lanes beside each other into account.
     fn lanes(&mut self, blocks: &Blocks) {
+        self.has_lanes = true;
         if are_apart(blocks) {
             for block in blocks.as_slice() {
                 let first = Span::of(block).first.0 as usize;
@@ -84,28 +127,59 @@ impl Extent {
         }
     }
 
+    // Takes the frames of these calls into account, each within the one before. What stands in the innermost stands there.
+    fn calls(&mut self, calls: Calls<'_>, within: Within, into: &[Called]) -> Within {
+        let mut framed = within;
+        for call in into {
+            self.has_calls = true;
+            self.tag(framed.inset, b"do ", calls.name(*call));
+            framed = framed.in_call();
+        }
+        self.deepest = self.deepest.max(framed.inset);
+        framed
+    }
+
     // Takes the statements of a block into account.
     #[cycle(extent)]
-    fn block(&mut self, roles: &Names, inset: Pixels, block: &Block) -> Result<(), AllocError> {
-        self.deepest = self.deepest.max(inset);
+    fn block(
+        &mut self,
+        roles: &Names,
+        calls: Calls<'_>,
+        within: Within,
+        block: &Block,
+    ) -> Result<(), AllocError> {
+        self.deepest = self.deepest.max(within.inset);
         for stmt in block.as_slice() {
-            self.stmt(roles, inset, stmt)?;
+            let framed = self.calls(calls, within, calls.into_block(within, stmt));
+            self.stmt(roles, calls, framed, stmt)?;
         }
         Ok(())
     }
 
     // Takes blocks into account.
     #[cycle(extent)]
-    fn blocks(&mut self, roles: &Names, inset: Pixels, blocks: &Blocks) -> Result<(), AllocError> {
+    fn blocks(
+        &mut self,
+        roles: &Names,
+        calls: Calls<'_>,
+        within: Within,
+        blocks: &Blocks,
+    ) -> Result<(), AllocError> {
         for block in blocks.as_slice() {
-            self.block(roles, inset, block)?;
+            self.block(roles, calls, within, block)?;
         }
         Ok(())
     }
 
     // Takes a statement into account.
     #[cycle(extent)]
-    fn stmt(&mut self, roles: &Names, inset: Pixels, stmt: &Stmt) -> Result<(), AllocError> {
+    fn stmt(
+        &mut self,
+        roles: &Names,
+        calls: Calls<'_>,
+        within: Within,
+        stmt: &Stmt,
+    ) -> Result<(), AllocError> {
         match stmt {
             Stmt::Message {
                 label,
@@ -124,12 +198,12 @@ impl Extent {
                 self.message(&message)
             }
             Stmt::Choice { subject, branches } => {
-                self.tag(inset, name_of(roles, *subject), b" chooses");
-                self.blocks(roles, inset + INSET, branches)
+                self.tag(within.inset, name_of(roles, *subject), b" chooses");
+                self.blocks(roles, calls, within.in_frame(), branches)
             }
             Stmt::Rec { name, body } => {
-                self.tag(inset, b"loop ", name.as_slice());
-                self.block(roles, inset + INSET, body)
+                self.tag(within.inset, b"loop ", name.as_slice());
+                self.block(roles, calls, within.in_frame(), body)
             }
             Stmt::Continue { name } => {
                 let words = width(b"again ", PLAIN) + width(name.as_slice(), PLAIN);
@@ -137,9 +211,9 @@ impl Extent {
                 Ok(())
             }
             Stmt::Par { blocks } => {
-                self.tag(inset, b"in parallel", b"");
+                self.tag(within.inset, b"in parallel", b"");
                 self.lanes(blocks);
-                self.blocks(roles, inset + INSET, blocks)
+                self.blocks(roles, calls, within.in_frame(), blocks)
             }
             Stmt::Do { .. } => Ok(()),
         }

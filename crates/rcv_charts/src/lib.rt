@@ -5,9 +5,11 @@ ghost use Rattle.rcv_charts.specs.Laws.{RowsAreLines};
 
 mod beside;
 mod boxes;
+mod calls;
 mod columns;
 mod drawing;
 mod extent;
+mod frames;
 mod lanes;
 mod letters;
 mod messages;

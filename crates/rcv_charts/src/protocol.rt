@@ -5,13 +5,16 @@ ghost use Rattle.rcv_model.specs.Text.{body_of};
 ghost use Rattle.rcv_charts.specs.MessageTitles.{message_titles};
 ghost use Rattle.rcv_charts.specs.Titles.{titles_of};
 
+use crate::calls::Calls;
 use crate::columns::{Columns, Headings};
 use crate::drawing::Drawing;
-use crate::extent::{Extent, INSET};
+use crate::extent::{Extent, INSET, Within};
+use crate::frames::Chart;
 use crate::letters::{BIG, width};
-use crate::sequence::{Chart, draw_block};
+use crate::sequence::draw_block;
 use crate::shapes::{line, rect, text};
-use crate::words::{Notes, joined};
+use crate::words::joined;
+use rcv_module::Origins;
 use rcv_picture::look::Look;
 use rcv_picture::picture::Picture;
 use rcv_picture::pixels::{Pixels, place};
@@ -23,10 +26,25 @@ use std::alloc::{AllocError, Global};
 // How far from the edges everything stands.
 const MARGIN: Pixels = Pixels(16);
 
-const DESCRIPTION: &[u8] = b"The messages in order, with choices and loops in frames.";
+// Where the statements of the protocol's own text stand.
+const EDGE: Within = Within {
+    inset: MARGIN,
+    calls: 0,
+    blocks: 0,
+};
 
 // How far down the boxes of the roles are.
 const TOP: Pixels = Pixels(42);
+
+// What is drawn.
+fn description_of(extent: &Extent) -> &[u8] {
+    match (extent.has_lanes, extent.has_calls) {
+        (false, false) => b"The messages in order, with choices and loops in frames.",
+        (true, false) => b"The messages in order, with choices, loops and lanes in frames.",
+        (false, true) => b"The messages in order, with choices, loops and calls in frames.",
+        (true, true) => b"The messages in order, with choices, loops, lanes and calls in frames.",
+    }
+}
 
 // Where the columns stand: right of each frame and each way back, and so wide that each label has room. A gap between lanes
 // has room for the frames of both.
@@ -77,7 +95,7 @@ fn drawn(chart: &Chart<'_>, protocol: &Protocol, top: Pixels) -> Result<Drawing,
     let mut drawing = Drawing::new(chart.alloc);
     drawing.skip(top);
     let mut loops = Vec::new(chart.alloc);
-    draw_block(chart, &mut drawing, &mut loops, MARGIN, &protocol.body)?;
+    draw_block(chart, &mut drawing, &mut loops, EDGE, &protocol.body)?;
     drawing.skip(Pixels(26));
     Ok(drawing)
 }
@@ -96,29 +114,38 @@ fn finished(
     mut drawing: Drawing,
     mut ground: Vec<Shape>,
     name: &[u8],
-    notes: &Notes,
+    extent: &Extent,
     wide: Pixels,
 ) -> Result<Picture, AllocError>
     ensures { IfOk result (λ picture. titles_of picture ≡ drawing) }
 {
     let title = joined(alloc, b"protocol ", name)?;
     ground.push(text(MARGIN, Pixels(26), Look::Big, title))?;
-    notes.draw(alloc, &mut ground, MARGIN, drawing.down())?;
-    drawing.skip(notes.height() + Pixels(10));
+    extent
+        .notes
+        .draw(alloc, &mut ground, MARGIN, drawing.down())?;
+    drawing.skip(extent.notes.height() + Pixels(10));
     let called = joined(alloc, b"Protocol ", name)?;
-    let description = Vec::from_slice(alloc, DESCRIPTION)?;
+    let description = Vec::from_slice(alloc, description_of(extent))?;
     drawing.picture(alloc, wide, called, description, ground)
 }
 
-/// The picture of a protocol: a column for each role, an arrow for each message, and a frame for each choice and each
-/// loop, with a way back to it from each `continue`. The titles of its messages say their points, in order. A
-/// text that was read has no calls. Fails where memory runs out.
-pub fn protocol_picture(alloc: Global, protocol: &Protocol) -> Result<Picture, AllocError>
+/// The picture of an expansion: a column for each role, an arrow for each message, and a frame for each choice, for each
+/// loop, with a way back to it from each `continue`, for lanes beside each other, and for what came through a call, with the
+/// name of the protocol that it names. The points come from there, and each call stands in so many inner blocks of its
+/// protocol's text. The titles of the messages say their points, in order. Fails where memory runs out.
+pub fn protocol_picture(
+    alloc: Global,
+    protocol: &Protocol,
+    origins: &Origins,
+    depths: &[u8],
+) -> Result<Picture, AllocError>
     ensures { IfOk result (λ picture. titles_of picture
         ≡ message_titles protocol.now.roles (body_of protocol.now.body)) }
 {
+    let calls = Calls { origins, depths };
     let headings = Headings::of(alloc, &protocol.roles)?;
-    let extent = Extent::of(alloc, &protocol.roles, MARGIN, &protocol.body)?;
+    let extent = Extent::of(alloc, &protocol.roles, calls, EDGE, &protocol.body)?;
     let columns = columns_of(&headings, &extent);
     let roles = u8::try_from(protocol.roles.as_slice().len()).unwrap_or(u8::MAX);
     let name = protocol.name.as_slice();
@@ -131,6 +158,7 @@ pub fn protocol_picture(alloc: Global, protocol: &Protocol) -> Result<Picture, A
     let chart = Chart {
         alloc,
         roles: &protocol.roles,
+        calls,
         columns,
         left: Pixels(0),
         right: wide,
@@ -145,6 +173,6 @@ pub fn protocol_picture(alloc: Global, protocol: &Protocol) -> Result<Picture, A
         roles,
         drawing.down(),
     )?;
-    let picture = finished(alloc, drawing, ground, name, &extent.notes, wide)?;
+    let picture = finished(alloc, drawing, ground, name, &extent, wide)?;
     Ok(picture)
 }

@@ -1,47 +1,22 @@
-// A protocol from above to below: its messages, and frames around its choices and loops.
+// A protocol from above to below: its messages, and frames around its choices, loops, lanes and calls.
 
 ghost use Rattle.std.specs.Prelude.{◌≡◌, ◌++◌, OnOk};
 ghost use Rattle.rcv_model.specs.Text.{Body, body_of, bodies_of, stmt_body};
 ghost use Rattle.rcv_charts.specs.MessageTitles.{message_titles, titles_beside};
 
 use crate::beside::{Span, are_apart};
-use crate::columns::Columns;
 use crate::drawing::Drawing;
-use crate::extent::{INSET, tag_width};
+use crate::extent::{INSET, Within};
+use crate::frames::{Chart, TAG, close_frame, go_into, open_frame};
 use crate::messages::{Message, draw_message, name_of};
-use crate::shapes::{line, path, rect, text};
+use crate::shapes::{line, path, text};
 use crate::words::joined;
 use rcv_picture::look::Look;
 use rcv_picture::pixels::{Pixels, place};
-use rcv_tree::name::{Name, Names};
+use rcv_tree::name::Name;
 use rcv_tree::role::RoleId;
 use rcv_tree::statement::{Block, Blocks, Stmt};
 use std::alloc::{AllocError, Global};
-
-/// What is the same for the whole picture, or for a lane: the roles, their columns, and between which edges frames stand.
-#[derive(Clone, Copy, Drop)]
-pub struct Chart<'a> {
-    pub alloc: Global,
-    pub roles: &'a Names,
-    pub columns: Columns,
-    pub left: Pixels,
-    pub right: Pixels,
-}
-
-impl<'a> Chart<'a> {
-    // The same for a lane beside others, which stands in its own columns.
-    fn lane(&self, span: Span) -> Chart<'a>
-        ensures { result.roles.now ≡ self.now.roles.now }
-    {
-        Chart {
-            alloc: self.alloc,
-            roles: self.roles,
-            columns: self.columns,
-            left: self.columns.start(span.first) + Pixels(4) - self.columns.before,
-            right: self.columns.end(span.last) + self.columns.behind - Pixels(4),
-        }
-    }
-}
 
 /// A loop that encloses the place that is drawn: where a way back to it goes up, and where it ends.
 #[derive(Clone, Copy, Drop)]
@@ -49,45 +24,6 @@ pub struct Loop<'t> {
     name: &'t Name,
     x: Pixels,
     end: Pixels,
-}
-
-// How high a tag is.
-const TAG: Pixels = Pixels(20);
-
-// Begins a frame: how far down its upper edge is.
-fn open_frame(drawing: &mut Drawing) -> Pixels
-    ensures { drawing.new ≡ drawing.old }
-{
-    drawing.skip(Pixels(12));
-    drawing.down()
-}
-
-// Ends a frame that began here, and draws it with its tag. Fails where memory runs out.
-fn close_frame(
-    chart: &Chart<'_>,
-    drawing: &mut Drawing,
-    inset: Pixels,
-    top: Pixels,
-    tag: Vec<u8>,
-) -> Result<(), AllocError>
-    ensures { OnOk result (drawing.new ≡ drawing.old) }
-{
-    drawing.skip(Pixels(16));
-    let left = chart.left + inset;
-    let height = drawing.down() - top;
-    let width = chart.right - inset - left;
-    drawing.put_below(rect(place(left, top), width, height, 4, Look::Grid))?;
-    let right = left + tag_width(tag.as_slice());
-    let corners = [
-        place(left, top),
-        place(right, top),
-        place(right, top + Pixels(12)),
-        place(right - Pixels(8), top + TAG),
-        place(left, top + TAG),
-        place(left, top),
-    ];
-    drawing.put_above(path(chart.alloc, &corners, Look::Tag)?)?;
-    drawing.put_above(text(left + Pixels(7), top + Pixels(14), Look::Bold, tag))
 }
 
 // Draws the line between two blocks of a frame. Fails where memory runs out.
@@ -168,20 +104,25 @@ fn draw_continue(
     Ok(())
 }
 
-/// Draws the statements of a block, inside these loops and so far in. Fails where memory runs out.
+/// Draws the statements of a block inside these loops, with a frame around those that came through one call. Fails where
+/// memory runs out.
 #[cycle(draw)]
 pub fn draw_block<'t>(
     chart: &Chart<'_>,
     drawing: &mut Drawing,
     loops: &mut Vec<Loop<'t>>,
-    inset: Pixels,
+    within: Within,
     block: &'t Block,
 ) -> Result<(), AllocError>
     ensures { OnOk result (drawing.new ≡ drawing.old ++ message_titles chart.now.roles.now (body_of block.now)) }
 {
+    let mut open = Vec::new(chart.alloc);
     for stmt in block.as_slice() {
-        draw_stmt(chart, drawing, loops, inset, stmt)?;
+        let calls = chart.calls.into_block(within, stmt);
+        let framed = go_into(chart, drawing, &mut open, within, calls)?;
+        draw_stmt(chart, drawing, loops, framed, stmt)?;
     }
+    go_into(chart, drawing, &mut open, within, &[])?;
     Ok(())
 }
 
@@ -191,7 +132,7 @@ fn draw_blocks<'t>(
     chart: &Chart<'_>,
     drawing: &mut Drawing,
     loops: &mut Vec<Loop<'t>>,
-    inset: Pixels,
+    within: Within,
     word: &[u8],
     blocks: &'t Blocks,
 ) -> Result<(), AllocError>
@@ -202,10 +143,10 @@ fn draw_blocks<'t>(
         if is_first {
             drawing.skip(Pixels(14));
         } else {
-            draw_divider(chart, drawing, inset, word)?;
+            draw_divider(chart, drawing, within.inset, word)?;
         }
         is_first = false;
-        draw_block(chart, drawing, loops, inset + INSET, block)?;
+        draw_block(chart, drawing, loops, within.in_frame(), block)?;
     }
     Ok(())
 }
@@ -217,20 +158,26 @@ fn draw_lanes<'t>(
     chart: &Chart<'_>,
     drawing: &mut Drawing,
     loops: &mut Vec<Loop<'t>>,
-    inset: Pixels,
+    within: Within,
     blocks: &'t Blocks,
 ) -> Result<(), AllocError>
     ensures { OnOk result (drawing.new ≡ drawing.old ++ titles_beside chart.now.roles.now (bodies_of blocks.now)) }
 {
     if !are_apart(blocks) {
-        return draw_blocks(chart, drawing, loops, inset, b"and", blocks);
+        return draw_blocks(chart, drawing, loops, within, b"and", blocks);
     }
     let top = drawing.down();
     let mut end = top;
     for block in blocks.as_slice() {
         let lane = chart.lane(Span::of(block));
         drawing.go_to(top + Pixels(14));
-        draw_block(&lane, drawing, loops, Pixels(0), block)?;
+        draw_block(
+            &lane,
+            drawing,
+            loops,
+            within.in_frame().at(Pixels(0)),
+            block,
+        )?;
         end = end.max(drawing.down());
     }
     drawing.go_to(end);
@@ -243,7 +190,7 @@ fn draw_stmt<'t>(
     chart: &Chart<'_>,
     drawing: &mut Drawing,
     loops: &mut Vec<Loop<'t>>,
-    inset: Pixels,
+    within: Within,
     stmt: &'t Stmt,
 ) -> Result<(), AllocError>
     ensures { OnOk result ((rest : Body) → drawing.new ++ message_titles chart.now.roles.now rest ≡ drawing.old
@@ -269,30 +216,32 @@ fn draw_stmt<'t>(
         Stmt::Choice { subject, branches } => {
             let tag = joined(chart.alloc, name_of(chart.roles, *subject), b" chooses")?;
             let top = open_frame(drawing);
-            draw_blocks(chart, drawing, loops, inset, b"or", branches)?;
-            close_frame(chart, drawing, inset, top, tag)
+            draw_blocks(chart, drawing, loops, within, b"or", branches)?;
+            close_frame(chart, drawing, within.inset, top, tag)
         }
         Stmt::Rec { name, body } => {
             let tag = joined(chart.alloc, b"loop ", name.as_slice())?;
             let top = open_frame(drawing);
             loops.push(Loop {
                 name,
-                x: chart.left + inset + INSET.half(),
+                x: chart.left + within.inset + INSET.half(),
                 end: top + TAG,
             })?;
             drawing.skip(Pixels(14));
-            draw_block(chart, drawing, loops, inset + INSET, body)?;
+            draw_block(chart, drawing, loops, within.in_frame(), body)?;
             loops.pop();
-            close_frame(chart, drawing, inset, top, tag)
+            close_frame(chart, drawing, within.inset, top, tag)
         }
-        Stmt::Continue { name } => { draw_continue(chart, drawing, loops.as_slice(), inset, name) }
+        Stmt::Continue { name } => {
+            draw_continue(chart, drawing, loops.as_slice(), within.inset, name)
+        }
         Stmt::Par { blocks } => {
             let tag = Vec::from_slice(chart.alloc, b"in parallel")?;
             let top = open_frame(drawing);
-            draw_lanes(chart, drawing, loops, inset, blocks)?;
-            close_frame(chart, drawing, inset, top, tag)
+            draw_lanes(chart, drawing, loops, within, blocks)?;
+            close_frame(chart, drawing, within.inset, top, tag)
         }
-        // The reader refuses a call, so none comes here.
+        // An expansion has no calls left.
         Stmt::Do { .. } => Ok(()),
     }
 }

@@ -1,6 +1,7 @@
 // What each code of a refusal says: the rule, an example that breaks it, and its repair.
 #![tactic(auto)]
 
+mod calls;
 mod codes;
 mod explanation;
 mod journals;

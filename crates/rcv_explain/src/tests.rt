@@ -39,8 +39,8 @@ fn answer(alloc: Global, text: &[u8]) -> Result<Vec<u8>, AllocError> {
 // The examples of 27, 50 and 51 have words in front, and are not tried here.
 #[test]
 fn examples_are_refused_by_their_codes(rt: HostRuntime) -> Result<(), Fail> {
-    for code in 10..44u8 {
-        if code == 27 {
+    for code in 10..55u8 {
+        if code == 27 || code == 50 || code == 51 {
             continue;
         }
         let Some(explanation) = explain(code) else {

@@ -47,7 +47,8 @@ line end, where nothing stands.",
 /// Code 12.
 pub const DEEP: Explanation = Explanation {
     name: b"Deep",
-    rule: b"Blocks stand in each other at most 32 deep, the protocol's own included.",
+    rule: b"Blocks stand in each other at most 32 deep, the protocol's own included. Where a call brings the 33rd, the line is that
+of the `do`, in the first protocol; a called protocol's own block doesn't count there.",
     example: b"    module m;
     global protocol P(role A, role B) {
       rec X { rec X { rec X { rec X { rec X { rec X { rec X { rec X {
@@ -73,14 +74,15 @@ pub const DEEP: Explanation = Explanation {
 /// Code 13.
 pub const NAME: Explanation = Explanation {
     name: b"Name",
-    rule: b"A role that a statement names is declared in the head, and a `continue` names a `rec` that encloses it.",
+    rule: b"A role that a statement names is declared in the head of its protocol, a `continue` names a `rec` of it that encloses
+the `continue`, and a `do` names a protocol of the module.",
     example: b"    module m;
     global protocol P(role A, role B) {
       m() from A to C;
     }
 ",
     refusal: b"refused 13 Name line 3",
-    repair: b"declare the role, or name an enclosing `rec`.",
+    repair: b"declare the role, name an enclosing `rec`, or write the protocol that is called.",
     repaired: b"    module m;
     global protocol P(role A, role B, role C) {
       m() from A to C;
@@ -91,7 +93,8 @@ pub const NAME: Explanation = Explanation {
 /// Code 14.
 pub const TWICE: Explanation = Explanation {
     name: b"Twice",
-    rule: b"No role and no alias is declared twice, and a list of receivers names each of them once.",
+    rule: b"No role is declared twice in a protocol, no alias and no protocol twice in a module, and a list of receivers, or of the
+roles of a `do`, names each of them once.",
     example: b"    module m;
     global protocol P(role A, role B) {
       m() from A to B, B;
@@ -145,8 +148,8 @@ pub const AFTER_CONTINUE: Explanation = Explanation {
 /// Code 17.
 pub const UNGUARDED: Explanation = Explanation {
     name: b"Unguarded",
-    rule: b"On each way from the `{` of a `rec` to a `continue` of it there is a message; else the session would go round for ever
-and do nothing.",
+    rule: b"On each way from the `{` of a `rec` to a `continue` of it there is a message, or a `do`, which brings one; else the
+session would go round for ever and do nothing.",
     example: b"    module m;
     global protocol P(role A, role B) {
       rec X { choice at A { m() from A to B; } or { continue X; } }
@@ -164,14 +167,16 @@ and do nothing.",
 /// Code 18.
 pub const TOO_MANY: Explanation = Explanation {
     name: b"TooMany",
-    rule: b"A protocol has at most 8 roles and 256 points, which are its messages, counted for each receiver.",
+    rule: b"A protocol has at most 8 roles and 256 points, which are its messages, counted for each receiver, and a module has at
+most 64 protocols. Where calls bring the 257th point, the line is that of the `do`, in the first protocol, up to whose
+end it comes; behind the last `do` it is that of the last.",
     example: b"    module m;
     global protocol P(role A, role B, role C, role D, role E, role F, role G, role H, role I) {
       m() from A to B;
     }
 ",
     refusal: b"refused 18 TooMany line 2",
-    repair: b"write a smaller protocol.",
+    repair: b"write a smaller protocol, or fewer calls.",
     repaired: b"    module m;
     global protocol P(role A, role B, role C, role D, role E, role F, role G, role H) {
       m() from A to B;
@@ -182,15 +187,15 @@ pub const TOO_MANY: Explanation = Explanation {
 /// Code 19.
 pub const NOT_YET: Explanation = Explanation {
     name: b"NotYet",
-    rule: b"`par` in a block other than the protocol's own, `do` and a second `global protocol` aren't built yet.",
+    rule: b"`par` stands in the first protocol's own block; in other blocks it isn't built yet.",
     example: b"    module m;
     global protocol P(role A, role B, role C, role D) {
       rec X { par { m() from A to B; } and { n() from C to D; } continue X; }
     }
 ",
     refusal: b"refused 19 NotYet line 3",
-    repair: b"write the messages out in one order; each role waits for its own messages alone. In the place of a `do` write
-the statements that it stands for.",
+    repair: b"write the messages out in one order; each role waits for its own messages alone. Or write the `par` in the
+first protocol's own block; its blocks may have calls.",
     repaired: b"    module m;
     global protocol P(role A, role B, role C, role D) {
       rec X { m() from A to B; n() from C to D; continue X; }
@@ -201,7 +206,7 @@ the statements that it stands for.",
 /// Code 29.
 pub const SHARED: Explanation = Explanation {
     name: b"Shared",
-    rule: b"A role stands in one block of a `par` alone.",
+    rule: b"A role stands in one block of a `par` alone; among the roles of a `do` it stands there, too.",
     example: b"    module m;
     global protocol P(role A, role B, role C) {
       par { m() from A to B; } and { n() from B to C; }

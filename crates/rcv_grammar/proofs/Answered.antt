@@ -1,6 +1,6 @@
--- Symbols are read as some protocol or refused: a protocol can be built of what is written.
+-- Symbols are read as some module or refused: a module can be built of what is written.
 use denote.RawPtr.{null_ptr}
-use Rattle.std.proofs.Common.{◌≡◌, ℕ, ◌+◌, ◌*◌, ◌^◌, ◌<◌, ◌≤◌, true, false, List, [], ◌∷◌, length, map, refl, sym, ap, ◌∙◌, inl, inr, arith, ◌⊎◌, ⊎_elim}
+use Rattle.std.proofs.Common.{◌≡◌, ℕ, ◌+◌, ◌*◌, ◌^◌, ◌<◌, ◌≤◌, Bool, true, false, List, [], ◌∷◌, ◌++◌, length, map, refl, sym, ap, ◌∙◌, inl, inr, arith, ◌⊎◌, ⊎_elim}
 use Rattle.std.proofs.lemmas.List.{length-map}
 use Rattle.std.specs.Global.{Vec}
 use Rattle.rcv_tree.specs.declared.statement.Stmt.{Stmt}
@@ -9,20 +9,22 @@ use Rattle.rcv_tree.specs.declared.statement.Stmt.TheOpen.{Block-F, Blocks-F}
 use Rattle.rcv_tree.specs.declared.statement.Stmt.TheViews.{roll-Block, out-roll-Block, roll-Blocks, out-roll-Blocks}
 use Rattle.rcv_tree.specs.declared.statement.Block.{Block}
 use Rattle.rcv_tree.specs.declared.statement.Blocks.{Blocks}
-use Rattle.rcv_machine.specs.Words.{Or, And, Close, Open, Symbol, Is, symbols_of, role_at, roles_at, points, points_of, singles, tree_of, trees_of, IsFit, AreFit, Decl, Named, nobody, Place, State, Answer, Taken, Refuses, behind, beside, inside, inside_rec, outermost, reading}
+use Rattle.rcv_machine.specs.Words.{Or, And, Close, Open, Symbol, Is, symbols_of, lines_of_calls, WrittenProtocol, declared, protocols, IsTreeOf, AreTreesOf, Reads, role_at, roles_at, points, points_of, singles, tree_of, trees_of, IsFit, AreFit, Decl, Named, nobody, Place, Answer, Taken, Refuses, behind, beside, inside, inside_rec, outermost, reading}
 use Rattle.rcv_tree.specs.declared.protocol.Protocol.{Protocol}
+use Rattle.rcv_tree.specs.declared.module.Module.{Module}
+use Rattle.rcv_tree.specs.Lists.{declarations}
 use Rattle.rcv_model.specs.Text.{Body, Bodies, stmt_body, body_of, bodies_of, joined, alternatives}
-use Rattle.rcv_model.proofs.Text.{body_of_lem, bodies_of_lem, stmt_body-Message, stmt_body-Choice, stmt_body-Rec, stmt_body-Continue, stmt_body-Par}
+use Rattle.rcv_model.proofs.Text.{body_of_lem, bodies_of_lem, stmt_body-Message, stmt_body-Choice, stmt_body-Rec, stmt_body-Continue, stmt_body-Par, stmt_body-Do}
 use Rattle.rcv_lexer.specs.declared.token.Span.{Span}
 use Rattle.rcv_lexer.specs.declared.token.Token.{Token}
 use Rattle.rcv_lexer.specs.Tokens.{AreTokens}
 use Rattle.rcv_lexer.proofs.Once.{one_reading, tokens_few}
 use Rattle.rcv_syntax.specs.Grammar.{Written, NoStmt, AMessage, AChoice, ARec, AContinue, APar, ADo, Blocks as Blocks', NoBlock, ABlock, Source, Spells, stmts, blocks_behind, names_behind, sort_list, dotted, decls, roles_behind}
-use Rattle.rcv_reader.specs.Refusals.{IsRead}
+use Rattle.rcv_reader.specs.Refusals.{AreReadAs}
 use Rattle.rcv_machine.proofs.Exactly.{refusal_is_first, taken_is_free, one_first}
 use Rattle.rcv_grammar.specs.Laws.{IsReadPart, IsRefusedPart, HasRefusal, PartsHaveOneAnswer}
-use Rattle.rcv_machine.proofs.Passing.{named_by, Passes, PassAll, PassBeside, receivers_fit}
-use Rattle.rcv_grammar.proofs.Canonizing.{body_passes}
+use Rattle.rcv_machine.proofs.Passing.{named_by, Passes, PassAll, PassBeside, receivers_fit, arguments_fit}
+use Rattle.rcv_grammar.proofs.Headings.{is_later, IsAdmitted, AreAdmitted, head_follows}
 
 -- ---- a block for each list of statements
 
@@ -44,13 +46,13 @@ blocks_of xs short =
 
 -- ---- a text is longer than its tree
 
-length-names : (ns : List (List ℕ)) (next : List Symbol) → (length (names_behind ns next) ≡ 2 * length ns + length next)
+pub length-names : (ns : List (List ℕ)) (next : List Symbol) → (length (names_behind ns next) ≡ 2 * length ns + length next)
     × (length (dotted ns next) ≡ 2 * length ns + length next)
     × (length (roles_behind ns next) ≡ 3 * length ns + length next) × (length next ≤ length (sort_list ns next))
 length-names [] next = omega arith
 length-names (n ∷ ns) next = let more = length-names ns next in omega arith
 
-length-decls : (ds : List Decl) (next : List Symbol) → length (decls ds next) ≡ 10 * length ds + length next
+pub length-decls : (ds : List Decl) (next : List Symbol) → length (decls ds next) ≡ 10 * length ds + length next
 length-decls [] next = omega arith
 length-decls (d ∷ ds) next = let more = length-decls ds next in omega arith
 
@@ -61,7 +63,7 @@ HasStmts b k m = (list : List Stmt) × (joined (map stmt_body list) ≡ b) × (l
 abbrev HasBlocks : Bodies → ℕ → ℕ → Type 0
 HasBlocks bs k m = (list : List Block) × (alternatives (map body_of list) ≡ bs) × (length list + k ≤ m)
 
-module _ (roles : List (List ℕ)) where
+module _ (later : Bool) (roles : List (List ℕ)) where
   -- one message for each receiver
   has_singles : (label : List ℕ) (sorts : List (List ℕ)) (s : ℕ) (rs : List (List ℕ)) (n : ℕ) (rest : Body) (k m : ℕ)
       → HasStmts rest k m → HasStmts (singles label sorts s (roles_at roles rs) n rest) k (length rs + m)
@@ -71,7 +73,7 @@ module _ (roles : List (List ℕ)) where
       (stmt.Message label sorts s (role_at roles r) (n + 1) ∷ more.0, rw (stmt_body-Message, more.1) refl, omega arith)
 
   mutual
-    has_stmts : (n : ℕ) (p : Place) (w : Written) (next : List Symbol) → Passes roles n p w
+    has_stmts : (n : ℕ) (p : Place) (w : Written) (next : List Symbol) → Passes later roles n p w
         → length (stmts w next) < 2 ^ 63
         → IsFit roles w × HasStmts (tree_of roles n w) (length next) (length (stmts w next))
     has_stmts n p NoStmt next h lt = (tt, ([], refl, omega arith))
@@ -109,9 +111,11 @@ module _ (roles : List (List ℕ)) where
         let blocks = blocks_of (block.0 ∷ block_too.0 ∷ others.1.0) (omega arith) in
         let all = stmt.Par blocks.0 ∷ more.1.0 in
         (assumption, (all, rw (stmt_body-Par, blocks.1, block.1, block_too.1, first.1.1, second.1.1, others.1.1, more.1.1) refl, omega arith))
-    has_stmts n p (ADo x r rs rest) next h lt = absurd h
+    has_stmts n p (ADo x r rs rest) next h lt =
+        let more = has_stmts n (behind p false) rest next h.2 (omega (arith, length-names)) in
+        ((arguments_fit roles p.earlier [] (r ∷ rs) h.1, more.0), (stmt.Do x (roles_at roles (r ∷ rs)) ∷ more.1.0, rw (stmt_body-Do, more.1.1) refl, omega (arith, length-names)))
 
-    all_have : (n : ℕ) (p : Place) (os : Blocks') (next : List Symbol) → PassAll roles n p os
+    all_have : (n : ℕ) (p : Place) (os : Blocks') (next : List Symbol) → PassAll later roles n p os
         → length (blocks_behind Or os next) < 2 ^ 63
         → AreFit roles os × HasBlocks (trees_of roles n os) (length next) (length (blocks_behind Or os next))
     all_have n p NoBlock next h lt = (tt, ([], refl, omega arith))
@@ -121,7 +125,7 @@ module _ (roles : List (List ℕ)) where
         let block = block_of first.1.0 (omega arith) in
         ((first.0, others.0), (block.0 ∷ others.1.0, rw (block.1, first.1.1, others.1.1) refl, omega arith))
 
-    beside_have : (n : ℕ) (p : Place) (since : Named) (os : Blocks') (next : List Symbol) → PassBeside roles n p since os
+    beside_have : (n : ℕ) (p : Place) (since : Named) (os : Blocks') (next : List Symbol) → PassBeside later roles n p since os
         → length (blocks_behind And os next) < 2 ^ 63
         → AreFit roles os × HasBlocks (trees_of roles n os) (length next) (length (blocks_behind And os next))
     beside_have n p since NoBlock next h lt = (tt, ([], refl, omega arith))
@@ -131,34 +135,61 @@ module _ (roles : List (List ℕ)) where
         let block = block_of first.1.0 (omega arith) in
         ((first.0, others.0), (block.0 ∷ others.1.0, rw (block.1, first.1.1, others.1.1) refl, omega arith))
 
--- ---- a protocol for each source
+-- ---- a module for each source
 
-pub source_read : (symbols : List Symbol) (s : Source) (state : State) → length symbols < 2 ^ 63 → Spells symbols s → reading symbols ≡ Taken state
-    → (p : Protocol) × IsRead symbols p
-source_read symbols s state lt spells taken =
-    let passes = body_passes s state spells.1 (rw spells.2 at taken) in
+-- A protocol for what is written, with these names and declarations before it.
+abbrev HasTree : WrittenProtocol → List (List ℕ) → List Decl → Type 0
+HasTree w ms ds = (p : Protocol) × IsTreeOf w p × (p.«module» ≡ ms) × (declarations p.decls ≡ ds)
+
+protocol_read : (names : List (List ℕ)) (w : WrittenProtocol) (ms : List (List ℕ)) (ds : List Decl) (next : List Symbol) → IsAdmitted names w
+    → length ds < 2 ^ 63 → length (declared w next) < 2 ^ 63 → HasTree w ms ds × (length next < length (declared w next))
+protocol_read names w ms ds next is few lt =
+    let rs = w.role ∷ w.other_roles in
+    let body = stmts w.body (Is Close ∷ next) in
+    let long : length body < length (declared w next) = omega (arith, length-names) in
+    let has = has_stmts (is_later names w) rs 0 outermost w.body (Is Close ∷ next) is.passes (omega (arith, long, lt)) in
+    let b = block_of has.1.0 (omega (arith, has.1.2, long, lt)) in
+    let p : Protocol = record { «module» = ms; decls = record { items = a_vec Decl ds few }; name = w.name; roles = rs; body = b.0 } in
+    let tree : IsTreeOf w p = record { named = refl; role_names = refl; fit = has.0; tree = b.1 ∙ has.1.1 } in
+    ((p, tree, refl, refl), omega (arith, has.1.2, long))
+
+protocols_read : (names : List (List ℕ)) (ws : List WrittenProtocol) → AreAdmitted names ws → length (protocols ws []) < 2 ^ 63
+    → (ps : List Protocol) × AreTreesOf ws ps × (length ps ≤ length (protocols ws []))
+protocols_read names [] are lt = ([], tt, omega arith)
+protocols_read names (w ∷ ws) are lt =
+    let one = protocol_read names w [] [] (protocols ws []) are.0 (omega arith) (omega (arith, lt)) in
+    let more = protocols_read (names ++ w.name ∷ []) ws are.1 (omega (arith, lt, one.1)) in
+    (one.0.0 ∷ more.0, (one.0.1, one.0.2, one.0.3, more.1), omega (arith, one.1, more.2))
+
+pub source_read : (symbols : List Symbol) (s : Source) → length symbols < 2 ^ 63 → Spells symbols s → reading symbols ≡ Taken
+    → (main : Protocol) × (others : List Protocol) × AreReadAs symbols main others × (length others < 2 ^ 63)
+source_read symbols s lt spells taken =
+    let are = (head_follows s spells.1 (rw spells.2 at taken)).0 in
     let same = ap length spells.2 in
-    let long : length s.declared + length (stmts s.body (Is Close ∷ [])) < 2 ^ 63 =
-    omega (arith, length-names, length-decls) in
-    let rs = s.role ∷ s.other_roles in
-    let has = has_stmts rs 0 outermost s.body (Is Close ∷ []) passes (omega arith) in
-    let b = block_of has.1.0 (omega arith) in
-    let tree = b.1 ∙ has.1.1 in
-    let ms = s.module_name ∷ s.module_more in
-    let ds = a_vec Decl s.declared (omega arith) in
-    let p : Protocol = record { «module» = ms; decls = record { items = ds }; name = s.name; roles = rs; body = b.0 } in
-    (p, ((taken_is_free symbols state taken).1, search))
+    let long : length s.declared + length (protocols (s.first ∷ s.others) []) < 2 ^ 63 = omega (arith, same, lt, length-names, length-decls) in
+    let first = protocol_read [] s.first (s.module_name ∷ s.module_more) s.declared (protocols s.others []) are.0 (omega (arith, long)) (omega (arith, long)) in
+    let more = protocols_read (s.first.name ∷ []) s.others are.1 (omega (arith, long, first.1)) in
+    let reads : Reads symbols first.0.0 more.0 = record {
+      source = s;
+      spelled = spells;
+      modules = first.0.2;
+      declared = first.0.3;
+      first = first.0.1;
+      more = more.1;
+    } in
+    (first.0.0, more.0, ((taken_is_free symbols taken).1, reads), omega (arith, more.2, long, first.1))
 
 -- ---- a part
 
 module _ (bundle : List ℕ) (part : Span) (last : ℕ) where
   answered : (ts : List Token) → length bundle < 2 ^ 63 → AreTokens bundle part ts → (a : Answer)
       → reading (symbols_of bundle ts) ≡ a → IsReadPart bundle part ⊎ HasRefusal bundle part last
-  answered ts lt are (Taken state) e =
+  answered ts lt are Taken e =
       let same : length (symbols_of bundle ts) ≡ length ts = length-map ts _ in
-      let is = (taken_is_free (symbols_of bundle ts) state e).0 in
-      let read = source_read (symbols_of bundle ts) is.0 state (omega (arith, tokens_few bundle part ts are)) is.1 e in
-      inl (ts, read.0, are, read.1)
+      let is = (taken_is_free (symbols_of bundle ts) e).0 in
+      let read = source_read (symbols_of bundle ts) is.0 (omega (arith, tokens_few bundle part ts are)) is.1 e in
+      let m : Module = record { main = read.0; others = record { items = a_vec Protocol read.1 read.3 }; dos = lines_of_calls bundle ts } in
+      inl (ts, m, are, (read.2, refl))
   answered ts lt are (Refuses fault left) e =
       inr (_, _, inr (ts, are, (fault, left, refusal_is_first (symbols_of bundle ts) fault left e, refl)))
 
@@ -166,7 +197,7 @@ module _ (bundle : List ℕ) (part : Span) (last : ℕ) where
   read_not_refused code line h (inl k) = one_reading.either bundle part h.0 line h.2 k.1
   read_not_refused code line h (inr k) =
       let first = rw (one_reading.tokens bundle part k.0 h.0 k.1 h.2) at k.2.2 in
-      h.3.0 k.2.0 first.front k.2.1 first.cut first.holds
+      h.3.0.0 k.2.0 first.front k.2.1 first.cut first.holds
 
   same_refusal : (code line code' line' : ℕ) → IsRefusedPart bundle part last code line
       → IsRefusedPart bundle part last code' line' → (code ≡ code') × (line ≡ line')

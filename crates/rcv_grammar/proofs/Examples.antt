@@ -1,20 +1,19 @@
 -- Worked cases of the machine: what it takes, and where it refuses with which code.
-use Rattle.std.proofs.Common.{◌≡◌, ℕ, true, codes, List, [], ◌∷◌, ◌++◌, map, Some, None, refl, arith, Option}
+use Rattle.std.proofs.Common.{◌≡◌, ℕ, true, codes, List, [], ◌∷◌, ◌++◌, ◌^◌, ◌<◌, length, map, Some, None, refl, arith, Option}
 use Rattle.rcv_lexer.specs.Parts.{parts_of}
 use Rattle.rcv_lexer.specs.Tokens.{line_at}
-use Rattle.rcv_machine.specs.Words.{Module, Global, Choice, At, Rec, Continue, Par, And, Do, Open, Close, Left, Right, Comma, Semicolon, Symbol, Is, Word, line_before, Written, NoStmt, AMessage, AChoice, ARec, AContinue, APar, ADo, NoBlock, ABlock, Source, IsDerived, spelling, tree_of, code_of, Decl}
+use Rattle.rcv_machine.specs.Words.{Module, Global, Protocol, Choice, At, Rec, Continue, Par, And, Do, Open, Close, Left, Right, Comma, Semicolon, Symbol, Is, Word, line_before, Written, NoStmt, AMessage, AChoice, ARec, AContinue, APar, ADo, NoBlock, ABlock, WrittenProtocol, Source, IsDerived, spelling, tree_of, code_of, Decl}
 use Rattle.rcv_machine.specs.Words.{nobody, with_role, RoleName, Receiver, Rest, Answer, Taken, Refuses, answer, reading, known}
 use Rattle.rcv_model.specs.Text as trees
 use Rattle.rcv_tree.specs.declared.protocol.Protocol as tree
-use Rattle.rcv_reader.specs.Refusals.{IsRead}
-use Rattle.rcv_machine.proofs.Passing.{named_by}
+use Rattle.rcv_reader.specs.Refusals.{AreReadAs}
 use Rattle.rcv_grammar.proofs.Answered.{source_read}
 use Rattle.rcv_grammar.specs.Canonical.{written_of}
-use Rattle.rcv_syntax.proofs.Texts.{a, b, c, x, y, both, text, text_of_four, of_others, begins, sends, message, in_par, beside, rec_x, again_x, nested, alias_a, more_roles}
+use Rattle.rcv_syntax.proofs.Texts.{a, b, c, x, y, both, text, text_of_four, of_others, begins, sends, message, in_par, beside, calls, call, second, rec_x, again_x, nested, alias_a, more_roles}
 
 -- the code, and what is left from the wrong symbol on
 abbrev shown : Answer → Option (ℕ × List Symbol)
-shown (Taken state) = None
+shown Taken = None
 shown (Refuses fault left) = Some (code_of fault, left)
 
 abbrev refusal : List Symbol → Option (ℕ × List Symbol)
@@ -22,21 +21,21 @@ refusal symbols = shown (reading symbols)
 
 -- where a receiver is awaited behind so many points, and where a ninth role is
 abbrev at_receiver : ℕ → List ℕ → List Symbol → Option (ℕ × List Symbol)
-at_receiver count before symbols = shown (answer (known both count nobody) (Receiver nobody 0 before ∷ []) symbols)
+at_receiver count before symbols = shown (answer (known [] both count nobody) (Receiver nobody 0 before ∷ []) symbols)
 
 abbrev at_ninth : Symbol → Option (ℕ × List Symbol)
-at_ninth role = shown (answer (known (both ++ more_roles) 0 nobody) (RoleName ∷ []) (role ∷ []))
+at_ninth role = shown (answer (known [] (both ++ more_roles) 0 nobody) (RoleName ∷ []) (role ∷ []))
 
 -- where a receiver is awaited that isn't one of A
 abbrev shared_receiver : ℕ → List ℕ → List Symbol → Option (ℕ × List Symbol)
 shared_receiver sender before symbols =
-    shown (answer (known both 0 nobody) (Receiver (with_role nobody (codes "A")) sender before ∷ []) symbols)
+    shown (answer (known [] both 0 nobody) (Receiver (with_role nobody (codes "A")) sender before ∷ []) symbols)
 
 -- behind a continue
 abbrev at_ended : List Symbol → Option (ℕ × List Symbol)
 at_ended symbols =
     let place = Rest (record { depth = 2; recs = codes "X" ∷ []; comes = 1; ended = true; earlier = nobody }) in
-    shown (answer (known both 0 nobody) (place ∷ []) symbols)
+    shown (answer (known [] both 0 nobody) (place ∷ []) symbols)
 
 -- an answer, the code that it has, and what is left
 abbrev Case : Type 0
@@ -68,11 +67,18 @@ refused : AreRefused (
     -- a ninth role, and a point behind 256
     ∷ (at_ninth (Word (codes "I")), 18, Word (codes "I") ∷ [])
     ∷ (at_receiver 256 [] (b ∷ Is Semicolon ∷ []), 18, b ∷ Is Semicolon ∷ [])
-    -- what waits: a par in another block, a do and a second protocol; no other symbol behind a protocol
+    -- a par in another block and in another protocol; no symbol but global behind a protocol
     ∷ (refusal (text (rec_x (Is Par ∷ []))), 19, Is Par ∷ []) ∷ (refusal (text (in_par (Is Par ∷ []))), 19, Is Par ∷ [])
-    ∷ (refusal (text (Is Do ∷ [])), 19, Is Do ∷ [])
-    ∷ (refusal (text (Is Close ∷ Is Global ∷ [])), 19, Is Global ∷ [])
+    ∷ (refusal (text (message (second (Is Par ∷ [])))), 19, Is Par ∷ [])
     ∷ (refusal (text (Is Close ∷ Is Close ∷ [])), 11, Is Close ∷ [])
+    ∷ (refusal (text (Is Close ∷ Is Global ∷ [])), 11, [])
+    -- a call without arguments, of a role that isn't declared, and of a role twice
+    ∷ (refusal (text (calls (Is Right ∷ []))), 11, Is Right ∷ [])
+    ∷ (refusal (text (calls (c ∷ []))), 13, c ∷ []) ∷ (refusal (text (calls (a ∷ Is Comma ∷ a ∷ []))), 14, a ∷ [])
+    -- a protocol's name for a second time; a role of the first protocol in the second; a continue of the first in the second
+    ∷ (refusal (text (message (Is Close ∷ Is Global ∷ Is Protocol ∷ y ∷ []))), 14, y ∷ [])
+    ∷ (refusal (text (message (second (begins (a ∷ []))))), 13, a ∷ [])
+    ∷ (refusal (text (rec_x (message (Is Close ∷ second (Is Continue ∷ x ∷ []))))), 13, x ∷ [])
     -- code 17 at the word, before its name is read
     ∷ (refusal (text (rec_x (Is Continue ∷ x ∷ []))), 17, Is Continue ∷ x ∷ [])
     ∷ (refusal (text (rec_x (Is Continue ∷ []))), 11, [])
@@ -103,29 +109,22 @@ refused = refl
 abbrev never_left : List Symbol → List Symbol
 never_left next = rec_x (Is Rec ∷ y ∷ Is Open ∷ message (again_x (Is Close ∷ next)))
 
-abbrev four : List (List ℕ)
-four = codes "A" ∷ codes "B" ∷ codes "C" ∷ codes "D" ∷ []
+-- each is taken
+abbrev AreTaken : List Answer → Type 0
+AreTaken answers = map shown answers ≡ map (λ (a : Answer). None) answers
 
--- the roles and the number of points behind what is taken
-abbrev Known : Type 0
-Known = List (List ℕ) × ℕ
-
-abbrev known_behind : Answer → Option Known
-known_behind (Taken state) = Some (state.roles, state.count)
-known_behind (Refuses fault left) = None
-
-abbrev AreTaken : List (Answer × Known) → Type 0
-AreTaken cases = map (λ (c : Answer × Known). known_behind c.0) cases ≡ map (λ (c : Answer × Known). Some c.1) cases
-
+-- A text of one protocol without a call, up to its last brace: it may end there, and other protocols may follow.
 are_taken : AreTaken (
-    (reading (text (message (Is Close ∷ []))), (both, 1))
-    -- behind 255 points there is one more
-    ∷ (answer (known both 255 nobody) (Receiver nobody 0 [] ∷ []) (b ∷ Is Semicolon ∷ []), (both, 256))
+    reading (text (message (Is Close ∷ [])))
     -- what stands behind a body that is never left isn't behind a continue of its own block
-    ∷ (reading (text (never_left (again_x (Is Close ∷ Is Close ∷ [])))), (both, 1))
-    ∷ (reading (text (never_left (message (Is Close ∷ Is Close ∷ [])))), (both, 2))
+    ∷ reading (text (never_left (again_x (Is Close ∷ Is Close ∷ []))))
+    ∷ reading (text (never_left (message (Is Close ∷ Is Close ∷ []))))
     -- a par, and behind it another one that has the roles in other blocks
-    ∷ (reading (text_of_four (in_par (message (beside (of_others (Is Close ∷ in_par (of_others (beside (message (Is Close ∷ Is Close ∷ [])))))))))), (four, 4))
+    ∷ reading (text_of_four (in_par (message (beside (of_others (Is Close ∷ in_par (of_others (beside (message (Is Close ∷ Is Close ∷ []))))))))))
+    -- a second protocol, which has a role of the first one's; calls, of which one guards a continue
+    ∷ reading (text (message (second (Is Close ∷ []))))
+    ∷ reading (text (call (second (calls (b ∷ Is Right ∷ Is Semicolon ∷ Is Close ∷ [])))))
+    ∷ reading (text (rec_x (call (again_x (Is Close ∷ Is Close ∷ [])))))
     ∷ [])
 are_taken = refl
 
@@ -154,14 +153,17 @@ two_receivers = refl
 
 -- ---- texts of each production
 
-abbrev source_with : Written → Source
-source_with w = record { module_name = codes "X"; module_more = []; declared = []; name = codes "Y"; role = codes "A"; other_roles = codes "B" ∷ []; body = w }
+abbrev protocol_with : List (List ℕ) → Written → WrittenProtocol
+protocol_with others w = record { name = codes "Y"; role = codes "A"; other_roles = others; body = w }
 
--- a par of two blocks, of which the second is a do: derived, though a do isn't read yet
+abbrev source_with : List (List ℕ) → Written → Source
+source_with others w = record { module_name = codes "X"; module_more = []; declared = []; first = protocol_with others w; others = [] }
+
+-- a par of two blocks, of which the second is a do
 par_and_do : IsDerived (text (Is Par ∷ Is Open ∷ message (Is Close ∷ Is And ∷ Is Open ∷ Is Do ∷ y ∷ Is Left ∷ a ∷ Is Comma ∷ b ∷ Is Right ∷ Is Semicolon ∷ Is Close ∷ Is Close ∷ [])))
 par_and_do = (
-  source_with (APar (an_x [] [] NoStmt) (ADo (codes "Y") (codes "A") (codes "B" ∷ []) NoStmt) NoBlock NoStmt),
-  (tt, (tt, tt, tt, tt, tt, tt), refl),
+  source_with (codes "B" ∷ []) (APar (an_x [] [] NoStmt) (ADo (codes "Y") (codes "A") (codes "B" ∷ []) NoStmt) NoBlock NoStmt),
+  (tt, ((tt, tt, tt, tt, tt, tt), tt), refl),
 )
 
 abbrev decl_as : List ℕ → List ℕ → Decl
@@ -171,39 +173,63 @@ abbrev three : List (List ℕ)
 three = codes "A" ∷ codes "B" ∷ codes "C" ∷ []
 
 -- a dotted module, both declarations, sorts, two receivers, a choice of two, a recursion with its continue
+abbrev each_written : Written
+each_written =
+    ARec (codes "X") (AChoice (codes "A")
+    (an_x (codes "T" ∷ codes "U" ∷ []) (codes "C" ∷ []) (AContinue (codes "X") NoStmt))
+    (ABlock (an_x [] [] (AMessage (codes "Y") [] (codes "B") (codes "C") [] NoStmt)) NoBlock) NoStmt) NoStmt
+
 abbrev each_production : Source
 each_production =
-    record (source_with (ARec (codes "X") (AChoice (codes "A")
-    (an_x (codes "T" ∷ codes "U" ∷ []) (codes "C" ∷ []) (AContinue (codes "X") NoStmt))
-    (ABlock (an_x [] [] (AMessage (codes "Y") [] (codes "B") (codes "C") [] NoStmt)) NoBlock) NoStmt) NoStmt)) {
+    record (source_with (codes "B" ∷ codes "C" ∷ []) each_written) {
       module_more = codes "Y" ∷ [];
       declared = decl_as (codes "type") (codes "T") ∷ decl_as (codes "data") (codes "U") ∷ [];
-      other_roles = codes "B" ∷ codes "C" ∷ [];
     }
 
-each_is_read : (p : tree.Protocol) × IsRead (spelling each_production) p
-each_is_read =
-    source_read (spelling each_production) each_production (known three 4 (named_by nobody each_production.body)) (omega arith) ((refl, (refl, tt)), (tt, (tt, tt, (tt, tt, tt), tt), tt), refl) refl
+-- The symbols are read as a module.
+abbrev IsReadSo : Source → Type 0
+IsReadSo s = (main : tree.Protocol) × (others : List tree.Protocol) × AreReadAs (spelling s) main others × (length others < 2 ^ 63)
 
-its_tree : tree_of three 0 each_production.body
+each_is_read : IsReadSo each_production
+each_is_read =
+    source_read (spelling each_production) each_production (omega arith) ((refl, (refl, tt)), ((tt, (tt, tt, (tt, tt, tt), tt), tt), tt), refl) refl
+
+its_tree : tree_of three 0 each_written
     ≡ trees.Loop (codes "X") (trees.Choose 0 (trees.Or
     (trees.Single (codes "X") (codes "T" ∷ codes "U" ∷ []) 0 1 1 (trees.Single (codes "X") (codes "T" ∷ codes "U" ∷ []) 0 2 2 (trees.Again (codes "X") trees.End)))
     (trees.Or (trees.Single (codes "X") [] 0 1 3 (trees.Single (codes "Y") [] 1 2 4 trees.End)) trees.NoMore)) trees.End) trees.End
 its_tree = refl
 
 -- a par, with a message behind it
+abbrev beside_written : Written
+beside_written = APar (an_x [] [] NoStmt) (AMessage (codes "Y") [] (codes "C") (codes "D") [] NoStmt) NoBlock
+    (AMessage (codes "Z") [] (codes "B") (codes "C") [] NoStmt)
+
 abbrev beside_each_other : Source
-beside_each_other =
-    record (source_with (APar (an_x [] [] NoStmt) (AMessage (codes "Y") [] (codes "C") (codes "D") [] NoStmt) NoBlock
-    (AMessage (codes "Z") [] (codes "B") (codes "C") [] NoStmt))) {
-      other_roles = codes "B" ∷ codes "C" ∷ codes "D" ∷ [];
-    }
+beside_each_other = source_with (codes "B" ∷ codes "C" ∷ codes "D" ∷ []) beside_written
 
-par_is_read : (p : tree.Protocol) × IsRead (spelling beside_each_other) p
+par_is_read : IsReadSo beside_each_other
 par_is_read =
-    source_read (spelling beside_each_other) beside_each_other (known four 3 (named_by nobody beside_each_other.body)) (omega arith) (tt, (tt, tt, tt, tt, tt, tt), refl) refl
+    source_read (spelling beside_each_other) beside_each_other (omega arith) (tt, ((tt, tt, tt, tt, tt, tt), tt), refl) refl
 
-par_tree : tree_of four 0 beside_each_other.body
+par_tree : tree_of (codes "A" ∷ codes "B" ∷ codes "C" ∷ codes "D" ∷ []) 0 beside_written
     ≡ trees.Parallel (trees.Or (trees.Single (codes "X") [] 0 1 1 trees.End) (trees.Or (trees.Single (codes "Y") [] 2 3 2 trees.End) trees.NoMore))
     (trees.Single (codes "Z") [] 1 2 3 trees.End)
 par_tree = refl
+
+-- Two protocols, of which the first calls the second, with its roles exchanged; the points of each begin anew.
+abbrev half : WrittenProtocol
+half = record { name = codes "Half"; role = codes "C"; other_roles = codes "D" ∷ []; body = AMessage (codes "X") [] (codes "C") (codes "D") [] NoStmt }
+
+abbrev calling : Written
+calling = an_x [] [] (ADo (codes "Half") (codes "B") (codes "A" ∷ []) NoStmt)
+
+abbrev two_protocols : Source
+two_protocols = record (source_with (codes "B" ∷ []) calling) { others = half ∷ [] }
+
+calls_are_read : IsReadSo two_protocols
+calls_are_read = source_read (spelling two_protocols) two_protocols (omega arith) (tt, (tt, (tt, tt)), refl) refl
+
+call_tree : (tree_of both 0 calling ≡ trees.Single (codes "X") [] 0 1 1 (trees.Call (codes "Half") (1 ∷ 0 ∷ []) trees.End))
+    × (tree_of (codes "C" ∷ codes "D" ∷ []) 0 half.body ≡ trees.Single (codes "X") [] 0 1 1 trees.End)
+call_tree = (refl, refl)

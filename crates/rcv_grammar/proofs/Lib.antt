@@ -1,8 +1,17 @@
 pub mod Headings
+pub mod Mentioned
+pub mod Sharing
+pub mod Nesting
 pub mod Canonizing
 pub mod Filling
 pub mod Once
 pub mod Printables
 pub mod Named
+pub mod Counting
+pub mod Formed
+pub mod Entering
+pub mod Rewritten
+pub mod Expansions
 pub mod Answered
+pub mod Short
 pub mod Examples

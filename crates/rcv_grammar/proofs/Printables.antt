@@ -1,9 +1,10 @@
--- A protocol that was read is printable: each of its names stands in the symbols that were read. There a name is a word that
+-- What was read is printable: each of its names stands in the symbols that were read. There a name is a word that
 -- isn't reserved, and what is quoted can stand between quotes.
-use Rattle.std.proofs.Common.{◌≡◌, ℕ, ◌+◌, true, false, List, [], ◌∷◌, length, Option, Some, None, refl, All}
+use Rattle.std.proofs.Common.{◌≡◌, ℕ, ◌+◌, Bool, true, false, List, [], ◌∷◌, ◌++◌, length, Option, Some, None, refl, All}
 use Rattle.std.proofs.lemmas.List.Elements.{All-append, All-cons, All-head, All-nil, All-tail}
+use Rattle.std.specs.List.{AllByRecursion}
 use Rattle.rcv_tree.specs.Words.{IsWord}
-use Rattle.rcv_machine.specs.Words.{Sign, Or, And, Symbol, Is, Word, Text, Number, reserved, sign_or, symbol_by, symbols_of, Written, NoStmt, AMessage, AChoice, ARec, AContinue, APar, ADo, Blocks, NoBlock, ABlock, dotted, names_behind, sort_list, roles_behind, decls, stmts, blocks_behind, AreDecls}
+use Rattle.rcv_machine.specs.Words.{Sign, Or, And, Symbol, Is, Word, Text, Number, reserved, sign_or, symbol_by, symbols_of, Written, NoStmt, AMessage, AChoice, ARec, AContinue, APar, ADo, Blocks, NoBlock, ABlock, dotted, names_behind, sort_list, roles_behind, decls, stmts, blocks_behind, declared, protocols, WrittenProtocol, IsTreeOf, AreTreesOf, AreDecls}
 use Rattle.rcv_machine.specs.Words.{role_at, roles_at, points, points_of, singles, tree_of, trees_of, IsDeclared, Decl, Named, nobody, Place, behind, beside, inside, inside_rec, outermost}
 use Rattle.rcv_tree.specs.declared.protocol.Protocol.{Protocol}
 use Rattle.rcv_model.specs.Text as trees
@@ -14,11 +15,12 @@ use Rattle.rcv_lexer.specs.declared.token.Span.{Span}
 use Rattle.rcv_lexer.specs.declared.token.Token.{Token}
 use Rattle.rcv_lexer.specs.Tokens.{AreTokens, bytes_of, IsQuotable, IsOfKind}
 use Rattle.rcv_lexer.proofs.TokenBytes.{words_are_words}
-use Rattle.rcv_reader.specs.Refusals.{IsRead}
-use Rattle.rcv_grammar.specs.Canonical.{name_at}
-use Rattle.rcv_grammar.specs.Printable.{IsName, AreNames, ArePrintableDecls, IsPrintableBody, ArePrintableBlocks, IsPrintable}
-use Rattle.rcv_machine.proofs.Passing.{named_by, AreTaken, Passes, PassAll, PassBeside}
-use Rattle.rcv_grammar.proofs.Canonizing.{name_of, body_passes, source_taken}
+use Rattle.rcv_reader.specs.Refusals.{AreReadAs}
+use Rattle.rcv_grammar.specs.Canonical.{name_at, names_at}
+use Rattle.rcv_grammar.specs.Printable.{IsName, AreNames, SomeNames, ArePrintableDecls, IsPrintableBody, ArePrintableBlocks, IsPrintable}
+use Rattle.rcv_machine.proofs.Passing.{named_by, AreTaken, AreGiven, Passes, PassAll, PassBeside}
+use Rattle.rcv_grammar.proofs.Headings.{is_later, IsAdmitted, AreAdmitted}
+use Rattle.rcv_grammar.proofs.Canonizing.{name_of, admitted}
 
 -- ---- what tokens say
 
@@ -74,10 +76,10 @@ fine_decls (d ∷ ds) next are (_, (_, (schema, (_, (extern_name, (_, (file, (_,
 
 -- ---- the body
 
-abbrev HasLabel : ℕ × places.SingleMessage → Type 0
+abbrev pub HasLabel : ℕ × places.SingleMessage → Type 0
 HasLabel message = IsWord message.1.label
 
-module _ (roles : List (List ℕ)) where
+module _ (later : Bool) (roles : List (List ℕ)) where
   -- the names that a body says, and its labels
   abbrev IsSaid : trees.Body → Type 0
   IsSaid b = IsPrintableBody roles b × All HasLabel (places.singles b)
@@ -98,8 +100,15 @@ module _ (roles : List (List ℕ)) where
       let more = fine_singles earlier label sorts sender rs (n + 1) _ rest l ss from may.5 names.1 h in
       ((l, ss, from, role_name r may.0 names.0, more.0), All-cons HasLabel _ _ l.0 more.1)
 
+  -- the arguments of a call
+  fine_places : (earlier : Named) (before : List ℕ) (rs : List (List ℕ)) → AreGiven roles earlier before rs → AreNames rs
+      → AreNames (names_at roles (roles_at roles rs))
+  fine_places earlier before [] h names = tt
+  fine_places earlier before (r ∷ rs) h names =
+      (role_name r h.0 names.0, fine_places earlier (before ++ role_at roles r ∷ []) rs h.3 names.1)
+
   mutual
-    fine_body : (n : ℕ) (p : Place) (w : Written) (next : List Symbol) → Passes roles n p w → AreFine (stmts w next)
+    fine_body : (n : ℕ) (p : Place) (w : Written) (next : List Symbol) → Passes later roles n p w → AreFine (stmts w next)
         → IsSaid (tree_of roles n w) × AreFine next
     fine_body n p NoStmt next h f = ((tt, All-nil HasLabel), f)
     fine_body n p (AMessage label sorts sender receiver others rest) next h f =
@@ -129,9 +138,13 @@ module _ (roles : List (List ℕ)) where
         let more = fine_body (n + (points first + (points second + points_of others))) (behind p false) rest next h.3 blocks.1 in
         let labels = All-append HasLabel _ _ (All-append HasLabel _ _ block.0.1 (All-append HasLabel _ _ next_block.0.1 blocks.0.1)) more.0.1 in
         ((((block.0.0, (next_block.0.0, blocks.0.0)), more.0.0), labels), more.1)
-    fine_body n p (ADo x r rs rest) next h f = absurd h
+    fine_body n p (ADo x r rs rest) next h f =
+        let others = (fine_names rs _).0 f.1.1.1.1 in
+        let more = fine_body n (behind p false) rest next h.2 others.1.1.1 in
+        let places = fine_places p.earlier [] (r ∷ rs) h.1 (f.1.1.1.0, others.0) in
+        (((f.1.0, places, more.0.0), more.0.1), more.1)
 
-    fine_blocks : (n : ℕ) (p : Place) (bs : Blocks) (next : List Symbol) → PassAll roles n p bs
+    fine_blocks : (n : ℕ) (p : Place) (bs : Blocks) (next : List Symbol) → PassAll later roles n p bs
         → AreFine (blocks_behind Or bs next) → AreSaid (trees_of roles n bs) × AreFine next
     fine_blocks n p NoBlock next h f = ((tt, All-nil HasLabel), f)
     fine_blocks n p (ABlock first others) next h f =
@@ -139,7 +152,7 @@ module _ (roles : List (List ℕ)) where
         let blocks = fine_blocks (n + points first) p others next h.2 block.1.1 in
         (((block.0.0, blocks.0.0), All-append HasLabel _ _ block.0.1 blocks.0.1), blocks.1)
 
-    fine_beside : (n : ℕ) (p : Place) (since : Named) (bs : Blocks) (next : List Symbol) → PassBeside roles n p since bs
+    fine_beside : (n : ℕ) (p : Place) (since : Named) (bs : Blocks) (next : List Symbol) → PassBeside later roles n p since bs
         → AreFine (blocks_behind And bs next) → AreSaid (trees_of roles n bs) × AreFine next
     fine_beside n p since NoBlock next h f = ((tt, All-nil HasLabel), f)
     fine_beside n p since (ABlock first others) next h f =
@@ -147,33 +160,59 @@ module _ (roles : List (List ℕ)) where
         let blocks = fine_beside (n + points first) p (named_by since first) others next h.2 block.1.1 in
         (((block.0.0, blocks.0.0), All-append HasLabel _ _ block.0.1 blocks.0.1), blocks.1)
 
--- ---- the whole protocol
+-- ---- the protocols
 
--- It is printable, and its labels are words.
-pub read_is_named : (bundle : List ℕ) (part : Span) (tokens : List Token) (p : Protocol) → AreTokens bundle part tokens
-    → IsRead (symbols_of bundle tokens) p → IsPrintable p × All HasLabel (places.singles (trees.body_of p.body))
-read_is_named bundle part tokens p are read =
-    let r = read.1 in
-    let s = r.source in
-    let taken = source_taken (symbols_of bundle tokens) p read in
-    let passes = body_passes s taken.0 r.spelled.1 taken.1 in
-    let h = rw r.spelled.2 at (tokens_fine bundle tokens (words_are_words bundle part tokens are)) in
-    let modules = (fine_names s.module_more _).1 h.1.1 in
-    let declared = fine_decls s.declared _ r.spelled.0 modules.1.1 in
-    let called = declared.1.1.1 in
-    let first = called.1.1.1 in
-    let others = (fine_names s.other_roles _).2 first.1 in
-    let body = fine_body (s.role ∷ s.other_roles) 0 outermost s.body _ passes others.1.1.1 in (
-      record {
-        modules = rw r.modules (h.1.0, modules.0);
-        declared = rw r.declared declared.0;
-        named = rw r.named called.0;
-        role_names = rw r.role_names (first.0, others.0);
-        body = rw (r.tree, r.role_names) body.0.0;
-      },
-      rw (r.tree, r.role_names) body.0.1,
+-- Each name that stands before the body of a protocol is one; it can be printed, and its labels are words.
+abbrev pub IsSaidSo : Protocol → Type 0
+IsSaidSo p = IsName p.name × SomeNames p.roles × IsPrintableBody p.roles (trees.body_of p.body) × All HasLabel (places.singles (trees.body_of p.body))
+
+protocol_said : (names : List (List ℕ)) (w : WrittenProtocol) (p : Protocol) (next : List Symbol) → IsAdmitted names w → IsTreeOf w p
+    → AreFine (declared w next) → IsSaidSo p × AreFine next
+protocol_said names w p next is tree h =
+    let first = h.1.1.1 in
+    let others = (fine_names w.other_roles _).2 first.1 in
+    let body = fine_body (is_later names w) (w.role ∷ w.other_roles) 0 outermost w.body _ is.passes others.1.1.1 in (
+      (
+        rw tree.named h.0,
+        rw tree.role_names (first.0, others.0),
+        rw (tree.tree, tree.role_names) body.0.0,
+        rw (tree.tree, tree.role_names) body.0.1,
+      ),
+      body.1.1,
     )
 
-pub read_is_printable : (bundle : List ℕ) (part : Span) (tokens : List Token) (p : Protocol)
-    → AreTokens bundle part tokens → IsRead (symbols_of bundle tokens) p → IsPrintable p
-read_is_printable bundle part tokens p are read = (read_is_named bundle part tokens p are read).0
+protocols_said : (names : List (List ℕ)) (ws : List WrittenProtocol) (ps : List Protocol) → AreAdmitted names ws → AreTreesOf ws ps
+    → AreFine (protocols ws []) → AllByRecursion IsSaidSo ps
+protocols_said names [] [] are trees h = tt
+protocols_said names [] (p ∷ ps) are trees h = absurd trees
+protocols_said names (w ∷ ws) [] are trees h = absurd trees
+protocols_said names (w ∷ ws) (p ∷ ps) are trees h =
+    let one = protocol_said names w p (protocols ws []) are.0 trees.0 h.1.1 in
+    (one.0, protocols_said (names ++ w.name ∷ []) ws ps are.1 trees.3 one.1)
+
+-- The first one is printable as a module of its own; and the labels of all are words.
+pub read_is_named : (bundle : List ℕ) (part : Span) (tokens : List Token) (main : Protocol) (others : List Protocol)
+    → AreTokens bundle part tokens → AreReadAs (symbols_of bundle tokens) main others
+    → IsPrintable main × All HasLabel (places.singles (trees.body_of main.body)) × AllByRecursion IsSaidSo others
+read_is_named bundle part tokens main others are read =
+    let r = read.1 in
+    let s = r.source in
+    let all = admitted (symbols_of bundle tokens) main others read in
+    let h = rw r.spelled.2 at (tokens_fine bundle tokens (words_are_words bundle part tokens are)) in
+    let modules = (fine_names s.module_more _).1 h.1.1 in
+    let decls = fine_decls s.declared _ r.spelled.0 modules.1.1 in
+    let first = protocol_said [] s.first main (protocols s.others []) all.0 r.first decls.1.1.1 in (
+      record {
+        modules = rw r.modules (h.1.0, modules.0);
+        declared = rw r.declared decls.0;
+        named = first.0.0;
+        role_names = first.0.1;
+        body = first.0.2;
+      },
+      first.0.3,
+      protocols_said (s.first.name ∷ []) s.others others all.1 r.more first.1,
+    )
+
+pub read_is_printable : (bundle : List ℕ) (part : Span) (tokens : List Token) (main : Protocol) (others : List Protocol)
+    → AreTokens bundle part tokens → AreReadAs (symbols_of bundle tokens) main others → IsPrintable main
+read_is_printable bundle part tokens main others are read = (read_is_named bundle part tokens main others are read).0

@@ -1,7 +1,9 @@
 -- An input is taken, or it has its first refusal.
-use Rattle.std.proofs.Common.{◌≡◌, ℕ, zero, suc, ◌^◌, ◌<◌, List, [], ◌∷◌, length, refl, arith, ◌⊎◌, inl, inr, ⊎_elim}
+use Rattle.std.proofs.Common.{◌≡◌, ℕ, zero, suc, ◌^◌, ◌<◌, List, [], ◌∷◌, length, refl, subst, arith, ◌⊎◌, inl, inr, ⊎_elim}
 use Rattle.std.specs.Prelude.{Some, slice_get}
+use Rattle.rcv_tree.specs.declared.module.Module.{Module}
 use Rattle.rcv_tree.specs.declared.protocol.Protocol.{Protocol}
+use Rattle.rcv_tree.specs.declared.refusal.Refusal.{Refusal}
 use Rattle.rcv_model.specs.Text.{body_of}
 use Rattle.rcv_model.specs.Script as model
 use Rattle.rcv_model.specs.Form.{HasForm}
@@ -10,7 +12,10 @@ use Rattle.rcv_model.proofs.LeastRefusal.{accepted_or_refused}
 use Rattle.rcv_lexer.specs.declared.token.Token.{Token}
 use Rattle.rcv_lexer.specs.Parts.{parts_of}
 use Rattle.rcv_lexer.specs.Tokens.{line_at}
-use Rattle.rcv_syntax.specs.Symbols as protocols
+use Rattle.rcv_module.specs.Answers as modules
+use Rattle.rcv_module.specs.Refusing.{code_of}
+use Rattle.rcv_module.proofs.Answering.{modules_have_answers}
+use Rattle.rcv_reader.specs.Refusals.{IsRead}
 use Rattle.rcv_script.specs.Scripts.{messages_of}
 use Rattle.rcv_script.specs.Symbols as scripts
 use Rattle.rcv_script.specs.Refusals as scripting
@@ -22,15 +27,15 @@ use Rattle.rcv_plan.specs.Laws.{IsAnswered}
 use Rattle.rcv_plan.proofs.Once.{plans_have_one_answer}
 use Rattle.rcv_grammar.specs.Laws.{IsReadPart, HasRefusal}
 use Rattle.rcv_grammar.proofs.Answered.{parts_have_one_answer}
-use Rattle.rcv_grammar.proofs.Filling.{read_texts_are_full}
-use Rattle.rcv_grammar.proofs.Named.{read_texts_have_names}
+use Rattle.rcv_grammar.proofs.Formed.{read_modules_have_form}
+use Rattle.rcv_grammar.proofs.Short.{read_modules_are_short}
 use Rattle.rcv_lexer.proofs.Once.{one_reading}
 use Rattle.rcv_input.specs.declared.refused.Refused.TheVariants.{Line, Rule}
-use Rattle.rcv_input.specs.Input.{AreScriptTokens, ArePlanTokens, IsProtocolOf, IsAcceptedOf, AreScriptsOf}
-use Rattle.rcv_input.specs.Refusals.{letter, unread, ruled_out, script_letter, unscripted, plan_letter, unplanned}
+use Rattle.rcv_input.specs.Input.{AreProtocolTokens, AreScriptTokens, ArePlanTokens, IsProtocolOf, IsAcceptedOf, AreScriptsOf}
+use Rattle.rcv_input.specs.Refusals.{letter, unread, uncallable, ruled_out, script_letter, unscripted, plan_letter, unplanned}
 use Rattle.rcv_input.specs.Laws.{HasAnswer}
 use Rattle.rcv_input.proofs.Declared.{refused_role_declared}
-use Rattle.rcv_input.proofs.Formed.{read_has_form}
+use Rattle.rcv_input.proofs.Formed.{has_form, is_full, has_names}
 
 -- ---- the plan, the scripts, the protocol
 
@@ -67,22 +72,32 @@ get_some (name ∷ names) (suc r) below = get_some names r (omega (arith, below)
 
 by_acceptance : (input : List ℕ) (p : Protocol) → IsProtocolOf input p → HasAnswer input
 by_acceptance input p text = ⊎_elim
-    (λ fine. by_scripts input p (record { text = text; accepted = record { form = form; full = read_texts_are_full (protocols.symbols_of input text.tokens) p text.read; accepted = fine.0; subjects = fine.1; names = read_texts_have_names input (parts_of input).protocol text.tokens p text.cut text.read } }))
+    (λ fine. by_scripts input p (record { text = text; accepted = record { form = form; full = is_full input p text; accepted = fine.0; subjects = fine.1; names = has_names input p text } }))
     (λ bad. by_rule bad.0 bad.1 bad.2 bad.3)
     (accepted_or_refused (body_of p.body) (length p.roles) form)
   where
     form : HasForm (body_of p.body) (length p.roles)
-    form = read_has_form (protocols.symbols_of input text.tokens) p text.read
+    form = has_form input p text
 
     by_rule : (code role number : ℕ) → IsRefusal (body_of p.body) (length p.roles) code role number → HasAnswer input
     by_rule code role number refusal =
         let named = get_some p.roles role (refused_role_declared (body_of p.body) (length p.roles) code role number form refusal) in
         inr (Rule code named.0 number, ruled_out p code role number named.0 text refusal named.1)
 
-by_part : (input : List ℕ) → IsReadPart input (parts_of input).protocol ⊎ HasRefusal input (parts_of input).protocol (line_at input (parts_of input).protocol.end) → HasAnswer input
-by_part input (inl h) = by_acceptance input h.1 (record { tokens = h.0; cut = h.2; read = h.3 })
-by_part input (inr (code, line, inl bad)) = inr (Line 10 line, letter line bad.1)
-by_part input (inr (code, line, inr bad)) = inr (Line code line, unread bad.0 code line bad.1 bad.2)
+by_call : (input : List ℕ) (tokens : List Token) (m : Module) → AreProtocolTokens input tokens → IsRead input tokens m
+    → (r : Refusal) → modules.IsRefused m r → HasAnswer input
+by_call input tokens m cut read r refused = inr (Line (code_of refused.fault) refused.line, uncallable tokens m (code_of refused.fault) refused.line cut read (subst (modules.IsRefused m) refused.said refused))
+
+by_module : (input : List ℕ) (tokens : List Token) (m : Module) → length input < 2 ^ 63 → AreProtocolTokens input tokens → IsRead input tokens m → HasAnswer input
+by_module input tokens m short cut read = ⊎_elim
+    (λ fine. by_acceptance input fine.0 (record { tokens = tokens; whole = m; cut = cut; read = read; expanded = fine.1 }))
+    (λ bad. by_call input tokens m cut read bad.0 bad.1)
+    (modules_have_answers m (read_modules_have_form input (parts_of input).protocol tokens m cut read) (read_modules_are_short input (parts_of input).protocol tokens m short cut read))
+
+by_part : (input : List ℕ) → length input < 2 ^ 63 → IsReadPart input (parts_of input).protocol ⊎ HasRefusal input (parts_of input).protocol (line_at input (parts_of input).protocol.end) → HasAnswer input
+by_part input short (inl h) = by_module input h.0 h.1 short h.2 h.3
+by_part input short (inr (code, line, inl bad)) = inr (Line 10 line, letter line bad.1)
+by_part input short (inr (code, line, inr bad)) = inr (Line code line, unread bad.0 code line bad.1 bad.2)
 
 pub answered : (input : List ℕ) → length input < 2 ^ 63 → HasAnswer input
-answered input short = by_part input (parts_have_one_answer.some input (parts_of input).protocol (line_at input (parts_of input).protocol.end) short)
+answered input short = by_part input short (parts_have_one_answer.some input (parts_of input).protocol (line_at input (parts_of input).protocol.end) short)

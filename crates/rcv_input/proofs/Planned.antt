@@ -35,8 +35,10 @@ is_accepted : (plan : List ℕ) → IsAcceptedOf (with_plan plan) protocol
 is_accepted plan = record {
   text = record {
     tokens = tokens_of (with_plan plan) 0 pieces;
+    whole = worked.alone protocol;
     cut = (pieces, cuts 40 (codes "module m;global protocol P(role A,role B){p()from A to B;}\n") pieces refl, refl);
-    read = worked.is_read;
+    read = (worked.is_read, refl);
+    expanded = worked.expanded;
   };
   accepted = worked.taken.protocol.accepted;
 }

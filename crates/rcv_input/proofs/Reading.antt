@@ -1,9 +1,15 @@
 -- What each step of reading an input says of it.
 use Rattle.std.proofs.Common.{◌≡◌, ℕ, ◌<◌, refl, List, length, sym, ap, subst, ◌∙◌}
 use Rattle.std.specs.Prelude.{Result, Ok, Err, MatchResult, IfOk}
+use Rattle.rcv_tree.specs.declared.module.Module.{Module}
 use Rattle.rcv_tree.specs.declared.protocol.Protocol.{Protocol}
 use Rattle.rcv_tree.specs.declared.refusal.Refusal.TheVariants as refusals
 use Rattle.rcv_model.specs.Text.{body_of}
+use Rattle.rcv_module.specs.declared.origin.Origins.{Origins}
+use Rattle.rcv_module.specs.Answers as answers
+use Rattle.rcv_module.specs.Origins.{AreOriginsOf}
+use Rattle.rcv_module.specs.Refusing as modules
+use Rattle.rcv_do.specs.Faults.{FailsBy}
 use Rattle.rcv_lexer.specs.declared.token.Span.{Span}
 use Rattle.rcv_lexer.specs.declared.token.Token.{Token}
 use Rattle.rcv_lexer.specs.declared.token.TextError.{TextError}
@@ -22,15 +28,15 @@ use Rattle.rcv_script.specs.Scripts.{ScriptsView}
 use Rattle.rcv_plan.specs.Symbols as plans
 use Rattle.rcv_plan.specs.Refusing as planning
 use Rattle.rcv_model.specs.Script as model
-use Rattle.rcv_input.specs.Input.{IsProtocolOf, IsAcceptedOf, AreScriptsOf, IsPlanOf}
+use Rattle.rcv_input.specs.Input.{IsProtocolOf, AreOriginsIn, IsAcceptedOf, AreScriptsOf, IsPlanOf}
 use Rattle.rcv_input.specs.declared.refused.Refused.TheVariants as refused
 use Rattle.rcv_input.specs.declared.refused.Refused.TheVariants.{Rule, NoRole}
 use Rattle.rcv_input.specs.declared.refused.InputError.{InputError}
 use Rattle.rcv_input.specs.declared.refused.InputError.TheVariants as causes
-use Rattle.rcv_input.specs.Refusals.{letter, unread, ruled_out, script_letter, unscripted, plan_letter, unplanned, IsRefused, IsUnread, IsUnscripted, IsUnplanned, IsRule, IsRuledOut}
+use Rattle.rcv_input.specs.Refusals.{letter, unread, uncallable, ruled_out, script_letter, unscripted, plan_letter, unplanned, IsRefused, IsUnread, IsUnscripted, IsUnplanned, IsRule, IsRuledOut}
 use Rattle.rcv_tree.specs.declared.refusal.Refusal.{Refusal}
 use Rattle.rcv_model.specs.Form.{HasForm}
-use Rattle.rcv_accept.specs.Accepted.{IsAcceptedProtocol, IsRefusedBy}
+use Rattle.rcv_accept.specs.Accepted.{IsRefusedBy}
 use Rattle.rcv_input.proofs.Declared.{refused_role_declared}
 
 pub by_letter : (input : List ℕ) (e : TextError) → lexer.IsRefused input (parts_of input).protocol e → IsUnread input e
@@ -70,10 +76,17 @@ by_plan input p tokens (errors.Refused r) part last is end cut h = (planning.cod
     line = plans.line_before tokens last (length h.1)
 
 -- what the readers answer
-pub text_read : (input : List ℕ) (tokens : List Token) (part : Span) (last : ℕ) (result : Result Protocol TextError) → part ≡ (parts_of input).protocol → last ≡ line_at input part.end → AreTokens input part tokens
-    → MatchResult result (reader.IsRead (protocols.symbols_of input tokens)) (reader.IsRefused input tokens last) → MatchResult result (IsProtocolOf input) (IsUnread input)
-text_read input tokens part last (Ok p) is end cut h = record { tokens = tokens; cut = subst (λ (s : Span). AreTokens input s tokens) is cut; read = h }
-text_read input tokens part last (Err e) is end cut h = by_reader input tokens e part last is end cut h
+pub by_call : (input : List ℕ) (tokens : List Token) (m : Module) (e : TextError) (part : Span) → part ≡ (parts_of input).protocol → AreTokens input part tokens → reader.IsRead input tokens m → FailsBy m e → IsUnread input e
+by_call input tokens m errors.Memory part is cut read h = tt
+by_call input tokens m (errors.Refused r) part is cut read h = (modules.code_of h.fault, h.line, h.said, uncallable tokens m (modules.code_of h.fault) h.line (subst (λ (p : Span). AreTokens input p tokens) is cut) read (subst (answers.IsRefused m) h.said h))
+
+pub text_read : (input : List ℕ) (tokens : List Token) (m : Module) (p : Protocol) (part : Span) → part ≡ (parts_of input).protocol → AreTokens input part tokens → reader.IsRead input tokens m → answers.IsExpanded m p → IsProtocolOf input p
+text_read input tokens m p part is cut read expanded =
+    record { tokens = tokens; whole = m; cut = subst (λ (s : Span). AreTokens input s tokens) is cut; read = read; expanded = expanded }
+
+pub origins_read : (input : List ℕ) (tokens : List Token) (m : Module) (os : Origins) (part : Span) → part ≡ (parts_of input).protocol → AreTokens input part tokens → reader.IsRead input tokens m → AreOriginsOf m os → AreOriginsIn input os
+origins_read input tokens m os part is cut read origins =
+    record { tokens = tokens; whole = m; cut = subst (λ (s : Span). AreTokens input s tokens) is cut; read = read; origins = origins }
 
 pub scripts_read : (input : List ℕ) (p : Protocol) (tokens : List Token) (part : Span) (last : ℕ) (result : Result ScriptsView TextError) → part ≡ (parts_of input).scripts → last ≡ line_at input part.end → AreTokens input part tokens
     → MatchResult result (own.AreScriptsOf p (scripts.symbols_of input tokens)) (own.AreRefusedFor input tokens last p) → MatchResult result (λ s. AreScriptsOf input p s.lines) (IsUnscripted input p)

@@ -17,21 +17,22 @@ use Rattle.rcv_model.specs.Net.{IsIn}
 use Rattle.rcv_model.specs.Places.{branch, single}
 use Rattle.rcv_model.specs.Accept.{choices, IsFirstOf, Fails, subject, mixed, senders, labels, not_enabled, maybe_done, unreachable, lane_end, IsNotAfter, IsRefusal}
 use Rattle.rcv_model.proofs.PlacesLemmas.{offers_complete}
+use Rattle.rcv_module.specs.Answers.{IsExpanded}
 use Rattle.rcv_lexer.specs.declared.piece.Piece.{Piece}
 use Rattle.rcv_lexer.specs.declared.token.Token.{Token}
 use Rattle.rcv_lexer.specs.Tokens.{tokens_of}
 use Rattle.rcv_syntax.specs.Symbols.{Symbol, symbols_of}
 use Rattle.rcv_syntax.specs.Grammar.{NoStmt, AMessage, AChoice, NoBlock, Source}
-use Rattle.rcv_machine.specs.Machine.{known, nobody, with_role}
-use Rattle.rcv_reader.specs.Refusals.{IsRead}
+use Rattle.rcv_reader.specs.Refusals.{AreReadAs}
 use Rattle.rcv_reader.proofs.Answering.{read_of}
 use Rattle.rcv_input.specs.declared.refused.Refused.TheVariants.{Rule}
-use Rattle.rcv_input.specs.Input.{AreProtocolTokens}
+use Rattle.rcv_input.specs.Input.{AreProtocolTokens, IsProtocolOf}
 use Rattle.rcv_input.specs.Line.{refusal_line}
 use Rattle.rcv_input.specs.Refusals.{IsFirstRefusal, ruled_out}
 use Rattle.rcv_input.proofs.Cutting.{cuts}
 use Rattle.rcv_input.proofs.Once.{one_answer}
-use Rattle.rcv_input.proofs.Worked.{word, sign, space, both, no_decl, one_stmt}
+use Rattle.rcv_input.proofs.Alone.{own_expansion}
+use Rattle.rcv_input.proofs.Worked.{word, sign, space, both, no_decl, one_stmt, alone}
 
 -- B has to choose, but A sends first
 abbrev input : List ℕ
@@ -58,10 +59,8 @@ source = record {
   module_name = codes "m";
   module_more = [];
   declared = [];
-  name = codes "P";
-  role = codes "A";
-  other_roles = codes "B" ∷ [];
-  body = AChoice (codes "B") (AMessage (codes "p") [] (codes "A") (codes "B") [] NoStmt) NoBlock NoStmt;
+  first = record { name = codes "P"; role = codes "A"; other_roles = codes "B" ∷ []; body = AChoice (codes "B") (AMessage (codes "p") [] (codes "A") (codes "B") [] NoStmt) NoBlock NoStmt };
+  others = [];
 }
 
 -- ---- its tree
@@ -125,21 +124,24 @@ its_body =
     ∙ stmt_body-Choice 1 branches End
     ∙ ap (λ bs. Choose 1 bs End) its_branches
 
-is_read : IsRead symbols protocol
-is_read = read_of symbols protocol (
-  known both 1 (with_role (with_role (with_role nobody (codes "B")) (codes "A")) (codes "B")),
+is_read : AreReadAs symbols protocol []
+is_read = read_of symbols protocol [] (
   refl,
   record {
     source = source;
-    spelled = (tt, (tt, tt, tt, tt), refl);
+    spelled = (tt, ((tt, tt, tt, tt), tt), refl);
     modules = refl;
     declared = refl;
-    named = refl;
-    role_names = refl;
-    fit = ((1, refl), ((0, refl), ((1, refl), refl, refl, tt), tt), tt, tt);
-    tree = its_body;
+    first = record { named = refl; role_names = refl; fit = ((1, refl), ((0, refl), ((1, refl), refl, refl, tt), tt), tt, tt); tree = its_body };
+    more = tt;
   },
 )
+
+expanded : IsExpanded (alone protocol) protocol
+expanded = own_expansion (alone protocol) body refl its_body ((λ n. n, tt, tt), tt) (refl, tt)
+
+text : IsProtocolOf input protocol
+text = record { tokens = tokens; whole = alone protocol; cut = cut; read = (is_read, refl); expanded = expanded }
 
 -- ---- its refusal
 
@@ -170,7 +172,7 @@ refusal : IsRefusal (body_of protocol.body) (length protocol.roles) 20 1 1
 refusal = subst (λ (b : Body). IsRefusal b 2 20 1 1) (sym its_body) (record { fails = wrong_subject; least = λ d q m fails. none_before fails })
 
 is_refused : IsFirstRefusal input (Rule 20 (codes "B") 1)
-is_refused = ruled_out protocol 20 1 1 (codes "B") (record { tokens = tokens; cut = cut; read = is_read }) refusal refl
+is_refused = ruled_out protocol 20 1 1 (codes "B") text refusal refl
 
 -- its name is a word, as the law says
 is_named : IsWord (codes "B")

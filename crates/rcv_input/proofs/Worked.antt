@@ -8,6 +8,7 @@ use Rattle.rcv_tree.specs.declared.statement.Stmt.TheOpen.{Block-F}
 use Rattle.rcv_tree.specs.declared.statement.Stmt.TheViews.{roll-Block, out-roll-Block}
 use Rattle.rcv_tree.specs.declared.statement.Block.{Block}
 use Rattle.rcv_tree.specs.declared.statement.Blocks.{Blocks}
+use Rattle.rcv_tree.specs.declared.module.Module.{Module}
 use Rattle.rcv_tree.specs.declared.protocol.Decl.{Decl}
 use Rattle.rcv_tree.specs.declared.protocol.Protocol.{Protocol}
 use Rattle.rcv_model.specs.Text.{Body, End, Single, stmt_body, body_of, joined}
@@ -18,26 +19,24 @@ use Rattle.rcv_model.specs.Next.{IsAccepted}
 use Rattle.rcv_model.specs.Accept.{HasSubjects}
 use Rattle.rcv_model.specs.Form.{HasForm}
 use Rattle.rcv_model.proofs.PlainNets.{plain_accepted}
+use Rattle.rcv_module.specs.Answers.{IsExpanded}
 use Rattle.rcv_session.specs.Session.{SessionView}
 use Rattle.rcv_lexer.specs.declared.piece.Piece.{Piece}
 use Rattle.rcv_lexer.specs.declared.token.Kind.TheVariants.{Word, Mark}
 use Rattle.rcv_lexer.specs.declared.token.Token.{Token}
-use Rattle.rcv_lexer.specs.Parts.{parts_of}
 use Rattle.rcv_lexer.specs.Tokens.{tokens_of}
 use Rattle.rcv_syntax.specs.Symbols.{Symbol, symbols_of}
 use Rattle.rcv_syntax.specs.Grammar.{NoStmt, AMessage, Source}
-use Rattle.rcv_machine.specs.Machine.{known, nobody, with_role}
-use Rattle.rcv_reader.specs.Refusals.{IsRead}
+use Rattle.rcv_reader.specs.Refusals.{AreReadAs}
 use Rattle.rcv_reader.proofs.Answering.{read_of}
-use Rattle.rcv_grammar.proofs.Filling.{read_texts_are_full}
-use Rattle.rcv_grammar.proofs.Named.{read_texts_have_names}
 use Rattle.rcv_script.specs.Meaning.{no_lines}
 use Rattle.rcv_script.specs.Scripts.{messages_of}
 use Rattle.rcv_script.proofs.Answering.{none_read as no_scripts_read}
 use Rattle.rcv_plan.proofs.Answered.{none_read}
-use Rattle.rcv_input.specs.Input.{AreProtocolTokens, IsTaken}
+use Rattle.rcv_input.specs.Input.{AreProtocolTokens, IsProtocolOf, IsTaken}
 use Rattle.rcv_input.proofs.Cutting.{cuts}
-use Rattle.rcv_input.proofs.Formed.{read_has_form}
+use Rattle.rcv_input.proofs.Alone.{own_expansion}
+use Rattle.rcv_input.proofs.Formed.{has_form, is_full, has_names}
 
 abbrev pub input : List ℕ
 input = codes "module m;global protocol P(role A,role B){p()from A to B;}"
@@ -74,10 +73,8 @@ source = record {
   module_name = codes "m";
   module_more = [];
   declared = [];
-  name = codes "P";
-  role = codes "A";
-  other_roles = codes "B" ∷ [];
-  body = AMessage (codes "p") [] (codes "A") (codes "B") [] NoStmt;
+  first = record { name = codes "P"; role = codes "A"; other_roles = codes "B" ∷ []; body = AMessage (codes "p") [] (codes "A") (codes "B") [] NoStmt };
+  others = [];
 }
 
 abbrev pub no_decl : Vec Decl
@@ -112,24 +109,34 @@ its_body =
     ∙ ap (λ (b : Block-F Stmt Block Blocks). joined (map stmt_body b.items.items)) (out-roll-Block (record { items = one_stmt }))
     ∙ stmt_body-Message (codes "p") [] 0 1 1 End
 
-pub is_read : IsRead symbols protocol
-is_read = read_of symbols protocol (
-  known both 1 (with_role (with_role nobody (codes "A")) (codes "B")),
+pub is_read : AreReadAs symbols protocol []
+is_read = read_of symbols protocol [] (
   refl,
   record {
     source = source;
-    spelled = (tt, tt, refl);
+    spelled = (tt, (tt, tt), refl);
     modules = refl;
     declared = refl;
-    named = refl;
-    role_names = refl;
-    fit = ((0, refl), ((1, refl), refl, refl, tt), tt);
-    tree = its_body;
+    first = record { named = refl; role_names = refl; fit = ((0, refl), ((1, refl), refl, refl, tt), tt); tree = its_body };
+    more = tt;
   },
 )
 
+abbrev pub no_protocol : Vec Protocol
+no_protocol = record { items = []; ptr = null_ptr; len = 0; cap = 0; alloc = record { memory = record { seal = tt } }; ok = (refl, omega arith); small = omega arith }
+
+-- a module of it alone, without calls
+abbrev pub alone : Protocol → Module
+alone p = record { main = p; others = record { items = no_protocol }; dos = [] }
+
+pub expanded : IsExpanded (alone protocol) protocol
+expanded = own_expansion (alone protocol) one refl its_body tt (refl, tt)
+
+pub text : IsProtocolOf input protocol
+text = record { tokens = tokens; whole = alone protocol; cut = cut; read = (is_read, refl); expanded = expanded }
+
 form : HasForm (body_of protocol.body) (length protocol.roles)
-form = read_has_form symbols protocol is_read
+form = has_form input protocol text
 
 fine : IsAccepted (net_of (body_of protocol.body)) (length protocol.roles) × HasSubjects (body_of protocol.body)
 fine = plain_accepted (body_of protocol.body) (length protocol.roles) (subst IsPlain (sym its_body) tt) form
@@ -140,11 +147,11 @@ session = record { protocol = protocol; scripts = no_lines protocol.roles; plan 
 pub taken : IsTaken input session
 taken = record {
   protocol = record {
-    text = record { tokens = tokens; cut = cut; read = is_read };
+    text = text;
     accepted = record {
       form = form;
-      full = read_texts_are_full symbols protocol is_read;
-      names = read_texts_have_names input (parts_of input).protocol tokens protocol cut is_read;
+      full = is_full input protocol text;
+      names = has_names input protocol text;
       accepted = fine.0;
       subjects = fine.1;
     };

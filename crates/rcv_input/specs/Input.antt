@@ -1,13 +1,16 @@
 -- What an input is: an accepted protocol with the scripts of its roles and a plan.
 use Rattle.std.specs.Prelude.{ℕ, List}
+use Rattle.rcv_tree.specs.declared.module.Module.{Module}
 use Rattle.rcv_tree.specs.declared.protocol.Protocol.{Protocol}
 use Rattle.rcv_model.specs.Script.{Line}
 use Rattle.rcv_model.specs.Plan.{PlanLine}
+use Rattle.rcv_module.specs.declared.origin.Origins.{Origins}
+use Rattle.rcv_module.specs.Answers.{IsExpanded}
+use Rattle.rcv_module.specs.Origins.{AreOriginsOf}
 use Rattle.rcv_session.specs.Session.{SessionView}
 use Rattle.rcv_lexer.specs.declared.token.Token.{Token}
 use Rattle.rcv_lexer.specs.Parts.{parts_of}
 use Rattle.rcv_lexer.specs.Tokens.{AreTokens}
-use Rattle.rcv_syntax.specs.Symbols as protocols
 use Rattle.rcv_reader.specs.Refusals as reader
 use Rattle.rcv_accept.specs.Accepted.{IsAcceptedProtocol}
 use Rattle.rcv_script.specs.Symbols as scripts
@@ -26,11 +29,21 @@ AreScriptTokens input tokens = AreTokens input (parts_of input).scripts tokens
 abbrev pub ArePlanTokens : List ℕ → List Token → Type 0
 ArePlanTokens input tokens = AreTokens input (parts_of input).plan tokens
 
--- The input's text is this protocol: the tokens of its protocol part are read as it.
+-- The input's text is this protocol: the tokens of its protocol part are read as a module, of which it is the expansion.
 pub record IsProtocolOf (input : List ℕ) (p : Protocol) : Type 0 where
   pub tokens : List Token
+  pub whole : Module
   pub cut : AreProtocolTokens input tokens
-  pub read : reader.IsRead (protocols.symbols_of input tokens) p
+  pub read : reader.IsRead input tokens whole
+  pub expanded : IsExpanded whole p
+
+-- The points of that expansion come from these.
+pub record AreOriginsIn (input : List ℕ) (os : Origins) : Type 0 where
+  pub tokens : List Token
+  pub whole : Module
+  pub cut : AreProtocolTokens input tokens
+  pub read : reader.IsRead input tokens whole
+  pub origins : AreOriginsOf whole os
 
 -- And no rule of acceptance fails.
 pub record IsAcceptedOf (input : List ℕ) (p : Protocol) : Type 0 where

@@ -17,7 +17,8 @@ code_names =
     ∷ (33, codes "Variable") ∷ (34, codes "AttemptInState") ∷ (35, codes "NoPayload")
     ∷ (36, codes "TooMany")
     ∷ (40, codes "Token") ∷ (41, codes "Role") ∷ (42, codes "Twice") ∷ (43, codes "Range")
-    ∷ (50, codes "NoJournal") ∷ (51, codes "Journal") ∷ []
+    ∷ (50, codes "NoJournal") ∷ (51, codes "Journal")
+    ∷ (52, codes "Arity") ∷ (53, codes "Recursive") ∷ (54, codes "EmptyDo") ∷ []
 
 -- The name that stands beside a code in the list; none where the code isn't in it.
 abbrev pub name_in : List (ℕ × List ℕ) → ℕ → List ℕ

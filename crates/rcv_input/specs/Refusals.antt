@@ -1,11 +1,13 @@
 -- Why an input is refused: the first of its faults.
 use Rattle.std.specs.Prelude.{◌≡◌, ℕ, ◌<◌, Some, List, length, slice_get}
+use Rattle.rcv_tree.specs.declared.module.Module.{Module}
 use Rattle.rcv_tree.specs.declared.protocol.Protocol.{Protocol}
 use Rattle.rcv_tree.specs.declared.refusal.Refusal.{Refusal}
 use Rattle.rcv_tree.specs.declared.refusal.Refusal.TheVariants as refusals
 use Rattle.rcv_model.specs.Text.{body_of}
 use Rattle.rcv_model.specs.Script as model
 use Rattle.rcv_model.specs.Accept.{IsRefusal}
+use Rattle.rcv_module.specs.Answers as modules
 use Rattle.rcv_lexer.specs.declared.token.Token.{Token}
 use Rattle.rcv_lexer.specs.declared.token.TextError.{TextError}
 use Rattle.rcv_lexer.specs.declared.token.TextError.TheVariants as errors
@@ -43,7 +45,11 @@ pub data IsFirstRefusal (input : List ℕ) : Refused → Type 0 where
   unread :
       (tokens : List Token) (code line : ℕ) → AreProtocolTokens input tokens → IsRefusedText input tokens code line
       → IsFirstRefusal input (Line code line)
-  -- they are a protocol, and a rule of acceptance fails at a role of this name
+  -- they are a module, and it is refused at a call
+  uncallable :
+      (tokens : List Token) (m : Module) (code line : ℕ) → AreProtocolTokens input tokens → reader.IsRead input tokens m
+      → modules.IsRefused m (refusals.Text code line) → IsFirstRefusal input (Line code line)
+  -- it is expanded, and a rule of acceptance fails at a role of this name
   ruled_out :
       (p : Protocol) (code role number : ℕ) (name : List ℕ) → IsProtocolOf input p
       → IsRefusal (body_of p.body) (length p.roles) code role number → slice_get p.roles role ≡ Some name

@@ -45,6 +45,9 @@ fn name_of(code: u8) -> &'static [u8]
         43 => b"Range",
         50 => b"NoJournal",
         51 => b"Journal",
+        52 => b"Arity",
+        53 => b"Recursive",
+        54 => b"EmptyDo",
         _ => b"",
     }
 }

@@ -6,33 +6,52 @@ ghost use Rattle.rcv_model.specs.Names.{HasNames};
 ghost use Rattle.rcv_model.specs.Places.{IsFullText};
 ghost use Rattle.rcv_model.specs.Text.{body_of};
 ghost use Rattle.rcv_lexer.specs.Parts.{LiesIn, parts_of};
-ghost use Rattle.rcv_input.specs.Input.{IsProtocolOf};
+ghost use Rattle.rcv_input.specs.Input.{IsProtocolOf, AreOriginsIn};
 ghost use Rattle.rcv_input.specs.Refusals.{IsUnread, IsRule, SaysRule, IsRuledOut};
 
 use crate::place::line_at;
 use crate::refused::{InputError, Refused};
 use rcv_accept::accept;
 use rcv_accept::accepted::Accepted;
+use rcv_do::{call_depths, expand_traced};
 use rcv_lexer::token::{Span, TextError};
 use rcv_lexer::tokens;
-use rcv_reader::read_protocol;
+use rcv_module::Origins;
+use rcv_reader::read_module;
 use rcv_tree::name::{Name, Names};
 use rcv_tree::protocol::Protocol;
 use rcv_tree::refusal::Refusal;
 use rcv_tree::role::RoleId;
 use std::alloc::{AllocError, Global};
 
-/// The protocol of the input's protocol part.
-pub fn read_part(alloc: Global, input: &[u8], part: Span) -> Result<Protocol, TextError>
+/// A protocol, where its points come from, and in how many inner blocks of its protocol's text each call of the module
+/// stands.
+#[derive(Drop)]
+pub struct Source {
+    pub protocol: Protocol,
+    pub origins: Origins,
+    pub depths: Vec<u8>,
+}
+
+/// The protocol of the input's protocol part: the first one of its module, with its calls expanded.
+pub fn read_part(alloc: Global, input: &[u8], part: Span) -> Result<Source, TextError>
     requires short { length input.now + 1 < 2 ^ 32 }
     requires inside { LiesIn input.now part }
     requires part { part ≡ (parts_of input.now).protocol }
-    ensures read { MatchResult result (IsProtocolOf input.now) (IsUnread input.now) }
-    ensures form { IfOk result (λ p. HasForm (body_of p.body) (length p.roles)) }
+    ensures read { MatchResult result (λ s. IsProtocolOf input.now s.protocol) (IsUnread input.now) }
+    ensures origins { IfOk result (λ s. AreOriginsIn input.now s.origins) }
+    ensures form { IfOk result (λ s. HasForm (body_of s.protocol.body) (length s.protocol.roles)) }
 {
     let list = tokens(alloc, input, part)?;
     let last = line_at(input, part.end);
-    read_protocol(alloc, input, list.as_slice(), last)
+    let whole = read_module(alloc, input, list.as_slice(), last)?;
+    let depths = call_depths(alloc, &whole)?;
+    let (protocol, origins) = expand_traced(alloc, whole)?;
+    Ok(Source {
+        protocol,
+        origins,
+        depths,
+    })
 }
 
 // The name of a role, copied. Fails where memory runs out.

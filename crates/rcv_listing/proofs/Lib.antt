@@ -1,3 +1,5 @@
 mod Lines
 mod Ruled
+pub mod Texts
 mod Receiving
+mod Sourced

@@ -6,6 +6,8 @@ use Rattle.std.proofs.lemmas.List.{map-append}
 use Rattle.std.proofs.lemmas.List.Quantifiers.{position-Some}
 use Rattle.std.proofs.lemmas.Slice.Eq.{bytes_eq-Decides}
 use Rattle.rcv_tree.specs.declared.protocol.Decl.{Decl}
+use Rattle.rcv_tree.specs.declared.protocol.Protocol.{Protocol}
+use Rattle.rcv_tree.specs.Lists as tree
 use Rattle.rcv_model.specs.Text.{Body}
 use Rattle.rcv_model.specs.Places as model
 use Rattle.rcv_model.specs.Places.{SingleMessage}
@@ -16,14 +18,13 @@ use Rattle.rcv_lexer.specs.declared.token.Token.{Token}
 use Rattle.rcv_lexer.specs.Parts.{parts_of}
 use Rattle.rcv_lexer.specs.Tokens.{bytes_of, line_at, token_at, tokens_of}
 use Rattle.rcv_syntax.specs.declared.sign.Sign.{Sign}
-use Rattle.rcv_syntax.specs.declared.sign.Sign.TheVariants.{From, To, Or, And, Open, Close, Left, Right, Semicolon, Global, Role}
-use Rattle.rcv_syntax.specs.declared.sign.Sign.TheVariants as signs
+use Rattle.rcv_syntax.specs.declared.sign.Sign.TheVariants.{From, To, Or, And, Open, Close, Right, Semicolon}
 use Rattle.rcv_syntax.specs.Symbols.{Symbol, Is, Word, reserved, sign_or, symbol_by, symbols_of}
-use Rattle.rcv_syntax.specs.Grammar.{Written, NoStmt, AMessage, AChoice, ARec, AContinue, APar, ADo, Blocks, NoBlock, ABlock, Source, dotted, names_behind, sort_list, roles_behind, decls, stmts, blocks_behind, spelling}
-use Rattle.rcv_syntax.specs.Trees.{place_of, role_at, roles_at, singles, points, points_of, tree_of, trees_of, IsDeclared, MayReceive, IsFit, AreFit}
-use Rattle.rcv_listing.specs.Receivers.{listed_behind, goes_on, is_receiver, said_by, receivers_of, lines_of, receiver_lines}
+use Rattle.rcv_syntax.specs.Grammar.{Written, NoStmt, AMessage, AChoice, ARec, AContinue, APar, ADo, Blocks, NoBlock, ABlock, WrittenProtocol, Source, dotted, names_behind, sort_list, roles_behind, decls, stmts, blocks_behind, declared, protocols, spelling}
+use Rattle.rcv_syntax.specs.Trees.{place_of, role_at, roles_at, singles, points, points_of, tree_of, trees_of, is_call, lines_of_calls, IsDeclared, MayReceive, IsFit, AreFit, IsTreeOf, AreTreesOf}
+use Rattle.rcv_listing.specs.Receivers.{listed_behind, goes_on, is_receiver, is_global, said_by, receivers_of, up_to_next, texts_of, receivers_of_all, lines_of, receiver_lines, calls_in}
 use Rattle.rcv_listing.specs.Lines.{name_of}
-use Rattle.rcv_listing.specs.Laws.{receivers_in, written_at, first_lines, LinesAreThoseOfReceivers}
+use Rattle.rcv_listing.specs.Laws.{receivers_in, named_by, written_at, first_lines, LinesAreThoseOfReceivers}
 
 -- ---- what symbols name as receivers
 
@@ -31,9 +32,14 @@ abbrev name_if : Bool → Symbol → List (List ℕ) → List (List ℕ)
 name_if listed (Word n) rest = if listed then n ∷ rest else rest
 name_if listed other rest = rest
 
+-- up to the next protocol, and in each protocol
 abbrev named : Bool → List Symbol → List (List ℕ)
 named listed [] = []
-named listed (s ∷ ss) = name_if listed s (named (goes_on listed s) ss)
+named listed (s ∷ ss) = if is_global s then [] else name_if listed s (named (goes_on listed s) ss)
+
+abbrev all_named : List Symbol → List (List (List ℕ))
+all_named [] = []
+all_named (s ∷ ss) = if is_global s then named false ss ∷ all_named ss else all_named ss
 
 kept_word : (input : List ℕ) (t : Token) (r : List Token) (listed : Bool) (o : Option Sign) → written_at input (if is_receiver listed (sign_or o (Word (bytes_of input t))) then t ∷ r else r) ≡ name_if listed (sign_or o (Word (bytes_of input t))) (written_at input r)
 kept_word input t r true None = refl
@@ -46,17 +52,32 @@ kept input t r listed kinds.Number = refl
 kept input t r listed kinds.Text = refl
 kept input t r listed kinds.Mark = refl
 
-tokens_named : (input : List ℕ) (listed : Bool) (ts : List Token) → written_at input (receivers_of input listed ts) ≡ named listed (symbols_of input ts)
+up_to_here : (input : List ℕ) (listed : Bool) (t : Token) (ts : List Token) (b : Bool) → written_at input (receivers_of input listed (if b then [] else t ∷ ts)) ≡ (if b then [] else written_at input (receivers_of input listed (t ∷ ts)))
+up_to_here input listed t ts true = refl
+up_to_here input listed t ts false = refl
+
+tokens_named : (input : List ℕ) (listed : Bool) (ts : List Token) → written_at input (receivers_of input listed (up_to_next input ts)) ≡ named listed (symbols_of input ts)
 tokens_named input listed [] = refl
 tokens_named input listed (t ∷ ts) =
-    kept input t (receivers_of input (goes_on listed (said_by input t)) ts) listed t.kind
-    ∙ ap (name_if listed (said_by input t)) (tokens_named input (goes_on listed (said_by input t)) ts)
+    up_to_here input listed t (up_to_next input ts) (is_global (said_by input t))
+    ∙ ap (λ l. if is_global (said_by input t) then [] else l)
+    (kept input t (receivers_of input (goes_on listed (said_by input t)) (up_to_next input ts)) listed t.kind
+    ∙ ap (name_if listed (said_by input t)) (tokens_named input (goes_on listed (said_by input t)) ts))
+
+one_text : (input : List ℕ) (text : List Token) (texts : List (List Token)) (b : Bool) → map (written_at input) (map (receivers_of input false) (if b then text ∷ texts else texts)) ≡ (if b then written_at input (receivers_of input false text) ∷ map (written_at input) (map (receivers_of input false) texts) else map (written_at input) (map (receivers_of input false) texts))
+one_text input text texts true = refl
+one_text input text texts false = refl
+
+texts_named : (input : List ℕ) (ts : List Token) → map (written_at input) (receivers_of_all input ts) ≡ all_named (symbols_of input ts)
+texts_named input [] = refl
+texts_named input (t ∷ ts) =
+    let begins = is_global (said_by input t) in
+    let rest = map (written_at input) (map (receivers_of input false) (texts_of input ts)) in
+    one_text input (up_to_next input ts) (texts_of input ts) begins
+    ∙ ap (λ names. if begins then names ∷ rest else rest) (tokens_named input false ts)
+    ∙ ap (λ others. if begins then named false (symbols_of input ts) ∷ others else others) (texts_named input ts)
 
 -- ---- what is written
-
-dotted_named : (ns : List (List ℕ)) (next : List Symbol) → named false (dotted ns next) ≡ named false next
-dotted_named [] next = refl
-dotted_named (n ∷ ns) next = dotted_named ns next
 
 behind_named : (ns : List (List ℕ)) (next : List Symbol) → named false (names_behind ns next) ≡ named false next
 behind_named [] next = refl
@@ -69,10 +90,6 @@ sorts_named (n ∷ ns) next = behind_named ns next
 roles_named : (ns : List (List ℕ)) (next : List Symbol) → named false (roles_behind ns next) ≡ named false next
 roles_named [] next = refl
 roles_named (n ∷ ns) next = roles_named ns next
-
-decls_named : (ds : List Decl) (next : List Symbol) → named false (decls ds next) ≡ named false next
-decls_named [] next = refl
-decls_named (d ∷ ds) next = decls_named ds next
 
 listed_named : (ns : List (List ℕ)) (next : List Symbol) → named true (names_behind ns next) ≡ ns ++ named true next
 listed_named [] next = refl
@@ -103,7 +120,7 @@ mutual
       ∙ sym (append_assoc (receiver ∷ others) (written rest) (named false next))
   stmts_named (AChoice subject first others rest) next =
       stmts_named first (Is Close ∷ blocks_behind Or others (stmts rest next))
-      ∙ ap (λ l. written first ++ l) (blocks_named Or others (stmts rest next) refl ∙ ap (λ l. written_of others ++ l) (stmts_named rest next))
+      ∙ ap (λ l. written first ++ l) (blocks_named Or others (stmts rest next) refl refl ∙ ap (λ l. written_of others ++ l) (stmts_named rest next))
       ∙ sym (append_assoc (written first) (written_of others) (written rest ++ named false next))
       ∙ sym (append_assoc (written first ++ written_of others) (written rest) (named false next))
   stmts_named (ARec name body rest) next =
@@ -114,40 +131,96 @@ mutual
       stmts_named first (Is Close ∷ Is And ∷ Is Open ∷ stmts second (Is Close ∷ blocks_behind And others (stmts rest next)))
       ∙ ap (λ l. written first ++ l)
       (stmts_named second (Is Close ∷ blocks_behind And others (stmts rest next))
-      ∙ ap (λ l. written second ++ l) (blocks_named And others (stmts rest next) refl ∙ ap (λ l. written_of others ++ l) (stmts_named rest next))
+      ∙ ap (λ l. written second ++ l) (blocks_named And others (stmts rest next) refl refl ∙ ap (λ l. written_of others ++ l) (stmts_named rest next))
       ∙ sym (append_assoc (written second) (written_of others) (written rest ++ named false next)))
       ∙ sym (append_assoc (written first) (written second ++ written_of others) (written rest ++ named false next))
       ∙ sym (append_assoc (written first ++ (written second ++ written_of others)) (written rest) (named false next))
   stmts_named (ADo name role others rest) next = behind_named others (Is Right ∷ Is Semicolon ∷ stmts rest next) ∙ stmts_named rest next
 
-  blocks_named : (word : Sign) (bs : Blocks) (next : List Symbol) → listed_behind false word ≡ false → named false (blocks_behind word bs next) ≡ written_of bs ++ named false next
-  blocks_named word NoBlock next e = refl
-  blocks_named word (ABlock first others) next e =
-      ap (λ b. named b (Is Open ∷ stmts first (Is Close ∷ blocks_behind word others next))) e
-      ∙ stmts_named first (Is Close ∷ blocks_behind word others next) ∙ ap (λ l. written first ++ l) (blocks_named word others next e)
+  blocks_named : (word : Sign) (bs : Blocks) (next : List Symbol) → listed_behind false word ≡ false → is_global (Is word) ≡ false → named false (blocks_behind word bs next) ≡ written_of bs ++ named false next
+  blocks_named word NoBlock next e g = refl
+  blocks_named word (ABlock first others) next e g =
+      ap (λ b. if b then [] else named (listed_behind false word) (Is Open ∷ stmts first (Is Close ∷ blocks_behind word others next))) g
+      ∙ ap (λ b. named b (Is Open ∷ stmts first (Is Close ∷ blocks_behind word others next))) e
+      ∙ stmts_named first (Is Close ∷ blocks_behind word others next) ∙ ap (λ l. written first ++ l) (blocks_named word others next e g)
       ∙ sym (append_assoc (written first) (written_of others) (named false next))
 
-spelling_named : (s : Source) → named false (spelling s) ≡ written s.body
+-- ---- where no protocol begins
+
+dotted_skipped : (ns : List (List ℕ)) (next : List Symbol) → all_named (dotted ns next) ≡ all_named next
+dotted_skipped [] next = refl
+dotted_skipped (n ∷ ns) next = dotted_skipped ns next
+
+behind_skipped : (ns : List (List ℕ)) (next : List Symbol) → all_named (names_behind ns next) ≡ all_named next
+behind_skipped [] next = refl
+behind_skipped (n ∷ ns) next = behind_skipped ns next
+
+sorts_skipped : (ns : List (List ℕ)) (next : List Symbol) → all_named (sort_list ns next) ≡ all_named next
+sorts_skipped [] next = refl
+sorts_skipped (n ∷ ns) next = behind_skipped ns next
+
+roles_skipped : (ns : List (List ℕ)) (next : List Symbol) → all_named (roles_behind ns next) ≡ all_named next
+roles_skipped [] next = refl
+roles_skipped (n ∷ ns) next = roles_skipped ns next
+
+decls_skipped : (ds : List Decl) (next : List Symbol) → all_named (decls ds next) ≡ all_named next
+decls_skipped [] next = refl
+decls_skipped (d ∷ ds) next = decls_skipped ds next
+
+mutual
+  stmts_skipped : (w : Written) (next : List Symbol) → all_named (stmts w next) ≡ all_named next
+  stmts_skipped NoStmt next = refl
+  stmts_skipped (AMessage label sorts sender receiver others rest) next =
+      sorts_skipped sorts (Is Right ∷ Is From ∷ Word sender ∷ Is To ∷ Word receiver ∷ names_behind others (Is Semicolon ∷ stmts rest next))
+      ∙ behind_skipped others (Is Semicolon ∷ stmts rest next) ∙ stmts_skipped rest next
+  stmts_skipped (AChoice subject first others rest) next =
+      stmts_skipped first (Is Close ∷ blocks_behind Or others (stmts rest next)) ∙ blocks_skipped Or others (stmts rest next) refl ∙ stmts_skipped rest next
+  stmts_skipped (ARec name body rest) next = stmts_skipped body (Is Close ∷ stmts rest next) ∙ stmts_skipped rest next
+  stmts_skipped (AContinue name rest) next = stmts_skipped rest next
+  stmts_skipped (APar first second others rest) next =
+      stmts_skipped first (Is Close ∷ Is And ∷ Is Open ∷ stmts second (Is Close ∷ blocks_behind And others (stmts rest next)))
+      ∙ stmts_skipped second (Is Close ∷ blocks_behind And others (stmts rest next)) ∙ blocks_skipped And others (stmts rest next) refl ∙ stmts_skipped rest next
+  stmts_skipped (ADo name role others rest) next = behind_skipped others (Is Right ∷ Is Semicolon ∷ stmts rest next) ∙ stmts_skipped rest next
+
+  blocks_skipped : (word : Sign) (bs : Blocks) (next : List Symbol) → is_global (Is word) ≡ false → all_named (blocks_behind word bs next) ≡ all_named next
+  blocks_skipped word NoBlock next g = refl
+  blocks_skipped word (ABlock first others) next g =
+      let inner = Is Open ∷ stmts first (Is Close ∷ blocks_behind word others next) in
+      ap (λ b. if b then named false inner ∷ all_named inner else all_named inner) g
+      ∙ stmts_skipped first (Is Close ∷ blocks_behind word others next) ∙ blocks_skipped word others next g
+
+-- ---- the protocols
+
+none_behind : (ps : List WrittenProtocol) → named false (protocols ps []) ≡ []
+none_behind [] = refl
+none_behind (p ∷ ps) = refl
+
+declared_named : (p : WrittenProtocol) (ps : List WrittenProtocol) → named false (declared p (protocols ps [])) ≡ written p.body
+declared_named p ps =
+    roles_named p.other_roles (Is Right ∷ Is Open ∷ stmts p.body (Is Close ∷ protocols ps []))
+    ∙ stmts_named p.body (Is Close ∷ protocols ps []) ∙ ap (λ l. written p.body ++ l) (none_behind ps) ∙ append-nil (written p.body)
+
+declared_skipped : (p : WrittenProtocol) (next : List Symbol) → all_named (declared p next) ≡ all_named next
+declared_skipped p next = roles_skipped p.other_roles (Is Right ∷ Is Open ∷ stmts p.body (Is Close ∷ next)) ∙ stmts_skipped p.body (Is Close ∷ next)
+
+protocols_named : (ps : List WrittenProtocol) → all_named (protocols ps []) ≡ map (λ (p : WrittenProtocol). written p.body) ps
+protocols_named [] = refl
+protocols_named (p ∷ ps) =
+    ap (λ names. names ∷ all_named (declared p (protocols ps []))) (declared_named p ps)
+    ∙ ap (λ others. written p.body ∷ others) (declared_skipped p (protocols ps []) ∙ protocols_named ps)
+
+spelling_named : (s : Source) → all_named (spelling s) ≡ map (λ (p : WrittenProtocol). written p.body) (s.first ∷ s.others)
 spelling_named s =
-    dotted_named s.module_more (Is Semicolon ∷ behind_module) ∙ decls_named s.declared behind_decls ∙ roles_named s.other_roles behind_roles
-    ∙ stmts_named s.body (Is Close ∷ []) ∙ append-nil (written s.body)
-  where
-    behind_roles : List Symbol
-    behind_roles = Is Right ∷ Is Open ∷ stmts s.body (Is Close ∷ [])
-
-    behind_decls : List Symbol
-    behind_decls = Is Global ∷ Is signs.Protocol ∷ Word s.name ∷ Is Left ∷ Is Role ∷ Word s.role ∷ roles_behind s.other_roles behind_roles
-
-    behind_module : List Symbol
-    behind_module = decls s.declared behind_decls
+    dotted_skipped s.module_more (Is Semicolon ∷ decls s.declared (protocols (s.first ∷ s.others) []))
+    ∙ decls_skipped s.declared (protocols (s.first ∷ s.others) []) ∙ protocols_named (s.first ∷ s.others)
 
 -- ---- the tree
 
 place_named : (roles : List (List ℕ)) (n : List ℕ) (r : ℕ) → place_of roles n ≡ Some r → slice_index_or roles r [] ≡ n
 place_named roles n r e = let a = position-Some (λ role. bytes_eq role n) roles r [] e in (bytes_eq-Decides (slice_index_or roles r []) n).0 a.1
 
-declared_named : (roles : List (List ℕ)) (n : List ℕ) → IsDeclared roles n → name_of roles (role_at roles n) ≡ n
-declared_named roles n d = go (place_of roles n) refl d.1
+role_named : (roles : List (List ℕ)) (n : List ℕ) → IsDeclared roles n → name_of roles (role_at roles n) ≡ n
+role_named roles n d = go (place_of roles n) refl d.1
   where
     go : (o : Option ℕ) → place_of roles n ≡ o → o ≡ Some d.0 → name_of roles (role_at roles n) ≡ n
     go None e f = absurd (cc)
@@ -156,7 +229,7 @@ declared_named roles n d = go (place_of roles n) refl d.1
 receivers_named : (roles : List (List ℕ)) (sender : ℕ) (before : List ℕ) (ns : List (List ℕ)) → MayReceive roles sender before ns → map (name_of roles) (roles_at roles ns) ≡ ns
 receivers_named roles sender before [] h = refl
 receivers_named roles sender before (n ∷ ns) h =
-    ap (λ x. x ∷ map (name_of roles) (roles_at roles ns)) (declared_named roles n h.0)
+    ap (λ x. x ∷ map (name_of roles) (roles_at roles ns)) (role_named roles n h.0)
     ∙ ap (λ l. n ∷ l) (receivers_named roles sender (before ++ role_at roles n ∷ []) ns h.3)
 
 singles_named : (roles : List (List ℕ)) (label : List ℕ) (sorts : List (List ℕ)) (sender : ℕ) (rs : List ℕ) (n : ℕ) (rest : Body) → receivers_in roles (model.singles (singles label sorts sender rs n rest)) ≡ map (name_of roles) rs ++ receivers_in roles (model.singles rest)
@@ -185,12 +258,22 @@ mutual
       (both_named roles (model.singles (tree_of roles n first)) (model.singles (tree_of roles (n + points first) second) ++ model.singles_of (trees_of roles (n + points first + points second) others)) (written first) (written second ++ written_of others) (tree_named roles n first fit.0)
       (both_named roles (model.singles (tree_of roles (n + points first) second)) (model.singles_of (trees_of roles (n + points first + points second) others)) (written second) (written_of others) (tree_named roles (n + points first) second fit.1) (trees_named roles (n + points first + points second) others fit.2)))
       (tree_named roles (n + (points first + (points second + points_of others))) rest fit.3)
-  tree_named roles n (ADo name role others rest) fit = tree_named roles n rest fit
+  tree_named roles n (ADo name role others rest) fit = tree_named roles n rest fit.1
 
   trees_named : (roles : List (List ℕ)) (n : ℕ) (bs : Blocks) → AreFit roles bs → receivers_in roles (model.singles_of (trees_of roles n bs)) ≡ written_of bs
   trees_named roles n NoBlock fit = refl
   trees_named roles n (ABlock first others) fit =
       both_named roles (model.singles (tree_of roles n first)) (model.singles_of (trees_of roles (n + points first) others)) (written first) (written_of others) (tree_named roles n first fit.0) (trees_named roles (n + points first) others fit.1)
+
+protocol_named : (w : WrittenProtocol) (p : Protocol) → IsTreeOf w p → written w.body ≡ named_by p
+protocol_named w p t = sym (tree_named p.roles 0 w.body t.fit) ∙ sym (ap (λ (b : Body). receivers_in p.roles (model.singles b)) t.tree)
+
+others_named : (ws : List WrittenProtocol) (ps : List Protocol) → AreTreesOf ws ps → map (λ (w : WrittenProtocol). written w.body) ws ≡ map named_by ps
+others_named [] [] h = refl
+others_named [] (p ∷ ps) h = absurd h
+others_named (w ∷ ws) [] h = absurd h
+others_named (w ∷ ws) (p ∷ ps) h =
+    ap (λ names. names ∷ map (λ (o : WrittenProtocol). written o.body) ws) (protocol_named w p h.0) ∙ ap (λ others. named_by p ∷ others) (others_named ws ps h.3)
 
 -- ---- the lines
 
@@ -219,13 +302,43 @@ lined : (input : List ℕ) (ts : List Token) → AreLined input ts → lines_of 
 lined input [] h = refl
 lined input (t ∷ ts) h = ap (λ n. n ∷ lines_of ts) h.0 ∙ ap (λ l. line_at input t.span.start ∷ l) (lined input ts h.1)
 
+up_to_next_lined : (input : List ℕ) (ts : List Token) → AreLined input ts → AreLined input (up_to_next input ts)
+up_to_next_lined input [] h = tt
+up_to_next_lined input (t ∷ ts) h = go (is_global (said_by input t)) (up_to_next_lined input ts h.1)
+  where
+    go : (b : Bool) → AreLined input (up_to_next input ts) → AreLined input (if b then [] else t ∷ up_to_next input ts)
+    go true more = tt
+    go false more = (h.0, more)
+
+all_in_line : (input : List ℕ) (ts : List Token) → AreLined input ts → receiver_lines input ts ≡ map (first_lines input) (receivers_of_all input ts)
+all_in_line input [] h = refl
+all_in_line input (t ∷ ts) h = go (is_global (said_by input t)) (all_in_line input ts h.1) (lined input (receivers_of input false (up_to_next input ts)) (receivers_lined input false (up_to_next input ts) (up_to_next_lined input ts h.1)))
+  where
+    go : (b : Bool) → receiver_lines input ts ≡ map (first_lines input) (receivers_of_all input ts) → lines_of (receivers_of input false (up_to_next input ts)) ≡ first_lines input (receivers_of input false (up_to_next input ts)) → map lines_of (map (receivers_of input false) (if b then up_to_next input ts ∷ texts_of input ts else texts_of input ts)) ≡ map (first_lines input) (map (receivers_of input false) (if b then up_to_next input ts ∷ texts_of input ts else texts_of input ts))
+    go true more first = ap (λ l. l ∷ receiver_lines input ts) first ∙ ap (λ l. first_lines input (receivers_of input false (up_to_next input ts)) ∷ l) more
+    go false more first = more
+
+calls_in_line : (input : List ℕ) (ts : List Token) → AreLined input ts → lines_of_calls input ts ≡ first_lines input (calls_in input ts)
+calls_in_line input [] h = refl
+calls_in_line input (t ∷ ts) h = go (is_call (said_by input t)) (calls_in_line input ts h.1)
+  where
+    go : (b : Bool) → lines_of_calls input ts ≡ first_lines input (calls_in input ts) → (if b then t.line ∷ lines_of_calls input ts else lines_of_calls input ts) ≡ first_lines input (if b then t ∷ calls_in input ts else calls_in input ts)
+    go true more = ap (λ n. n ∷ lines_of_calls input ts) h.0 ∙ ap (λ l. line_at input t.span.start ∷ l) more
+    go false more = more
+
 pub lines_are_those_of_receivers : LinesAreThoseOfReceivers
 lines_are_those_of_receivers = record {
-  named = λ input tokens p read.
-      let s = read.1.source in
-      tokens_named input false tokens ∙ ap (named false) read.1.spelled.2 ∙ spelling_named s
-      ∙ sym (tree_named p.roles 0 s.body read.1.fit) ∙ sym (ap (λ (b : Body). receivers_in p.roles (model.singles b)) read.1.tree);
+  named = λ input tokens m read.
+      let r = read.0.1 in
+      texts_named input tokens ∙ ap all_named r.spelled.2 ∙ spelling_named r.source
+      ∙ ap (λ names. names ∷ map (λ (w : WrittenProtocol). written w.body) r.source.others) (protocol_named r.source.first m.main r.first)
+      ∙ ap (λ others. named_by m.main ∷ others) (others_named r.source.others (tree.protocols m.others) r.more);
   lines = λ input tokens cut.
-      subst (λ (ts : List Token). receiver_lines input ts ≡ first_lines input (receivers_of input false ts)) (sym cut.2)
-      (lined input (receivers_of input false (tokens_of input (parts_of input).protocol.start cut.0)) (receivers_lined input false (tokens_of input (parts_of input).protocol.start cut.0) (all_lined input (parts_of input).protocol.start cut.0)));
+      let ts = tokens_of input (parts_of input).protocol.start cut.0 in
+      subst (λ (given : List Token). receiver_lines input given ≡ map (first_lines input) (receivers_of_all input given)) (sym cut.2)
+      (all_in_line input ts (all_lined input (parts_of input).protocol.start cut.0));
+  calls = λ input tokens cut.
+      let ts = tokens_of input (parts_of input).protocol.start cut.0 in
+      subst (λ (given : List Token). lines_of_calls input given ≡ first_lines input (calls_in input given)) (sym cut.2)
+      (calls_in_line input ts (all_lined input (parts_of input).protocol.start cut.0));
 }

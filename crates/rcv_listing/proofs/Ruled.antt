@@ -22,6 +22,7 @@ use Rattle.rcv_input.specs.declared.refused.InputError.{InputError}
 use Rattle.rcv_input.specs.declared.refused.InputError.TheVariants as causes
 use Rattle.rcv_explain.specs.Explained.{HasRule}
 use Rattle.rcv_listing.specs.declared.listing.Listing.{Listing}
+use Rattle.rcv_listing.specs.declared.written.PointLines.{PointLines}
 use Rattle.rcv_listing.specs.Lines.{all_text, is_at_place, IsNumberIn, IsRuleIn, AddsRefusal}
 use Rattle.rcv_listing.specs.Listing.{IsSourceOf, IsUnreadable, points_of, IsRuledOut, IsListingOf, IsListing}
 
@@ -68,16 +69,16 @@ is_rule_in p points refusals.NoRole form are h = absurd h
 
 -- ---- the listing
 
-pub all_told : (p : Protocol) (points : PointsView) (names : List (List ℕ)) (lines given text : List ℕ) → HasForm (body_of p.body) (length p.roles) → ArePointsOf (body_of p.body) points → names ≡ p.roles → given ≡ lines → text ≡ all_text names (net_in points) given → text ≡ points_of p lines
+pub all_told : (p : Protocol) (points : PointsView) (names : List (List ℕ)) (lines given : List PointLines) (text : List ℕ) → HasForm (body_of p.body) (length p.roles) → ArePointsOf (body_of p.body) points → names ≡ p.roles → given ≡ lines → text ≡ all_text names (net_in points) given → text ≡ points_of p lines
 all_told p points names lines given text form are named same told =
     told ∙ ap (λ (l : List (List ℕ)). all_text l (net_in points) given) named
     ∙ ap (λ net. all_text p.roles net given) (same_net (body_of p.body) (length p.roles) points form are)
-    ∙ ap (λ (l : List ℕ). all_text p.roles (net_of (body_of p.body)) l) same
+    ∙ ap (λ (l : List PointLines). all_text p.roles (net_of (body_of p.body)) l) same
 
-pub ruled : (p : Protocol) (points : PointsView) (names : List (List ℕ)) (lines given before after text : List ℕ) (r : Refusal) → HasForm (body_of p.body) (length p.roles) → ArePointsOf (body_of p.body) points → names ≡ p.roles → given ≡ lines → IsRefusedBy (body_of p.body) (length p.roles) (errors.Refused r) → before ≡ all_text names (net_in points) given → AddsRefusal names (net_in points) given r before after → text ≡ after → IsRuledOut p lines text
+pub ruled : (p : Protocol) (points : PointsView) (names : List (List ℕ)) (lines given : List PointLines) (before after text : List ℕ) (r : Refusal) → HasForm (body_of p.body) (length p.roles) → ArePointsOf (body_of p.body) points → names ≡ p.roles → given ≡ lines → IsRefusedBy (body_of p.body) (length p.roles) (errors.Refused r) → before ≡ all_text names (net_in points) given → AddsRefusal names (net_in points) given r before after → text ≡ after → IsRuledOut p lines text
 ruled p points names lines given before after text r form are named same h told adds is =
     let a : AddsRefusal p.roles (net_of (body_of p.body)) lines r before after =
-    subst (λ (l : List ℕ). AddsRefusal p.roles (net_of (body_of p.body)) l r before after) same
+    subst (λ (l : List PointLines). AddsRefusal p.roles (net_of (body_of p.body)) l r before after) same
     (subst (λ net. AddsRefusal p.roles net given r before after) (same_net (body_of p.body) (length p.roles) points form are)
     (subst (λ (l : List (List ℕ)). AddsRefusal l (net_in points) given r before after) named adds)) in (
       a.0,
@@ -89,6 +90,6 @@ ruled p points names lines given before after text r form are named same h told 
       is ∙ a.4.2 ∙ ap (λ t. t ++ a.4.0) (all_told p points names lines given before form are named same told),
     )
 
-pub listed_as : (input : List ℕ) (p : Protocol) (lines : List ℕ) (result : Result Listing InputError) → IsSourceOf input p lines → MatchResult result (IsListingOf p lines) (λ e. e ≡ causes.Memory) → MatchResult result (IsListing input) (IsUnreadable input)
+pub listed_as : (input : List ℕ) (p : Protocol) (lines : List PointLines) (result : Result Listing InputError) → IsSourceOf input p lines → MatchResult result (IsListingOf p lines) (λ e. e ≡ causes.Memory) → MatchResult result (IsListing input) (IsUnreadable input)
 listed_as input p lines (Ok l) source h = (p, lines, source, h)
 listed_as input p lines (Err e) source h = subst (IsUnreadable input) (sym h) tt

@@ -1,4 +1,5 @@
 pub mod Receivers
+pub mod Written
 pub mod Lines
 pub mod Listing
 pub mod Laws

@@ -9,25 +9,40 @@ use Rattle.rcv_input.specs.Line.{refusal_line}
 use Rattle.rcv_input.specs.declared.refused.Refused.TheVariants.{Rule}
 use Rattle.rcv_explain.specs.declared.explanation.Explanation.{Explanation}
 use Rattle.rcv_explain.specs.Explained.{HasRule, IsNamed}
+use Rattle.rcv_listing.specs.declared.written.PointLines.{PointLines}
 
--- The name of a role, and the line of a point, which counts from 1.
+-- The name of a role; and the line of a point, which counts from 1, and those of the calls through which it came.
 abbrev pub name_of : List (List ℕ) → ℕ → List ℕ
 name_of roles r = slice_index_or roles r []
 
-abbrev pub line_of : List ℕ → ℕ → ℕ
-line_of lines p = slice_index_or lines (p - 1) 0
+abbrev pub nowhere : PointLines
+nowhere = record { line = 0; calls = [] }
 
--- The line of a point: POINT line LINE LABEL from SENDER to RECEIVER.
-abbrev pub point_text : List (List ℕ) → Net → List ℕ → ℕ → List ℕ
-point_text roles net lines p =
+abbrev pub line_of : List PointLines → ℕ → ℕ
+line_of lines p = (slice_index_or lines (p - 1) nowhere).line
+
+abbrev pub calls_of : List PointLines → ℕ → List ℕ
+calls_of lines p = (slice_index_or lines (p - 1) nowhere).calls
+
+-- do line LINE, for each call
+abbrev pub calls_text : List ℕ → List ℕ
+calls_text lines = flat_map (λ (line : ℕ). codes " do line " ++ decimal line) lines
+
+-- POINT line LINE LABEL from SENDER to RECEIVER
+abbrev pub message_text : List (List ℕ) → Net → List PointLines → ℕ → List ℕ
+message_text roles net lines p =
     decimal p ++ codes " line " ++ decimal (line_of lines p) ++ codes " " ++ net.label p ++ codes " from "
-    ++ name_of roles (net.sender p) ++ codes " to " ++ name_of roles (net.receiver p) ++ codes "\n"
+    ++ name_of roles (net.sender p) ++ codes " to " ++ name_of roles (net.receiver p)
+
+-- The line of a point: its message, and its calls, the outermost first.
+abbrev pub point_text : List (List ℕ) → Net → List PointLines → ℕ → List ℕ
+point_text roles net lines p = message_text roles net lines p ++ calls_text (calls_of lines p) ++ codes "\n"
 
 -- The lines of points, and those of all points of a text.
-abbrev pub points_text : List (List ℕ) → Net → List ℕ → List ℕ → List ℕ
+abbrev pub points_text : List (List ℕ) → Net → List PointLines → List ℕ → List ℕ
 points_text roles net lines ps = flat_map (point_text roles net lines) ps
 
-abbrev pub all_text : List (List ℕ) → Net → List ℕ → List ℕ
+abbrev pub all_text : List (List ℕ) → Net → List PointLines → List ℕ
 all_text roles net lines = points_text roles net lines (range_with_len 1 net.count)
 
 -- A refusal with this code stands at a place of its role; one with another code of a rule stands at a point.
@@ -35,11 +50,11 @@ abbrev pub is_at_place : ℕ → Bool
 is_at_place code = nat_le 21 code && nat_le code 25
 
 -- Where a role is: at the start, or behind a point.
-abbrev pub stand_text : List ℕ → ℕ → List ℕ
+abbrev pub stand_text : List PointLines → ℕ → List ℕ
 stand_text lines place =
     if place == 0 then codes " is at the start" else codes " is behind its point " ++ decimal place ++ codes ", line " ++ decimal (line_of lines place)
 
-abbrev pub place_text : List (List ℕ) → List ℕ → ℕ → ℕ → List ℕ
+abbrev pub place_text : List (List ℕ) → List PointLines → ℕ → ℕ → List ℕ
 place_text roles lines role place = name_of roles role ++ stand_text lines place ++ codes ". Its next points there:\n"
 
 -- What is wrong with a point: another role than the one that decides sends it, no way comes to it, or none leads from it
@@ -54,7 +69,7 @@ abbrev pub endless_text : List (List ℕ) → ℕ → List ℕ
 endless_text roles role = name_of roles role ++ codes " sends this message, but no way leads from it to the end of its lane, and a stage follows:\n"
 
 -- What is said of the place or the point where a rule fails, in front of the points that are shown.
-abbrev pub where_text : List (List ℕ) → List ℕ → ℕ → ℕ → ℕ → List ℕ
+abbrev pub where_text : List (List ℕ) → List PointLines → ℕ → ℕ → ℕ → List ℕ
 where_text roles lines code role number =
     if is_at_place code then place_text roles lines role number
     else (if code == 20 then subject_text roles role else (if code == 28 then endless_text roles role else unreached_text roles role))
@@ -69,13 +84,13 @@ abbrev pub rule_text : Explanation → List ℕ
 rule_text e = e.rule.now ++ codes "\n" ++ codes "Repair: " ++ e.repair.now ++ codes "\n"
 
 -- What a refusal says: its line, the place with its points, the rule and the repair.
-abbrev pub told_text : List (List ℕ) → Net → List ℕ → ℕ → ℕ → ℕ → List ℕ → Explanation → List ℕ
+abbrev pub told_text : List (List ℕ) → Net → List PointLines → ℕ → ℕ → ℕ → List ℕ → Explanation → List ℕ
 told_text roles net lines code role number shown e =
     codes "\n" ++ refusal_line (Rule code (name_of roles role) number) ++ where_text roles lines code role number
     ++ points_text roles net lines shown ++ rule_text e
 
 -- This is said of a refusal by a rule.
-pub record IsTold (roles : List (List ℕ)) (net : Net) (lines : List ℕ) (code role number : ℕ) (told : List ℕ) : Type 0 where
+pub record IsTold (roles : List (List ℕ)) (net : Net) (lines : List PointLines) (code role number : ℕ) (told : List ℕ) : Type 0 where
   pub shown : List ℕ
   pub explanation : Explanation
   pub are_shown : AreShown net code role number shown
@@ -87,7 +102,7 @@ abbrev pub IsNumberIn : Net → ℕ → ℕ → Type 0
 IsNumberIn net code number = (number ≤ net.count) × (IsTrue (not (is_at_place code)) → 1 ≤ number)
 
 -- The text goes on by what is said of a refusal.
-abbrev pub AddsTold : List (List ℕ) → Net → List ℕ → ℕ → ℕ → ℕ → List ℕ → List ℕ → Type 0
+abbrev pub AddsTold : List (List ℕ) → Net → List PointLines → ℕ → ℕ → ℕ → List ℕ → List ℕ → Type 0
 AddsTold roles net lines code role number before after =
     (told : List ℕ) × IsTold roles net lines code role number told × (after ≡ before ++ told)
 
@@ -96,6 +111,6 @@ abbrev pub IsRuleIn : Net → Refusal → Type 0
 IsRuleIn net r = (code : ℕ) × (role : ℕ) × (number : ℕ) × (r ≡ refusals.Rule code role number) × HasRule code × IsNumberIn net code number
 
 -- The text goes on by what is said of this refusal.
-abbrev pub AddsRefusal : List (List ℕ) → Net → List ℕ → Refusal → List ℕ → List ℕ → Type 0
+abbrev pub AddsRefusal : List (List ℕ) → Net → List PointLines → Refusal → List ℕ → List ℕ → Type 0
 AddsRefusal roles net lines r before after =
     (code : ℕ) × (role : ℕ) × (number : ℕ) × (r ≡ refusals.Rule code role number) × AddsTold roles net lines code role number before after

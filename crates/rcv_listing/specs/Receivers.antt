@@ -1,10 +1,11 @@
--- Where the receivers of messages stand among the tokens of a protocol.
+-- Where the receivers of messages and the calls stand among the tokens of a module.
 use Rattle.std.specs.Prelude.{ℕ, Bool, true, false, if◌then◌else◌, List, [], ◌∷◌, map}
 use Rattle.rcv_lexer.specs.declared.token.Token.{Token}
 use Rattle.rcv_scan.specs.Symbols.{symbol_of}
 use Rattle.rcv_syntax.specs.declared.sign.Sign.{Sign}
-use Rattle.rcv_syntax.specs.declared.sign.Sign.TheVariants.{To, Semicolon}
+use Rattle.rcv_syntax.specs.declared.sign.Sign.TheVariants.{Global, To, Semicolon}
 use Rattle.rcv_syntax.specs.Symbols.{Symbol, Is, Word, symbol_by}
+use Rattle.rcv_syntax.specs.Trees.{is_call}
 
 -- Whether a list of receivers goes on behind this sign: it begins behind `to`, and ends at a semicolon.
 abbrev pub listed_behind : Bool → Sign → Bool
@@ -32,9 +33,31 @@ receivers_of input listed (t ∷ ts) =
     if is_receiver listed (said_by input t) then t ∷ receivers_of input (goes_on listed (said_by input t)) ts
     else receivers_of input (goes_on listed (said_by input t)) ts
 
--- The lines of the receivers of a protocol with these tokens.
+-- Whether a symbol is the word `global`, behind which a protocol stands.
+abbrev pub is_global : Symbol → Bool
+is_global (Is Global) = true
+is_global other = false
+
+-- The tokens up to the next protocol, and those of each protocol.
+abbrev pub up_to_next : List ℕ → List Token → List Token
+up_to_next input [] = []
+up_to_next input (t ∷ ts) = if is_global (said_by input t) then [] else t ∷ up_to_next input ts
+
+abbrev pub texts_of : List ℕ → List Token → List (List Token)
+texts_of input [] = []
+texts_of input (t ∷ ts) = if is_global (said_by input t) then up_to_next input ts ∷ texts_of input ts else texts_of input ts
+
+-- The receivers of each protocol, and their lines.
+abbrev pub receivers_of_all : List ℕ → List Token → List (List Token)
+receivers_of_all input tokens = map (receivers_of input false) (texts_of input tokens)
+
 abbrev pub lines_of : List Token → List ℕ
 lines_of tokens = map (λ (t : Token). t.line) tokens
 
-abbrev pub receiver_lines : List ℕ → List Token → List ℕ
-receiver_lines input tokens = lines_of (receivers_of input false tokens)
+abbrev pub receiver_lines : List ℕ → List Token → List (List ℕ)
+receiver_lines input tokens = map lines_of (receivers_of_all input tokens)
+
+-- The words `do`, in order.
+abbrev pub calls_in : List ℕ → List Token → List Token
+calls_in input [] = []
+calls_in input (t ∷ ts) = if is_call (said_by input t) then t ∷ calls_in input ts else calls_in input ts

@@ -1,4 +1,4 @@
-// The points of a protocol with their lines, and what a refusal by a rule of acceptance says.
+// The points of a module with their lines, and what a refusal by a rule of acceptance says.
 #![tactic(auto)]
 
 ghost use Rattle.rcv_listing.specs.Laws.{LinesAreThoseOfReceivers};
@@ -9,13 +9,15 @@ mod receivers;
 mod shown;
 mod table;
 mod told;
+mod written;
 
 pub use listing::{Listing, points_text};
 pub use rcv_input::{InputError, Refused};
 pub use std::alloc::AllocError as Memory;
 
-/// Where the tokens of a protocol part are read as a protocol, those that are receivers name the receivers of its
-/// points, one for each, in order; and the lines of a listing are those of their first bytes.
+/// Where the tokens of a protocol part are read as a module, those of each protocol that are receivers name the receivers
+/// of the points of its text, one for each, in order; and the lines of a listing are those of their first bytes, and of the
+/// first bytes of the words `do`.
 pub fn lines_are_those_of_receivers()
     ensures { LinesAreThoseOfReceivers }
 {}

@@ -59,11 +59,11 @@ fn listing_of(alloc: Global, source: Source) -> Result<Listing, InputError>
     }
 }
 
-/// The points of the protocol in the input's protocol part, with their lines; the scripts and the plan are left as they
-/// are. The input has fewer than 2^32 - 1 bytes.
+/// The points of the input's protocol, calls expanded, with their lines and those of the calls through which they came; the
+/// scripts and the plan are left as they are. The input has fewer than 2^32 - 1 bytes.
 ///
-/// Refused where the protocol part isn't read: by 10 at a bad letter, by 11 to 19 and 29 where the reader refuses it. `Memory`
-/// where no memory is left.
+/// Refused where the protocol part isn't read: by 10 at a bad letter, by 11 to 19 and 29 where the reader refuses it; or
+/// isn't expanded: by 13 and 52 to 54, and by 12 and 18, at a call. `Memory` where no memory is left.
 pub fn points_text(alloc: Global, input: &[u8]) -> Result<Listing, InputError>
     requires { length input.now + 1 < 2 ^ 32 }
     ensures { MatchResult result (IsListing input.now) (IsUnreadable input.now) }

@@ -1,4 +1,4 @@
-// Reads the protocol part of an input, with the lines of its receivers.
+// Reads the protocol part of an input, with the lines of its points.
 
 ghost use Rattle.std.specs.Prelude.{◌≡◌, ℕ, List, ◌+◌, ◌^◌, ◌<◌, ◌≤◌, length, IfOk, MatchResult};
 ghost use Rattle.rcv_model.specs.Form.{HasForm};
@@ -9,19 +9,21 @@ ghost use Rattle.rcv_input.specs.Refusals.{IsUnread};
 ghost use Rattle.rcv_listing.specs.Listing.{IsSourceOf, IsUnreadable};
 
 use crate::receivers::receiver_lines;
+use crate::written::{PointLines, lines_of_points};
+use rcv_do::expand_traced;
 use rcv_input::{InputError, Refused};
 use rcv_lexer::token::{Span, TextError};
 use rcv_lexer::{line_feeds, split, tokens};
-use rcv_reader::read_protocol;
+use rcv_reader::read_module;
 use rcv_tree::protocol::Protocol;
 use rcv_tree::refusal::Refusal;
 use std::alloc::Global;
 
-/// A protocol, and the line of the receiver of each of its points.
+/// The expansion of a module, and where each of its points is written.
 #[derive(Drop)]
 pub struct Source {
     pub protocol: Protocol,
-    pub lines: Vec<u32>,
+    pub lines: Vec<PointLines>,
 }
 
 // The line of a place in the input, counted from 1.
@@ -33,7 +35,7 @@ fn line_at(input: &[u8], place: usize) -> u32
     1 + line_feeds(&input[..place])
 }
 
-// The protocol of the input's protocol part.
+// The expansion of the module in the input's protocol part.
 fn read_part(alloc: Global, input: &[u8], part: Span) -> Result<Source, TextError>
     requires short { length input.now + 1 < 2 ^ 32 }
     requires inside { LiesIn input.now part }
@@ -43,11 +45,18 @@ fn read_part(alloc: Global, input: &[u8], part: Span) -> Result<Source, TextErro
 {
     let list = tokens(alloc, input, part)?;
     let last = line_at(input, part.end);
-    let lines = receiver_lines(alloc, input, list.as_slice())?;
-    match read_protocol(alloc, input, list.as_slice(), last) {
-        Ok(protocol) => Ok(Source { protocol, lines }),
-        Err(error) => Err(error),
-    }
+    let whole = read_module(alloc, input, list.as_slice(), last)?;
+    let receivers = receiver_lines(alloc, input, list.as_slice())?;
+    // The module is gone when it is expanded.
+    let dos = Vec::from_slice(alloc, whole.dos.as_slice())?;
+    let (protocol, origins) = expand_traced(alloc, whole)?;
+    let lines = lines_of_points(
+        alloc,
+        receivers.as_slice(),
+        dos.as_slice(),
+        origins.points.as_slice(),
+    )?;
+    Ok(Source { protocol, lines })
 }
 
 // The same refusal, as that of an input.
@@ -64,7 +73,7 @@ fn at_line(error: TextError) -> InputError
     }
 }
 
-/// The protocol of the input's protocol part, with the lines of its receivers.
+/// The expansion of the module in the input's protocol part, with the lines of its points.
 pub fn read_source(alloc: Global, input: &[u8]) -> Result<Source, InputError>
     requires { length input.now + 1 < 2 ^ 32 }
     ensures read { MatchResult result (λ s. IsSourceOf input.now s.protocol s.lines.items) (IsUnreadable input.now) }

@@ -3,8 +3,9 @@
 ghost use Rattle.std.specs.Prelude.{◌≡◌, ◌≤◌, ◌++◌, length, OnOk};
 ghost use Rattle.rcv_points.specs.Follow.{net_in};
 ghost use Rattle.rcv_accept.specs.Lists.{AreInText};
-ghost use Rattle.rcv_listing.specs.Lines.{name_of, line_of, point_text, points_text, all_text};
+ghost use Rattle.rcv_listing.specs.Lines.{name_of, line_of, calls_of, calls_text, message_text, point_text, points_text, all_text};
 
+use crate::written::PointLines;
 use rcv_points::points::Points;
 use rcv_text::writer::Writer;
 use rcv_tree::name::Names;
@@ -12,12 +13,23 @@ use rcv_tree::point::Point;
 use rcv_tree::role::RoleId;
 use std::alloc::AllocError;
 
-/// The points of a text, the names of its roles, and the line of each point.
+/// The points of a text, the names of its roles, and the lines of each point.
 #[derive(Drop)]
 pub struct Table<'a> {
     pub points: &'a Points,
     pub roles: &'a Names,
-    pub lines: &'a [u32],
+    pub lines: &'a [PointLines],
+}
+
+// Writes the lines of calls. Fails where memory runs out.
+fn write_calls(text: &mut Writer, lines: &[u32]) -> Result<(), AllocError>
+    ensures { OnOk result (text.new ≡ text.old ++ calls_text lines.now) }
+{
+    for line in lines {
+        text.word(b" do line ")?;
+        text.large_number(*line as u64)?;
+    }
+    Ok(())
 }
 
 impl Table<'_> {
@@ -36,17 +48,27 @@ impl Table<'_> {
         ensures { result ≡ line_of self.now.lines.now point }
     {
         match self.lines.get((point.0 as usize).saturating_sub(1)) {
-            Some(line) => *line,
+            Some(lines) => lines.line,
             None => 0,
         }
     }
 
-    /// Writes the line of a point. Fails where memory runs out.
-    pub fn write_point(&self, text: &mut Writer, point: Point) -> Result<(), AllocError>
+    // The lines of the calls through which a point came; none where there is no such point.
+    fn calls(&self, point: Point) -> &[u32]
+        ensures { result.now ≡ calls_of self.now.lines.now point }
+    {
+        match self.lines.get((point.0 as usize).saturating_sub(1)) {
+            Some(lines) => lines.calls.as_slice(),
+            None => &[],
+        }
+    }
+
+    // Writes the message of a point. Fails where memory runs out.
+    fn write_message(&self, text: &mut Writer, point: Point) -> Result<(), AllocError>
         requires first { 1 ≤ point }
         requires last { point ≤ length self.now.points.now.messages }
         ensures { OnOk result (text.new ≡ text.old
-            ++ point_text self.now.roles.now (net_in self.now.points.now) self.now.lines.now point) }
+            ++ message_text self.now.roles.now (net_in self.now.points.now) self.now.lines.now point) }
     {
         text.number(point.0)?;
         text.word(b" line ")?;
@@ -56,7 +78,18 @@ impl Table<'_> {
         text.word(b" from ")?;
         text.word(self.name(self.points.sender(point)))?;
         text.word(b" to ")?;
-        text.word(self.name(self.points.receiver(point)))?;
+        text.word(self.name(self.points.receiver(point)))
+    }
+
+    /// Writes the line of a point, with the lines of its calls. Fails where memory runs out.
+    pub fn write_point(&self, text: &mut Writer, point: Point) -> Result<(), AllocError>
+        requires first { 1 ≤ point }
+        requires last { point ≤ length self.now.points.now.messages }
+        ensures { OnOk result (text.new ≡ text.old
+            ++ point_text self.now.roles.now (net_in self.now.points.now) self.now.lines.now point) }
+    {
+        self.write_message(text, point)?;
+        write_calls(text, self.calls(point))?;
         text.word(b"\n")
     }
 

@@ -14,6 +14,7 @@ use rcv_charts::protocol::protocol_picture;
 use rcv_charts::role::role_picture;
 use rcv_charts::table::table_picture;
 use rcv_input::{Refused, read_input};
+use rcv_module::Origins;
 use rcv_picture::picture::Picture;
 use rcv_picture::picture_text;
 use rcv_project::project;
@@ -52,7 +53,10 @@ pub fn protocol_answer(alloc: Global, input: &[u8]) -> Result<Output, AllocError
     ensures { IfOk result (λ output. IsChartAnswer DrawProtocol input.now output.status output.bytes.items) }
 {
     match read_input(alloc, input) {
-        Ok(taken) => draw_protocol(alloc, taken.accepted.protocol()),
+        Ok(taken) => {
+            let depths = taken.depths.as_slice();
+            draw_protocol(alloc, taken.accepted.protocol(), &taken.origins, depths)
+        }
         Err(error) => refuse(alloc, error),
     }
 }
@@ -92,11 +96,16 @@ fn draw_role(alloc: Global, accepted: &Accepted, name: &[u8]) -> Result<Output, 
     drawn(alloc, &picture)
 }
 
-// Draws a protocol.
-fn draw_protocol(alloc: Global, protocol: &Protocol) -> Result<Output, AllocError>
+// Draws an expansion whose points came from there, where each call stands in so many inner blocks.
+fn draw_protocol(
+    alloc: Global,
+    protocol: &Protocol,
+    origins: &Origins,
+    depths: &[u8],
+) -> Result<Output, AllocError>
     ensures { IfOk result (λ output. (output.status ≡ Status.Drawn)
         × IsProtocolDrawing protocol.now output.bytes.items) }
 {
-    let picture = protocol_picture(alloc, protocol)?;
+    let picture = protocol_picture(alloc, protocol, origins, depths)?;
     drawn(alloc, &picture)
 }

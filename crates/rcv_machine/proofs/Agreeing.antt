@@ -1,12 +1,12 @@
 -- What the awaited items derive, in which codes play no part. A step goes on, or stops with a code, only where the
 -- grammar has the symbol: behind it is derived what the item derives.
-use Rattle.std.proofs.Common.{◌≡◌, ℕ, Bool, true, false, cond, List, [], ◌∷◌, ◌++◌, length, refl, ap, inl, inr, ◌⊎◌, ◌==◌, nat_le, Option, Some, None, arith, rules}
+use Rattle.std.proofs.Common.{◌≡◌, ℕ, Bool, true, false, cond, ◌||◌, List, [], ◌∷◌, ◌++◌, length, refl, ap, ◌==◌, nat_le, Option, Some, None, arith, rules}
 use Rattle.std.proofs.lemmas.Bool.Decides.{nat_tests}
 use Rattle.std.proofs.lemmas.Slice.Eq.{bytes_eq-Decides}
 use denote.Enum.Bare.{same_true}
-use Rattle.rcv_machine.specs.Words.{Global, To, Or, Choice, Rec, Continue, Par, And, Do, Open, Close, Right, Comma, Semicolon, Dot, Fault, Token, Deep, NoName, Twice, SelfMessage, AfterContinue, Unguarded, TooMany, NotYet, Shared, Symbol, Is, Word, Text, Number}
-use Rattle.rcv_machine.specs.Words.{Written, NoStmt, AMessage, AChoice, ARec, AContinue, APar, ADo, Blocks, NoBlock, ABlock, dotted, names_behind, sort_list, roles_behind, decls, stmts, blocks_behind, IsBegun, IsProper, AreProper, is_decl_word, AreDecls, Source, IsDerived, place_of, is_listed, is_among, Decl}
-use Rattle.rcv_machine.specs.Words.{Place, Item, This, AnyName, AnyQuoted, MoreModules, Decls, Alias, RoleName, MoreRoles, Sorts, MoreSorts, Subject, Sender, Receiver, MoreReceivers, RecName, AgainName, Opening, First, Rest, More, Lane, Later, State, Outcome, On, Wrong, behind, unless, by_place, meets, is_open, begins, ends, branches, later, step, awaited}
+use Rattle.rcv_machine.specs.Words.{Global, Left, Role, To, Or, Choice, Rec, Continue, Par, And, Do, Open, Close, Right, Comma, Semicolon, Dot, Fault, Token, Deep, NoName, Twice, SelfMessage, AfterContinue, Unguarded, TooMany, NotYet, Shared, Symbol, Is, Word, Text, Number}
+use Rattle.rcv_machine.specs.Words.{Written, NoStmt, AMessage, AChoice, ARec, AContinue, APar, ADo, Blocks, NoBlock, ABlock, dotted, names_behind, sort_list, roles_behind, decls, stmts, blocks_behind, IsBegun, IsProper, AreProper, is_decl_word, AreDecls, WrittenProtocol, declared, protocols, AreProperBodies, Source, IsDerived, place_of, is_listed, is_among, Decl}
+use Rattle.rcv_machine.specs.Words.{Place, Item, This, AnyName, AnyQuoted, MoreModules, Decls, Alias, RoleName, MoreRoles, Sorts, MoreSorts, Subject, Sender, Receiver, MoreReceivers, RecName, AgainName, Opening, First, Rest, More, Lane, Later, Argument, MoreArguments, ProtocolName, MoreProtocols, State, Outcome, On, Wrong, behind, unless, by_place, meets, is_open, begins, ends, branches, later, outermost, step, awaited}
 use Rattle.rcv_syntax.specs.contracts.sign.Sign.{the_type}
 
 -- A symbol meets no other one.
@@ -40,6 +40,11 @@ Front (First p) ts us = (b : Written) × IsBegun b × IsProper b × (ts ≡ stmt
 Front (Rest p) ts us = (b : Written) × IsProper b × (ts ≡ stmts b (Is Close ∷ us))
 Front (More p) ts us = (bs : Blocks) × (b : Written) × AreProper bs × IsProper b × (ts ≡ blocks_behind Or bs (stmts b (Is Close ∷ us)))
 Front (Lane p) ts us = (b : Written) × IsBegun b × IsProper b × (ts ≡ Is Open ∷ stmts b (Is Close ∷ us))
+Front (Argument earlier before) ts us = (r : List ℕ) × (ns : List (List ℕ)) × (ts ≡ Word r ∷ names_behind ns (Is Right ∷ us))
+Front (MoreArguments earlier before) ts us = (ns : List (List ℕ)) × (ts ≡ names_behind ns (Is Right ∷ us))
+Front ProtocolName ts us =
+    (p : WrittenProtocol) × (ps : List WrittenProtocol) × AreProperBodies (p ∷ ps) × (ts ≡ declared p (protocols ps us))
+Front MoreProtocols ts us = (ps : List WrittenProtocol) × AreProperBodies ps × (ts ≡ protocols ps us)
 Front (Later p) ts us = (bs : Blocks) × (b : Written) × AreProper bs × IsProper b × (ts ≡ blocks_behind And bs (stmts b (Is Close ∷ us)))
 Front _ ts us = (n : List ℕ) × (ts ≡ Word n ∷ us)
 
@@ -50,6 +55,10 @@ Derives (i ∷ k) ts = (us : List Symbol) × Front i ts us × Derives k us
 -- a block of one statement
 abbrev one : Written
 one = AContinue [] NoStmt
+
+-- a protocol with no statement
+abbrev empty : WrittenProtocol
+empty = record { name = []; role = []; other_roles = []; body = NoStmt }
 
 some_front : (i : Item) (us : List Symbol) → (ts : List Symbol) × Front i ts us
 some_front (This m) us = (_, refl)
@@ -65,6 +74,9 @@ some_front (Rest p) us = (_, (NoStmt, tt, refl))
 some_front (More p) us = (_, (NoBlock, NoStmt, tt, tt, refl))
 some_front (Lane p) us = (_, (one, tt, tt, refl))
 some_front (Later p) us = (_, (NoBlock, NoStmt, tt, tt, refl))
+some_front (Argument earlier before) us = (_, ([], [], refl))
+some_front ProtocolName us = (_, (empty, [], (tt, tt), refl))
+some_front MoreProtocols us = (_, ([], tt, refl))
 some_front _ us = (_, ([], refl))
 
 -- some list is derived
@@ -74,10 +86,9 @@ completion (i ∷ k) = let c = completion k in let f = some_front i c.0 in (f.0,
 
 -- what is awaited at first derives only what the grammar derives
 pub derived : (ts : List Symbol) → Derives awaited ts → IsDerived ts
-derived ts (_, a, (_, (x, b), (_, (xs, c), (_, (ds, are, d), (_, e, (_, (y, f), others)))))) =
-    let (_, g, (_, h, (_, (r, rs, i), (_, j, (_, (body, is, l), m))))) = others in
-    let source : Source = record { module_name = x; module_more = xs; declared = ds; name = y; role = r; other_roles = rs; body = body } in
-    (source, (are, is, simp (a, b, c, d, e, f, g, h, i, j, l, m)))
+derived ts (_, a, (_, (x, b), (_, (xs, c), (_, (ds, are, d), (_, e, (_, (p, ps, proper, f), g)))))) =
+    let source : Source = record { module_name = x; module_more = xs; declared = ds; first = p; others = ps } in
+    (source, (are, proper, simp (a, b, c, d, e, f, g)))
 
 -- behind the symbol stands what the others derive
 abbrev Offers : List Item → Symbol → List Item → Type 0
@@ -86,11 +97,10 @@ Offers k t next = (us : List Symbol) → Derives next us → Derives k (t ∷ us
 abbrev pub Has : List Item → Symbol → Type 0
 Has k t = (us : List Symbol) × Derives k (t ∷ us)
 
--- Behind a whole protocol another one is refused, but not as a token.
 abbrev pub Agrees : Outcome → List Item → Symbol → Type 0
 Agrees (On s next) k t = Offers k t next
 Agrees (Wrong Token) k t = Unit {0}
-Agrees (Wrong _) k t = Has k t ⊎ ((k ≡ []) × (t ≡ Is Global))
+Agrees (Wrong _) k t = Has k t
 
 has : (k : List Item) (t : Symbol) (next : List Item) → Offers k t next → Has k t
 has k t next o = let c = completion next in (c.0, o c.0 c.1)
@@ -98,7 +108,7 @@ has k t next o = let c = completion next in (c.0, o c.0 c.1)
 tested : (b : Bool) (f : Fault) (o : Outcome) (k : List Item) (t : Symbol) → Has k t → Agrees o k t → Agrees (unless b f o) k t
 tested false f o k t h a = a
 tested true Token o k t h a = tt
-tested true _ o k t h a = inl h
+tested true _ o k t h a = h
 
 -- one test
 asked : (b : Bool) (f : Fault) (s : State) (k : List Item) (t : Symbol) (next : List Item) → Offers k t next
@@ -107,7 +117,7 @@ asked b f s k t next o = tested b f (On s next) k t (has k t next o) o
 
 placed : (o : Option ℕ) (next : ℕ → Outcome) (k : List Item) (t : Symbol) → Has k t → ((r : ℕ) → Agrees (next r) k t)
     → Agrees (by_place o next) k t
-placed None next k t h a = inl h
+placed None next k t h a = h
 placed (Some r) next k t h a = a r
 
 chosen : (b : Bool) (s : State) (k : List Item) (t : Symbol) (next : List Item) → (b ≡ true → Offers k t next)
@@ -120,8 +130,7 @@ through : (o : Outcome) (i j : Item) (k : List Item) (t : Symbol) → ((ts : Lis
     → Agrees o (j ∷ k) t → Agrees o (i ∷ k) t
 through (On s next) i j k t e a = λ us d. e (t ∷ us) (a us d)
 through (Wrong Token) i j k t e a = tt
-through (Wrong _) i j k t e (inl a) = inl (a.0, e (t ∷ a.0) a.1)
-through (Wrong _) i j k t e (inr a) = absurd cc
+through (Wrong _) i j k t e a = (a.0, e (t ∷ a.0) a.1)
 
 begins_agrees : (t : Symbol) (ts : List Symbol) (s : State) (p : Place) (k : List Item) → Agrees (begins s p t ts k) (First p ∷ k) t
 begins_agrees (Word n) ts s p k = asked p.ended AfterContinue s _ _ _ (λ us d.
@@ -143,10 +152,10 @@ begins_agrees (Is Par) ts s p k =
     let (_, (f, begun, proper, a), (_, b, (_, (g, more_begun, more_proper, c), (vs, (os, rest, are, is, e), more)))) = d in
     (vs, (APar f g os rest, tt, (begun, proper, more_begun, more_proper, are, is), simp (a, b, c, e)), more) in
     let some = has (First p ∷ k) (Is Par) (Lane p ∷ This (Is And) ∷ Lane p ∷ Later p ∷ k) o in
-    tested p.ended AfterContinue _ _ _ some (asked (nat_le 2 p.depth) NotYet _ _ _ _ o)
-begins_agrees (Is Do) ts s p k =
-    let call : Has (First p ∷ k) (Is Do) = (_, (_, (ADo [] [] [] NoStmt, tt, tt, refl), (completion k).1)) in
-    tested p.ended AfterContinue _ _ _ call (inl call)
+    tested p.ended AfterContinue _ _ _ some (asked (nat_le 2 p.depth || nat_le 2 (length s.protocols)) NotYet _ _ _ _ o)
+begins_agrees (Is Do) ts s p k = asked p.ended AfterContinue s _ _ _ (λ us d.
+    let (_, (m, a), (_, b, (_, (r, rs, c), (_, e, (vs, (rest, is, g), more))))) = d in
+    (vs, (ADo m r rs rest, tt, is, simp (a, b, c, e, g)), more))
 begins_agrees _ ts s p k = tt
 
 ends_agrees : (t : Symbol) (ts : List Symbol) (s : State) (p : Place) (k : List Item) → Agrees (ends s p t ts k) (Rest p ∷ k) t
@@ -169,7 +178,6 @@ later_agrees t ts s p k =
     (ends_agrees t ts s (behind p false) k)
 
 pub agrees : (k : List Item) (t : Symbol) (ts : List Symbol) (s : State) → Agrees (step s t ts k) k t
-agrees [] (Is Global) ts s = inr (refl, refl)
 agrees (This m ∷ k) t ts s = chosen (meets t m) s _ t k (λ e us d. (us, ap (λ (x : Symbol). x ∷ us) (meets_only t m e), d))
 agrees (First p ∷ k) t ts s = begins_agrees t ts s p k
 agrees (Rest p ∷ k) t ts s = ends_agrees t ts s p k
@@ -218,4 +226,20 @@ agrees (RecName p ∷ k) (Word n) ts s = λ us (vs, (b, begun, proper, a), more)
 agrees (AgainName p ∷ k) (Word n) ts s = asked _ NoName s _ _ _ (λ us (vs, a, more). (vs, (n, simp a), more))
 agrees (Opening p ∷ k) (Is Open) ts s = asked (nat_le 32 p.depth) Deep s _ _ _ (λ us (vs, (b, begun, proper, a), more).
     (vs, (b, begun, proper, simp a), more))
+agrees (Argument earlier before ∷ k) (Word n) ts s =
+    let o : (r : ℕ) → Offers (Argument earlier before ∷ k) (Word n) (MoreArguments earlier (before ++ r ∷ []) ∷ k) = λ r us (vs, (ns, a), more).
+    (vs, (n, ns, simp a), more) in
+    let some = has (Argument earlier before ∷ k) (Word n) (MoreArguments earlier (before ++ 0 ∷ []) ∷ k) (o 0) in
+    placed (place_of s.roles n) _ _ _ some (λ r. tested (is_listed r before) Twice _ _ _ some (asked (earlier n) Shared _ _ _ _ (o r)))
+agrees (MoreArguments earlier before ∷ k) (Is Comma) ts s = λ us (vs, (r, rs, a), more). (vs, (r ∷ rs, simp a), more)
+agrees (MoreArguments earlier before ∷ k) (Is Right) ts s = λ us d. (us, ([], refl), d)
+agrees (ProtocolName ∷ k) (Word n) ts s =
+    let next : List Item = This (Is Left) ∷ This (Is Role) ∷ RoleName ∷ This (Is Open) ∷ Rest outermost ∷ MoreProtocols ∷ k in
+    let o : Offers (ProtocolName ∷ k) (Word n) next = λ us d.
+    let (_, a, (_, b, (_, (r, rs, c), (_, e, (_, (body, is, g), (vs, (ps, are, h), more)))))) = d in
+    let first : WrittenProtocol = record { name = n; role = r; other_roles = rs; body = body } in
+    (vs, (first, ps, (is, are), simp (a, b, c, e, g, h)), more) in
+    let some = has (ProtocolName ∷ k) (Word n) next o in
+    tested (is_among n s.protocols) Twice _ _ _ some (asked (nat_le 64 (length s.protocols)) TooMany _ _ _ _ o)
+agrees (MoreProtocols ∷ k) (Is Global) ts s = λ us (_, a, (vs, (p, ps, are, b), more)). (vs, (p ∷ ps, are, simp (a, b)), more)
 agrees _ _ ts s = tt

@@ -1,11 +1,11 @@
 -- The machine's answer is right, in the words of the grammar and of the table of the codes: a text is taken exactly
 -- where no code holds, and refused exactly at the first one.
-use Rattle.std.proofs.Common.{◌≡◌, ℕ, List, [], ◌∷◌, ◌++◌, length, refl, sym, ap, subst, ◌∙◌, append_assoc, append-nil, length-append, arith, inl, inr, ◌⊎◌, ◌<◌}
-use Rattle.rcv_machine.specs.Words.{Global, Fault, Token, Symbol, Is, IsDerived, IsBeginning, code_of, Holds, backward, HoldsAt, IsFree, IsFirst, Item, State, Outcome, On, Wrong, step, behind_all, after, Answer, Taken, Refuses, answer, awaited, reading}
+use Rattle.std.proofs.Common.{◌≡◌, ℕ, List, [], ◌∷◌, ◌++◌, length, refl, sym, ap, subst, ◌∙◌, append_assoc, append-nil, length-append, arith, ◌<◌}
+use Rattle.rcv_machine.specs.Words.{Fault, Token, Symbol, IsDerived, IsBeginning, code_of, Holds, backward, HoldsAt, IsFree, IsFirst, Item, MoreProtocols, Outcome, On, Wrong, step, at_end, after, Answer, Taken, Refuses, answer, awaited, reading}
 use Rattle.rcv_machine.specs.Laws.{IsFair, CodesAreFair, TextsAreTakenExactly, TextsAreRefusedExactly}
 use Rattle.rcv_machine.proofs.Agreeing.{Derives, completion, derived, Has, Agrees, agrees}
-use Rattle.rcv_machine.proofs.Knowing.{NoneBelow, state_at, ToldBy, Told, one_fault}
-use Rattle.rcv_machine.proofs.Telling.{derived_told, all_told}
+use Rattle.rcv_machine.proofs.Knowing.{NoneBelow, state_at, Told, one_fault}
+use Rattle.rcv_machine.proofs.Telling.{derived_told}
 
 -- Two cuts of one list are one, where neither ends within the other.
 apart : (xs ys us vs : List Symbol) → xs ++ ys ≡ us ++ vs
@@ -42,20 +42,15 @@ FreeBefore front left =
     (g : Fault) (before : List Symbol) (t : Symbol) (others : List Symbol) → front ≡ before ++ t ∷ others
     → HoldsAt g before (t ∷ others ++ left) → ⊥
 
--- the grammar has the symbol here, or it is that of a second protocol
-abbrev IsHere : List Symbol → Symbol → Type 0
-IsHere front t = IsBeginning (front ++ t ∷ []) ⊎ ((t ≡ Is Global) × IsDerived front)
-
 none_here : (front : List Symbol) (t : Symbol) (ts : List Symbol) → IsBeginning (front ++ t ∷ []) → NoneBelow 30 (backward front []) t ts
     → (f : Fault) → HoldsAt f front (t ∷ ts) → ⊥
 none_here front t ts b none Token h = h.1 b
 none_here front t ts b none f h = none f (omega arith) h
 
-none_lesser : (c : ℕ) (front : List Symbol) (t : Symbol) (ts : List Symbol) → IsHere front t → NoneBelow c (backward front []) t ts
+none_lesser : (c : ℕ) (front : List Symbol) (t : Symbol) (ts : List Symbol) → IsBeginning (front ++ t ∷ []) → NoneBelow c (backward front []) t ts
     → (g : Fault) → code_of g < c → HoldsAt g front (t ∷ ts) → ⊥
-none_lesser c front t ts (inl b) none Token l h = h.1 b
-none_lesser c front t ts (inr d) none Token l h = h.2 d.0 d.1
-none_lesser c front t ts has none g l h = none g l h
+none_lesser c front t ts b none Token l h = h.1 b
+none_lesser c front t ts b none g l h = none g l h
 
 least_token : (front left : List Symbol) (g : Fault) → code_of g < code_of Token → HoldsAt g front left → ⊥
 least_token front left Token l h = omega (arith, l)
@@ -71,7 +66,7 @@ free_more front t ts free none g before u others e h = let one = apart before (u
     none g (rw (← one.0, ← same) h)
 
 abbrev IsExact : List Symbol → Answer → Type 0
-IsExact symbols (Taken s) = IsFree symbols
+IsExact symbols Taken = IsFree symbols
 IsExact symbols (Refuses f left) = IsFirst symbols f left
 
 abbrev Right : List Symbol → Answer → Type 0
@@ -79,14 +74,9 @@ Right symbols a = IsFair symbols a × IsExact symbols a
 
 -- what is told of the symbol at which the machine stops with a code that isn't the grammar's
 verdict : (f : Fault) (front : List Symbol) (t : Symbol) (ts : List Symbol) (k : List Item)
-    → step (state_at (backward front [])) t ts k ≡ Wrong f → GoesOn front k → Has k t ⊎ ((k ≡ []) × (t ≡ Is Global))
-    → IsHere front t × (Holds f (backward front []) t ts × NoneBelow (code_of f) (backward front []) t ts)
-verdict f front t ts k e on (inl (us, d)) =
-    let more = (stepped front t us k on).0 d in (inl (us, more), rw e at ((stepped front t us k on).1 more ts))
-verdict f front t ts k e on (inr (none, is)) = let derived = (whole front k on).0 (rw none refl) in
-    let stops : behind_all (Is Global) ≡ Wrong f = rw (none, is) at e in
-    let told = all_told (backward front []) ts (λ next. ⊥) ((whole front k on).1 derived).1 in
-    (inr (is, derived), rw is (subst (λ (x : Outcome). ToldBy x (backward front []) (Is Global) ts (λ next. ⊥)) stops told))
+    → step (state_at (backward front [])) t ts k ≡ Wrong f → GoesOn front k → Has k t
+    → IsBeginning (front ++ t ∷ []) × (Holds f (backward front []) t ts × NoneBelow (code_of f) (backward front []) t ts)
+verdict f front t ts k e on (us, d) = let more = (stepped front t us k on).0 d in ((us, more), rw e at ((stepped front t us k on).1 more ts))
 
 free_of : (symbols : List Symbol) → IsDerived symbols → FreeBefore symbols [] → IsFree symbols
 free_of symbols d free Token before [] e h = h.1 (subst IsDerived (e ∙ append-nil before) d)
@@ -110,22 +100,24 @@ by_outcome (On s next) front t ts k e on free a go =
     rw (← append_assoc front (t ∷ []) ts, same) (go next more (free_more front t ts free (none_here front t ts b goes.free)))
 by_outcome (Wrong Token) front t ts k e on free a go =
     let wrong : IsBeginning (front ++ t ∷ []) → ⊥ = λ b. (rw e at ((stepped front t b.0 k on).1 b.1 ts)).0 in
-    let apart : t ≡ Is Global → IsDerived front → ⊥ = λ is d.
-    let none = ((whole front k on).1 d).0 in let other = rw (none, is) at e in absurd cc in
     let begun = begins front k on in let least = least_token front (t ∷ ts) in
-    let holds : HoldsAt Token front (t ∷ ts) = (begun, wrong, apart) in
+    let holds : HoldsAt Token front (t ∷ ts) = (begun, wrong) in
     ((front, refl, begun, wrong), record { front = front; cut = refl; holds = holds; least = least; first = free })
 by_outcome (Wrong f) front t ts k e on free a go = let v = verdict f front t ts k e on a in
     let least = none_lesser (code_of f) front t ts v.0 v.1.1 in
     ((front, refl, v.0), record { front = front; cut = refl; holds = v.1.0; least = least; first = free })
 
+-- at the end, behind a protocol or where more is awaited
+at_last : (k : List Item) (front : List Symbol) → GoesOn front k → FreeBefore front [] → Right front (at_end k)
+at_last (MoreProtocols ∷ []) front on free = let d = (whole front _ on).0 ([], ([], tt, refl), refl) in (d, free_of front d free)
+at_last k front on free =
+    let holds : HoldsAt Token front [] = (begins front k on, λ d. let none = (whole front k on).1 d in cc) in
+    let cut = sym (append-nil front) in let least = least_token front [] in
+    (holds, record { front = front; cut = cut; holds = holds; least = least; first = free })
+
 right_from : (ts front : List Symbol) (k : List Item) → GoesOn front k → FreeBefore front ts
     → Right (front ++ ts) (answer (state_at (backward front [])) k ts)
-right_from [] front [] on free = let d = (whole front [] on).0 refl in rw (append-nil front) (d, free_of front d free)
-right_from [] front (i ∷ k) on free =
-    let holds : HoldsAt Token front [] = (begins front _ on, λ d. let none = ((whole front (i ∷ k) on).1 d).0 in cc) in
-    let cut = sym (append-nil front) in let least = least_token front [] in
-    rw (append-nil front) (holds, record { front = front; cut = cut; holds = holds; least = least; first = free })
+right_from [] front k on free = rw (append-nil front) (at_last k front on free)
 right_from (t ∷ ts) front k on free =
     by_outcome _ front t ts k refl on free (agrees k t ts (state_at (backward front [])))
     (right_from ts (front ++ t ∷ []))
@@ -137,17 +129,17 @@ right symbols = right_from symbols [] awaited (λ ts. (derived ts, derived_told 
 pub refusal_is_first : (symbols : List Symbol) (f : Fault) (left : List Symbol) → reading symbols ≡ Refuses f left → IsFirst symbols f left
 refusal_is_first symbols f left e = subst (IsExact symbols) e (right symbols).1
 
-pub taken_is_free : (symbols : List Symbol) (s : State) → reading symbols ≡ Taken s → IsDerived symbols × IsFree symbols
-taken_is_free symbols s e = subst (Right symbols) e (right symbols)
+pub taken_is_free : (symbols : List Symbol) → reading symbols ≡ Taken → IsDerived symbols × IsFree symbols
+taken_is_free symbols e = subst (Right symbols) e (right symbols)
 
 pub codes_are_fair : CodesAreFair
 codes_are_fair symbols = (right symbols).0
 
 pub texts_are_taken_exactly : TextsAreTakenExactly
-texts_are_taken_exactly symbols = ((λ t. taken_is_free symbols t.0 t.1), (λ d. go d.1 (reading symbols) refl))
+texts_are_taken_exactly symbols = ((λ t. taken_is_free symbols t), (λ d. go d.1 (reading symbols) refl))
   where
-    go : IsFree symbols → (a : Answer) → reading symbols ≡ a → (s : State) × (reading symbols ≡ Taken s)
-    go free (Taken s) e = (s, e)
+    go : IsFree symbols → (a : Answer) → reading symbols ≡ a → reading symbols ≡ Taken
+    go free Taken e = e
     go free (Refuses f left) e = let h = refusal_is_first symbols f left e in absurd (free f h.front left h.cut h.holds)
 
 -- there is one first code
@@ -164,5 +156,5 @@ pub texts_are_refused_exactly : TextsAreRefusedExactly
 texts_are_refused_exactly symbols f left = (refusal_is_first symbols f left, λ h. go h (reading symbols) refl)
   where
     go : IsFirst symbols f left → (a : Answer) → reading symbols ≡ a → reading symbols ≡ Refuses f left
-    go h (Taken s) e = absurd ((taken_is_free symbols s e).1 f h.front left h.cut h.holds)
+    go h Taken e = absurd ((taken_is_free symbols e).1 f h.front left h.cut h.holds)
     go h (Refuses g left') e = e ∙ one_first symbols f g left left' h (refusal_is_first symbols g left' e)

@@ -1,8 +1,8 @@
 -- What is known of the symbols before, what the machine does with symbols that the grammar derives, and which code is
 -- the least at a symbol.
 use Rattle.std.proofs.Common.{◌≡◌, ◌<◌, ◌≤◌, ℕ, ◌+◌, Bool, true, false, cond, List, [], ◌∷◌, length, refl, arith, ◌-◌, not, drop, Some, Decides}
-use Rattle.rcv_machine.specs.Words.{Global, Continue, Par, Open, Semicolon, Fault, Token, Deep, NoName, Twice, SelfMessage, AfterContinue, Unguarded, TooMany, NotYet, Shared, Symbol, Is, Word, place_of, is_listed}
-use Rattle.rcv_machine.specs.Words.{is_among, named_since_par, is_beside, code_of, Standing, standing, AsReceiver, AsOther, roles_before, points_before, listed, sender, open_braces, recs_of, Comes, is_at_name, is_at, begins_a_statement, IsUnguarded, is_behind_continue, is_behind_all, Holds, Named, Place, Item, State, known, Outcome, On, Wrong, unless, step}
+use Rattle.rcv_machine.specs.Words.{Global, Continue, Par, Do, Open, Semicolon, Fault, Token, Deep, NoName, Twice, SelfMessage, AfterContinue, Unguarded, TooMany, NotYet, Shared, Symbol, Is, Word, place_of, is_listed}
+use Rattle.rcv_machine.specs.Words.{is_among, named_since_par, protocols_before, is_beside, code_of, Standing, standing, AsReceiver, AsCalled, AsArgument, AsOther, roles_before, points_before, listed, sender, open_braces, recs_of, Comes, is_at_name, is_at, begins_a_statement, IsUnguarded, is_behind_continue, Holds, Named, Place, Item, MoreProtocols, State, known, Outcome, On, Wrong, unless, step}
 
 -- no code from 12 on that is less than this number holds
 abbrev pub NoneBelow : ℕ → List Symbol → Symbol → List Symbol → Type 0
@@ -10,7 +10,7 @@ NoneBelow c back t ts = (f : Fault) → code_of f < c → Holds f back t ts → 
 
 -- the state behind these symbols
 abbrev pub state_at : List Symbol → State
-state_at back = known (roles_before back) (points_before back) (λ n. is_among n (named_since_par 1 back))
+state_at back = known (protocols_before back) (roles_before back) (points_before back) (λ n. is_among n (named_since_par 1 back))
 
 -- no code holds at the symbol, behind which this is the state
 pub record Goes (back : List Symbol) (t : Symbol) (ts : List Symbol) (s : State) : Type 0 where
@@ -24,7 +24,7 @@ ToldBy (On s k) back t ts rest = Goes back t ts s × rest k
 ToldBy (Wrong f) back t ts rest = Holds f back t ts × NoneBelow (code_of f) back t ts
 
 abbrev pub Told : List Item → List Symbol → List Symbol → Type 0
-Told k back [] = (k ≡ []) × (is_behind_all back ≡ true)
+Told k back [] = k ≡ MoreProtocols ∷ []
 Told k back (t ∷ us) = (ts : List Symbol) → ToldBy (step (state_at back) t ts k) back t ts (λ next. Told next (t ∷ back) us)
 
 -- the names of the innermost recursions to which a walk comes without a message
@@ -52,6 +52,12 @@ pub record Here (p : Place) (braces : List (List Symbol)) (back : List Symbol) :
   pub fits : Fits p braces
   pub ended : p.ended ≡ is_behind_continue back
   pub reaches : Reaches p back
+
+-- an argument of the list stands here
+pub record InCall (back : List Symbol) (earlier : Named) (before : List ℕ) : Type 0 where
+  pub argues : standing back ≡ AsArgument
+  pub has : (n : List ℕ) (r : ℕ) → place_of (roles_before back) n ≡ Some r → is_listed r before ≡ is_among n (listed back)
+  pub shares : Shares earlier (open_braces back)
 
 -- a receiver of the list stands here
 pub record InList (back : List Symbol) (earlier : Named) (from : ℕ) (before : List ℕ) : Type 0 where
@@ -132,8 +138,15 @@ pub kept_name : {back : List Symbol} {Next : Type 0} (n : List ℕ) → standing
 kept_name {back} {Next} n e f next ts =
     judged_name AsOther false back n ts (state_at back) [] (λ k. Next) e f (rw e refl) (λ l. next)
 
+-- the name of a called protocol
+pub kept_called : {back : List Symbol} {Next : Type 0} (n : List ℕ) → Next
+    → (ts : List Symbol) → Goes (Is Do ∷ back) (Word n) ts (state_at back) × Next
+kept_called {back} {Next} n next ts =
+    judged_name AsCalled false (Is Do ∷ back) n ts (state_at back) [] (λ k. Next) refl refl refl (λ l. next)
+
 pub kept_quiet : {back : List Symbol} {t : Symbol} {Next : Type 0} → is_quiet t ≡ true → Next
     → (ts : List Symbol) → Goes back t ts (state_at back) × Next
 kept_quiet {t = Word n} e next ts = absurd cc
 kept_quiet {t = Is Par} e next ts = absurd cc
+kept_quiet {t = Is Global} e next ts = absurd cc
 kept_quiet {back} {t} e next ts = (record { free = λ f le h. quiet t f back ts e h; same = refl }, next)

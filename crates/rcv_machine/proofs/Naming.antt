@@ -1,5 +1,5 @@
 -- Names and the places of roles; names of enclosing recursions, and from where a walk comes without a message.
-use Rattle.std.proofs.Common.{◌≡◌, ℕ, ◌+◌, true, List, [], ◌∷◌, ◌++◌, length, refl, sym, ap, ◌∙◌, arith, length-append, slice_index_or, inl, inr, bytes_eq, is_none, ◌-◌, ◌⊎◌, ◌↔◌, ◌==◌, nat_lt, not, Some}
+use Rattle.std.proofs.Common.{◌≡◌, ℕ, ◌+◌, Bool, true, false, ◌||◌, List, [], ◌∷◌, ◌++◌, length, refl, sym, ap, ◌∙◌, arith, length-append, slice_index_or, inl, inr, bytes_eq, is_none, ◌-◌, ◌⊎◌, ◌↔◌, ◌==◌, nat_lt, not, Some}
 use Rattle.std.specs.List.{position_or_len}
 use Rattle.std.proofs.Math.Bool.{or-false}
 use Rattle.std.proofs.lemmas.List.{drop-append-le}
@@ -9,6 +9,10 @@ use Rattle.std.proofs.lemmas.Slice.Eq.{bytes_eq-Decides}
 use Rattle.rcv_machine.specs.Words.{Choice, At, Or, Rec, Open, Close, Symbol, Is, Word, is_listed, place_of, is_among, open_braces, Comes, FromItsStart, IntoRec, IntoChoice, IntoBranch, Place, inside, inside_rec}
 use Rattle.rcv_machine.proofs.Knowing.{recent}
 use Rattle.std.proofs.lemmas.List.Quantifiers.{position-Some}
+
+pub or_left : (a b : Bool) → (a || b) ≡ false → a ≡ false
+or_left true b e = absurd cc
+or_left false b e = refl
 
 pub bytes_sym : (a b : List ℕ) → bytes_eq a b ≡ bytes_eq b a
 bytes_sym a b = same_from_decides _ _ (bytes_eq-Decides a b) (Decides-like _ sym sym (bytes_eq-Decides b a))

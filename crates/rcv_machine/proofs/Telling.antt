@@ -1,14 +1,14 @@
 -- The machine goes through what the grammar derives, or stops with the least code that holds.
-use Rattle.std.proofs.Common.{◌≡◌, ◌≤◌, ℕ, ◌+◌, Bool, true, false, codes, List, [], ◌∷◌, ◌++◌, length, refl, sym, ap, ◌∙◌, arith, length-append, inl, inr, ⊎_elim, is_none, ◌-◌, nat_le, not, drop, Option, Some, None, Decides}
+use Rattle.std.proofs.Common.{◌≡◌, ◌≤◌, ℕ, ◌+◌, Bool, true, false, codes, List, [], ◌∷◌, ◌++◌, length, refl, sym, ap, ◌∙◌, arith, length-append, inl, inr, ⊎_elim, is_none, ◌-◌, nat_le, not, ◌||◌, drop, Option, Some, None, Decides}
 use Rattle.std.proofs.lemmas.List.{drop_all}
 use Rattle.std.proofs.lemmas.Bool.Decides.{Decides-like, nat_tests}
 use Rattle.std.proofs.Math.Bool.{or-false}
 use Rattle.rcv_machine.specs.Words.{Global, Protocol, Role, From, To, Choice, At, Or, Rec, Continue, Par, And, Do, Open, Close, Left, Right, Comma, Semicolon, Less, Greater, AfterContinue, NotYet, NoName, Twice, SelfMessage, TooMany, Shared, Symbol, Is, Word, Text}
-use Rattle.rcv_machine.specs.Words.{Written, NoStmt, AMessage, AChoice, ARec, AContinue, APar, ADo, Blocks, NoBlock, ABlock, dotted, names_behind, sort_list, roles_behind, decls, stmts, blocks_behind, IsBegun, IsProper, AreProper, AreDecls, IsDerived, place_of}
-use Rattle.rcv_machine.specs.Words.{is_among, named_since_par, is_beside, Standing, standing, is_at_name, AsNewRole, AsAlias, AsActor, AsReceiver, AsTarget, AsOther, names_as, roles_before, aliases_before, points_before, listed, sender, open_braces, recs_of, Comes, FromItsStart, IntoRec, IntoChoice, IntoBranch, IsUnguarded, is_behind_continue, is_behind_all, Decl}
-use Rattle.rcv_machine.specs.Words.{Named, nobody, with_role, Place, Item, This, MoreModules, Decls, RoleName, Sorts, MoreSorts, Receiver, MoreReceivers, Opening, First, Rest, More, Lane, Later, State, known, Outcome, On, unless, by_place, receives, behind, beside, inside, inside_rec, is_open, behind_all, outermost, awaited}
-use Rattle.rcv_machine.proofs.Knowing.{state_at, ToldBy, Told, recent, Reaches, Shares, Fits, Here, InList, judged, judged_name, no_walk, kept_name, kept_quiet}
-use Rattle.rcv_machine.proofs.Naming.{among_more, recent_more, unknown, same_place, one_more, origin}
+use Rattle.rcv_machine.specs.Words.{Written, NoStmt, AMessage, AChoice, ARec, AContinue, APar, ADo, Blocks, NoBlock, ABlock, dotted, names_behind, sort_list, roles_behind, decls, stmts, blocks_behind, IsBegun, IsProper, AreProper, AreDecls, WrittenProtocol, declared, protocols, AreProperBodies, IsDerived, place_of}
+use Rattle.rcv_machine.specs.Words.{is_among, named_since_par, is_beside, Standing, standing, is_at_name, AsNewProtocol, AsNewRole, AsAlias, AsActor, AsReceiver, AsArgument, AsTarget, AsOther, names_here, protocols_before, roles_before, aliases_before, points_before, listed, sender, open_braces, recs_of, Comes, FromItsStart, IntoRec, IntoChoice, IntoBranch, IsUnguarded, is_behind_continue, Decl}
+use Rattle.rcv_machine.specs.Words.{Named, nobody, with_role, Place, Item, This, MoreModules, Decls, RoleName, Sorts, MoreSorts, Receiver, MoreReceivers, Opening, First, Rest, More, Lane, Later, Argument, MoreArguments, ProtocolName, MoreProtocols, State, known, anew, argues, Outcome, On, unless, by_place, receives, behind, beside, inside, inside_rec, is_open, outermost, awaited}
+use Rattle.rcv_machine.proofs.Knowing.{state_at, ToldBy, Told, recent, Reaches, Shares, Fits, Here, InList, InCall, judged, judged_name, no_walk, kept_name, kept_called, kept_quiet}
+use Rattle.rcv_machine.proofs.Naming.{or_left, among_more, recent_more, unknown, same_place, one_more, origin}
 
 -- where the same blocks are open, behind a sign
 abbrev Behind : Symbol → List Item → List (List Symbol) → List Symbol → Type 0
@@ -25,7 +25,7 @@ decls_told : (ds : List Decl) (aliases : List (List ℕ)) (k : List Item) (back 
     → aliases ≡ aliases_before back → is_behind_continue (Is Semicolon ∷ back) ≡ false → Behind (Is Global) k (open_braces back) us
     → Told (Decls aliases ∷ k) (Is Semicolon ∷ back) (decls ds (Is Global ∷ us))
 decls_told [] aliases k back us are before unended next = λ ts.
-    judged (Is Semicolon ∷ back) (Is Global) ts (state_at back) k (λ j. Told j (Is Global ∷ Is Semicolon ∷ back) us) _ false refl
+    judged (Is Semicolon ∷ back) (Is Global) ts (anew (state_at back)) k (λ j. Told j (Is Global ∷ Is Semicolon ∷ back) us) _ false refl
     no_walk refl (λ l l'. next (Is Semicolon ∷ back) refl)
 decls_told (d ∷ ds) aliases k back us are before unended next =
     let at = Word (codes "as") ∷ Text d.file ∷ Is From ∷ Text d.extern_name ∷ Is Greater ∷ Word d.schema ∷ Is Less
@@ -81,8 +81,8 @@ receiver : (back : List Symbol) (n : List ℕ) (ts : List Symbol) (earlier : Nam
     → ToldBy (by_place (place_of (roles_before back) n) (receives (state_at back) earlier from before k n)) back (Word n) ts rest
 receiver back n ts earlier from before k rest list unended told = let stands = list.receives in let roles = roles_before back in
     let since = with_role (λ m. is_among m (named_since_par 1 back)) n in
-    role_told AsReceiver back n ts (known roles (points_before back + 1) since) (λ r. MoreReceivers earlier from (before ++ r ∷ []) ∷ k) _ rest
-    stands unended (rw stands (ap (λ (c : ℕ). known roles c since) (sym (length-append (names_as AsReceiver back) (n ∷ []))))) refl
+    role_told AsReceiver back n ts (known (protocols_before back) roles (points_before back + 1) since) (λ r. MoreReceivers earlier from (before ++ r ∷ []) ∷ k) _ rest
+    stands unended (rw stands (ap (λ (c : ℕ). known (protocols_before back) roles c since) (sym (length-append (names_here AsReceiver back) (n ∷ []))))) refl
     (λ r e. rw (list.has n r e, same_place roles n (sender back) r from e list.is_sender, list.shares n) refl) (λ r e. told r (record {
       receives = rw stands refl;
       ends = λ m. refl;
@@ -101,6 +101,31 @@ receivers_told [] n back us earlier from before k list unended next ts =
 receivers_told (m ∷ ns) n back us earlier from before k list unended next ts =
     receiver back n ts earlier from before k _ list unended
     (λ r joined. kept_quiet refl (receivers_told ns m (Is Comma ∷ Word n ∷ back) us earlier from (before ++ r ∷ []) k joined refl next))
+
+-- ---- the arguments of a call
+
+argument : (back : List Symbol) (n : List ℕ) (ts : List Symbol) (earlier : Named) (before : List ℕ) (k : List Item)
+    (rest : List Item → Type 0) → InCall back earlier before → is_behind_continue back ≡ false
+    → ((r : ℕ) → InCall (Is Comma ∷ Word n ∷ back) earlier (before ++ r ∷ []) → rest (MoreArguments earlier (before ++ r ∷ []) ∷ k))
+    → ToldBy (by_place (place_of (roles_before back) n) (argues (state_at back) earlier before k n)) back (Word n) ts rest
+argument back n ts earlier before k rest list unended told = let stands = list.argues in let roles = roles_before back in
+    let since = with_role (λ m. is_among m (named_since_par 1 back)) n in
+    role_told AsArgument back n ts (known (protocols_before back) roles (points_before back) since)
+    (λ r. MoreArguments earlier (before ++ r ∷ []) ∷ k) _ rest stands unended (rw stands refl) refl
+    (λ r e. rw (list.has n r e, list.shares n) refl) (λ r e. told r (record {
+      argues = rw stands refl;
+      has = rw stands (λ m q f. one_more roles n m r q (listed back) before e f (list.has m q f));
+      shares = list.shares;
+    }))
+
+arguments_told : (ns : List (List ℕ)) (n : List ℕ) (back us : List Symbol) (earlier : Named) (before : List ℕ) (k : List Item)
+    → InCall back earlier before → is_behind_continue back ≡ false → Behind (Is Right) k (open_braces back) us
+    → Told (Argument earlier before ∷ k) back (Word n ∷ names_behind ns (Is Right ∷ us))
+arguments_told [] n back us earlier before k list unended next ts =
+    argument back n ts earlier before k _ list unended (λ r joined. kept_quiet refl (next _ refl))
+arguments_told (m ∷ ns) n back us earlier before k list unended next ts =
+    argument back n ts earlier before k _ list unended
+    (λ r joined. kept_quiet refl (arguments_told ns m (Is Comma ∷ Word n ∷ back) us earlier (before ++ r ∷ []) k joined refl next))
 
 -- a walk comes into a recursion from its start, and from where one came to the word rec
 into_rec : (p : Place) (n : List ℕ) (b : List Symbol) → Reaches p b → Reaches (inside_rec p n) (Is Open ∷ Word n ∷ Is Rec ∷ b)
@@ -180,16 +205,18 @@ lane_shares p braces back fits one n =
 -- at the word par in a block, behind which no role is named yet
 par_told : (back ts : List Symbol) (ended : Bool) (items : List Item) (rest : List Item → Type 0) → is_behind_continue back ≡ ended
     → (nat_le 2 (length (open_braces back)) ≡ false → rest items)
-    → ToldBy (unless ended AfterContinue (unless (nat_le 2 (length (open_braces back))) NotYet
-    (On (known (roles_before back) (points_before back) nobody) items))) back (Is Par) ts rest
+    → ToldBy (unless ended AfterContinue (unless (nat_le 2 (length (open_braces back)) || nat_le 2 (length (protocols_before back))) NotYet
+    (On (known (protocols_before back) (roles_before back) (points_before back) nobody) items))) back (Is Par) ts rest
 par_told back ts ended items rest is told = go (nat_le 2 (length (open_braces back))) refl
   where
-    all : ToldBy (unless ended AfterContinue (unless (nat_le 2 (length (open_braces back))) NotYet
-        (On (state_at (Is Par ∷ back)) items))) back (Is Par) ts rest
-    all = judged back (Is Par) ts (state_at (Is Par ∷ back)) items rest ended false is no_walk refl (λ l outer. told outer)
+    all : ToldBy (unless ended AfterContinue (unless (nat_le 2 (length (open_braces back)) || nat_le 2 (length (protocols_before back)))
+        NotYet (On (state_at (Is Par ∷ back)) items))) back (Is Par) ts rest
+    all = judged back (Is Par) ts (state_at (Is Par ∷ back)) items rest ended false is no_walk refl
+        (λ l outer. told (or_left (nat_le 2 (length (open_braces back))) (nat_le 2 (length (protocols_before back))) outer))
 
     go : (b : Bool) → nat_le 2 (length (open_braces back)) ≡ b
-        → ToldBy (unless ended AfterContinue (unless b NotYet (On (known (roles_before back) (points_before back) nobody) items))) back (Is Par) ts rest
+        → ToldBy (unless ended AfterContinue (unless (b || nat_le 2 (length (protocols_before back))) NotYet
+        (On (known (protocols_before back) (roles_before back) (points_before back) nobody) items))) back (Is Par) ts rest
     go true e = rw e at all
     go false e = let one : nat_le (length (open_braces back)) 1 ≡ true = grind (arith, nat_tests) in
         rw (e, one) at all
@@ -200,7 +227,7 @@ mutual
   stmts_told NoStmt p k braces back us is here next = kept_quiet refl (next back here.same)
   stmts_told (AMessage l ss s r rs rest) p k braces back us is here next = λ ts.
       judged_name AsOther p.ended back l ts (state_at back) _ _ here.plain (sym here.ended) (rw here.plain refl) (λ f.
-      kept_quiet refl (list_told ss _ _ _ refl refl (λ last e. kept_quiet refl (λ ts'.
+      kept_quiet refl (list_told ss _ _ _ (rw here.plain refl) refl (λ last e. kept_quiet refl (λ ts'.
       let shares : Shares p.earlier (open_braces last) = rw (e, here.same) here.fits.2 in
       role_told AsActor (Is From ∷ Is Right ∷ last) s ts' (state_at (Word s ∷ Is From ∷ Is Right ∷ last))
       (λ q. This (Is To) ∷ Receiver p.earlier q [] ∷ Rest (behind p false) ∷ k) _ _ refl refl refl refl (λ q g. rw (shares s) refl) (λ q g.
@@ -247,8 +274,11 @@ mutual
       (λ last' e'. lanes_told os rest p k braces and last' us is.4 e' here.fits one
       (λ end same. stmts_told rest (behind p false) k braces (Is Close ∷ end) us is.5
       (here_behind p false braces (Is Close ∷ end) refl same here.fits refl (λ x c. origin c)) next))))))))
-  stmts_told (ADo m r rs rest) p k braces back us is here next = λ ts.
-      judged back (Is Do) ts (state_at back) [] _ p.ended false (sym here.ended) no_walk refl (λ l l'. absurd cc)
+  stmts_told (ADo m r rs rest) p k braces back us is here next = λ ts. let at = Is Left ∷ Word m ∷ Is Do ∷ back in
+      judged back (Is Do) ts (state_at back) _ _ p.ended false (sym here.ended) no_walk refl (λ l l'.
+      kept_called m (kept_quiet refl (arguments_told rs r at _ p.earlier [] _ (record { argues = refl; has = λ n q g. refl; shares = rw here.same here.fits.2 }) refl
+      (λ end same. kept_quiet refl (stmts_told rest (behind p false) k braces (Is Semicolon ∷ Is Right ∷ end) us is
+      (here_behind p false braces _ refl (same ∙ here.same) here.fits refl (λ x c. origin c)) next)))))
 
   others_told : (os : Blocks) (b : Written) (p : Place) (k : List Item) (braces : List (List Symbol)) (first back us : List Symbol)
       → AreProper os → open_braces back ≡ first ∷ braces → Fits p braces → Reaches p (Is Open ∷ first)
@@ -277,27 +307,41 @@ mutual
       (λ here'. stmts_told f (inside (beside p (since_par at))) (Later p ∷ k) (at ∷ braces) (Is Open ∷ at) _ are.1 here'
       (λ last e'. lanes_told os b p k braces at last us are.2 e' fits one next)))
 
-pub derived_told : (ts : List Symbol) → IsDerived ts → Told awaited [] ts
-derived_told ts (s, (declared, proper, is)) = rw is
-    (kept_quiet refl (kept_name s.module_name refl refl (dotted_told s.module_more _ _ _ refl (λ next braces aliases unended.
-    decls_told s.declared [] _ _ _ declared (sym aliases) unended (λ last same.
-    kept_quiet refl (kept_name s.name refl refl (kept_quiet refl (kept_quiet refl
-    (roles_told s.other_roles s.role opens (Is Role ∷ Is Left ∷ Word s.name ∷ Is Protocol ∷ Is Global ∷ last)
-    (Is Open ∷ stmts s.body (Is Close ∷ [])) refl refl (λ end e. body end (e ∙ same ∙ braces)))))))))))
+-- a protocol behind its two words
+declared_told : (p : WrittenProtocol) (back us : List Symbol) → IsProper p.body → standing back ≡ AsNewProtocol
+    → is_behind_continue back ≡ false → open_braces back ≡ []
+    → ((end : List Symbol) → open_braces (Is Close ∷ end) ≡ [] → Told (MoreProtocols ∷ []) (Is Close ∷ end) us)
+    → Told (ProtocolName ∷ []) back (declared p us)
+declared_told p back us proper stands unended braces next = λ ts.
+    judged_name AsNewProtocol false back p.name ts _ _ _ stands unended (rw stands refl) (λ f. kept_quiet refl (kept_quiet refl
+    (roles_told p.other_roles p.role opens (Is Role ∷ Is Left ∷ Word p.name ∷ back)
+    (Is Open ∷ stmts p.body (Is Close ∷ us)) refl refl (λ end e. body end (e ∙ braces)))))
   where
     opens : List Item
-    opens = This (Is Open) ∷ Rest outermost ∷ []
+    opens = This (Is Open) ∷ Rest outermost ∷ MoreProtocols ∷ []
 
-    body : (back : List Symbol) → open_braces back ≡ [] → Told opens (Is Right ∷ back) (Is Open ∷ stmts s.body (Is Close ∷ []))
-    body back e ts = let at = Is Right ∷ back in
+    body : (last : List Symbol) → open_braces last ≡ [] → Told opens (Is Right ∷ last) (Is Open ∷ stmts p.body (Is Close ∷ us))
+    body last e ts = let at = Is Right ∷ last in
         let none : Reaches outermost (Is Open ∷ at) = λ x. ((λ h. absurd cc), (λ c. absurd (origin c))) in
-        rw e at (judged at (Is Open) ts (state_at at) (Rest outermost ∷ []) (λ j. Told j (Is Open ∷ at) (stmts s.body (Is Close ∷ [])))
-        _ false refl no_walk refl (λ l l'. stmts_told s.body outermost [] (at ∷ []) (Is Open ∷ at) [] proper
+        rw e at (judged at (Is Open) ts (state_at at) (Rest outermost ∷ MoreProtocols ∷ [])
+        (λ j. Told j (Is Open ∷ at) (stmts p.body (Is Close ∷ us)))
+        _ false refl no_walk refl (λ l l'. stmts_told p.body outermost (MoreProtocols ∷ []) (at ∷ []) (Is Open ∷ at) us proper
         (record { plain = refl; same = rw e refl; fits = (refl, refl, (λ n. refl), omega arith, λ one n. refl); ended = refl; reaches = none })
-        (λ next same. (refl, rw same refl))))
+        (λ end same. next end (ap (drop 1) same))))
 
--- behind a whole protocol
-pub all_told : (back ts : List Symbol) (rest : List Item → Type 0) → is_behind_all back ≡ true
-    → ToldBy (behind_all (Is Global)) back (Is Global) ts rest
-all_told back ts rest e =
-    rw e at (judged back (Is Global) ts (state_at back) [] rest _ false refl no_walk refl (λ l last. let no = sym e ∙ last in absurd cc))
+-- the protocols behind one
+protocols_told : (ps : List WrittenProtocol) (back : List Symbol) → AreProperBodies ps → open_braces back ≡ []
+    → Told (MoreProtocols ∷ []) back (protocols ps [])
+protocols_told [] back proper braces = refl
+protocols_told (p ∷ ps) back proper braces = λ ts.
+    judged back (Is Global) ts (anew (state_at back)) (This (Is Protocol) ∷ ProtocolName ∷ [])
+    (λ j. Told j (Is Global ∷ back) (Is Protocol ∷ declared p (protocols ps []))) _ false refl no_walk refl
+    (λ l l'. kept_quiet refl (declared_told p (Is Protocol ∷ Is Global ∷ back) (protocols ps []) proper.0 refl refl braces
+    (λ end e. protocols_told ps (Is Close ∷ end) proper.1 e)))
+
+pub derived_told : (ts : List Symbol) → IsDerived ts → Told awaited [] ts
+derived_told ts (s, (are, proper, is)) = rw is
+    (kept_quiet refl (kept_name s.module_name refl refl (dotted_told s.module_more _ _ _ refl (λ next braces aliases unended.
+    decls_told s.declared [] _ _ _ are (sym aliases) unended (λ last same.
+    kept_quiet refl (declared_told s.first (Is Protocol ∷ Is Global ∷ last) (protocols s.others []) proper.0 refl refl (same ∙ braces)
+    (λ end e. protocols_told s.others (Is Close ∷ end) proper.1 e)))))))

@@ -1,6 +1,6 @@
 -- What the machine's answer says in the grammar's words.
-use Rattle.std.specs.Prelude.{◌≡◌, ◌⊎◌, ◌↔◌, List, [], ◌∷◌, ◌++◌}
-use Rattle.rcv_machine.specs.Words.{Global, Fault, Token, Symbol, Is, IsDerived, IsBeginning, IsFree, IsFirst, State, Answer, Taken, Refuses, reading}
+use Rattle.std.specs.Prelude.{◌≡◌, ◌↔◌, List, [], ◌∷◌, ◌++◌}
+use Rattle.rcv_machine.specs.Words.{Fault, Token, Symbol, IsDerived, IsBeginning, IsFree, IsFirst, Answer, Taken, Refuses, reading}
 
 -- At left the first wrong symbol stands, or the end where it comes too early: the symbols before are the beginning
 -- of a list that the grammar derives, and with this symbol they are not; at the end the whole list isn't derived.
@@ -9,15 +9,13 @@ IsFirstWrong symbols [] = IsBeginning symbols × (IsDerived symbols → ⊥)
 IsFirstWrong symbols (t ∷ ts) =
     (front : List Symbol) × (symbols ≡ front ++ t ∷ ts) × IsBeginning front × (IsBeginning (front ++ t ∷ []) → ⊥)
 
--- The symbols up to this one are the beginning of a list that the grammar derives, or this one begins a second protocol.
+-- The symbols up to this one are the beginning of a list that the grammar derives.
 abbrev pub IsSoFar : List Symbol → List Symbol → Type 0
 IsSoFar symbols [] = ⊥
-IsSoFar symbols (t ∷ ts) =
-    (front : List Symbol) × (symbols ≡ front ++ t ∷ ts)
-    × (IsBeginning (front ++ t ∷ []) ⊎ ((t ≡ Is Global) × IsDerived front))
+IsSoFar symbols (t ∷ ts) = (front : List Symbol) × (symbols ≡ front ++ t ∷ ts) × IsBeginning (front ++ t ∷ [])
 
 abbrev pub IsFair : List Symbol → Answer → Type 0
-IsFair symbols (Taken state) = IsDerived symbols
+IsFair symbols Taken = IsDerived symbols
 IsFair symbols (Refuses Token left) = IsFirstWrong symbols left
 IsFair symbols (Refuses _ left) = IsSoFar symbols left
 
@@ -27,7 +25,7 @@ CodesAreFair = (symbols : List Symbol) → IsFair symbols (reading symbols)
 
 -- A text is taken exactly where the grammar derives it and no code holds.
 abbrev pub TextsAreTakenExactly : Type 0
-TextsAreTakenExactly = (symbols : List Symbol) → ((s : State) × (reading symbols ≡ Taken s)) ↔ (IsDerived symbols × IsFree symbols)
+TextsAreTakenExactly = (symbols : List Symbol) → (reading symbols ≡ Taken) ↔ (IsDerived symbols × IsFree symbols)
 
 -- It is refused exactly at the first symbol, or the end, at which a code holds, with the least one.
 abbrev pub TextsAreRefusedExactly : Type 0

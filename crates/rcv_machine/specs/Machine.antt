@@ -53,15 +53,25 @@ pub data Item : Type 0 where
   More : (place : Place) → Item  -- ("or" block)* stmt* "}"
   Lane : (place : Place) → Item  -- block, of a par
   Later : (place : Place) → Item  -- ("and" block)* stmt* "}"
+  Argument : (earlier : Named) (before : List ℕ) → Item  -- Name ("," Name)* ")"
+  MoreArguments : (earlier : Named) (before : List ℕ) → Item  -- ("," Name)* ")"
+  ProtocolName : Item  -- Name "(" "role" Name ("," "role" Name)* ")" "{" stmt* "}" protocol*
+  MoreProtocols : Item  -- protocol*, up to the end
 
--- What is known so far: the roles, the number of points, and which roles are named since the last par began.
+-- What is known so far: the names of the protocols; and of this one the roles, the number of points, and which roles are named
+-- since its last par began.
 pub record State : Type 0 where
+  pub protocols : List (List ℕ)
   pub roles : List (List ℕ)
   pub count : ℕ
   pub since : Named
 
-abbrev pub known : List (List ℕ) → ℕ → Named → State
-known roles count since = record { roles = roles; count = count; since = since }
+abbrev pub known : List (List ℕ) → List (List ℕ) → ℕ → Named → State
+known protocols roles count since = record { protocols = protocols; roles = roles; count = count; since = since }
+
+-- at the word global, with which a protocol begins
+abbrev pub anew : State → State
+anew s = known s.protocols [] 0 nobody
 
 -- there is a step, or the fault with the least code that holds
 pub data Outcome : Type 0 where
@@ -118,7 +128,7 @@ quoted (Text q) next = next
 quoted _ next = Wrong Token
 
 abbrev pub declares : State → List (List ℕ) → Symbol → List Item → Outcome
-declares s aliases (Is Global) k = On s k
+declares s aliases (Is Global) k = On (anew s) k
 declares s aliases (Word w) k =
     cond (is_decl_word w) (On s (This (Is Less) ∷ AnyName ∷ This (Is Greater) ∷ AnyQuoted ∷ This (Is From) ∷ AnyQuoted
     ∷ This (Word (codes "as")) ∷ Alias aliases ∷ k)) (Wrong Token)
@@ -144,6 +154,13 @@ declares_role s k n =
     (unless (nat_le 8 (length s.roles)) TooMany
     (On (record s { roles = s.roles ++ n ∷ [] }) (MoreRoles ∷ k)))
 
+-- An argument of a call, which stands in no earlier block of its par.
+abbrev pub argues : State → Named → List ℕ → List Item → List ℕ → ℕ → Outcome
+argues s earlier before k n r =
+    unless (is_listed r before) Twice
+    (unless (earlier n) Shared
+    (On (record s { since = with_role s.since n }) (MoreArguments earlier (before ++ r ∷ []) ∷ k)))
+
 abbrev pub opens : State → Place → Symbol → List Item → Outcome
 opens s p (Is Open) k = unless (nat_le 32 p.depth) Deep (On s (First (inside p) ∷ k))
 opens s p _ k = Wrong Token
@@ -162,9 +179,10 @@ begins s p (Is Rec) ts k = unless p.ended AfterContinue (On s (RecName p ∷ Res
 begins s p (Is Continue) ts k =
     unless p.ended AfterContinue (unless (is_open p ts) Unguarded (On s (AgainName p ∷ Rest (behind p true) ∷ k)))
 begins s p (Is Par) ts k =
-    unless p.ended AfterContinue (unless (nat_le 2 p.depth) NotYet
+    unless p.ended AfterContinue (unless (nat_le 2 p.depth || nat_le 2 (length s.protocols)) NotYet
     (On (record s { since = nobody }) (Lane p ∷ This (Is And) ∷ Lane p ∷ Later p ∷ k)))
-begins s p (Is Do) ts k = unless p.ended AfterContinue (Wrong NotYet)
+begins s p (Is Do) ts k =
+    unless p.ended AfterContinue (On s (AnyName ∷ This (Is Left) ∷ Argument p.earlier [] ∷ This (Is Semicolon) ∷ Rest (behind p false) ∷ k))
 begins s p _ ts k = Wrong Token
 
 abbrev pub ends : State → Place → Symbol → List Symbol → List Item → Outcome
@@ -179,13 +197,24 @@ abbrev pub later : State → Place → Symbol → List Symbol → List Item → 
 later s p (Is And) ts k = On s (Lane p ∷ Later p ∷ k)
 later s p t ts k = ends s (behind p false) t ts k
 
--- behind the protocol
-abbrev pub behind_all : Symbol → Outcome
-behind_all (Is Global) = Wrong NotYet
-behind_all _ = Wrong Token
+-- in the protocol's own block
+abbrev pub outermost : Place
+outermost = record { depth = 1; recs = []; comes = 0; ended = false; earlier = nobody }
+
+-- the name of a protocol, with what stands behind it
+abbrev pub declares_protocol : State → List Item → List ℕ → Outcome
+declares_protocol s k n =
+    unless (is_among n s.protocols) Twice
+    (unless (nat_le 64 (length s.protocols)) TooMany
+    (On (record s { protocols = s.protocols ++ n ∷ [] })
+    (This (Is Left) ∷ This (Is Role) ∷ RoleName ∷ This (Is Open) ∷ Rest outermost ∷ MoreProtocols ∷ k)))
+
+abbrev pub follows : State → Symbol → List Item → Outcome
+follows s (Is Global) k = On (anew s) (This (Is Protocol) ∷ ProtocolName ∷ k)
+follows s _ k = Wrong Token
 
 abbrev pub step : State → Symbol → List Symbol → List Item → Outcome
-step s t ts [] = behind_all t
+step s t ts [] = Wrong Token
 step s t ts (This m ∷ k) = cond (meets t m) (On s k) (Wrong Token)
 step s t ts (AnyName ∷ k) = named t (λ n. On s k)
 step s t ts (AnyQuoted ∷ k) = quoted t (On s k)
@@ -209,40 +238,39 @@ step s t ts (Rest p ∷ k) = ends s p t ts k
 step s t ts (More p ∷ k) = branches s p t ts k
 step s t ts (Lane p ∷ k) = opens s (beside p s.since) t k
 step s t ts (Later p ∷ k) = later s p t ts k
+step s t ts (Argument earlier before ∷ k) = role_named s t (argues s earlier before k)
+step s t ts (MoreArguments earlier before ∷ k) = either s t Comma (Argument earlier before ∷ k) Right k
+step s t ts (ProtocolName ∷ k) = named t (declares_protocol s k)
+step s t ts (MoreProtocols ∷ k) = follows s t k
 
--- The answer: what is known behind all symbols, or the fault and what is left from its symbol on.
+-- The answer: all is taken, or the fault and what is left from its symbol on.
 pub data Answer : Type 0 where
-  Taken : (state : State) → Answer
+  Taken : Answer
   Refuses : (fault : Fault) (left : List Symbol) → Answer
 
-abbrev pub at_end : State → List Item → Answer
-at_end s [] = Taken s
-at_end s (i ∷ k) = Refuses Token []
+-- Behind a protocol the text may end.
+abbrev pub at_end : List Item → Answer
+at_end (MoreProtocols ∷ []) = Taken
+at_end k = Refuses Token []
 
 abbrev pub after : Outcome → List Symbol → (State → List Item → Answer) → Answer
 after (On s k) left go = go s k
 after (Wrong fault) left go = Refuses fault left
 
 abbrev pub answer : State → List Item → List Symbol → Answer
-answer s k [] = at_end s k
+answer s k [] = at_end k
 answer s k (t ∷ ts) = after (step s t ts k) (t ∷ ts) (λ s' k'. answer s' k' ts)
 
--- what is awaited and known at first
+-- what is known and awaited at first
 abbrev pub begin : State
-begin = known [] 0 nobody
+begin = known [] [] 0 nobody
 
--- in the protocol's own block
-abbrev pub outermost : Place
-outermost = record { depth = 1; recs = []; comes = 0; ended = false; earlier = nobody }
-
--- what is awaited in front of the body, and in all
+-- what is awaited in front of the protocols, and in all
 abbrev pub in_head : List Item → List Item
-in_head k =
-    This (Is Module) ∷ AnyName ∷ MoreModules ∷ Decls [] ∷ This (Is Protocol) ∷ AnyName ∷ This (Is Left) ∷ This (Is Role) ∷ RoleName
-    ∷ This (Is Open) ∷ k
+in_head k = This (Is Module) ∷ AnyName ∷ MoreModules ∷ Decls [] ∷ k
 
 abbrev pub awaited : List Item
-awaited = in_head (Rest outermost ∷ [])
+awaited = in_head (This (Is Protocol) ∷ ProtocolName ∷ [])
 
 abbrev pub reading : List Symbol → Answer
 reading symbols = answer begin awaited symbols

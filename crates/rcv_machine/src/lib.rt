@@ -6,7 +6,7 @@
 ghost use Rattle.rcv_machine.specs.Laws.{CodesAreFair, TextsAreTakenExactly, TextsAreRefusedExactly};
 
 /// Only what the grammar derives is taken. The fault `Token` is at the first token that the grammar doesn't have; with
-/// another one the tokens so far and this one still begin a list of the grammar, or it is a second protocol.
+/// another one the tokens so far and this one still begin a list of the grammar.
 #[tactic(auto, using(crate::proofs::Exactly::codes_are_fair))]
 pub fn codes_are_fair()
     ensures { CodesAreFair }

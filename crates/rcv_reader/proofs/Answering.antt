@@ -5,19 +5,21 @@ use Rattle.rcv_tree.specs.declared.refusal.Refusal.{Refusal}
 use Rattle.rcv_tree.specs.declared.refusal.Refusal.TheVariants as refusals
 use Rattle.rcv_lexer.specs.declared.token.Token.{Token}
 use Rattle.rcv_lexer.specs.declared.token.TextError.TheVariants as errors
-use Rattle.rcv_machine.specs.Words.{Fault, Symbol, symbols_of, line_before, Reads, code_of, State, Taken, Refuses, reading}
+use Rattle.rcv_machine.specs.Words.{Fault, Symbol, symbols_of, line_before, Reads, code_of, Taken, Refuses, reading}
 use Rattle.rcv_machine.proofs.Exactly.{taken_is_free, texts_are_taken_exactly, texts_are_refused_exactly}
-use Rattle.rcv_reader.specs.Refusals.{IsRead, IsRefused}
+use Rattle.rcv_reader.specs.Refusals.{AreReadAs, IsRefused}
 
--- The machine takes the symbols, and this is their tree.
-abbrev pub IsTakenAs : List Symbol → Protocol → Type 0
-IsTakenAs symbols p = (state : State) × (reading symbols ≡ Taken state) × Reads symbols p
+-- The machine takes the symbols, and these are the trees of their protocols.
+abbrev pub AreTakenAs : List Symbol → Protocol → List Protocol → Type 0
+AreTakenAs symbols main others = (reading symbols ≡ Taken) × Reads symbols main others
 
-pub taken_of : (symbols : List Symbol) (p : Protocol) → IsRead symbols p → IsTakenAs symbols p
-taken_of symbols p h = let t = (texts_are_taken_exactly symbols).1 ((h.1.source, h.1.spelled), h.0) in (t.0, t.1, h.1)
+pub taken_of : (symbols : List Symbol) (main : Protocol) (others : List Protocol) → AreReadAs symbols main others
+    → AreTakenAs symbols main others
+taken_of symbols main others h = ((texts_are_taken_exactly symbols).1 ((h.1.source, h.1.spelled), h.0), h.1)
 
-pub read_of : (symbols : List Symbol) (p : Protocol) → IsTakenAs symbols p → IsRead symbols p
-read_of symbols p h = ((taken_is_free symbols h.0 h.1).1, h.2)
+pub read_of : (symbols : List Symbol) (main : Protocol) (others : List Protocol) → AreTakenAs symbols main others
+    → AreReadAs symbols main others
+read_of symbols main others h = ((taken_is_free symbols h.0).1, h.1)
 
 -- The machine stops with this code at a token of this line, or at the end.
 abbrev pub IsStopped : List ℕ → List Token → ℕ → Refusal → Type 0

@@ -7,6 +7,7 @@ use Rattle.rcv_model.specs.Places.{SingleMessage, HasEndOf, AreApart, HasLanesAp
 use Rattle.rcv_model.specs.Places as places
 use Rattle.rcv_machine.specs.Words.{Written, NoStmt, AMessage, AChoice, ARec, AContinue, APar, ADo, Blocks, NoBlock, ABlock, or_first, role_at, roles_at, points, points_of, singles, tree_of, trees_of, IsDeclared, Named, nobody, with_role, Place, behind, beside, inside, inside_rec}
 use Rattle.std.proofs.lemmas.List.Quantifiers.{position-Some}
+use Rattle.rcv_machine.proofs.Naming.{or_left}
 use Rattle.rcv_machine.proofs.Passing.{with_roles, named_by, named_by_all, AreTaken, Passes, PassAll, PassBeside}
 
 end_in : (q : ℕ) (xs ys : List (ℕ × SingleMessage)) → HasEndOf q (xs ++ ys) → HasEndOf q xs ⊎ HasEndOf q ys
@@ -14,18 +15,18 @@ end_in q [] ys h = inr h
 end_in q (x ∷ xs) ys (inl h) = inl (inl h)
 end_in q (x ∷ xs) ys (inr h) = ⊎_elim (λ a. inl (inr a)) (λ b. inr b) (end_in q xs ys h)
 
-deeper : (d : ℕ) → nat_le 2 d ≡ true → nat_le 2 (d + 1) ≡ true
+pub deeper : (d : ℕ) → nat_le 2 d ≡ true → nat_le 2 (d + 1) ≡ true
 deeper d deep = grind (arith, nat_tests)
 
-within : (d : ℕ) → 1 ≤ d → nat_le 2 (d + 1) ≡ true
+pub within : (d : ℕ) → 1 ≤ d → nat_le 2 (d + 1) ≡ true
 within d some = grind (arith, nat_tests)
 
-module _ (roles : List (List ℕ)) where
+module _ (later : Bool) (roles : List (List ℕ)) where
   -- the name of a role
-  abbrev name : ℕ → List ℕ
+  abbrev pub name : ℕ → List ℕ
   name q = slice_index_or roles q []
 
-  its_name : (n : List ℕ) (q : ℕ) → IsDeclared roles n → role_at roles n ≡ q → n ≡ name q
+  pub its_name : (n : List ℕ) (q : ℕ) → IsDeclared roles n → role_at roles n ≡ q → n ≡ name q
   its_name n q is e =
       let place = ap or_first is.1 in
       let same = (bytes_eq-Decides (name is.0) n).0 (position-Some (λ role. bytes_eq role n) roles is.0 [] is.1).1 in
@@ -40,15 +41,15 @@ module _ (roles : List (List ℕ)) where
       go true = refl
       go false = h
 
-  named_last : (since : Named) (n : List ℕ) → with_role since n n ≡ true
+  pub named_last : (since : Named) (n : List ℕ) → with_role since n n ≡ true
   named_last since n = let same = (bytes_eq-Decides n n).1 refl in rw same refl
 
-  stays_receivers : (since : Named) (rs : List (List ℕ)) (m : List ℕ) → since m ≡ true → with_roles since rs m ≡ true
+  pub stays_receivers : (since : Named) (rs : List (List ℕ)) (m : List ℕ) → since m ≡ true → with_roles since rs m ≡ true
   stays_receivers since [] m h = h
   stays_receivers since (r ∷ rs) m h = stays_receivers (with_role since r) rs m (named_too since r m h)
 
   mutual
-    stays : (n : ℕ) (p : Place) (w : Written) (since : Named) (m : List ℕ) → Passes roles n p w → nat_le 2 p.depth ≡ true
+    pub stays : (n : ℕ) (p : Place) (w : Written) (since : Named) (m : List ℕ) → Passes later roles n p w → nat_le 2 p.depth ≡ true
         → since m ≡ true → named_by since w m ≡ true
     stays n p NoStmt since m h deep is = is
     stays n p (AMessage label ss s r rs rest) since m h deep is =
@@ -61,10 +62,10 @@ module _ (roles : List (List ℕ)) where
         stays (n + points body) (behind p false) rest _ m h.3 deep
         (stays n (inside (inside_rec p x)) body since m h.2 (deeper p.depth deep) is)
     stays n p (AContinue x rest) since m h deep is = stays n (behind p true) rest since m h.3 deep is
-    stays n p (APar f g os rest) since m h deep is = let outer = sym deep ∙ h.1 in absurd cc
-    stays n p (ADo x r rs rest) since m h deep is = absurd h
+    stays n p (APar f g os rest) since m h deep is = let outer = sym deep ∙ or_left (nat_le 2 p.depth) later h.1 in absurd cc
+    stays n p (ADo x r rs rest) since m h deep is = stays n (behind p false) rest _ m h.2 deep (stays_receivers since (r ∷ rs) m is)
 
-    all_stay : (n : ℕ) (p : Place) (os : Blocks) (since : Named) (m : List ℕ) → PassAll roles n p os → nat_le 2 p.depth ≡ true
+    pub all_stay : (n : ℕ) (p : Place) (os : Blocks) (since : Named) (m : List ℕ) → PassAll later roles n p os → nat_le 2 p.depth ≡ true
         → since m ≡ true → named_by_all since os m ≡ true
     all_stay n p NoBlock since m h deep is = is
     all_stay n p (ABlock f os) since m h deep is =
@@ -73,7 +74,7 @@ module _ (roles : List (List ℕ)) where
   -- ---- the ends of messages are named
 
   -- the role is one of these
-  abbrev Among : ℕ → List (List ℕ) → Type 0
+  abbrev pub Among : ℕ → List (List ℕ) → Type 0
   Among q [] = ⊥
   Among q (r ∷ rs) = (role_at roles r ≡ q) ⊎ Among q rs
 
@@ -86,7 +87,7 @@ module _ (roles : List (List ℕ)) where
   ends_of label sorts from (r ∷ rs) n rest q (inr h) =
       ⊎_elim (λ a. inl (⊎_elim (λ b. inl b) (λ b. inr (inr b)) a)) (λ a. inr a) (ends_of label sorts from rs (n + 1) rest q h)
 
-  receivers_named : (since earlier : Named) (sender n : ℕ) (before : List ℕ) (rs : List (List ℕ)) (q : ℕ)
+  pub receivers_named : (since earlier : Named) (sender n : ℕ) (before : List ℕ) (rs : List (List ℕ)) (q : ℕ)
       → AreTaken roles earlier sender n before rs → Among q rs → with_roles since rs (name q) ≡ true
   receivers_named since earlier sender n before [] q h a = absurd a
   receivers_named since earlier sender n before (r ∷ rs) q h (inl a) =
@@ -95,14 +96,14 @@ module _ (roles : List (List ℕ)) where
   receivers_named since earlier sender n before (r ∷ rs) q h (inr a) =
       receivers_named (with_role since r) earlier sender (n + 1) _ rs q h.5 a
 
-  receivers_free : (earlier : Named) (sender n : ℕ) (before : List ℕ) (rs : List (List ℕ)) (q : ℕ)
+  pub receivers_free : (earlier : Named) (sender n : ℕ) (before : List ℕ) (rs : List (List ℕ)) (q : ℕ)
       → AreTaken roles earlier sender n before rs → Among q rs → earlier (name q) ≡ false
   receivers_free earlier sender n before [] q h a = absurd a
   receivers_free earlier sender n before (r ∷ rs) q h (inl a) = subst (λ (m : List ℕ). earlier m ≡ false) (its_name r q h.0 a) h.4
   receivers_free earlier sender n before (r ∷ rs) q h (inr a) = receivers_free earlier sender (n + 1) _ rs q h.5 a
 
   mutual
-    ends_named : (n : ℕ) (p : Place) (w : Written) (since : Named) (q : ℕ) → Passes roles n p w → nat_le 2 p.depth ≡ true
+    ends_named : (n : ℕ) (p : Place) (w : Written) (since : Named) (q : ℕ) → Passes later roles n p w → nat_le 2 p.depth ≡ true
         → HasEndOf q (places.singles (tree_of roles n w)) → named_by since w (name q) ≡ true
     ends_named n p NoStmt since q h deep e = absurd e
     ends_named n p (AMessage label ss s r rs rest) since q h deep e =
@@ -124,10 +125,10 @@ module _ (roles : List (List ℕ)) where
         (ends_named n (inside (inside_rec p x)) body since q h.2 (deeper p.depth deep) a))
         (λ a. ends_named (n + points body) (behind p false) rest _ q h.3 deep a) (end_in q _ _ e)
     ends_named n p (AContinue x rest) since q h deep e = ends_named n (behind p true) rest since q h.3 deep e
-    ends_named n p (APar f g os rest) since q h deep e = let outer = sym deep ∙ h.1 in absurd cc
-    ends_named n p (ADo x r rs rest) since q h deep e = absurd h
+    ends_named n p (APar f g os rest) since q h deep e = let outer = sym deep ∙ or_left (nat_le 2 p.depth) later h.1 in absurd cc
+    ends_named n p (ADo x r rs rest) since q h deep e = ends_named n (behind p false) rest _ q h.2 deep e
 
-    all_named : (n : ℕ) (p : Place) (os : Blocks) (since : Named) (q : ℕ) → PassAll roles n p os → nat_le 2 p.depth ≡ true
+    all_named : (n : ℕ) (p : Place) (os : Blocks) (since : Named) (q : ℕ) → PassAll later roles n p os → nat_le 2 p.depth ≡ true
         → HasEndOf q (places.singles_of (trees_of roles n os)) → named_by_all since os (name q) ≡ true
     all_named n p NoBlock since q h deep e = absurd e
     all_named n p (ABlock f os) since q h deep e =
@@ -137,7 +138,7 @@ module _ (roles : List (List ℕ)) where
   -- ---- and stand in no earlier block
 
   mutual
-    ends_free : (n : ℕ) (p : Place) (w : Written) (q : ℕ) → Passes roles n p w → nat_le 2 p.depth ≡ true
+    ends_free : (n : ℕ) (p : Place) (w : Written) (q : ℕ) → Passes later roles n p w → nat_le 2 p.depth ≡ true
         → HasEndOf q (places.singles (tree_of roles n w)) → p.earlier (name q) ≡ false
     ends_free n p NoStmt q h deep e = absurd e
     ends_free n p (AMessage label ss s r rs rest) q h deep e =
@@ -153,10 +154,10 @@ module _ (roles : List (List ℕ)) where
         ⊎_elim (λ a. ends_free n (inside (inside_rec p x)) body q h.2 (deeper p.depth deep) a)
         (λ a. ends_free (n + points body) (behind p false) rest q h.3 deep a) (end_in q _ _ e)
     ends_free n p (AContinue x rest) q h deep e = ends_free n (behind p true) rest q h.3 deep e
-    ends_free n p (APar f g os rest) q h deep e = let outer = sym deep ∙ h.1 in absurd cc
-    ends_free n p (ADo x r rs rest) q h deep e = absurd h
+    ends_free n p (APar f g os rest) q h deep e = let outer = sym deep ∙ or_left (nat_le 2 p.depth) later h.1 in absurd cc
+    ends_free n p (ADo x r rs rest) q h deep e = ends_free n (behind p false) rest q h.2 deep e
 
-    all_free : (n : ℕ) (p : Place) (os : Blocks) (q : ℕ) → PassAll roles n p os → nat_le 2 p.depth ≡ true
+    all_free : (n : ℕ) (p : Place) (os : Blocks) (q : ℕ) → PassAll later roles n p os → nat_le 2 p.depth ≡ true
         → HasEndOf q (places.singles_of (trees_of roles n os)) → p.earlier (name q) ≡ false
     all_free n p NoBlock q h deep e = absurd e
     all_free n p (ABlock f os) q h deep e =
@@ -164,7 +165,7 @@ module _ (roles : List (List ℕ)) where
 
   -- ---- the blocks of a par
 
-  beside_free : (n : ℕ) (p : Place) (since : Named) (os : Blocks) (q : ℕ) → PassBeside roles n p since os → 1 ≤ p.depth
+  beside_free : (n : ℕ) (p : Place) (since : Named) (os : Blocks) (q : ℕ) → PassBeside later roles n p since os → 1 ≤ p.depth
       → HasEndOf q (places.singles_of (trees_of roles n os)) → since (name q) ≡ false
   beside_free n p since NoBlock q h some e = absurd e
   beside_free n p since (ABlock f os) q h some e =
@@ -176,7 +177,7 @@ module _ (roles : List (List ℕ)) where
       go true is deep free = let yes = stays n (inside (beside p since)) f since (name q) h.1 deep is in absurd cc
       go false is deep free = is
 
-  are_apart : (n : ℕ) (p : Place) (since : Named) (os : Blocks) → PassBeside roles n p since os → 1 ≤ p.depth
+  are_apart : (n : ℕ) (p : Place) (since : Named) (os : Blocks) → PassBeside later roles n p since os → 1 ≤ p.depth
       → AreApart (trees_of roles n os)
   are_apart n p since NoBlock h some = tt
   are_apart n p since (ABlock f os) h some = (
@@ -191,7 +192,7 @@ module _ (roles : List (List ℕ)) where
   apart_behind label sorts from [] n rest h = h
   apart_behind label sorts from (r ∷ rs) n rest h = apart_behind label sorts from rs (n + 1) rest h
 
-  pub lanes_apart : (n : ℕ) (p : Place) (w : Written) → 1 ≤ p.depth → Passes roles n p w → HasLanesApart (tree_of roles n w)
+  pub lanes_apart : (n : ℕ) (p : Place) (w : Written) → 1 ≤ p.depth → Passes later roles n p w → HasLanesApart (tree_of roles n w)
   lanes_apart n p NoStmt some h = tt
   lanes_apart n p (AMessage label ss s r rs rest) some h =
       apart_behind label ss (role_at roles s) (r ∷ rs) n _ (lanes_apart (n + (1 + length rs)) (behind p false) rest some h.4)
@@ -201,4 +202,4 @@ module _ (roles : List (List ℕ)) where
   lanes_apart n p (APar f g os rest) some h =
       let more = lanes_apart (n + (points f + (points g + points_of os))) (behind p false) rest some h.3 in
       (are_apart n p nobody (ABlock f (ABlock g os)) (h.2.0, h.2.1, (h.2.2, h.2.3, h.2.4)) some, more)
-  lanes_apart n p (ADo x r rs rest) some h = absurd h
+  lanes_apart n p (ADo x r rs rest) some h = lanes_apart n (behind p false) rest some h.2

@@ -1,5 +1,5 @@
 -- What statements, blocks and branches say, read one after another.
-use Rattle.std.proofs.Common.{◌≡◌, ℕ, ◌+◌, ◌-◌, ◌<◌, ◌≤◌, nat_le, Bool, true, false, Some, Result, Ok, Err, OnOk, List, [], ◌∷◌, ◌++◌, length, map, drop, refl, sym, ap, subst, ◌∙◌, arith}
+use Rattle.std.proofs.Common.{◌≡◌, ℕ, ◌+◌, ◌-◌, ◌<◌, ◌≤◌, nat_le, ◌||◌, Bool, true, false, Some, Result, Ok, Err, OnOk, List, [], ◌∷◌, ◌++◌, length, map, drop, refl, sym, ap, subst, ◌∙◌, arith}
 use Rattle.std.proofs.lemmas.List.{length-map}
 use Rattle.rcv_tree.specs.Lists.{statements, blocks}
 use Rattle.rcv_tree.specs.declared.statement.Stmt.{Stmt}
@@ -27,7 +27,7 @@ messages_in_front label sorts sender [] n rest = refl
 messages_in_front label sorts sender (r ∷ rs) n rest = rw (stmt_body-Message, messages_in_front label sorts sender rs (n + 1) rest) refl
 
 -- Added statements are those in front of what stands behind them.
-added_by : (roles : List (List ℕ)) (n n' : ℕ) (added block block' : List Stmt) (old new : List Symbol) → block' ≡ block ++ added
+pub added_by : (roles : List (List ℕ)) (n n' : ℕ) (added block block' : List Stmt) (old new : List Symbol) → block' ≡ block ++ added
     → (more : (m : ℕ) (body : trees.Body) (next : List Symbol) → AreStmts roles n' m body new next
     → AreStmts roles n m (in_front added body) old next)
     → ((m : ℕ) (body : trees.Body) (next : List Symbol) (w : AreStmts roles n' m body new next) → IsBegun (more m body next w).written)
@@ -315,7 +315,7 @@ pub lane_opens : (r : Result Block Stop) (p new : Standing) (spot inner : Spot) 
     → Consumes r p new (λ k. Opening (place_of_spot p inner) ∷ k) (λ x k. k) → Consumes r p new (λ k. Lane (place_of_spot p spot) ∷ k) (λ x k. k)
 lane_opens r p new spot inner is goes =
     goes_on r p new (λ k. Lane (place_of_spot p spot) ∷ k) (λ k. Opening (place_of_spot p inner) ∷ k) (λ x k. k)
-    (λ k. lane_at (known p.roles p.count (named_in p.roles p.since)) (place_of_spot p spot) p.rest k
+    (λ k. lane_at (known p.protocols p.roles p.count (named_in p.roles p.since)) (place_of_spot p spot) p.rest k
     ∙ ap (λ (x : Place). answers p (Opening x ∷ k)) (sym (is p))) goes
 
 -- what is awaited at a par, behind its word, and at a block behind the first one
@@ -397,20 +397,21 @@ passed a b f g o still outer = rw (still, outer) refl
 
 -- behind the word par no role is named
 par_start : (p q : Standing) (spot : Spot) (next : List Symbol) (k : List Item) → p ≡ at p (Is Par ∷ next) → q ≡ back_at p p.count 0 next
-    → spot.ended ≡ false → nat_le 2 spot.depth ≡ false → answers p (First (place_of_spot p spot) ∷ k)
+    → spot.ended ≡ false → (nat_le 2 spot.depth || nat_le 2 (length p.protocols)) ≡ false → answers p (First (place_of_spot p spot) ∷ k)
     ≡ answers q (from_first q spot k)
 par_start p q spot next k here begun still outer =
     let items = from_first p spot k in
-    let on = passed spot.ended (nat_le 2 spot.depth) AfterContinue NotYet (On (known p.roles p.count nobody) items) still outer in
+    let on = passed spot.ended (nat_le 2 spot.depth || nat_le 2 (length p.protocols)) AfterContinue NotYet (On (known p.protocols p.roles p.count nobody) items) still outer in
     ap (λ (x : Standing). answers x (First (place_of_spot p spot) ∷ k)) here
     ∙ ap (λ (o : Outcome). after o (Is Par ∷ next) (λ s' k'. answer s' k' next)) on
-    ∙ ap (λ (since : Named). answer (known p.roles p.count since) items next) (sym (nobody_named p.roles))
+    ∙ ap (λ (since : Named). answer (known p.protocols p.roles p.count since) items next) (sym (nobody_named p.roles))
     ∙ ap (λ (x : Standing). answers x (from_first x spot k)) (sym begun)
 
 -- A par was taken, of which the word stands first.
 pub par_statement : (r : Result Unit Stop) (ended : Bool) (p q new : Standing) (spot : Spot) (next : List Symbol)
     → Consumes r q new (from_first q spot) (λ x k. Rest (behind (place_of_spot new spot) false) ∷ k)
-    → p ≡ at p (Is Par ∷ next) → q ≡ back_at p p.count 0 next → spot.ended ≡ false → nat_le 2 spot.depth ≡ false → ended ≡ false
+    → p ≡ at p (Is Par ∷ next) → q ≡ back_at p p.count 0 next → spot.ended ≡ false
+    → (nat_le 2 spot.depth || nat_le 2 (length p.protocols)) ≡ false → ended ≡ false
     → Consumes r p new (λ k. First (place_of_spot p spot) ∷ k) (λ x k. Rest (behind (place_of_spot new spot) ended) ∷ k)
 par_statement (Ok x) ended p q new spot next goes here begun still outer same_end =
     let long = ap (λ (x : Standing). length x.rest) here in

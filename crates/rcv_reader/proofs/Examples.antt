@@ -1,8 +1,8 @@
 -- For each code a text that has it: how it is written, and what is left from the symbol on at which it is refused. Each is
 -- the answer of the table, and what the machine says of these texts is computed.
 use Rattle.std.proofs.Common.{codes, [], ◌∷◌, refl}
-use Rattle.rcv_machine.specs.Words.{Global, Choice, At, Par, Open, Close, Comma, Semicolon, Token, Deep, NoName, Twice, SelfMessage, AfterContinue, Unguarded, TooMany, NotYet, Shared, Is, Word, IsFirst}
-use Rattle.rcv_syntax.proofs.Texts.{a, b, c, x, y, text, begins, sends, message, in_par, beside, rec_x, again_x, nested, with_roles, more_roles}
+use Rattle.rcv_machine.specs.Words.{Choice, At, Par, Open, Close, Comma, Semicolon, Token, Deep, NoName, Twice, SelfMessage, AfterContinue, Unguarded, TooMany, NotYet, Shared, Is, Word, IsFirst}
+use Rattle.rcv_syntax.proofs.Texts.{a, b, c, x, y, text, begins, sends, message, in_par, beside, second, rec_x, again_x, nested, with_roles, more_roles}
 use Rattle.rcv_machine.proofs.Exactly.{refusal_is_first}
 
 -- a message without its parentheses, and a text without its last brace
@@ -33,7 +33,7 @@ seventeen = refusal_is_first _ Unguarded _ refl
 eighteen : IsFirst (with_roles more_roles (Word (codes "I") ∷ [])) TooMany (Word (codes "I") ∷ [])
 eighteen = refusal_is_first _ TooMany _ refl
 
-nineteen : IsFirst (text (Is Close ∷ Is Global ∷ [])) NotYet (Is Global ∷ [])
+nineteen : IsFirst (text (message (second (Is Par ∷ [])))) NotYet (Is Par ∷ [])
 nineteen = refusal_is_first _ NotYet _ refl
 
 a_par_in_a_rec : IsFirst (text (rec_x (Is Par ∷ []))) NotYet (Is Par ∷ [])

@@ -71,7 +71,7 @@ mutual
       let second = part_of roles (n + points f) (n + points f + points g) m g _ h.1 refl more.0 in
       let first = part_of roles n (n + points f) m f _ h.0 refl second.0 in
       (simp append_assoc first.0, ((first.1, (second.1, more.1)), last.1))
-  part_of roles n k m (ADo x r rs rest) behind h e a = part_of roles n k m rest behind h e a
+  part_of roles n k m (ADo x r rs rest) behind h e a = part_of roles n k m rest behind h.1 e a
 
   parts_of : (roles : List (List ℕ)) (n k m : ℕ) (os : Blocks) (behind : Messages) → AreFit roles os → k ≡ n + points_of os
       → AreBehind (length roles) k m behind → ArePart (length roles) n m (trees_of roles n os) behind

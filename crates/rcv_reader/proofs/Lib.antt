@@ -3,8 +3,10 @@ pub mod Named
 pub mod Acting
 pub mod Reading
 pub mod Blocks
+pub mod Calling
 pub mod Formed
 pub mod Apart
 pub mod Whole
+pub mod Modules
 pub mod Answering
 pub mod Examples

@@ -9,7 +9,7 @@ use Rattle.rcv_tree.specs.declared.statement.Stmt.TheVariants as statements
 use Rattle.rcv_reader.specs.Descent.{Standing, at, with_roles, named_in, answers, IsNameList, module_list, names_of_roles, messages, AddsName, AreTaken, HasThese, IsReceived, AreReceived}
 
 -- What is spelled one behind another: one more at the end.
-one_more : {X : Type 0} (spell : List X → List Symbol → List Symbol) (one : X → List Symbol → List Symbol)
+pub one_more : {X : Type 0} (spell : List X → List Symbol → List Symbol) (one : X → List Symbol → List Symbol)
     → ((next : List Symbol) → spell [] next ≡ next)
     → ((x : X) (xs : List X) (next : List Symbol) → spell (x ∷ xs) next ≡ one x (spell xs next))
     → (xs : List X) (y : X) (next : List Symbol) → spell (xs ++ y ∷ []) next ≡ spell xs (one y next)

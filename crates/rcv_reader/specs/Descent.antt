@@ -1,5 +1,5 @@
 -- What the functions of the descent say: how the machine goes on, and how what was read is spelled.
-use Rattle.std.specs.Prelude.{◌≡◌, ◌≢◌, ℕ, ◌+◌, ◌==◌, Bool, true, false, List, [], ◌∷◌, ◌++◌, length, ◌<◌, Result, Ok, Err, OnOk, Some}
+use Rattle.std.specs.Prelude.{◌≡◌, ◌≢◌, ℕ, ◌+◌, ◌==◌, Bool, true, false, List, [], ◌∷◌, ◌++◌, length, ◌<◌, ◌≤◌, Result, Ok, Err, OnOk, Some}
 use Rattle.std.specs.Borrow.{Bor}
 use Rattle.std.specs.BTreeSet.{BTreeSet, contains_by}
 use Rattle.std.specs.Cmp.Lexicographic.{slice_cmp}
@@ -8,13 +8,15 @@ use Rattle.rcv_tree.specs.declared.statement.Stmt.{Stmt}
 use Rattle.rcv_tree.specs.declared.statement.Stmt.TheVariants as statements
 use Rattle.rcv_tree.specs.declared.statement.Block.{Block}
 use Rattle.rcv_machine.specs.Words.{Decl, Sign, Module, Global, Protocol, Role, Left, Right, Open, Close, Semicolon, Symbol, Is, Word, Written, stmts, names_behind, roles_behind, dotted, decls, AreDecls, blocks_behind, IsBegun, IsProper, AreProper, is_among}
-use Rattle.rcv_machine.specs.Words.{place_of, is_listed, roles_at, points, points_of, tree_of, trees_of, MayReceive, IsFit, AreFit, IsFirst, Item, This, AnyName, Refuses, Named, Place}
+use Rattle.rcv_machine.specs.Words.{place_of, is_listed, roles_at, points, points_of, tree_of, trees_of, MayReceive, MayCall, IsFit, AreFit, WrittenProtocol, IsTreeOf, declared, IsFirst, Item, This, AnyName, Refuses, Named, Place}
 use Rattle.rcv_model.specs.Text as trees
 use Rattle.rcv_syntax.specs.Grammar as grammar
+use Rattle.rcv_model.specs.Form.{HasForm}
+use Rattle.rcv_tree.specs.declared.protocol.Protocol.{Protocol as ProtocolTree}
 pub use Rattle.rcv_reader.specs.declared.parser.Spot.{Spot}
 pub use Rattle.rcv_reader.specs.declared.stop.Stop.{Stop}
 use Rattle.rcv_reader.specs.declared.stop.Stop.TheVariants as errors
-pub use Rattle.rcv_reader.specs.Standing.{Standing, IsSmall, at, back_at, with_roles, within, has_place, named_in, answers, going_on, IsOver}
+pub use Rattle.rcv_reader.specs.Standing.{Standing, IsSmall, at, back_at, with_roles, with_protocols, within, afresh, has_place, named_in, answers, going_on, IsOver}
 
 abbrev pub place_at : List (List ℕ) → ℕ → ℕ → Bool → Named → Place
 place_at recs depth comes ended earlier = record { depth = depth; recs = recs; comes = comes; ended = ended; earlier = earlier }
@@ -67,6 +69,21 @@ pub record AreReceived (old new : Standing) (sender : ℕ) (receivers : List ℕ
   pub places : receivers ≡ roles_at new.roles (first ∷ others)
   pub counted : new.count ≡ old.count + length receivers
   pub spelled : old ≡ back_at new old.count old.since (Word first ∷ names_behind others new.rest)
+
+-- One argument was read: its name and its role.
+pub record IsGiven (old new : Standing) (before : List ℕ) (role : ℕ) : Type 0 where
+  pub name : List ℕ
+  pub is_role : place_of new.roles name ≡ Some role
+  pub first : is_listed role before ≡ false
+  pub spelled : old ≡ back_at new new.count old.since (Word name ∷ new.rest)
+
+-- Arguments of a call were read.
+pub record AreArguments (old new : Standing) (arguments : List ℕ) : Type 0 where
+  pub first : List ℕ
+  pub others : List (List ℕ)
+  pub may : MayCall new.roles [] (first ∷ others)
+  pub places : arguments ≡ roles_at new.roles (first ∷ others)
+  pub spelled : old ≡ back_at new new.count old.since (Word first ∷ names_behind others new.rest)
 
 -- Statements in front of next, behind n points and with m points behind them: how they are written, which is proper and
 -- fit for these roles, with their symbols and their tree.
@@ -148,18 +165,37 @@ pub record AreTaken (ds : List Decl) (old new : Standing) : Type 0 where
   pub words : AreDecls ds
   pub spelled : old ≡ at new (decls ds new.rest)
 
--- The head of a module was read, with the first brace of the body.
-pub record IsHead (modules : List (List ℕ)) (ds : List Decl) (name : List ℕ) (old new : Standing) : Type 0 where
+-- The head of a module was read, with the word global behind it.
+pub record IsHead (modules : List (List ℕ)) (ds : List Decl) (old new : Standing) : Type 0 where
   pub some_module : modules ≡ [] → ⊥
-  pub some_role : new.roles ≡ [] → ⊥
   pub words : AreDecls ds
-  pub spelled : old ≡ with_roles new [] (Is Module ∷ module_list modules
-      (Is Semicolon ∷ decls ds (Is Global ∷ Is Protocol ∷ Word name ∷ Is Left ∷ Is Role
-      ∷ names_of_roles new.roles (Is Right ∷ Is Open ∷ new.rest))))
+  pub spelled : old ≡ at new (Is Module ∷ module_list modules (Is Semicolon ∷ decls ds (Is Global ∷ new.rest)))
+
+-- The name of one more protocol was read.
+pub record AddsProtocol (old new : Standing) (name : List ℕ) : Type 0 where
+  pub added : new.protocols ≡ old.protocols ++ name ∷ []
+  pub spelled : old ≡ with_protocols new old.protocols (Word name ∷ new.rest)
+
+-- What stands before the body of a protocol was read, behind the word global, with its first brace.
+pub record IsOpened (old new : Standing) (name : List ℕ) : Type 0 where
+  pub added : new.protocols ≡ old.protocols ++ name ∷ []
+  pub some_role : new.roles ≡ [] → ⊥
+  pub spelled : old ≡ with_roles (with_protocols new old.protocols new.rest) [] (Is Protocol ∷ Word name ∷ Is Left ∷ Is Role
+      ∷ names_of_roles new.roles (Is Right ∷ Is Open ∷ new.rest))
+
+-- A protocol was read, behind the word global: it is the tree of what is written, and has the form.
+pub record IsProtocol (old new : Standing) (p : ProtocolTree) : Type 0 where
+  pub written : WrittenProtocol
+  pub tree : IsTreeOf written p
+  pub proper : IsProper written.body
+  pub form : HasForm (trees.body_of p.body) (length p.roles)
+  pub spelled : old.rest ≡ Is Protocol ∷ declared written new.rest
+  pub anew : new ≡ afresh (old.protocols ++ p.name ∷ []) new.rest
+  pub few : length new.protocols ≤ 64
 
 -- nothing is read yet
 abbrev pub at_first : List Symbol → Standing
-at_first ts = record { roles = []; recs = []; count = 0; since = 0; rest = ts }
+at_first ts = afresh [] ts
 
 -- the whole answer
 abbrev pub Ends : Stop → List Symbol → List Symbol → Type 0

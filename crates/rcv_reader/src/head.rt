@@ -1,4 +1,4 @@
-// What stands before the statements: the names of the module, the declarations and the roles.
+// What stands before the statements: the names of the module, the declarations, and a protocol's roles.
 
 ghost use Rattle.std.specs.Prelude.{◌≡◌, ◌≢◌, ◌<◌, ◌+◌, ◌++◌, ◌∷◌, [], length, ℕ};
 ghost use Rattle.std.specs.Prelude.{List, codes, IfOk, OnOk, IfErr, true, false};
@@ -6,7 +6,9 @@ ghost use Rattle.rcv_tree.specs.Lists.{declarations};
 ghost use Rattle.rcv_syntax.specs.Symbols.{Is, Word, Text, IsNotNext};
 ghost use Rattle.rcv_syntax.specs.Grammar.{is_decl_word};
 ghost use Rattle.rcv_machine.specs.Machine.{This, AnyName, AnyQuoted, Decls as Declaring, Alias, RoleName};
-ghost use Rattle.rcv_reader.specs.Descent.{at, with_roles, names_of_roles, AreTaken, HasThese, Takes};
+ghost use Rattle.rcv_machine.specs.Machine.{ProtocolName, Rest, MoreProtocols, outermost};
+ghost use Rattle.rcv_reader.specs.Descent.{at, at_first, afresh, with_roles, names_of_roles, AreTaken, HasThese};
+ghost use Rattle.rcv_reader.specs.Descent.{IsOpened, Takes};
 
 use crate::parser::Parser;
 use crate::stop::Stop;
@@ -48,6 +50,20 @@ impl<'a> Parser<'a> {
                 return self.expect(Sign::Open);
             }
         }
+    }
+
+    /// Takes what stands before the body of a protocol, behind the word `global`, with its first brace.
+    pub fn heading(&mut self, alloc: Global) -> Result<Name, Stop>
+        requires fresh { self.old ≡ afresh self.old.protocols self.old.rest }
+        ensures goes { Takes result self.old self.new (λ k. This (Is Sign.Protocol) ∷ ProtocolName ∷ k)
+            (λ n k. Rest outermost ∷ MoreProtocols ∷ k) }
+        ensures read { IfOk result (IsOpened self.old self.new) }
+    {
+        self.expect(Sign::Protocol)?;
+        let name = self.add_protocol(alloc)?;
+        self.expect(Sign::Left)?;
+        self.role_names(alloc)?;
+        Ok(name)
     }
 
     // Takes the word `as`.
@@ -139,6 +155,7 @@ impl<'a> Parser<'a> {
 
     /// Takes the declarations, and the word `global` behind them.
     pub fn decls(&mut self, alloc: Global) -> Result<Decls, Stop>
+        requires fresh { self.old ≡ at_first self.old.rest }
         ensures goes { Takes result self.old self.new (λ k. Declaring [] ∷ k) (λ x k. k) }
         ensures read { IfOk result (λ ds. AreTaken (declarations ds) self.old
             (at self.new (Is Sign.Global ∷ self.new.rest))) }

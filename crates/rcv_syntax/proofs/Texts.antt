@@ -1,6 +1,6 @@
 -- Pieces of texts, for worked cases.
 use Rattle.std.proofs.Common.{ℕ, zero, suc, codes, List, [], ◌∷◌}
-use Rattle.rcv_syntax.specs.declared.sign.Sign.TheVariants.{Module, Global, Protocol, Role, From, To, Rec, Continue, Par, And, Open, Close, Left, Right, Comma, Semicolon, Less, Greater}
+use Rattle.rcv_syntax.specs.declared.sign.Sign.TheVariants.{Module, Global, Protocol, Role, From, To, Rec, Continue, Par, And, Do, Open, Close, Left, Right, Comma, Semicolon, Less, Greater}
 use Rattle.rcv_syntax.specs.Symbols.{Symbol, Is, Word, Text}
 use Rattle.rcv_syntax.specs.Grammar.{roles_behind}
 
@@ -57,6 +57,17 @@ in_par next = Is Par ∷ Is Open ∷ next
 
 abbrev pub beside : List Symbol → List Symbol
 beside next = Is Close ∷ Is And ∷ Is Open ∷ next
+
+-- do X( and do X(A);
+abbrev pub calls : List Symbol → List Symbol
+calls next = Is Do ∷ x ∷ Is Left ∷ next
+
+abbrev pub call : List Symbol → List Symbol
+call next = calls (a ∷ Is Right ∷ Is Semicolon ∷ next)
+
+-- } global protocol X(role B) {
+abbrev pub second : List Symbol → List Symbol
+second next = Is Close ∷ Is Global ∷ Is Protocol ∷ x ∷ Is Left ∷ Is Role ∷ b ∷ Is Right ∷ Is Open ∷ next
 
 -- rec X { and continue X;
 abbrev pub rec_x : List Symbol → List Symbol

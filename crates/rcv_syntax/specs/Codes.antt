@@ -1,9 +1,9 @@
 -- The codes from 12 on, each by the symbols alone. Everywhere back are the symbols before, the nearest first, t is the
 -- symbol at which the code is to hold, and ts are the symbols behind it.
-use Rattle.std.specs.Prelude.{◌≡◌, ℕ, ◌==◌, nat_le, Bool, true, false, not, ◌||◌, cond, List, [], ◌∷◌, ◌++◌, length, drop}
+use Rattle.std.specs.Prelude.{◌≡◌, ℕ, nat_le, Bool, true, false, not, ◌||◌, cond, List, [], ◌∷◌, ◌++◌, length, drop}
 use Rattle.std.specs.List.{list_any}
 use Rattle.std.specs.Str.{bytes_eq}
-use Rattle.rcv_syntax.specs.declared.sign.Sign.TheVariants.{Global, Role, From, To, Choice, At, Or, Rec, Continue, Par, And, Do, Open, Close, Comma, Semicolon}
+use Rattle.rcv_syntax.specs.declared.sign.Sign.TheVariants.{Global, Protocol, Left, Role, From, To, Choice, At, Or, Rec, Continue, Par, And, Do, Open, Close, Comma, Semicolon}
 use Rattle.rcv_syntax.specs.declared.fault.Fault.{Fault}
 use Rattle.rcv_syntax.specs.declared.fault.Fault.TheVariants.{Token, Deep, NoName, Twice, SelfMessage, AfterContinue, Unguarded, TooMany, NotYet, Shared}
 use Rattle.rcv_syntax.specs.Symbols.{Symbol, Is, Word, Text}
@@ -26,55 +26,78 @@ is_among name names = list_any (λ other. bytes_eq name other) names
 
 -- ---- what stands where
 
--- As what a name stands: as a role that it declares, as an alias, as a role that sends or chooses, as one that
--- receives, as the name of a continue, or as something else.
+-- As what a name stands: as a protocol or a role that it declares, as an alias, as a role that sends or chooses, as one
+-- that receives, as the protocol of a call, as an argument of a call, as the name of a continue, or as something else.
 pub data Standing : Type 0 where
+  AsNewProtocol : Standing
   AsNewRole : Standing
   AsAlias : Standing
   AsActor : Standing
   AsReceiver : Standing
+  AsCalled : Standing
+  AsArgument : Standing
   AsTarget : Standing
   AsOther : Standing
 
 -- behind a comma, where a name before it stands so
 abbrev pub goes_on : Standing → Standing
 goes_on AsReceiver = AsReceiver
+goes_on AsArgument = AsArgument
 goes_on _ = AsOther
+
+-- behind a parenthesis, where the name before it stands so
+abbrev pub goes_in : Standing → Standing
+goes_in AsCalled = AsArgument
+goes_in _ = AsOther
 
 -- As what a name stands behind these symbols. The word behind a text is `as`.
 abbrev pub standing : List Symbol → Standing
+standing (Is Protocol ∷ back) = AsNewProtocol
 standing (Is Role ∷ back) = AsNewRole
 standing (Word w ∷ Text q ∷ back) = AsAlias
 standing (Is From ∷ back) = AsActor
 standing (Is At ∷ back) = AsActor
 standing (Is To ∷ back) = AsReceiver
 standing (Is Comma ∷ Word r ∷ back) = goes_on (standing back)
+standing (Is Do ∷ back) = AsCalled
+standing (Is Left ∷ Word p ∷ back) = goes_in (standing back)
 standing (Is Continue ∷ back) = AsTarget
 standing _ = AsOther
 
 abbrev pub is_so : Standing → Standing → Bool
+is_so AsNewProtocol AsNewProtocol = true
 is_so AsNewRole AsNewRole = true
 is_so AsAlias AsAlias = true
 is_so AsReceiver AsReceiver = true
 is_so _ _ = false
 
--- the names that stand so, in their order
+-- The names that stand so, in their order.
 abbrev pub names_as : Standing → List Symbol → List (List ℕ)
 names_as s [] = []
 names_as s (Word n ∷ back) = cond (is_so s (standing back)) (names_as s back ++ n ∷ []) (names_as s back)
 names_as s (_ ∷ back) = names_as s back
 
-abbrev pub roles_before : List Symbol → List (List ℕ)
-roles_before back = names_as AsNewRole back
+-- The same since the last word global: those of this protocol.
+abbrev pub names_here : Standing → List Symbol → List (List ℕ)
+names_here s [] = []
+names_here s (Is Global ∷ back) = []
+names_here s (Word n ∷ back) = cond (is_so s (standing back)) (names_here s back ++ n ∷ []) (names_here s back)
+names_here s (_ ∷ back) = names_here s back
+
+abbrev pub protocols_before : List Symbol → List (List ℕ)
+protocols_before back = names_as AsNewProtocol back
 
 abbrev pub aliases_before : List Symbol → List (List ℕ)
 aliases_before back = names_as AsAlias back
 
+abbrev pub roles_before : List Symbol → List (List ℕ)
+roles_before back = names_here AsNewRole back
+
 -- each receiver makes a point
 abbrev pub points_before : List Symbol → ℕ
-points_before back = length (names_as AsReceiver back)
+points_before back = length (names_here AsReceiver back)
 
--- the receivers of this list so far
+-- the receivers or the arguments of this list so far
 abbrev pub listed : List Symbol → List (List ℕ)
 listed (Is Comma ∷ Word r ∷ back) = listed back ++ r ∷ []
 listed _ = []
@@ -98,8 +121,8 @@ recs_of [] = []
 recs_of ((Word x ∷ Is Rec ∷ back) ∷ braces) = recs_of braces ++ x ∷ []
 recs_of (_ ∷ braces) = recs_of braces
 
--- A walk comes from the `{` of an enclosing `rec x` to here without a message: nothing stands between but openings
--- and the finished branches of open choices.
+-- A walk comes from the `{` of an enclosing `rec x` to here without a message and without a call: nothing stands between
+-- but openings and the finished branches of open choices.
 pub data Comes : List ℕ → List Symbol → Type 0 where
   FromItsStart : (x : List ℕ) (back : List Symbol) → Comes x (Is Open ∷ Word x ∷ Is Rec ∷ back)
   IntoRec : (x y : List ℕ) (back : List Symbol) → Comes x back → Comes x (Is Open ∷ Word y ∷ Is Rec ∷ back)
@@ -110,15 +133,18 @@ pub data Comes : List ℕ → List Symbol → Type 0 where
 
 -- ---- a role in another block of a par
 
--- as a role that sends, chooses or receives
+-- as a role that sends, chooses or receives, or as an argument
 abbrev pub is_role : Standing → Bool
 is_role AsActor = true
 is_role AsReceiver = true
+is_role AsArgument = true
 is_role _ = false
 
--- The roles that are named since the last word par before which no more blocks than these are open, the nearest first.
+-- The roles that are named since the last word par before which no more blocks than these are open, the nearest first: those
+-- of this protocol.
 abbrev pub named_since_par : ℕ → List Symbol → List (List ℕ)
 named_since_par depth [] = []
+named_since_par depth (Is Global ∷ back) = []
 named_since_par depth (Is Par ∷ back) = cond (nat_le (length (open_braces back)) depth) [] (named_since_par depth back)
 named_since_par depth (Word n ∷ back) =
     cond (is_role (standing back)) (n ∷ named_since_par depth back) (named_since_par depth back)
@@ -136,22 +162,28 @@ is_beside n (_ ∷ braces) = is_beside n braces
 
 -- The codes at a name, by what it stands as.
 abbrev pub is_at_name : Fault → Standing → List Symbol → List ℕ → Bool
--- 13: a role that isn't declared, or the name of a continue with no enclosing rec of that name
+-- 13: a role or an argument that this protocol doesn't declare, or the name of a continue with no enclosing rec of that name
 is_at_name NoName AsActor back n = not (is_among n (roles_before back))
 is_at_name NoName AsReceiver back n = not (is_among n (roles_before back))
+is_at_name NoName AsArgument back n = not (is_among n (roles_before back))
 is_at_name NoName AsTarget back n = not (is_among n (recs_of (open_braces back)))
--- 14: a role declared before, an alias declared before, a receiver that stands before in the same list
+-- 14: a protocol, a role of this one or an alias that is declared before, a receiver or an argument that stands before in the
+-- same list
+is_at_name Twice AsNewProtocol back n = is_among n (protocols_before back)
 is_at_name Twice AsNewRole back n = is_among n (roles_before back)
 is_at_name Twice AsAlias back n = is_among n (aliases_before back)
 is_at_name Twice AsReceiver back n = is_among n (listed back)
+is_at_name Twice AsArgument back n = is_among n (listed back)
 -- 15: a receiver that is the sender
 is_at_name SelfMessage AsReceiver back n = bytes_eq n (sender back)
--- 18: the name of the ninth role, or the receiver that makes the 257th point
+-- 18: the name of the 65th protocol, that of the ninth role of one, or the receiver that makes its 257th point
+is_at_name TooMany AsNewProtocol back n = nat_le 64 (length (protocols_before back))
 is_at_name TooMany AsNewRole back n = nat_le 8 (length (roles_before back))
 is_at_name TooMany AsReceiver back n = nat_le 256 (points_before back)
 -- 29: a role in a block of a par that is named in an earlier block of this par
 is_at_name Shared AsActor back n = is_beside n (open_braces back)
 is_at_name Shared AsReceiver back n = is_beside n (open_braces back)
+is_at_name Shared AsArgument back n = is_beside n (open_braces back)
 is_at_name _ _ back n = false
 
 abbrev pub is_behind_continue : List Symbol → Bool
@@ -167,26 +199,19 @@ begins_a_statement (Is Par) = true
 begins_a_statement (Is Do) = true
 begins_a_statement _ = false
 
-abbrev pub is_behind_all : List Symbol → Bool
-is_behind_all (Is Close ∷ back) = length (open_braces (Is Close ∷ back)) == 0
-is_behind_all _ = false
-
 -- The codes that hold at a symbol, whatever stands behind it.
 abbrev pub is_at : Fault → List Symbol → Symbol → Bool
 -- 12: a { that begins the 33rd nested block
 is_at Deep back (Is Open) = nat_le 32 (length (open_braces back))
 -- 16: the first symbol of a statement behind a continue in the same block
 is_at AfterContinue back t = cond (begins_a_statement t) (is_behind_continue back) false
--- 19: the word par where a block is open in the protocol's own; the word do; the word global of a second protocol, which
--- is behind the first one's last }
-is_at NotYet back (Is Par) = nat_le 2 (length (open_braces back))
-is_at NotYet back (Is Do) = true
-is_at NotYet back (Is Global) = is_behind_all back
+-- 19: the word par where a block is open in the protocol's own, or in another protocol than the first
+is_at NotYet back (Is Par) = nat_le 2 (length (open_braces back)) || nat_le 2 (length (protocols_before back))
 -- 13, 14, 15, 18 and 29
 is_at f back (Word n) = is_at_name f (standing back) back n
 is_at f back _ = false
 
--- 17: the word continue where a walk comes from the start of the body of its rec to it without a message
+-- 17: the word continue where a walk comes from the start of the body of its rec to it without a message and without a call
 abbrev pub IsUnguarded : List Symbol → Symbol → List Symbol → Type 0
 IsUnguarded back (Is Continue) (Word x ∷ ts) = Comes x back
 IsUnguarded back _ _ = ⊥

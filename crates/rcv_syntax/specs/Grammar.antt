@@ -100,26 +100,51 @@ abbrev pub AreDecls : List Decl → Type 0
 AreDecls [] = Unit {0}
 AreDecls (d ∷ ds) = (is_decl_word d.word ≡ true) × AreDecls ds
 
--- A module as it is written.
-pub record Source : Type 0 where
-  pub module_name : List ℕ
-  pub module_more : List (List ℕ)
-  pub declared : List Decl
+-- A protocol as it is written, and a module: its declarations and at least one protocol.
+pub record WrittenProtocol : Type 0 where
   pub name : List ℕ
   pub role : List ℕ
   pub other_roles : List (List ℕ)
   pub body : Written
 
-abbrev pub spelling : Source → List Symbol
-spelling s =
+pub record Source : Type 0 where
+  pub module_name : List ℕ
+  pub module_more : List (List ℕ)
+  pub declared : List Decl
+  pub first : WrittenProtocol
+  pub others : List WrittenProtocol
+
+-- Name ( role Name , role Name .. ) { stmt .. }
+abbrev pub declared : WrittenProtocol → List Symbol → List Symbol
+declared p next =
+    Word p.name ∷ Is Left ∷ Is Role ∷ Word p.role
+    ∷ roles_behind p.other_roles (Is Right ∷ Is Open ∷ stmts p.body (Is Close ∷ next))
+
+-- global protocol Name ( role Name , role Name .. ) { stmt .. }
+abbrev pub protocol : WrittenProtocol → List Symbol → List Symbol
+protocol p next = Is Global ∷ Is Protocol ∷ declared p next
+
+abbrev pub protocols : List WrittenProtocol → List Symbol → List Symbol
+protocols [] next = next
+protocols (p ∷ ps) next = protocol p (protocols ps next)
+
+-- each inner block of each protocol has a statement
+abbrev pub AreProperBodies : List WrittenProtocol → Type 0
+AreProperBodies [] = Unit {0}
+AreProperBodies (p ∷ ps) = IsProper p.body × AreProperBodies ps
+
+-- a module in front of what follows, and alone
+abbrev pub modules : Source → List Symbol → List Symbol
+modules s next =
     Is Module ∷ Word s.module_name
-    ∷ dotted s.module_more (Is Semicolon
-    ∷ decls s.declared (Is Global ∷ Is Protocol ∷ Word s.name ∷ Is Left ∷ Is Role ∷ Word s.role
-    ∷ roles_behind s.other_roles (Is Right ∷ Is Open ∷ stmts s.body (Is Close ∷ []))))
+    ∷ dotted s.module_more (Is Semicolon ∷ decls s.declared (protocols (s.first ∷ s.others) next))
+
+abbrev pub spelling : Source → List Symbol
+spelling s = modules s []
 
 -- the symbols spell this module
 abbrev pub Spells : List Symbol → Source → Type 0
-Spells symbols s = AreDecls s.declared × IsProper s.body × (symbols ≡ spelling s)
+Spells symbols s = AreDecls s.declared × AreProperBodies (s.first ∷ s.others) × (symbols ≡ spelling s)
 
 -- the grammar derives the symbols
 abbrev pub IsDerived : List Symbol → Type 0

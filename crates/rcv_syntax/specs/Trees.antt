@@ -1,12 +1,15 @@
 -- The tree of what is written: names of roles become places, each receiver a message of its own, points are counted.
-use Rattle.std.specs.Prelude.{◌≡◌, ℕ, ◌+◌, ◌==◌, Bool, false, List, [], ◌∷◌, ◌++◌, length, map, Option, Some, None, position}
+use Rattle.std.specs.Prelude.{◌≡◌, ℕ, ◌+◌, ◌==◌, Bool, true, false, if◌then◌else◌, List, [], ◌∷◌, ◌++◌, length, map, Option, Some, None, position}
 use Rattle.std.specs.List.{list_any}
 use Rattle.std.specs.Str.{bytes_eq}
 use Rattle.rcv_tree.specs.Lists.{declarations}
+use Rattle.rcv_lexer.specs.declared.token.Token.{Token}
+use Rattle.rcv_scan.specs.Symbols.{symbol_of}
+use Rattle.rcv_syntax.specs.declared.sign.Sign.TheVariants.{Do}
 use Rattle.rcv_tree.specs.declared.protocol.Protocol.{Protocol}
 use Rattle.rcv_model.specs.Text as trees
-use Rattle.rcv_syntax.specs.Symbols.{Symbol}
-use Rattle.rcv_syntax.specs.Grammar.{Written, NoStmt, AMessage, AChoice, ARec, AContinue, APar, ADo, Blocks, NoBlock, ABlock, Source, Spells}
+use Rattle.rcv_syntax.specs.Symbols.{Symbol, Is, symbol_by}
+use Rattle.rcv_syntax.specs.Grammar.{Written, NoStmt, AMessage, AChoice, ARec, AContinue, APar, ADo, Blocks, NoBlock, ABlock, WrittenProtocol, Source, Spells}
 
 -- the place of a role, counted from 0
 abbrev pub place_of : List (List ℕ) → List ℕ → Option ℕ
@@ -78,6 +81,12 @@ MayReceive roles sender before (r ∷ rs) =
     IsDeclared roles r × (is_listed (role_at roles r) before ≡ false) × ((role_at roles r == sender) ≡ false)
     × MayReceive roles sender (before ++ role_at roles r ∷ []) rs
 
+-- Each argument is declared and doesn't stand before.
+abbrev pub MayCall : List (List ℕ) → List ℕ → List (List ℕ) → Type 0
+MayCall roles before [] = Unit {0}
+MayCall roles before (r ∷ rs) =
+    IsDeclared roles r × (is_listed (role_at roles r) before ≡ false) × MayCall roles (before ++ role_at roles r ∷ []) rs
+
 -- The roles that are written are declared, and each message goes to other roles than its sender.
 abbrev mutual
   pub IsFit : List (List ℕ) → Written → Type 0
@@ -88,19 +97,40 @@ abbrev mutual
   IsFit roles (ARec name body rest) = IsFit roles body × IsFit roles rest
   IsFit roles (AContinue name rest) = IsFit roles rest
   IsFit roles (APar first second others rest) = IsFit roles first × IsFit roles second × AreFit roles others × IsFit roles rest
-  IsFit roles (ADo name role others rest) = IsFit roles rest
+  IsFit roles (ADo name role others rest) = MayCall roles [] (role ∷ others) × IsFit roles rest
 
   pub AreFit : List (List ℕ) → Blocks → Type 0
   AreFit roles NoBlock = Unit {0}
   AreFit roles (ABlock first others) = IsFit roles first × AreFit roles others
 
--- The symbols spell a module, and this protocol is its tree.
-pub record Reads (symbols : List Symbol) (p : Protocol) : Type 0 where
+-- This protocol is the tree of what is written.
+pub record IsTreeOf (w : WrittenProtocol) (p : Protocol) : Type 0 where
+  pub named : p.name ≡ w.name
+  pub role_names : p.roles ≡ w.role ∷ w.other_roles
+  pub fit : IsFit p.roles w.body
+  pub tree : trees.body_of p.body ≡ tree_of p.roles 0 w.body
+
+-- These protocols are the trees of these, one of each. The module's names and its declarations stand in the first one.
+abbrev pub AreTreesOf : List WrittenProtocol → List Protocol → Type 0
+AreTreesOf [] [] = Unit {0}
+AreTreesOf (w ∷ ws) (p ∷ ps) = IsTreeOf w p × (p.«module» ≡ []) × (declarations p.decls ≡ []) × AreTreesOf ws ps
+AreTreesOf _ _ = ⊥
+
+-- The symbols spell a module, of which these are the protocols.
+pub record Reads (symbols : List Symbol) (main : Protocol) (others : List Protocol) : Type 0 where
   pub source : Source
   pub spelled : Spells symbols source
-  pub modules : p.«module» ≡ source.module_name ∷ source.module_more
-  pub declared : declarations p.decls ≡ source.declared
-  pub named : p.name ≡ source.name
-  pub role_names : p.roles ≡ source.role ∷ source.other_roles
-  pub fit : IsFit p.roles source.body
-  pub tree : trees.body_of p.body ≡ tree_of p.roles 0 source.body
+  pub modules : main.«module» ≡ source.module_name ∷ source.module_more
+  pub declared : declarations main.decls ≡ source.declared
+  pub first : IsTreeOf source.first main
+  pub more : AreTreesOf source.others others
+
+-- the word `do`
+abbrev pub is_call : Symbol → Bool
+is_call (Is Do) = true
+is_call _ = false
+
+-- The lines of the words `do`, in text order.
+abbrev pub lines_of_calls : List ℕ → List Token → List ℕ
+lines_of_calls bundle [] = []
+lines_of_calls bundle (t ∷ ts) = if is_call (symbol_of symbol_by bundle t) then t.line ∷ lines_of_calls bundle ts else lines_of_calls bundle ts

@@ -10,19 +10,19 @@ pub enum Fault {
     Token = 11,
     /// The brace of the 33rd nested block.
     Deep = 12,
-    /// A role that isn't declared, or the name of no enclosing recursion.
+    /// A role or an argument that the protocol doesn't declare, or the name of no enclosing recursion.
     NoName = 13,
-    /// A role, an alias or a receiver that stands before.
+    /// A protocol, a role, an alias, a receiver or an argument that stands before.
     Twice = 14,
     /// A receiver that is the sender.
     SelfMessage = 15,
     /// A statement behind a `continue`.
     AfterContinue = 16,
-    /// A `continue` to which a walk comes without a message.
+    /// A `continue` to which a walk comes without a message and without a call.
     Unguarded = 17,
-    /// The ninth role, or the receiver that makes the 257th point.
+    /// The 65th protocol, the ninth role of one, or the receiver that makes its 257th point.
     TooMany = 18,
-    /// Text that isn't read yet.
+    /// A `par` in any block but the first protocol's own.
     NotYet = 19,
     /// A role that stands in an earlier block of the same `par`.
     Shared = 29,

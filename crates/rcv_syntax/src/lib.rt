@@ -1,4 +1,4 @@
-// What a protocol's text is: the words and marks of the grammar, what it derives, the tree of that, and the codes by
+// What a module's text is: the words and marks of the grammar, what it derives, the tree of that, and the codes by
 // which a text is refused, each by the tokens alone.
 #![tactic(auto)]
 

@@ -5,7 +5,7 @@ use Rattle.rcv_session.specs.Session.{rules_of}
 use Rattle.rcv_accept.specs.Accepted.{IsAcceptedProtocol, net_for}
 use Rattle.rcv_lexer.specs.Parts.{parts_of}
 use Rattle.rcv_syntax.specs.Grammar.{spelling}
-use Rattle.rcv_reader.specs.Refusals.{IsRead}
+use Rattle.rcv_reader.specs.Refusals.{AreReadAs}
 use Rattle.rcv_grammar.specs.Canonical.{source_of}
 use Rattle.rcv_grammar.specs.Laws.{SayTheSame}
 use Rattle.rcv_grammar.specs.Printable.{IsPrintable}
@@ -117,13 +117,13 @@ lawful = taken.protocol.accepted
 
 -- it is read as one tree, as its canonical source is, and can be printed
 one_tree : SayTheSame protocol protocol
-one_tree = texts_have_one_tree symbols protocol protocol is_read is_read
+one_tree = (texts_have_one_tree symbols protocol protocol [] [] is_read is_read).0
 
-canonical_read : IsRead (spelling (source_of protocol)) protocol
-canonical_read = canonical_sources_are_read symbols protocol is_read
+canonical_read : AreReadAs (spelling (source_of protocol)) protocol []
+canonical_read = canonical_sources_are_read symbols protocol [] is_read
 
 printable : IsPrintable protocol
-printable = read_is_printable input (parts_of input).protocol tokens protocol cut is_read
+printable = read_is_printable input (parts_of input).protocol tokens protocol [] cut is_read
 
 -- its session comes to an end, and its journal is what the headline says
 ended : (status : Status) × (bytes : List ℕ) × IsOneThreadRun false session status bytes
@@ -178,10 +178,10 @@ no_other : (s : Status) (b : List ℕ) → IsOutcome (codes "check" ∷ []) inpu
 no_other s b outcome = one_outcome (codes "check" ∷ []) input Completed s (canonical protocol) b no_workers checked outcome
 
 read_back : IsReadAs (canonical protocol) protocol
-read_back = reads_back input (parts_of input).protocol tokens protocol cut is_read
+read_back = reads_back input (parts_of input).protocol tokens protocol [] cut is_read
 
 text_stays : canonical protocol ≡ canonical protocol
-text_stays = stays input (parts_of input).protocol tokens protocol protocol cut is_read read_back
+text_stays = stays input (parts_of input).protocol tokens protocol protocol [] cut is_read read_back
 
 -- it has tables
 tabled : (bytes : List ℕ) × IsTableText protocol bytes

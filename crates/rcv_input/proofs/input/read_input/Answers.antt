@@ -2,29 +2,21 @@
 use Rattle.std.proofs.Common.{subst, sym}
 use Rattle.std.proofs.lemmas.Result.{err_from_is_err_and}
 use Rattle.rcv_tree.specs.declared.protocol.Protocol.{Protocol}
-use Rattle.rcv_syntax.specs.Symbols.{symbols_of}
-use Rattle.rcv_lexer.specs.Parts.{parts_of}
-use Rattle.rcv_grammar.proofs.Filling.{read_texts_are_full}
-use Rattle.rcv_grammar.proofs.Named.{read_texts_have_names}
-use Rattle.rcv_accept.specs.Accepted.{IsAcceptedProtocol}
 use Rattle.rcv_input.specs.Input.{IsProtocolOf}
+use Rattle.rcv_input.proofs.Formed.{is_full, has_names}
 use Rattle.rcv_input.proofs.Reading.{by_rule, unscripted_line, unplanned_line}
 use Rattle.rcv_input.proofs.input.read_input.Goals as goal
 
 pub accepted_of-requires-clause-full : goal.accepted_of-requires-clause-full
-accepted_of-requires-clause-full c =
-    let text = c.in-Ok.ensures.read in
-    read_texts_are_full (symbols_of c.args.input.now text.tokens) c.in-Ok.protocol text.read
+accepted_of-requires-clause-full c = is_full c.args.input.now c.in-Ok.source.protocol c.in-Ok.ensures.read
 
 pub accepted_of-requires-clause-names : goal.accepted_of-requires-clause-names
-accepted_of-requires-clause-names c =
-    let text = c.in-Ok.ensures.read in
-    read_texts_have_names c.args.input.now (parts_of c.args.input.now).protocol text.tokens c.in-Ok.protocol text.cut text.read
+accepted_of-requires-clause-names c = has_names c.args.input.now c.in-Ok.source.protocol c.in-Ok.ensures.read
 
 pub returns-in_err-accepted-clause-taken : goal.returns-in_err-accepted-clause-taken
 returns-in_err-accepted-clause-taken c =
     let p = err_from_is_err_and c.from_residual.result c.from_residual.ensures.1 in
-    rw (p.1, p.2) (by_rule c.args.input.now c.in-Ok.protocol c.in_err-accepted.field-0.0 c.in-Ok.ensures.read c.in_err-accepted.ensures)
+    rw (p.1, p.2) (by_rule c.args.input.now c.in-Ok.source.protocol c.in_err-accepted.field-0.0 c.in-Ok.ensures.read c.in_err-accepted.ensures)
 
 pub returns-in-Err-read_part-clause-taken : goal.returns-in-Err-read_part-clause-taken
 returns-in-Err-read_part-clause-taken c =

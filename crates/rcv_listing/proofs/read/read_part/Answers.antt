@@ -1,10 +1,15 @@
--- A bad letter, or the reader's refusal.
-use Rattle.std.proofs.Common.{List, subst}
+-- A bad letter, the reader's refusal, that of a call, or a source.
+use Rattle.std.proofs.Common.{ℕ, List, ◌∙◌, ap, subst}
 use Rattle.std.proofs.lemmas.Result.{err_from_is_err_and}
+use Rattle.rcv_module.specs.declared.origin.Origin.{Origin}
 use Rattle.rcv_lexer.specs.declared.token.Token.{Token}
 use Rattle.rcv_lexer.specs.Tokens as lexer
 use Rattle.rcv_reader.specs.Refusals as reader
-use Rattle.rcv_input.proofs.Reading.{by_letter, by_reader}
+use Rattle.rcv_grammar.proofs.Formed.{read_modules_have_form}
+use Rattle.rcv_input.proofs.Reading.{by_letter, by_reader, by_call}
+use Rattle.rcv_listing.specs.Receivers.{receiver_lines}
+use Rattle.rcv_listing.specs.Written.{lines_of_points}
+use Rattle.rcv_listing.proofs.Sourced.{source_read}
 use Rattle.rcv_listing.proofs.read.read_part.Goals as goal
 
 pub returns-in_err-list-clause-read : goal.returns-in_err-list-clause-read
@@ -12,7 +17,31 @@ returns-in_err-list-clause-read c =
     let p = err_from_is_err_and c.from_residual.result c.from_residual.ensures.1 in
     rw (p.1, p.2) (by_letter c.args.input.now c.in_err-list.field-0.0 (subst (λ part. lexer.IsRefused c.args.input.now part c.in_err-list.field-0.0) c.requires.part c.in_err-list.ensures.tokens))
 
+pub returns-in_err-whole-clause-read : goal.returns-in_err-whole-clause-read
+returns-in_err-whole-clause-read c =
+    let p = err_from_is_err_and c.from_residual-in_err-whole.result c.from_residual-in_err-whole.ensures.1 in
+    let refused = subst (λ (ts : List Token). reader.IsRefused c.args.input.now ts c.line_at-last.result c.in_err-whole.field-0.0) c.as_slice.ensures.value c.in_err-whole.ensures.read in
+    rw (p.1, p.2) (by_reader c.args.input.now c.in_ok-list.list.items c.in_err-whole.field-0.0 c.args.part c.line_at-last.result c.requires.part c.line_at-last.ensures c.in_ok-list.ensures.tokens refused)
+
+pub expand_traced-requires : goal.expand_traced-requires
+expand_traced-requires c =
+    let read = subst (λ (ts : List Token). reader.IsRead c.args.input.now ts c.in_ok-whole.whole) c.as_slice.ensures.value c.in_ok-whole.ensures.read in
+    read_modules_have_form c.args.input.now c.args.part c.in_ok-list.list.items c.in_ok-whole.whole c.in_ok-list.ensures.tokens read
+
+pub returns-in_err-protocol-clause-read : goal.returns-in_err-protocol-clause-read
+returns-in_err-protocol-clause-read c =
+    let p = err_from_is_err_and c.from_residual-in_err-protocol.result c.from_residual-in_err-protocol.ensures.1 in
+    let read = subst (λ (ts : List Token). reader.IsRead c.args.input.now ts c.in_ok-whole.whole) c.as_slice.ensures.value c.in_ok-whole.ensures.read in
+    rw (p.1, p.2) (by_call c.args.input.now c.in_ok-list.list.items c.in_ok-whole.whole c.in_err-protocol.field-0.0 c.args.part c.requires.part c.in_ok-list.ensures.tokens read c.in_err-protocol.ensures.answer)
+
 pub returns-clause-read : goal.returns-clause-read
 returns-clause-read c =
-    by_reader c.args.input.now c.in_ok-list.list.items c.in-Err.error c.args.part c.line_at-last.result c.requires.part c.line_at-last.ensures c.in_ok-list.ensures.tokens
-    (subst (λ (ts : List Token). reader.IsRefused c.args.input.now ts c.line_at-last.result c.in-Err.error) c.as_slice-2.ensures.value c.in-Err.ensures.read)
+    let read = subst (λ (ts : List Token). reader.IsRead c.args.input.now ts c.in_ok-whole.whole) c.as_slice.ensures.value c.in_ok-whole.ensures.read in
+    source_read c.args.input.now c.in_ok-list.list.items c.in_ok-whole.whole c.in_ok-protocol.protocol c.in_ok-protocol.origins c.in_ok-receivers.receivers.items c.in_ok-dos.dos.items c.in_ok-lines.lines.items c.args.part
+    c.requires.part c.in_ok-list.ensures.tokens read c.in_ok-protocol.ensures.answer c.in_ok-protocol.ensures.origins
+    (c.in_ok-receivers.ensures ∙ ap (receiver_lines c.args.input.now) c.as_slice-2.ensures.value)
+    (c.in_ok-dos.ensures.items ∙ c.as_slice-3.ensures)
+    (c.in_ok-lines.ensures
+    ∙ ap (λ (ls : List (List ℕ)). lines_of_points ls c.as_slice-5.result.now c.as_slice-6.result.now) c.as_slice-4.ensures.value
+    ∙ ap (λ (ls : List ℕ). lines_of_points c.in_ok-receivers.receivers.items ls c.as_slice-6.result.now) c.as_slice-5.ensures.value
+    ∙ ap (λ (os : List Origin). lines_of_points c.in_ok-receivers.receivers.items c.in_ok-dos.dos.items os) c.as_slice-6.ensures.value)

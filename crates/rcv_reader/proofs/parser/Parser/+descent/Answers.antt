@@ -1,8 +1,7 @@
-use Rattle.std.proofs.Common.{◌∷◌, false, true, refl, ap, subst, arith}
+use Rattle.std.proofs.Common.{[], ◌∷◌, false, true, refl, sym, ap, subst, ◌∙◌, arith}
 use Rattle.std.proofs.lemmas.Grind.{common_steps}
-use Rattle.rcv_machine.specs.Words.{At, Left, From, Choice, Rec, Continue, Place, Is, Word, This, Sorts, Sender, Subject, RecName, AgainName, Opening, Rest, More, behind}
+use Rattle.rcv_machine.specs.Words.{At, Left, Semicolon, From, Choice, Rec, Continue, Do, Place, Is, Word, This, AnyName, Argument, Sorts, Sender, Subject, RecName, AgainName, Opening, Rest, More, behind}
 use Rattle.rcv_reader.specs.Descent.{Standing, named_in, place_of_spot}
-use Rattle.rcv_reader.proofs.Acting.{is_few}
 use Rattle.rcv_reader.proofs.Blocks.{rec_read, choice_next, choice_read, IsBeside, lane_opens, par_first, par_next, par_read, par_statement, block_read, stmts_next, statement}
 use Rattle.rcv_reader.proofs.parser.Parser.+descent.Goals as goal
 
@@ -90,9 +89,20 @@ stmt-returns-else-is_unguarded-clause-goes t c =
     (λ k. k) _ _ c.again.ensures.goes (c.go_to-in-Some-Is-Continue-default.ensures.taken _ (rw (arm.field-0-0-is, arm.field-0-0-0-is) at arm.ensures.some))
     (λ k. grind (arith, common_steps)) c.again.ensures.read (λ e k. ap (λ (x : Place). Rest (behind x true) ∷ k) e)
 
-pub stmt-returns-else-here-ge2-clause-goes : goal.stmt-returns-else-here-ge2-clause-goes
-stmt-returns-else-here-ge2-clause-goes t c =
+pub stmt-returns-else-is_inner-clause-goes : goal.stmt-returns-else-is_inner-clause-goes
+stmt-returns-else-is_inner-clause-goes t c =
     let arm = c.in-Some-Is-Par-default in
     par_statement _ c.args.spot.now.ended c.args.self.now c.begin_par.new.self c.par.new.self c.args.spot.now arm.after c.par.ensures.goes
     (rw (arm.field-0-0-is, arm.field-0-0-0-is) at arm.ensures.some) c.begin_par.ensures c.if-here.false
-    (is_few c.args.spot.now.depth 2 c.if-here-ge2.false) c.if-here.false
+    (sym c.is_inner.ensures ∙ c.if-is_inner.false) c.if-here.false
+
+pub stmt-returns-in-Some-Is-Do-default-clause-goes : goal.stmt-returns-in-Some-Is-Do-default-clause-goes
+stmt-returns-in-Some-Is-Do-default-clause-goes t c =
+    let arm = c.in-Some-Is-Do-default in
+    let new = c.go_to-in-Some-Is-Do-default.new.self in
+    let p = place_of_spot new c.args.spot.now in
+    statement _ c.args.spot.now.ended c.args.self.now new c.call.new.self c.args.spot.now (Is Do)
+    (λ k. AnyName ∷ This (Is Left) ∷ Argument p.earlier [] ∷ This (Is Semicolon) ∷ k) (λ k. Rest (behind p false) ∷ k)
+    (λ k. k) _ _ c.call.ensures.goes (c.go_to-in-Some-Is-Do-default.ensures.taken _ (rw (arm.field-0-0-is, arm.field-0-0-0-is) at arm.ensures.some))
+    (λ k. rw c.if-here.false refl) c.call.ensures.read
+    (λ e k. rw c.if-here.false (ap (λ (x : Place). Rest (behind x false) ∷ k) e))

@@ -1,0 +1,27 @@
+pub mod Sites
+pub mod Entered
+pub mod Laned
+pub mod Fitting
+pub mod Filling
+pub mod Going
+pub mod Walking
+pub mod Places
+pub mod Kept
+pub mod Once
+pub mod Unique
+pub mod Points
+pub mod Formed
+pub mod Reaching
+pub mod Deciding
+pub mod Measured
+pub mod Unfolding
+pub mod Knowing
+pub mod Building
+pub mod Roomy
+pub mod Answering
+pub mod Inside
+pub mod LongText
+pub mod LongFree
+pub mod Overlong
+pub mod Coming
+mod Examples

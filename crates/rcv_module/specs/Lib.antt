@@ -1,0 +1,10 @@
+pub mod Parts
+pub mod Sizes
+pub mod Refusing
+pub mod Expansion
+pub mod Form
+pub mod Walks
+pub mod Answers
+pub mod Origins
+pub mod Short
+pub mod Laws
