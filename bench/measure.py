@@ -1,4 +1,4 @@
-"""One run of a program, measured: what bench/run and bench/texts share. It needs Python 3.8.
+"""One run of a program, measured: what bench/run, bench/replays and bench/texts share. It needs Python 3.8.
 
 The seconds of the processor are those that all threads of the process used. The peak is that of what is resident, by GNU
 time where it is installed; else as the system counts it of the process, which is never less than what the script has

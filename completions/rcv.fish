@@ -6,6 +6,8 @@ complete -c rcv -n __fish_use_subcommand -a check -d 'write the protocol in one 
 complete -c rcv -n __fish_use_subcommand -a project -d 'write what a role does at each of its places'
 complete -c rcv -n __fish_use_subcommand -a table -d 'write whom the failure of each role concerns'
 complete -c rcv -n __fish_use_subcommand -a gen -d 'run the generated input and write a summary'
+complete -c rcv -n __fish_use_subcommand -a replay -d 'judge the journal behind the input and a line %% journal'
+complete -c rcv -n __fish_use_subcommand -a line -d 'write how many events of each role no recovery takes back'
 complete -c rcv -n '__fish_seen_subcommand_from run' -l workers -x -a '1 2 3 4 5 6 7 8' -d 'how many workers'
 complete -c rcv -n '__fish_seen_subcommand_from run' -l json -d 'one line of JSON'
 complete -c rcv -n '__fish_seen_subcommand_from project' -l role -x -d 'the role'
@@ -13,6 +15,7 @@ complete -c rcv -n '__fish_seen_subcommand_from gen' -l number -x -d 'from 0 to 
 
 complete -c rcv-show -f
 complete -c rcv-show -n __fish_use_subcommand -a journal -d 'draw a journal, behind the input and a line %% journal'
+complete -c rcv-show -n __fish_use_subcommand -a replay -d 'judge the journal behind the input and say what is wrong with it'
 complete -c rcv-show -n __fish_use_subcommand -a table -d 'draw whom the failure of each role concerns'
 complete -c rcv-show -n __fish_use_subcommand -a role -d 'draw what a role does at each of its places'
 complete -c rcv-show -n __fish_use_subcommand -a protocol -d 'draw the protocol as a sequence chart'

@@ -78,6 +78,7 @@ module _ (book : BookView) (r : ℕ) (stays : Bool) (legal : IsLegal (rules_of b
       setup_is = ap (λ (x : CellView). x.part.setup) is ∙ setup stays ∙ g.setup_is;
       role_is = ap (λ (x : CellView). x.part.role) is ∙ role stays ∙ g.role_is;
       own = own_gone c g keep clock k t ∙ sym (ap (λ (x : CellView). x.part.own) is);
+      base = ap (λ (x : CellView). x.part.base) is ∙ base stays;
       log = ap (λ (x : CellView). x.part.log) is ∙ log stays;
       settled = settled;
       strangers = strangers;
@@ -93,6 +94,10 @@ module _ (book : BookView) (r : ℕ) (stays : Bool) (legal : IsLegal (rules_of b
       role : (b : Bool) → (part_back b c.part keep clock).role ≡ c.part.role
       role true = refl
       role false = refl
+
+      base : (b : Bool) → (part_back b c.part keep clock).base ≡ c.part.base
+      base true = refl
+      base false = refl
 
       log : (b : Bool) → (part_back b c.part keep clock).log ≡ c.part.log
       log true = refl
@@ -126,7 +131,7 @@ module _ (book : BookView) (n : ℕ) (old : List (Option CellView)) (gone : AreG
   role_here r c has = ⊎_elim (λ lt. (gone.gone r c has lt).role_is) (λ le. (gone.left r c has le).0.role_is) (cases_lt r n)
 
   pub gone_self : HaveMoved old old
-  gone_self = record { count = refl; empty = λ r l. l; each = λ r c has. record { cell = c; has = has; log = refl; alone = λ q lacks. alone_here r q c c has lacks refl refl } }
+  gone_self = record { count = refl; empty = λ r l. l; each = λ r c has. record { cell = c; has = has; base = refl; log = refl; alone = λ q lacks. alone_here r q c c has lacks refl refl } }
 
   -- a place without a cell
   module _ (new : List (Option CellView)) (lacks : Lacks old n) (lacks' : Lacks new n) (stay : StayBut old new n) where
@@ -146,7 +151,7 @@ module _ (book : BookView) (n : ℕ) (old : List (Option CellView)) (gone : AreG
     }
 
     pub none_moved : HaveMoved old new
-    none_moved = record { count = stay.count; empty = λ r l. same r ∙ l; each = λ r c has. record { cell = c; has = same r ∙ has; log = refl; alone = λ q l. alone_here r q c c has l refl refl } }
+    none_moved = record { count = stay.count; empty = λ r l. same r ∙ l; each = λ r c has. record { cell = c; has = same r ∙ has; base = refl; log = refl; alone = λ q l. alone_here r q c c has l refl refl } }
 
   -- a place with one
   module _ (out new : List (Option CellView)) (x x' : CellView) (hx : Has old n x) (hx' : Has new n x') (first : StayBut old out n) (second : StayBut out new n) (went : HasGoneInPlace book n x x') where
@@ -171,7 +176,7 @@ module _ (book : BookView) (n : ℕ) (old : List (Option CellView)) (gone : AreG
     pair_on P s r a' b' d fa fb h = subst (λ (z : (List End × List End) × (ℕ × ℕ)). P (end_at z.0.0 z.1.0 z.1.1 d) (end_at z.0.1 z.1.1 z.1.0 d)) (λ i. ((sym fa.posts i, sym fb.inboxes i), ((fa.role ∙ sym fa.role_now) i, (fb.role ∙ sym fb.role_now) i))) h
 
     gone_now : HasGone book n x' x'
-    gone_now = let g = went.gone in record { setup_is = g.setup_is; role_is = g.role_is; own = g.own; log = refl; settled = g.settled; strangers = g.strangers }
+    gone_now = let g = went.gone in record { setup_is = g.setup_is; role_is = g.role_is; own = g.own; base = refl; log = refl; settled = g.settled; strangers = g.strangers }
 
     pub one_on : AreGone book (n + 1) new
     one_on = record {
@@ -194,8 +199,8 @@ module _ (book : BookView) (n : ℕ) (old : List (Option CellView)) (gone : AreG
       each = λ r c has. ⊎_elim
           (λ e.
           let same : x ≡ c = one_cell old n x c hx (subst (λ k. Has old k c) e has) in
-          subst (λ k. HasMoved old new k c) (sym e) (subst (λ y. HasMoved old new n y) same (record { cell = x'; has = hx'; log = went.gone.log; alone = λ q l. alone_here n q x x' hx l went.posts went.inboxes })))
-          (λ m. record { cell = c; has = apart r m ∙ has; log = refl; alone = λ q l. alone_here r q c c has l refl refl })
+          subst (λ k. HasMoved old new k c) (sym e) (subst (λ y. HasMoved old new n y) same (record { cell = x'; has = hx'; base = went.gone.base; log = went.gone.log; alone = λ q l. alone_here n q x x' hx l went.posts went.inboxes })))
+          (λ m. record { cell = c; has = apart r m ∙ has; base = refl; log = refl; alone = λ q l. alone_here r q c c has l refl refl })
           (cases_eq r n);
     }
 
@@ -237,7 +242,7 @@ to_settle book half going = record {
 pub to_go : (book : BookView) (half : List (Option CellView)) → CanGoBack book half → AreGoing book 0 0 half
 to_go book half can = record {
   count = can.count;
-  each = λ r c has. let g = can.each r c has in record { setup_is = g.setup_is; role_is = g.role_is; failed = g.failed; back = g.back; made = g.made; held = g.held; attempt = g.attempt };
+  each = λ r c has. let g = can.each r c has in record { setup_is = g.setup_is; role_is = g.role_is; failed = g.failed; back = g.back; made = g.made; base = g.base; held = g.held; attempt = g.attempt };
   posts = λ r q c d has lq n. subst (λ b. HoldsPut (net_for book.setup) r q (by_then book b r c) c.part.own.raw (end_at c.posts r q d)) (sym (none_passed r q)) (let s = settled r q c d has lq n in record { put = s.put; through = s.through });
   inboxes = λ r q c d has lq n. subst (λ b. HoldsTaken (net_for book.setup) q r (by_then book b r c) (end_at c.inboxes r q d)) (sym (none_passed q r)) (let s = settled r q c d has lq n in record { got = s.got; taken = s.taken });
   joined = can.joined;
@@ -257,7 +262,7 @@ gone_back_all book old new count moved gone = record {
   each = λ r c has.
       let now = moved.each r c has in
       let g = gone.gone r now.cell now.has (let w = get_within old r (Some c) has in omega (arith, w, count)) in
-      record { cell = now.cell; has = now.has; gone = record { setup_is = g.setup_is; role_is = g.role_is; own = g.own; log = now.log; settled = g.settled; strangers = g.strangers }; alone = now.alone };
+      record { cell = now.cell; has = now.has; gone = record { setup_is = g.setup_is; role_is = g.role_is; own = g.own; base = now.base; log = now.log; settled = g.settled; strangers = g.strangers }; alone = now.alone };
   joined = gone.joined;
   begun = gone.begun;
 }

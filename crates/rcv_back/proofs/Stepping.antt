@@ -111,7 +111,7 @@ module _ (book : BookView) (s t keep drop_from : ℕ) (old new : List (Option Ce
 -- what is told of a cell without its ends is so of each with its part
 going_by : (book : BookView) (r : ℕ) (c c' : CellView) → c'.part ≡ c.part → IsGoing book r c → IsGoing book r c'
 going_by book r c c' same g =
-    let moved : IsGoing book r (cell_of c.part c'.posts c'.inboxes) = record { setup_is = g.setup_is; role_is = g.role_is; failed = g.failed; back = g.back; made = g.made; held = g.held; attempt = g.attempt } in
+    let moved : IsGoing book r (cell_of c.part c'.posts c'.inboxes) = record { setup_is = g.setup_is; role_is = g.role_is; failed = g.failed; back = g.back; made = g.made; base = g.base; held = g.held; attempt = g.attempt } in
     subst (λ (p : PartView). IsGoing book r (cell_of p c'.posts c'.inboxes)) (sym same) moved
 
 module _ (book : BookView) (s t keep : ℕ) (old new : List (Option CellView)) (going : AreGoing book s t old) (ls : s < roles_of book.setup) (lt : t < roles_of book.setup) (apart : s ≡ t → ⊥) (went : HaveStepped book old new s t keep) where
@@ -248,7 +248,7 @@ module _ (book : BookView) (s t keep : ℕ) (old new : List (Option CellView)) (
     empty = went.empty;
     each = λ r c has.
         let now = went.each r c has in
-        record { cell = now.cell; has = now.has; log = ap (λ (p : PartView). p.log) now.step.part; alone = λ q lacks. alone_on r q c now.cell has now.step lacks };
+        record { cell = now.cell; has = now.has; base = ap (λ (p : PartView). p.base) now.step.part; log = ap (λ (p : PartView). p.log) now.step.part; alone = λ q lacks. alone_on r q c now.cell has now.step lacks };
   }
 
 -- where nothing is to be done
@@ -259,6 +259,7 @@ moved_self book s t half going = record {
   each = λ r c has. record {
     cell = c;
     has = has;
+    base = refl;
     log = refl;
     alone = λ q lacks. record {
       post = λ d. refl;
@@ -310,6 +311,7 @@ moved_then a b c f g = record {
       record {
         cell = second.cell;
         has = second.has;
+        base = second.base ∙ first.base;
         log = second.log ∙ first.log;
         alone = λ q lacks.
             let one = first.alone q lacks in

@@ -24,13 +24,14 @@ abbrev pub clock_in_book : BookView → ℕ → ℕ
 clock_in_book book r = slice_index (state_of book).clocks r
 
 -- The cell of role r can go back to what the book keeps of the role: its first events, with its numbers set. The state
--- behind these is held, unless the role stays crashed.
+-- behind these is held, unless the role stays crashed, and none of those that it goes back to was forgotten.
 pub record CanGo (book : BookView) (r : ℕ) (c : CellView) : Type 0 where
   pub setup_is : c.part.setup ≡ book.setup
   pub role_is : c.part.role ≡ r
   pub failed : Bool
   pub back : own_of (state_of book) r ≡ own_back c.part.own (kept_in book r) failed (clock_in_book book r)
   pub made : kept_in book r ≤ length c.part.own.events
+  pub base : c.part.base ≤ kept_in book r
   pub held : (own_of (state_of book) r).crashed ≡ false → kept_in book r ≤ c.part.held
   pub attempt : c.part.own.attempt + 1 < 2 ^ 32
   pub settled : IsSettled c
@@ -46,11 +47,12 @@ pub record CanGoBack (book : BookView) (half : List (Option CellView)) : Type 0 
   pub spared : (r q : ℕ) (c : CellView) → Has half r c → Lacks half q
       → put (net_for book.setup) r q (kept_of book r) ≡ put (net_for book.setup) r q c.part.own.events
 
--- The cell of role r went back to what the book keeps of the role, and its log is as it was.
+-- The cell of role r went back to what the book keeps of the role. Its log is as it was, and it forgot nothing.
 pub record HasGone (book : BookView) (r : ℕ) (old new : CellView) : Type 0 where
   pub setup_is : new.part.setup ≡ book.setup
   pub role_is : new.part.role ≡ r
   pub own : own_of (state_of book) r ≡ new.part.own
+  pub base : new.part.base ≡ old.part.base
   pub log : new.part.log ≡ old.part.log
   pub settled : IsSettled new
   pub strangers : HasNoStrangers new.part

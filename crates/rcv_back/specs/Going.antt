@@ -67,6 +67,7 @@ pub record IsGoing (book : BookView) (r : ℕ) (c : CellView) : Type 0 where
   pub failed : Bool
   pub back : own_of (state_of book) r ≡ own_back c.part.own (kept_in book r) failed (clock_in_book book r)
   pub made : kept_in book r ≤ length c.part.own.events
+  pub base : c.part.base ≤ kept_in book r
   pub held : (own_of (state_of book) r).crashed ≡ false → kept_in book r ≤ c.part.held
   pub attempt : c.part.own.attempt + 1 < 2 ^ 32
 
@@ -128,10 +129,11 @@ pub record HaveStepped (book : BookView) (old new : List (Option CellView)) (s t
   pub begun : (a b : CellView) (e : End) → Has new s a → Has new t b
       → Begins (inbox_from a b e).list (post_to a b e).list
 
--- The cell at place r has the log that it had, and to cells outside its half its post is as it was.
+-- The cell at place r has the log that it had and forgot nothing, and to cells outside its half its post is as it was.
 pub record HasMoved (old new : List (Option CellView)) (r : ℕ) (c : CellView) : Type 0 where
   pub cell : CellView
   pub has : Has new r cell
+  pub base : cell.part.base ≡ c.part.base
   pub log : cell.part.log ≡ c.part.log
   pub alone : (q : ℕ) → Lacks old q → HasGoneAlone r q c cell
 

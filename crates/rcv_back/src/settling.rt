@@ -16,6 +16,7 @@ use rcv_tree::role::RoleId;
 // Goes back to so many first events, and runs on, unless the role stays crashed.
 fn back_or_cut<'a>(lane: &mut Lane<'a>, stays: bool, keep: u32, clock: u64)
     requires settled { IsSettledAt lane.old (take keep lane.old.part.own.events) }
+    requires base { lane.old.part.base ≤ keep }
     requires made { keep ≤ length lane.old.part.own.events }
     requires held { stays ≡ false → keep ≤ lane.old.part.held }
     requires crashed { stays ≡ true → lane.old.part.own.crashed ≡ true }

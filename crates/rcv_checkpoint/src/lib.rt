@@ -5,6 +5,7 @@ pub mod changed;
 mod rows;
 pub mod stack;
 pub mod state;
+pub mod tail;
 #[cfg(test)]
 mod tests;
 

@@ -1,6 +1,6 @@
 // What a stack keeps: full states, and for each event what it changed.
 
-ghost use Rattle.std.specs.Prelude.{◌≡◌, ◌+◌, ◌*◌, ◌<◌, ◌≤◌, ℕ, [], ◌∷◌, ◌++◌, length, take, slice_index, vec_len};
+ghost use Rattle.std.specs.Prelude.{◌≡◌, ◌+◌, ◌*◌, ◌<◌, ◌≤◌, ℕ, [], ◌∷◌, ◌++◌, length, take, drop, map, slice_index, vec_len, ◌-◌};
 ghost use Rattle.std.specs.Prelude.{vec_capacity, IfOk, IsOk, IsTrue, OnOk};
 ghost use Rattle.rcv_checkpoint.specs.Rows.{patched, states_of, state_in, AreRows, HasRoom, HasRoomForOne, KeepsRoom};
 ghost use Rattle.rcv_checkpoint.specs.Rows.{AreSame, IsNoted, changes_before, lists_of};
@@ -153,6 +153,52 @@ impl Rows {
         self.values.truncate(changes);
         self.fulls.truncate(count / BLOCK + 1);
         self.starts.truncate(count / BLOCK + 1);
+    }
+}
+
+impl Rows {
+    /// Forgets the states before the one after so many blocks of 64 events. It takes no memory, and moves what stays to
+    /// the front of the room, so that what is added from then on takes the room of what was forgotten.
+    pub fn drop_blocks(&mut self, blocks: usize)
+        requires rows { AreRows (lists_of self.old) }
+        requires held { blocks * 64 ≤ length self.old.points.items }
+        ensures rows { AreRows (lists_of self.new) }
+        ensures states { states_of (lists_of self.new) ≡ drop (blocks * 64) (states_of (lists_of self.old)) }
+        ensures count { length self.new.points.items + blocks * 64 ≡ length self.old.points.items }
+        ensures last { state_in (lists_of self.new) (length self.new.points.items)
+            ≡ state_in (lists_of self.old) (length self.old.points.items) }
+        ensures room { KeepsRoom self.old self.new }
+    {
+        let events = blocks * BLOCK;
+        let changes = self.starts[blocks];
+        drop_first(&mut self.points, events);
+        drop_first(&mut self.changed, events);
+        drop_first(&mut self.places, changes);
+        drop_first(&mut self.values, changes);
+        drop_first(&mut self.fulls, blocks);
+        drop_first(&mut self.starts, blocks);
+        lessen(&mut self.starts, changes);
+    }
+}
+
+// Takes the first so many items off a list.
+fn drop_first<T: Copy + Drop>(list: &mut Vec<T>, count: usize)
+    requires { count ≤ length list.old.items }
+    ensures items { list.new.items ≡ drop count list.old.items }
+    ensures room { vec_capacity list.new ≡ vec_capacity list.old }
+{
+    let rest = list.len() - count;
+    list.rotate_left(count);
+    list.truncate(rest);
+}
+
+// Takes so much from each number of a list.
+fn lessen(list: &mut Vec<usize>, by: usize)
+    ensures items { list.new.items ≡ map (λ x. x - by) list.old.items }
+    ensures room { vec_capacity list.new ≡ vec_capacity list.old }
+{
+    for place in 0..list.len() {
+        list[place] = list[place].saturating_sub(by);
     }
 }
 

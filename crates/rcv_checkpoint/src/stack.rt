@@ -1,6 +1,6 @@
 // A stack of states: the state of a role after each count of its events.
 
-ghost use Rattle.std.specs.Prelude.{◌≡◌, ◌+◌, ◌*◌, ◌^◌, ◌<◌, ◌≤◌, ℕ, Some, [], ◌∷◌, ◌++◌, length, take, slice_get};
+ghost use Rattle.std.specs.Prelude.{◌≡◌, ◌+◌, ◌*◌, ◌^◌, ◌<◌, ◌≤◌, ℕ, Some, [], ◌∷◌, ◌++◌, length, take, drop, slice_get};
 ghost use Rattle.std.specs.Prelude.{IfOk, IsOk, OnOk, OnErr};
 ghost use Rattle.rcv_checkpoint.specs.Stack.{StackView, held, with_states, IsDurable, last_vars};
 ghost use Rattle.rcv_checkpoint.specs.Changed.{IsChange};
@@ -125,5 +125,14 @@ impl Stack {
         ensures { self.new ≡ with_states self.old (take (count + 1) self.old.states) }
     {
         self.rewind(count);
+    }
+
+    /// Forgets the states before the one after so many blocks of 64 events, of at most all that are held; that one is
+    /// the first from then on. It takes no memory, and what is saved later takes the room of what was forgotten.
+    pub fn drop_blocks(&mut self, blocks: u32)
+        requires { blocks * 64 ≤ held self.old }
+        ensures { self.new ≡ with_states self.old (drop (blocks * 64) self.old.states) }
+    {
+        self.rows.drop_blocks(blocks as usize);
     }
 }

@@ -29,7 +29,7 @@ module _ (setup : SessionView) (form : IsProper (net_for setup) (roles_of setup)
       let inside = next_in_text (net_for setup) (roles_of setup) e.role k e.point form n in
       record { role = declared; first = inside.0; last = inside.1 }
 
-  named : (s : State) (e : Entry) → length s.crashed ≡ roles_of setup → May (rules_of setup) s e → IsNamed setup e
+  pub named : (s : State) (e : Entry) → length s.crashed ≡ roles_of setup → May (rules_of setup) s e → IsNamed setup e
   named s (Send e) size may = (at_next e _ may.offered may.free.declared may.next may.among, sym (may.sends e.point may.among))
   named s (Recv e) size may = (at_next e _ may.offered may.free.declared may.next may.among, sym (may.receives e.point may.among).0)
   named s (Crash p) size may = may.0

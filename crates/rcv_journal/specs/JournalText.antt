@@ -25,6 +25,13 @@ IsNamed setup (Recv e) = IsNamedEvent setup e × (e.role ≡ (net_for setup).rec
 IsNamed setup (Crash p) = p < roles_of setup
 IsNamed setup (Recover p concerned kept undone) = p < roles_of setup
 
+-- The same, whoever makes its event.
+abbrev pub IsDeclared : SessionView → Entry → Type 0
+IsDeclared setup (Send e) = IsNamedEvent setup e
+IsDeclared setup (Recv e) = IsNamedEvent setup e
+IsDeclared setup (Crash p) = p < roles_of setup
+IsDeclared setup (Recover p concerned kept undone) = p < roles_of setup
+
 abbrev pub AreNamed : SessionView → List Entry → Type 0
 AreNamed setup entries = All (IsNamed setup) entries
 
@@ -88,6 +95,10 @@ abbrev pub last_line : SessionView → List RoleLine → List ℕ
 last_line setup lines =
     if list_all (λ line. is_done line.word) lines then codes "completed\n"
     else codes "limited" ++ flat_map (limit_text setup) lines ++ codes "\n"
+
+-- What stands behind the entries: the lines of the roles, and the last line.
+abbrev pub closing_text : SessionView → List RoleLine → List ℕ
+closing_text setup lines = flat_map (role_line setup) lines ++ last_line setup lines
 
 -- The whole text.
 abbrev pub journal_text : SessionView → List Entry → List RoleLine → List ℕ

@@ -1,12 +1,13 @@
 // The lines of entries.
 
-ghost use Rattle.std.specs.Prelude.{◌≡◌, ◌<◌, flat_map, codes};
+ghost use Rattle.std.specs.Prelude.{◌≡◌, ◌<◌, ◌≤◌, ◌++◌, flat_map, codes};
 ghost use Rattle.std.specs.List.{range_with_len};
 ghost use Rattle.rcv_tree.specs.declared.entry.Entry.TheVariants.{Send, Recv, Crash, Recover};
 ghost use Rattle.rcv_page.specs.Page.{Adds, at};
-ghost use Rattle.rcv_session.specs.Session.{roles_of};
-ghost use Rattle.rcv_journal.specs.Heads.{rest_text, AreHeads};
-ghost use Rattle.rcv_journal.specs.JournalText.{IsNamed, AreNamed, kept_text, entry_line};
+ghost use Rattle.rcv_session.specs.Session.{roles_of, net_for};
+ghost use Rattle.rcv_journal.specs.Heads.{rest_text, head_text, AreHeads};
+ghost use Rattle.rcv_journal.specs.JournalText.{IsNamed, IsNamedEvent, IsDeclared, AreNamed, event_text};
+ghost use Rattle.rcv_journal.specs.JournalText.{kept_text, entry_line};
 
 use crate::head::Head;
 use crate::name::name_of;
@@ -15,6 +16,7 @@ use rcv_io::Sink;
 use rcv_page::Page;
 use rcv_tree::entry::Entry;
 use rcv_tree::event::Event;
+use rcv_tree::point::Point;
 use rcv_tree::role::{RoleId, RoleSet};
 
 // What a Send and a Recv have in common behind how they begin: `VALUE @STAMP`.
@@ -167,5 +169,80 @@ pub fn write_entries<K: Sink>(
 {
     for entry in entries {
         write_entry(page, sink, setup, heads, entry);
+    }
+}
+
+// How a line of this kind begins where it tells of a declared role at a point of the text.
+fn write_head<K: Sink>(
+    page: &mut Page,
+    sink: &mut K,
+    setup: &Setup,
+    kind: &[u8],
+    role: RoleId,
+    point: Point,
+)
+    requires declared { role < roles_of setup.now }
+    requires first { 1 ≤ point }
+    requires last { point ≤ (net_for setup.now).count }
+    ensures { Adds (at K.written K.faults sink.old page.old) (at K.written K.faults sink.new page.new)
+        (head_text setup.now kind.now role point) }
+{
+    page.word(sink, kind);
+    page.word(sink, name_of(setup, role));
+    page.byte(sink, b' ');
+    page.number(sink, point.0 as u64);
+    page.byte(sink, b' ');
+    page.word(sink, setup.label(point));
+    page.byte(sink, b' ');
+}
+
+// `KIND ROLE POINT LABEL VALUE @STAMP` of an event that any role makes, where the kind ends in a space.
+fn write_event<K: Sink>(page: &mut Page, sink: &mut K, setup: &Setup, kind: &[u8], event: &Event)
+    requires { IsNamedEvent setup.now event.now }
+    ensures { Adds (at K.written K.faults sink.old page.old) (at K.written K.faults sink.new page.new)
+        (kind.now ++ event_text setup.now event.now) }
+{
+    write_head(page, sink, setup, kind, event.role, event.point);
+    write_rest(page, sink, event);
+}
+
+// The line of a Send that any role makes.
+fn write_send_alone<K: Sink>(page: &mut Page, sink: &mut K, setup: &Setup, event: &Event)
+    requires { IsDeclared setup.now (Send event.now) }
+    ensures { Adds (at K.written K.faults sink.old page.old) (at K.written K.faults sink.new page.new)
+        (entry_line setup.now (Send event.now)) }
+{
+    write_event(page, sink, setup, b"send ", event);
+    page.byte(sink, b'\n');
+}
+
+// The line of a Recv that any role makes.
+fn write_recv_alone<K: Sink>(page: &mut Page, sink: &mut K, setup: &Setup, event: &Event)
+    requires { IsDeclared setup.now (Recv event.now) }
+    ensures { Adds (at K.written K.faults sink.old page.old) (at K.written K.faults sink.new page.new)
+        (entry_line setup.now (Recv event.now)) }
+{
+    write_event(page, sink, setup, b"recv ", event);
+    page.word(sink, b" <");
+    page.number(sink, event.sent);
+    page.byte(sink, b'\n');
+}
+
+/// The line of one entry alone.
+pub fn write_alone<K: Sink>(page: &mut Page, sink: &mut K, setup: &Setup, entry: &Entry)
+    requires { IsDeclared setup.now entry.now }
+    ensures { Adds (at K.written K.faults sink.old page.old) (at K.written K.faults sink.new page.new)
+        (entry_line setup.now entry.now) }
+{
+    match entry {
+        Entry::Send(event) => write_send_alone(page, sink, setup, event),
+        Entry::Recv(event) => write_recv_alone(page, sink, setup, event),
+        Entry::Crash(role) => write_crash(page, sink, setup, *role),
+        Entry::Recover {
+            role,
+            concerned,
+            kept,
+            undone,
+        } => write_recover(page, sink, setup, *role, *concerned, kept, *undone),
     }
 }

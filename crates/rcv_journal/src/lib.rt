@@ -8,7 +8,7 @@ mod fault;
 mod head;
 mod journal;
 pub mod line;
-mod name;
+pub mod name;
 pub mod role_lines;
 mod roles;
 pub mod text;

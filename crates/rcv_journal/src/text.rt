@@ -4,21 +4,23 @@ ghost use Rattle.std.specs.Prelude.{◌≡◌, ◌≤◌, IfOk, OnOk, IsErrOf};
 ghost use Rattle.rcv_model.specs.Final.{IsFinal};
 ghost use Rattle.rcv_session.specs.Session.{rules_of};
 ghost use Rattle.rcv_core.specs.Book.{state_of};
-ghost use Rattle.rcv_journal.specs.JournalText.{HaveRoles, last_line};
+ghost use Rattle.rcv_journal.specs.JournalText.{HaveRoles, IsDeclared, entry_line, last_line, closing_text};
 ghost use Rattle.rcv_journal.specs.Lines.{IsTextOf};
 ghost use Rattle.rcv_journal.specs.Writing.{WroteText, BrokeText, IsUntouched};
 
+use crate::entries::write_alone;
 use crate::fault::TextError;
 use crate::head::heads;
 use crate::journal::write_journal;
 use crate::line::RoleLine;
 use crate::role_lines::lines_of;
-use crate::roles::write_last;
+use crate::roles::{write_last, write_roles};
 use crate::vec_sink::VecSink;
 use rcv_core::book::Book;
 use rcv_core::setup::Setup;
 use rcv_io::Sink;
 use rcv_page::Page;
+use rcv_tree::entry::Entry;
 use std::alloc::{AllocError, Global};
 
 // The line of an entry has about so many bytes at most, where names are short.
@@ -79,6 +81,35 @@ pub fn last_line_of(alloc: Global, setup: &Setup, lines: &[RoleLine]) -> Result<
 {
     let mut sink = VecSink::with_room(alloc, LAST)?;
     let mut page = Page::new(alloc)?;
+    write_last(&mut page, &mut sink, setup, lines);
+    match page.finish(&mut sink) {
+        Ok(()) => Ok(sink.into_bytes()),
+        Err(_) => Err(AllocError),
+    }
+}
+
+/// The line of an entry alone, whose role and point are declared. It fails where memory runs out.
+pub fn entry_line_of(alloc: Global, setup: &Setup, entry: &Entry) -> Result<Vec<u8>, AllocError>
+    requires { IsDeclared setup.now entry.now }
+    ensures { IfOk result (λ line. line.items ≡ entry_line setup.now entry.now) }
+{
+    let mut sink = VecSink::with_room(alloc, LINE)?;
+    let mut page = Page::new(alloc)?;
+    write_alone(&mut page, &mut sink, setup, entry);
+    match page.finish(&mut sink) {
+        Ok(()) => Ok(sink.into_bytes()),
+        Err(_) => Err(AllocError),
+    }
+}
+
+/// The lines behind a journal's entries alone, from what is said of the roles. It fails where memory runs out.
+pub fn closing_of(alloc: Global, setup: &Setup, lines: &[RoleLine]) -> Result<Vec<u8>, AllocError>
+    requires { HaveRoles setup.now lines.now }
+    ensures { IfOk result (λ text. text.items ≡ closing_text setup.now lines.now) }
+{
+    let mut sink = VecSink::with_room(alloc, LAST)?;
+    let mut page = Page::new(alloc)?;
+    write_roles(&mut page, &mut sink, setup, lines);
     write_last(&mut page, &mut sink, setup, lines);
     match page.finish(&mut sink) {
         Ok(()) => Ok(sink.into_bytes()),

@@ -1,5 +1,5 @@
 -- A legal journal of the first entries, one more of them, and the first that may not come: at most one is that.
-use Rattle.std.proofs.Common.{◌≡◌, ℕ, ◌+◌, ◌<◌, zero, suc, Some, Option, List, [], ◌∷◌, ◌++◌, take, sym, ◌∙◌, ap, subst, ⊎_elim, add-one, arith}
+use Rattle.std.proofs.Common.{◌≡◌, ℕ, ◌+◌, ◌<◌, zero, suc, Some, List, [], ◌∷◌, ◌++◌, take, sym, ◌∙◌, ap, subst, ⊎_elim, add-one, arith}
 use Rattle.std.specs.Prelude.{slice_get}
 use Rattle.std.proofs.lemmas.Bool.{cases_lt}
 use Rattle.std.proofs.lemmas.List.{take-take}
@@ -9,31 +9,27 @@ use Rattle.rcv_model.specs.Journal.{Rules, State, start, after, reading, reading
 use Rattle.rcv_model.proofs.Located.{item}
 use Rattle.rcv_session.specs.Session.{SessionView, roles_of, rules_of}
 use Rattle.rcv_core.specs.Book.{BookView, state_of, with_entry}
-use Rattle.rcv_judge.specs.declared.sending.Reached.{Reached}
-use Rattle.rcv_judge.specs.Sending.{AreReached}
 use Rattle.rcv_judge.specs.Judged.{IsFirstWrong}
 use Rattle.rcv_judge.specs.Laws.{OneEntryIsFirstWrong}
 use Rattle.rcv_judge.proofs.Taking.{next_taken}
 
--- the book of the first so many entries, which are legal, with what is known of the roles' variables
-pub record HasRead (setup : SessionView) (entries : List Entry) (k : ℕ) (book : BookView) (known : List (Option Reached)) : Type 0 where
+-- the book of the first so many entries, which are legal
+pub record HasRead (setup : SessionView) (entries : List Entry) (k : ℕ) (book : BookView) : Type 0 where
   pub book_is : book ≡ record { setup = setup; entries = take k entries }
   pub legal : IsLegal (rules_of setup) (take k entries)
-  pub reached : AreReached book known
 
 legal_more : (rules : Rules) (s : State) (front : List Entry) (e : Entry) → IsLegalFrom rules s front → May rules (reading_from rules s front) e → IsLegalFrom rules s (front ++ e ∷ [])
 legal_more rules s [] e legal may = (may, tt)
 legal_more rules s (d ∷ front) e legal may = (legal.0, legal_more rules (after rules s d) front e legal.1 may)
 
-module _ (setup : SessionView) (entries : List Entry) (k : ℕ) (e : Entry) (old : BookView) (known : List (Option Reached)) (read : HasRead setup entries k old known) (at : slice_get entries k ≡ Some e) where
+module _ (setup : SessionView) (entries : List Entry) (k : ℕ) (e : Entry) (old : BookView) (read : HasRead setup entries k old) (at : slice_get entries k ≡ Some e) where
   longer : take k entries ++ e ∷ [] ≡ take (k + 1) entries
   longer = sym (next_taken entries k e at) ∙ ap (λ n. take n entries) (sym (add-one k))
 
-  pub read_more : (new : BookView) (more : List (Option Reached)) → May (rules_of old.setup) (state_of old) e → new ≡ with_entry old e → AreReached (with_entry old e) more → HasRead setup entries (k + 1) new more
-  read_more new more may grown reached = record {
+  pub read_more : (new : BookView) → May (rules_of old.setup) (state_of old) e → new ≡ with_entry old e → HasRead setup entries (k + 1) new
+  read_more new may grown = record {
     book_is = grown ∙ ap (λ (b : BookView). with_entry b e) read.book_is ∙ ap (λ (es : List Entry). record { setup = setup; entries = es }) longer;
     legal = subst (IsLegal (rules_of setup)) longer (legal_more (rules_of setup) (start (roles_of setup)) (take k entries) e read.legal (subst (λ (b : BookView). May (rules_of b.setup) (state_of b) e) read.book_is may));
-    reached = subst (λ (b : BookView). AreReached b more) (sym grown) reached;
   }
 
   pub first_wrong : (May (rules_of old.setup) (state_of old) e → ⊥) → IsFirstWrong (rules_of setup) entries k

@@ -3,4 +3,6 @@ pub mod Unique
 pub mod FirstWrong
 pub mod Closings
 pub mod Sends
-pub mod Knowing
+pub mod Deciding
+pub mod ClosingsJudged
+pub mod Doing

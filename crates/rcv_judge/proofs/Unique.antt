@@ -1,11 +1,12 @@
 -- What comes next of a role is one entry.
-use Rattle.std.proofs.Common.{◌≡◌, ℕ, ◌<◌, true, sym, ◌∙◌, ap, subst}
+use Rattle.std.proofs.Common.{◌≡◌, ℕ, ◌<◌, true, false, Some, sym, ◌∙◌, ap, subst}
+use Rattle.std.specs.Prelude.{slice_get}
 use Rattle.rcv_tree.specs.declared.event.Event.{Event}
 use Rattle.rcv_tree.specs.declared.entry.Entry.{Entry}
 use Rattle.rcv_tree.specs.declared.entry.Entry.TheVariants.{Send, Recv, Crash, Recover}
 use Rattle.rcv_model.specs.Net.{HasTwoEnds}
 use Rattle.std.proofs.lemmas.Option.{slice_get_within}
-use Rattle.rcv_model.specs.Journal.{Rules, State, MaySend, May, IsLegal}
+use Rattle.rcv_model.specs.Journal.{Rules, State, IsDue, MaySend, May, IsLegal}
 use Rattle.rcv_model.specs.Final.{IsCrashed, IsActOf}
 use Rattle.rcv_model.proofs.Numbers.{bounded}
 use Rattle.rcv_model.proofs.Forms.{proper}
@@ -13,6 +14,7 @@ use Rattle.rcv_model.proofs.Unique.{one_recovery, one_send, one_recv, not_both}
 use Rattle.rcv_accept.specs.Accepted.{IsAcceptedProtocol}
 use Rattle.rcv_session.specs.Session.{SessionView, text_of, roles_of, net_for, rules_of}
 use Rattle.rcv_core.specs.Book.{BookView, state_of, IsRecoveryOf}
+use Rattle.rcv_judge.specs.Laws.{EntriesOfARoleAreOne}
 
 pub two_ends : (setup : SessionView) → IsAcceptedProtocol setup.protocol → HasTwoEnds (net_for setup)
 two_ends setup accepted = (proper (text_of setup) (roles_of setup) accepted.form).two_ends
@@ -68,3 +70,28 @@ recovers_crashed book r (Crash p) x = absurd x
 pub recovers_declared : (book : BookView) (r : ℕ) (e : Entry) → IsLegal (rules_of book.setup) book.entries → IsRecoveryOf book r e → r < roles_of book.setup
 recovers_declared book r e legal x =
     subst (λ n. r < n) (bounded (rules_of book.setup) book.entries legal).numbers.crashed (slice_get_within (state_of book).crashed r true (recovers_crashed book r e x))
+
+-- a crashed role doesn't run
+runs : (rules : Rules) (s : State) (p q : ℕ) → p ≡ q → slice_get s.crashed p ≡ Some true → slice_get s.crashed q ≡ Some false → ⊥
+runs rules s p q same crashed calm = let there : Some true ≡ Some false = sym crashed ∙ ap (slice_get s.crashed) same ∙ calm in cc
+
+-- of one role one entry may come
+pub one_of_role : EntriesOfARoleAreOne
+one_of_role rules s (Send d) (Send e) two same a b = ap Send (one_send rules s d e same a b)
+one_of_role rules s (Recv d) (Recv e) two same a b = ap Recv (one_recv rules s d e same a b)
+one_of_role rules s (Send d) (Recv e) two same a b = absurd (not_both rules s d e same two a b)
+one_of_role rules s (Recv d) (Send e) two same a b = absurd (not_both rules s e d (sym same) two b a)
+one_of_role rules s (Crash p) (Crash q) two same a b = ap Crash same
+one_of_role rules s (Send d) (Crash q) two same a b = absurd (a.free.not_due (subst (IsDue rules s) (sym same) b.1))
+one_of_role rules s (Recv d) (Crash q) two same a b = absurd (a.free.not_due (subst (IsDue rules s) (sym same) b.1))
+one_of_role rules s (Crash p) (Send e) two same a b = absurd (b.free.not_due (subst (IsDue rules s) same a.1))
+one_of_role rules s (Crash p) (Recv e) two same a b = absurd (b.free.not_due (subst (IsDue rules s) same a.1))
+one_of_role rules s (Recover p c k u) (Recover q d l n) two same a b =
+    ap (λ t. Recover t c k u) same
+    ∙ one_recovery rules s q c d k l u n (subst (λ t. May rules s (Recover t c k u)) same a) b
+one_of_role rules s (Recover p c k u) (Send e) two same a b = absurd (runs rules s p e.role same a.crashed b.free.running)
+one_of_role rules s (Recover p c k u) (Recv e) two same a b = absurd (runs rules s p e.role same a.crashed b.free.running)
+one_of_role rules s (Recover p c k u) (Crash q) two same a b = absurd (runs rules s p q same a.crashed b.1.0)
+one_of_role rules s (Send d) (Recover q e l n) two same a b = absurd (runs rules s q d.role (sym same) b.crashed a.free.running)
+one_of_role rules s (Recv d) (Recover q e l n) two same a b = absurd (runs rules s q d.role (sym same) b.crashed a.free.running)
+one_of_role rules s (Crash p) (Recover q e l n) two same a b = absurd (runs rules s q p (sym same) b.crashed a.1.0)

@@ -1,7 +1,10 @@
 -- Laws of judged journals.
-use Rattle.std.specs.Prelude.{◌≡◌, ℕ, List}
+use Rattle.std.specs.Prelude.{◌≡◌, ◌⊎◌, ℕ, List}
 use Rattle.rcv_tree.specs.declared.entry.Entry.{Entry}
-use Rattle.rcv_model.specs.Journal.{Rules, State, IsLegal}
+use Rattle.rcv_model.specs.Net.{HasTwoEnds}
+use Rattle.rcv_model.specs.Next.{IsProper, LanesEnd}
+use Rattle.rcv_model.specs.Journal.{Rules, State, reading, May, IsLegal}
+use Rattle.rcv_theory.specs.Round.{role_of}
 use Rattle.rcv_journal.specs.declared.line.RoleLine.{RoleLine}
 use Rattle.rcv_judge.specs.Closing.{Closes, IsFirstWrongClosing}
 use Rattle.rcv_judge.specs.Judged.{IsFirstWrong}
@@ -14,6 +17,18 @@ pub record OneIsFirst (rules : Rules) (entries : List Entry) (k l : ℕ) : Type 
 abbrev pub OneEntryIsFirstWrong : Type 0
 OneEntryIsFirstWrong = (rules : Rules) (entries : List Entry) (k l : ℕ) → OneIsFirst rules entries k l
 
+-- Each list of entries is a legal journal, or has a first wrong entry.
+abbrev pub EntriesAreJudged : Type 0
+EntriesAreJudged =
+    (rules : Rules) (entries : List Entry) → IsProper rules.net rules.roles → LanesEnd rules.net
+    → IsLegal rules entries ⊎ ((k : ℕ) × IsFirstWrong rules entries k)
+
+-- Of one role at most one entry may come.
+abbrev pub EntriesOfARoleAreOne : Type 0
+EntriesOfARoleAreOne =
+    (rules : Rules) (s : State) (d e : Entry) → HasTwoEnds rules.net → role_of d ≡ role_of e → May rules s d → May rules s e
+    → d ≡ e
+
 -- At most one closing line is the first wrong one, and none is where the journal closes right.
 pub record OneClosing (rules : Rules) (s : State) (roles : List RoleLine) (limited : List ℕ) (k l : ℕ) : Type 0 where
   pub same : IsFirstWrongClosing rules s roles limited k → IsFirstWrongClosing rules s roles limited l → k ≡ l
@@ -22,3 +37,10 @@ pub record OneClosing (rules : Rules) (s : State) (roles : List RoleLine) (limit
 abbrev pub OneClosingIsFirstWrong : Type 0
 OneClosingIsFirstWrong =
     (rules : Rules) (s : State) (roles : List RoleLine) (limited : List ℕ) (k l : ℕ) → OneClosing rules s roles limited k l
+
+-- Closing lines are right, or they aren't.
+abbrev pub ClosingsAreJudged : Type 0
+ClosingsAreJudged =
+    (rules : Rules) (entries : List Entry) (roles : List RoleLine) (limited : List ℕ) → IsProper rules.net rules.roles
+    → LanesEnd rules.net → IsLegal rules entries
+    → Closes rules (reading rules entries) roles limited ⊎ (Closes rules (reading rules entries) roles limited → ⊥)

@@ -1,4 +1,4 @@
 pub mod Judged
 pub mod Closing
-pub mod Sending
+pub mod Could
 pub mod Laws

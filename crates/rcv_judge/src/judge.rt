@@ -7,7 +7,6 @@ ghost use Rattle.rcv_judge.specs.Judged.{IsFirstWrong};
 ghost use Rattle.rcv_judge.specs.declared.judge.JudgeError.TheVariants as errors;
 
 use crate::coming::may_come;
-use crate::known::{keep_behind, nothing_known};
 use rcv_core::book::Book;
 use rcv_core::setup::Setup;
 use rcv_tree::entry::Entry;
@@ -45,14 +44,12 @@ pub fn judge<'a>(alloc: Global, setup: &'a Setup, entries: &[Entry]) -> Result<B
 {
     let mut book = Book::new(alloc, setup)?;
     book.stop_choosing();
-    let mut known = nothing_known();
     for (number, entry) in entries.iter().enumerate() {
-        if !may_come(&book, &mut known, entry) {
+        if !may_come(&book, entry) {
             return Err(JudgeError::Entry(number as u32));
         }
         // The room is there, so it succeeds.
         book.push(*entry)?;
-        keep_behind(&mut known, entry);
     }
     Ok(book)
 }

@@ -1,12 +1,13 @@
 // Whether a journal that was read back is one that the rules of its session allow, and closes as its entries leave it.
 #![tactic(auto)]
 
-ghost use Rattle.rcv_judge.specs.Laws.{OneEntryIsFirstWrong, OneClosingIsFirstWrong};
+ghost use Rattle.rcv_judge.specs.Laws.{OneEntryIsFirstWrong, EntriesAreJudged, EntriesOfARoleAreOne};
+ghost use Rattle.rcv_judge.specs.Laws.{OneClosingIsFirstWrong, ClosingsAreJudged};
 
 pub mod closing;
 mod coming;
+pub mod could;
 pub mod judge;
-mod known;
 mod same;
 mod sending;
 mod steps;
@@ -20,7 +21,22 @@ pub fn one_entry_is_first_wrong()
     ensures { OneEntryIsFirstWrong }
 {}
 
+/// Each list of entries is a legal journal, or has a first wrong entry.
+pub fn entries_are_judged()
+    ensures { EntriesAreJudged }
+{}
+
+/// Of one role at most one entry may come.
+pub fn entries_of_a_role_are_one()
+    ensures { EntriesOfARoleAreOne }
+{}
+
 /// At most one closing line is the first wrong one, and none is where the journal closes right.
 pub fn one_closing_is_first_wrong()
     ensures { OneClosingIsFirstWrong }
+{}
+
+/// The lines behind a legal journal are right, or they aren't.
+pub fn closings_are_judged()
+    ensures { ClosingsAreJudged }
 {}

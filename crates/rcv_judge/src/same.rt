@@ -1,9 +1,10 @@
-// Entries, lines of roles, lists of roles and numbers compared.
+// Entries, events, lines of roles and lists of roles compared.
 
 ghost use Rattle.std.specs.Prelude.{◌≡◌, ◌↔◌, IsTrue};
 
 use rcv_journal::line::RoleLine;
 use rcv_tree::entry::Entry;
+use rcv_tree::event::Event;
 use rcv_tree::role::RoleId;
 
 /// Whether two entries are the same.
@@ -28,9 +29,9 @@ pub fn are_same_roles(one: &[RoleId], other: &[RoleId]) -> bool
     one == other
 }
 
-/// Whether two numbers are the same.
+/// Whether two events are the same.
 #[inline(always)]
-pub fn are_same_numbers(one: &i64, other: &i64) -> bool
+pub fn is_same_event(one: &Event, other: &Event) -> bool
     ensures { IsTrue result ↔ one.now ≡ other.now }
 {
     one == other

@@ -3,7 +3,7 @@
 ghost use Rattle.std.specs.Prelude.{◌↔◌, IsTrue};
 ghost use Rattle.rcv_tree.specs.declared.entry.Entry.TheVariants.{Crash};
 ghost use Rattle.rcv_model.specs.Journal.{May};
-ghost use Rattle.rcv_model.specs.Final.{IsActOf};
+ghost use Rattle.rcv_model.specs.Final.{IsActOf, IsCrashed};
 ghost use Rattle.rcv_session.specs.Session.{rules_of};
 ghost use Rattle.rcv_core.specs.Book.{state_of, IsRecoveryOf};
 
@@ -33,6 +33,17 @@ pub fn can_crash(book: &Book<'_>, role: RoleId) -> bool
     role.0 < book.setup().roles() && book.due(role)
 }
 
+/// The recovery of a crashed role.
+pub fn recovery_of(book: &Book<'_>, role: RoleId) -> Entry
+    requires { IsCrashed (state_of book.now) role }
+    ensures { IsRecoveryOf book.now role result }
+{
+    match book.recovery(role) {
+        Ok(recovery) => recovery,
+        Err(_) => unreachable!(),
+    }
+}
+
 /// Whether an entry is the recovery of a role, which needn't be declared.
 pub fn is_recovery(book: &Book<'_>, role: RoleId, entry: &Entry) -> bool
     ensures { IsTrue result ↔ IsRecoveryOf book.now role entry.now }
@@ -45,8 +56,5 @@ pub fn is_recovery(book: &Book<'_>, role: RoleId, entry: &Entry) -> bool
     if !book.crashed(role) {
         return false;
     }
-    match book.recovery(role) {
-        Ok(recovery) => is_same(&recovery, entry),
-        Err(_) => false,
-    }
+    is_same(&recovery_of(book, role), entry)
 }

@@ -5,3 +5,4 @@ pub mod Rounds
 pub mod Crossing
 mod Starting
 mod Wiring
+pub mod Bases

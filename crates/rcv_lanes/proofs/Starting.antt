@@ -4,6 +4,7 @@ use Rattle.std.proofs.Common.{◌≡◌, ℕ, ◌+◌, ◌<◌, true, false, Lis
 use Rattle.std.specs.Prelude.{slice_index, slice_index_or, replicate}
 use Rattle.std.specs.List.{remove}
 use Rattle.std.proofs.lemmas.Bool.{cases_lt}
+use Rattle.std.proofs.lemmas.List.{get_or_past}
 use Rattle.rcv_model.specs.Journal.{start}
 use Rattle.rcv_theory.specs.Own.{own_of}
 use Rattle.rcv_theory.proofs.Owning.{own_same}
@@ -14,7 +15,7 @@ use Rattle.rcv_session.specs.Session.{SessionView, roles_of, rules_of}
 use Rattle.rcv_role.specs.Part.{first_own, first_part}
 use Rattle.rcv_role.specs.Ends.{end_at, AreEnds, AreFresh}
 use Rattle.rcv_role.specs.Cell.{CellView, cell_of, IsSettled}
-use Rattle.rcv_lanes.specs.Home.{cell_at, IsOutAt, AreHome}
+use Rattle.rcv_lanes.specs.Home.{cell_at, IsOutAt, AreHome, HaveBases}
 use Rattle.rcv_lanes.specs.Making.{EndsView, no_ends, ends_of, AreOpen, AreFirst}
 use Rattle.rcv_lanes.proofs.Rounds.{any_default}
 use Rattle.rcv_lanes.proofs.Between.{at_front, at_back, length_more}
@@ -118,3 +119,7 @@ start_home setup all cells opened first = record {
   begun = λ s r d e ls lr n. subst (λ (z : CellView × CellView). Begins (end_at z.1.inboxes r s e).list (end_at z.0.posts s r e).list) (λ i. (sym (first.each s d no_ends ls) i, sym (first.each r d no_ends lr) i)) (begins_none _ _ (opened.each s r no_ends e ls lr n).taken);
   logs = λ r d lt. ap (λ (c : CellView). c.part.log) (first.each r d no_ends lt);
 }
+
+-- they have forgotten nothing
+pub start_bases : (setup : SessionView) (all : List EndsView) (cells : List CellView) → AreFirst setup (roles_of setup) all cells → HaveBases (roles_of setup) [] cells
+start_bases setup all cells first r d lt = ap (λ (c : CellView). c.part.base) (first.each r d no_ends lt) ∙ sym (get_or_past [] r 0 (omega arith))

@@ -1,6 +1,6 @@
 -- A book and the cells of its roles: at home, where each cell has what the book tells of its role; and out, with their
 -- logs.
-use Rattle.std.specs.Prelude.{◌≡◌, ℕ, ◌<◌, List, [], length, map, take, slice_index_or}
+use Rattle.std.specs.Prelude.{◌≡◌, ℕ, ◌<◌, List, [], length, map, take, slice_index, slice_index_or}
 use Rattle.rcv_tree.specs.declared.entry.Entry.{Entry}
 use Rattle.rcv_tree.specs.declared.entry.Timed.{Timed}
 use Rattle.rcv_model.specs.Journal.{State, reading_from}
@@ -65,6 +65,14 @@ AllGo old new =
 -- Each tells what it told, but for what its ends know of the others.
 abbrev pub AllMet : List CellView → List CellView → Type 0
 AllMet old new = (length new ≡ length old) × ((r : ℕ) (d : CellView) → HasMet (cell_at old r d) (cell_at new r d))
+
+-- The first cells, so many, have forgotten the states before these counts; a list that ends before one says 0 of it.
+abbrev pub HaveBases : ℕ → List ℕ → List CellView → Type 0
+HaveBases roles line cells = (r : ℕ) (d : CellView) → r < roles → (cell_at cells r d).part.base ≡ slice_index line r
+
+-- None of the cells forgot anything.
+abbrev pub SameBases : List CellView → List CellView → Type 0
+SameBases old new = (r : ℕ) (d : CellView) → (cell_at new r d).part.base ≡ (cell_at old r d).part.base
 
 abbrev pub logs_in : List CellView → List (List Timed)
 logs_in cells = map (λ (c : CellView). c.part.log) cells

@@ -2,7 +2,7 @@
 
 ghost use Rattle.std.specs.Prelude.{◌≡◌, ◌+◌, ◌<◌, ◌≤◌, ◌↔◌, ℕ, IsTrue, [], ◌∷◌, ◌++◌, length, IfOk, OnOk};
 ghost use Rattle.rcv_session.specs.Session.{roles_of, net_for, rules_of};
-ghost use Rattle.rcv_lanes.specs.Home.{AreHome};
+ghost use Rattle.rcv_lanes.specs.Home.{AreHome, HaveBases};
 ghost use Rattle.rcv_lanes.specs.Making.{ArePointsBetween, IsSetBetween, IsNewChannel, AreOpen, AreOpenTo, AreFirst};
 ghost use Rattle.rcv_lanes.specs.Making.{with_ends, no_ends};
 
@@ -186,6 +186,7 @@ pub fn lanes<'a>(
 ) -> Result<Vec<Lane<'a>>, AllocError>
     requires watches { length watches.old.items ≡ roles_of setup.now + 1 }
     ensures home { IfOk result (λ lanes. AreHome (record { setup = setup.now; entries = [] }) lanes.items) }
+    ensures bases { IfOk result (λ lanes. HaveBases (roles_of setup.now) [] lanes.items) }
     ensures left { OnOk result (length watches.new.items ≡ 1) }
 {
     let mut all = channels(alloc, setup)?;

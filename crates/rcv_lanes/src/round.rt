@@ -2,7 +2,7 @@
 
 ghost use Rattle.std.specs.Prelude.{◌≡◌, ◌<◌, OnOk};
 ghost use Rattle.rcv_fence.specs.Shown.{with_raised};
-ghost use Rattle.rcv_lanes.specs.Home.{AreHome, HasGrown};
+ghost use Rattle.rcv_lanes.specs.Home.{AreHome, HasGrown, SameBases};
 
 use crate::lanes::{Lane, clear_logs, logs_of, round};
 use crate::meet::meet_all;
@@ -29,6 +29,7 @@ pub fn make_round<'a, G: Gate, R: Threads + Sync>(
     requires home { AreHome book.old lanes.old.items }
     ensures home { OnOk result (AreHome book.new lanes.new.items) }
     ensures grown { HasGrown book.old book.new }
+    ensures bases { OnOk result (SameBases lanes.old.items lanes.new.items) }
     ensures lowered { watch.new ≡ with_raised watch.old 0 }
 {
     // Tells the proof that the journal is legal, and the protocol accepted.

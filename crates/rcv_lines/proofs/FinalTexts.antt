@@ -110,11 +110,11 @@ limit_word rules s r Limit not_done at is = refl
 limit_word rules s r Waits not_done at is = absurd (is.1 at)
 
 module _ (session : SessionView) (s : State) (lines : List RoleLine) (are : AreLinesOf (rules_of session) s lines) where
-  done_end : AreDone (rules_of session) s → end_line (bare session.protocol) (limited_in lines) ≡ last_line session lines
+  pub done_end : AreDone (rules_of session) s → end_line (bare session.protocol) (limited_in lines) ≡ last_line session lines
   done_end done =
       ap (end_line (bare session.protocol)) (none_limited lines (λ q line at. done_word (rules_of session) s q line.word (done q (subst (λ n. q < n) are.all (slice_get_within lines q line at))) (are.each q line at).word)) ∙ sym ((completed_is_written session s lines are).1 done)
 
-  limit_end : HasOneAtLimit (rules_of session) s → end_line (bare session.protocol) (limited_in lines) ≡ last_line session lines
+  pub limit_end : HasOneAtLimit (rules_of session) s → end_line (bare session.protocol) (limited_in lines) ≡ last_line session lines
   limit_end one = go (list_all (λ line. is_done line.word) lines) refl
     where
       some : limited_in lines ≡ [] → ⊥
@@ -131,7 +131,7 @@ module _ (session : SessionView) (s : State) (lines : List RoleLine) (are : AreL
 
 -- ---- the law
 
-joined : {A : Type 0} (f : A → List ℕ) (xs : List A) → flat_map (λ (line : List ℕ). line) (map f xs) ≡ flat_map f xs
+pub joined : {A : Type 0} (f : A → List ℕ) (xs : List A) → flat_map (λ (line : List ℕ). line) (map f xs) ≡ flat_map f xs
 joined f [] = refl
 joined f (x ∷ xs) = ap (λ ys. f x ++ ys) (joined f xs)
 

@@ -24,3 +24,5 @@ mod TextExamples
 pub mod Texts
 pub mod Turns
 pub mod Views
+pub mod Deciding
+pub mod TakenOrWrong

@@ -10,7 +10,7 @@ use Rattle.std.specs.List.{position_or_len}
 use Rattle.rcv_form.specs.Form.{lines_from, lines_of}
 
 -- one byte more
-goes_on : (begun : List ℕ) (b : ℕ) (rest : List ℕ) → lines_from begun (b ∷ rest) ≡ cond (b == 10) ((begun ++ b ∷ []) ∷ lines_from [] rest) (lines_from (begun ++ b ∷ []) rest)
+pub goes_on : (begun : List ℕ) (b : ℕ) (rest : List ℕ) → lines_from begun (b ∷ rest) ≡ cond (b == 10) ((begun ++ b ∷ []) ∷ lines_from [] rest) (lines_from (begun ++ b ∷ []) rest)
 goes_on [] b rest = refl
 goes_on (x ∷ begun) b rest = refl
 

@@ -1,5 +1,5 @@
 -- What holds of the texts of journals.
-use Rattle.std.specs.Prelude.{◌≡◌, ℕ, List, flat_map}
+use Rattle.std.specs.Prelude.{◌≡◌, ◌⊎◌, ℕ, List, flat_map}
 use Rattle.rcv_tree.specs.declared.protocol.Protocol.{Protocol}
 use Rattle.rcv_accept.specs.Accepted.{IsAcceptedProtocol}
 use Rattle.rcv_session.specs.Session.{SessionView}
@@ -24,6 +24,12 @@ abbrev pub WrongTextsHaveNoJournal : Type 0
 WrongTextsHaveNoJournal =
     (session : SessionView) (text : List ℕ) (k : ℕ) (j : JournalView)
     → IsFirstWrong session text k → Spells session text j → ⊥
+
+-- Each text says a journal, or has a first wrong line.
+abbrev pub TextsAreTakenOrWrong : Type 0
+TextsAreTakenOrWrong =
+    (protocol : Protocol) (text : List ℕ) → IsAcceptedProtocol protocol
+    → ((j : JournalView) × Spells (bare protocol) text j) ⊎ ((k : ℕ) × IsFirstWrong (bare protocol) text k)
 
 -- At most one line is the first wrong one.
 abbrev pub OneLineIsFirstWrong : Type 0

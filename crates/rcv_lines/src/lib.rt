@@ -4,7 +4,7 @@
 ghost use Rattle.rcv_lines.specs.FinalTexts.{FinalTextsAreReadBack};
 ghost use Rattle.rcv_lines.specs.Laws.{LinesEndInFeeds, LinesSayOneThing};
 ghost use Rattle.rcv_lines.specs.ReadingLaws.{JournalsAreReadBack, OneLineIsFirstWrong, TextsHaveOneJournal};
-ghost use Rattle.rcv_lines.specs.ReadingLaws.{WrongTextsHaveNoJournal};
+ghost use Rattle.rcv_lines.specs.ReadingLaws.{TextsAreTakenOrWrong, WrongTextsHaveNoJournal};
 ghost use Rattle.rcv_lines.specs.SmallScripts.{ValuesFit};
 
 mod entries;
@@ -42,6 +42,11 @@ pub fn texts_have_one_journal()
 /// A text with a first wrong line says no journal.
 pub fn wrong_texts_have_no_journal()
     ensures { WrongTextsHaveNoJournal }
+{}
+
+/// Each text says a journal of an accepted protocol, or has a first wrong line.
+pub fn texts_are_taken_or_wrong()
+    ensures { TextsAreTakenOrWrong }
 {}
 
 /// At most one line of a text is the first wrong one.

@@ -5,7 +5,7 @@ use Rattle.std.specs.Str.{bytes_eq}
 use Rattle.std.proofs.lemmas.Bool.{cases_lt}
 use Rattle.std.proofs.lemmas.Slice.Eq.{bytes_eq-Decides}
 use Rattle.clap.specs.Words.{Kinds, Text, fault_of}
-use Rattle.rcv_look.specs.Commands.{CommandView, DrawJournal, DrawTable, DrawRole, DrawProtocol, ListPoints, Explain, Given, IsGiven, Says, IsWithin, IsCommand, IsNoCommand, given, line_of}
+use Rattle.rcv_look.specs.Commands.{CommandView, DrawJournal, ReplayJournal, DrawTable, DrawRole, DrawProtocol, ListPoints, Explain, Given, IsGiven, Says, IsWithin, IsCommand, IsNoCommand, given, line_of}
 use Rattle.rcv_look.specs.Program.{rcv_show}
 
 abbrev OrNot : Type 0 → Type 0
@@ -72,9 +72,10 @@ says_explain g = both (is_given g (codes "explain") None (Some (unwrap_or g.code
 value_of : {X : Type 0} (o : Option X) (x y : X) → o ≡ Some y → y ≡ unwrap_or o x
 value_of o x y e = sym (ap (λ p. unwrap_or p x) e)
 
--- None of the six, never command.
+-- None of the seven, never command.
 record SaysNone (g : Given) : Type 0 where
   pub journal : SaysWithin g DrawJournal → ⊥
+  pub replay : SaysWithin g ReplayJournal → ⊥
   pub table : SaysWithin g DrawTable → ⊥
   pub role : SaysWithin g (role_of g) → ⊥
   pub protocol : SaysWithin g DrawProtocol → ⊥
@@ -83,6 +84,7 @@ record SaysNone (g : Given) : Type 0 where
 
 none_of : (g : Given) → SaysNone g → (c : CommandView) → SaysWithin g c → ⊥
 none_of g none DrawJournal s = none.journal s
+none_of g none ReplayJournal s = none.replay s
 none_of g none DrawTable s = none.table s
 none_of g none (DrawRole name) s = none.role (subst (SaysWithin g) (ap DrawRole (value_of g.role [] name s.0.role_is)) s)
 none_of g none DrawProtocol s = none.protocol s
@@ -92,13 +94,14 @@ none_of g none (Explain code) s = none.explain (subst (SaysWithin g) (ap Explain
 says_or_not : (g : Given) → ((c : CommandView) × SaysWithin g c) ⊎ ((c : CommandView) → SaysWithin g c → ⊥)
 says_or_not g =
     ⊎_elim (λ s. inl (DrawJournal, s)) (λ journal.
+    ⊎_elim (λ s. inl (ReplayJournal, s)) (λ replay.
     ⊎_elim (λ s. inl (DrawTable, s)) (λ table.
     ⊎_elim (λ s. inl (role_of g, s)) (λ role.
     ⊎_elim (λ s. inl (DrawProtocol, s)) (λ protocol.
     ⊎_elim (λ s. inl (ListPoints, s)) (λ points.
     ⊎_elim (λ s. inl (explain_of g, s)) (λ explain.
-    inr (none_of g (record { journal = journal; table = table; role = role; protocol = protocol; points = points; explain = explain })))
-    (says_explain g)) (free (alone g (codes "points")))) (free (alone g (codes "protocol")))) (says_role g)) (free (alone g (codes "table")))) (free (alone g (codes "journal")))
+    inr (none_of g (record { journal = journal; replay = replay; table = table; role = role; protocol = protocol; points = points; explain = explain })))
+    (says_explain g)) (free (alone g (codes "points")))) (free (alone g (codes "protocol")))) (says_role g)) (free (alone g (codes "table")))) (free (alone g (codes "replay")))) (free (alone g (codes "journal")))
 
 pub command_or_none : (words : List Text) → ((c : CommandView) × IsCommand words c) ⊎ IsNoCommand words
 command_or_none words = go (fault_of rcv_show (line_of words)) refl

@@ -2,13 +2,18 @@
 use Rattle.std.proofs.Common.{◌≡◌, ℕ, List, [], refl, sym, subst, inl, inr}
 use Rattle.rcv_session.specs.Session.{SessionView}
 use Rattle.rcv_form.specs.Journal.{JournalView}
+use Rattle.rcv_replay.specs.declared.replayed.Replayed.{Replayed}
+use Rattle.rcv_replay.specs.declared.replayed.Replayed.TheVariants as replays
+use Rattle.rcv_diagnosis.specs.declared.diagnosis.Finding.{Finding}
+use Rattle.rcv_diagnosis.specs.Telling.{finding_of}
+use Rattle.rcv_diagnosis.specs.Diagnosing.{IsDiagnosis}
 use Rattle.rcv_listing.specs.declared.listing.Listing.{Listing}
 use Rattle.rcv_listing.specs.declared.listing.Listing.TheVariants.{Accepted, RuledOut}
 use Rattle.rcv_look.specs.declared.status.Status.{Status}
 use Rattle.rcv_look.specs.declared.status.Status.TheVariants as statuses
-use Rattle.rcv_look.specs.Commands.{CommandView, DrawJournal, DrawTable, DrawRole, DrawProtocol, ListPoints, Explain}
+use Rattle.rcv_look.specs.Commands.{CommandView, DrawJournal, ReplayJournal, DrawTable, DrawRole, DrawProtocol, ListPoints, Explain}
 use Rattle.rcv_look.specs.Drawing.{ArePoints, ListsAs, listed, unread, IsExplanation, explained, unknown}
-use Rattle.rcv_look.specs.Outcome.{IsVerdict, illegal, misclosed, drawn, IsTextAnswer, malformed, formed, IsBundleAnswer, IsJournalAnswer, uncut, long, parted, IsChartAnswer, Draws, IsAnswer}
+use Rattle.rcv_look.specs.Outcome.{IsVerdict, illegal, misclosed, drawn, IsTextAnswer, malformed, formed, IsBundleAnswer, IsJournalAnswer, uncut, long, parted, status_of, IsReplayAnswer, IsChartAnswer, Draws, IsAnswer}
 use Rattle.rcv_look.specs.Outcome as outcomes
 
 -- An answer may end so: written whole, or too long, and then nothing is written.
@@ -46,12 +51,26 @@ journal_ends input s b (uncut none) = tt
 journal_ends input s b (long cut is more) = refl
 journal_ends input s b (parted cut is few answer) = bundle_ends _ _ _ s b answer
 
+said_ends : (said : Replayed) (b : List ℕ) → EndsSo (status_of (finding_of said)) b
+said_ends (replays.Refused refused) b = tt
+said_ends (replays.Legal entries limited) b = tt
+said_ends (replays.WrongEntry number) b = tt
+said_ends replays.WrongEnd b = tt
+
+diagnosis_ends : (input : List ℕ) (finding : Finding) (b : List ℕ) → IsDiagnosis input finding b → EndsSo (status_of finding) b
+diagnosis_ends input finding b (inl (cut, is, more, found, empty)) = subst (λ (f : Finding). EndsSo (status_of f) b) (sym found) empty
+diagnosis_ends input finding b (inr (said, more, kind, found, bytes)) = subst (λ (f : Finding). EndsSo (status_of f) b) (sym found) (said_ends said b)
+
+replay_ends : (input : List ℕ) (s : Status) (b : List ℕ) → IsReplayAnswer input s b → EndsSo s b
+replay_ends input s b answer = subst (λ (x : Status). EndsSo x b) (sym answer.is_status) (diagnosis_ends input answer.finding b answer.diagnosis)
+
 draws_end : (session : SessionView) (command : CommandView) (s : Status) (b : List ℕ) → Draws session command s b → EndsSo s b
 draws_end session DrawTable s b draws = with_drawn s b draws.0
 draws_end session (DrawRole name) s b (inl draws) = with_drawn s b draws.2
 draws_end session (DrawRole name) s b (inr draws) = with_refused s b draws.1
 draws_end session DrawProtocol s b draws = with_drawn s b draws.0
 draws_end session DrawJournal s b draws = absurd draws
+draws_end session ReplayJournal s b draws = absurd draws
 draws_end session ListPoints s b draws = absurd draws
 draws_end session (Explain code) s b draws = absurd draws
 
@@ -73,6 +92,7 @@ explanation_ends code s b (unknown none) = tt
 
 pub answer_ends : (command : CommandView) (input : List ℕ) (s : Status) (b : List ℕ) → IsAnswer command input s b → EndsSo s b
 answer_ends DrawJournal input s b answer = journal_ends input s b answer
+answer_ends ReplayJournal input s b answer = replay_ends input s b answer
 answer_ends DrawTable input s b answer = chart_ends DrawTable input s b answer
 answer_ends (DrawRole name) input s b answer = chart_ends (DrawRole name) input s b answer
 answer_ends DrawProtocol input s b answer = chart_ends DrawProtocol input s b answer

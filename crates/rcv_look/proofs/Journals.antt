@@ -17,32 +17,14 @@ use Rattle.rcv_form.specs.Form.{IsFirstWrong, Spells, journal_lines, lines_of, e
 use Rattle.rcv_form.specs.Journal.{JournalView, bare}
 use Rattle.rcv_judge.specs.Closing.{ClosesRight, IsFirstWrongClosing}
 use Rattle.rcv_judge.specs.Judged.{IsFirstWrong as IsFirstIllegal}
-use Rattle.rcv_look.specs.declared.cut.Cut.{Cut}
+use Rattle.rcv_replay.specs.declared.cut.Cut.{Cut}
 use Rattle.rcv_look.specs.declared.output.Output.{Output}
 use Rattle.rcv_look.specs.declared.status.Status.TheVariants as statuses
-use Rattle.rcv_look.specs.Cutting.{cut_of, bundle_of, journal_of, feeds_before, line_of_end}
+use Rattle.rcv_replay.specs.Cutting.{cut_of, bundle_of, journal_of, feeds_before, line_of_end}
 use Rattle.rcv_look.specs.Drawing.{IsJournalDrawing}
 use Rattle.rcv_look.specs.Outcome.{IsVerdict, IsTextAnswer, IsBundleAnswer, IsJournalAnswer, no_journal_line, malformed_line, illegal_line, illegal, misclosed, drawn, malformed, formed, uncut, long, parted}
 use Rattle.rcv_look.specs.Outcome as outcomes
-use Rattle.rcv_look.proofs.LineCount.{few_lines}
 use Rattle.rcv_look.proofs.Making.{Makes, made, widen, refused}
-
--- A text has at least as many bytes as its journal has entries.
-pub few_entries : (setup : SessionView) (text : List ℕ) (j : JournalView) → Spells setup text j → length j.entries ≤ length text
-few_entries setup text j spells =
-    let lines : length (lines_of text) ≤ length text = few_lines text in
-    let same : length (lines_of text) ≡ length (journal_lines setup j) = ap length spells.1 in
-    let entries = length-map j.entries (entry_line setup) in
-    let all : length (journal_lines setup j) ≡ length (map (entry_line setup) j.entries ++ map (role_line setup) j.roles) + 1
-    = length-append (map (entry_line setup) j.entries ++ map (role_line setup) j.roles) (end_line setup j.limited ∷ []) in
-    let front = length-append (map (entry_line setup) j.entries) (map (role_line setup) j.roles) in
-    omega (arith, lines, same, entries, all, front)
-
--- Its first wrong line is one of so many, too, or the one behind them.
-pub few_wrong : (setup : SessionView) (text : List ℕ) (k : ℕ) → IsFirstWrong setup text k → k ≤ length text + 1
-few_wrong setup text k first =
-    let lines : length (lines_of text) ≤ length text = few_lines text in
-    ⊎_elim (λ within. omega (arith, lines, within.0)) (λ behind. omega (arith, lines, behind.0)) first.wrong
 
 module _ {E : Type 0} (result : Result Output E) where
   -- no separator
@@ -115,10 +97,3 @@ pub drawn_said : (session : SessionView) (j : JournalView) (entries : List Entry
 drawn_said session j entries feeds bytes same legal closes drawing =
     drawn (subst (IsLegal (rules_of session)) same legal) (subst (λ (es : List Entry). ClosesRight session es j.roles j.limited) same closes)
     (subst (λ (es : List Entry). IsJournalDrawing session es bytes) same drawing)
-
--- a closing line was found, or none
-pub at_some : {A : Type 0} (P : A → Type 0) (found : Option A) (a : A) → found ≡ Some a → IfSome found P → P a
-at_some {A = A} P found a some holds = subst (λ (o : Option A). IfSome o P) some holds
-
-pub at_none : {A P : Type 0} (found : Option A) → found ≡ None → IfNone found P → P
-at_none {A = A} {P = P} found none holds = subst (λ (o : Option A). IfNone o P) none holds

@@ -3,7 +3,6 @@ pub mod Reading
 pub mod Taking
 pub mod OneCommand
 pub mod Deciding
-pub mod LineCount
 pub mod Making
 pub mod Asking
 pub mod Ending

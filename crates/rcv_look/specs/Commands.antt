@@ -13,6 +13,7 @@ use Rattle.rcv_look.specs.Program.{rcv_show}
 -- What words may ask for.
 pub data CommandView : Type 0 where
   DrawJournal : CommandView
+  ReplayJournal : CommandView
   DrawTable : CommandView
   DrawRole : (name : Text) → CommandView
   DrawProtocol : CommandView
@@ -22,6 +23,7 @@ pub data CommandView : Type 0 where
 -- What a command says.
 abbrev pub view_of : Command → CommandView
 view_of commands.Journal = DrawJournal
+view_of commands.Replay = ReplayJournal
 view_of commands.Table = DrawTable
 view_of (commands.Role role) = DrawRole role
 view_of commands.Protocol = DrawProtocol
@@ -81,6 +83,7 @@ pub record IsGiven (g : Given) (word : Text) (role : Option Text) (code : Option
 -- What is given says the command: its word and its option, and no option of another one.
 abbrev pub Says : Given → CommandView → Type 0
 Says g DrawJournal = IsGiven g (codes "journal") None None
+Says g ReplayJournal = IsGiven g (codes "replay") None None
 Says g DrawTable = IsGiven g (codes "table") None None
 Says g (DrawRole name) = IsGiven g (codes "role") (Some name) None
 Says g DrawProtocol = IsGiven g (codes "protocol") None None

@@ -2,7 +2,6 @@ pub mod Program
 pub mod Commands
 pub mod Asking
 pub mod Inputs
-pub mod Cutting
 pub mod Drawing
 pub mod Outcome
 pub mod Writing

@@ -11,12 +11,15 @@ use Rattle.rcv_form.specs.Form as form
 use Rattle.rcv_form.specs.Journal.{JournalView, bare}
 use Rattle.rcv_judge.specs.Closing.{ClosesRight, IsFirstWrongClosing}
 use Rattle.rcv_judge.specs.Judged.{IsFirstWrong as IsFirstIllegal}
-use Rattle.rcv_look.specs.declared.cut.Cut.{Cut}
+use Rattle.rcv_replay.specs.declared.cut.Cut.{Cut}
+use Rattle.rcv_diagnosis.specs.declared.diagnosis.Finding.{Finding}
+use Rattle.rcv_diagnosis.specs.declared.diagnosis.Finding.TheVariants as findings
+use Rattle.rcv_diagnosis.specs.Diagnosing.{IsDiagnosis}
 use Rattle.rcv_look.specs.declared.status.Status.{Status}
 use Rattle.rcv_look.specs.declared.status.Status.TheVariants.{Drawn, Usage, Refused, ReadFault, WriteFault, Memory, TooLong, Illegal}
-use Rattle.rcv_look.specs.Commands.{CommandView, DrawJournal, DrawTable, DrawRole, DrawProtocol, ListPoints, Explain, IsCommand, IsNoCommand}
+use Rattle.rcv_look.specs.Commands.{CommandView, DrawJournal, ReplayJournal, DrawTable, DrawRole, DrawProtocol, ListPoints, Explain, IsCommand, IsNoCommand}
 use Rattle.rcv_look.specs.Asking.{most_for, most_of_bundle, IsAskedOfSource}
-use Rattle.rcv_look.specs.Cutting.{cut_of, bundle_of, journal_of, feeds_before, line_of_end}
+use Rattle.rcv_replay.specs.Cutting.{cut_of, bundle_of, journal_of, feeds_before, line_of_end}
 use Rattle.rcv_look.specs.Drawing.{IsJournalDrawing, IsTableDrawing, IsRoleAnswer, IsProtocolDrawing, ArePoints, IsExplanation}
 
 -- The number of a status, with which the process ends.
@@ -32,7 +35,7 @@ number_of Illegal = 8
 
 -- What is written where the words are no command.
 abbrev pub usage_line : List ℕ
-usage_line = codes "usage: rcv-show journal|table|role|protocol|points|explain [--role R] [--code N]\n"
+usage_line = codes "usage: rcv-show journal|replay|table|role|protocol|points|explain [--role R] [--code N]\n"
 
 -- `refused 50 NoJournal line L`: an input that ends at this line has no line `%% journal`.
 abbrev pub no_journal_line : ℕ → List ℕ
@@ -90,12 +93,26 @@ pub data IsJournalAnswer (input : List ℕ) : Status → List ℕ → Type 0 whe
       → IsBundleAnswer (bundle_of input cut) (journal_of input cut) (feeds_before input cut) status bytes
       → IsJournalAnswer input status bytes
 
+-- The status that says what a diagnosis found.
+abbrev pub status_of : Finding → Status
+status_of findings.Legal = Drawn
+status_of findings.Wrong = Illegal
+status_of findings.Refused = Refused
+status_of findings.TooLong = TooLong
+
+-- What is answered to `replay`: the diagnosis of the journal behind the input's bundle.
+pub record IsReplayAnswer (input : List ℕ) (status : Status) (bytes : List ℕ) : Type 0 where
+  pub finding : Finding
+  pub diagnosis : IsDiagnosis input finding bytes
+  pub is_status : status ≡ status_of finding
+
 -- What the commands that draw a protocol make of it.
 abbrev pub Draws : SessionView → CommandView → Status → List ℕ → Type 0
 Draws session DrawTable status bytes = (status ≡ Drawn) × IsTableDrawing session.protocol bytes
 Draws session (DrawRole name) status bytes = IsRoleAnswer session.protocol name status bytes
 Draws session DrawProtocol status bytes = (status ≡ Drawn) × IsProtocolDrawing session.protocol bytes
 Draws session DrawJournal status bytes = ⊥
+Draws session ReplayJournal status bytes = ⊥
 Draws session ListPoints status bytes = ⊥
 Draws session (Explain code) status bytes = ⊥
 
@@ -110,6 +127,7 @@ pub data IsChartAnswer (command : CommandView) (input : List ℕ) : Status → L
 -- What a command answers to its input.
 abbrev pub IsAnswer : CommandView → List ℕ → Status → List ℕ → Type 0
 IsAnswer DrawJournal input status bytes = IsJournalAnswer input status bytes
+IsAnswer ReplayJournal input status bytes = IsReplayAnswer input status bytes
 IsAnswer DrawTable input status bytes = IsChartAnswer DrawTable input status bytes
 IsAnswer (DrawRole name) input status bytes = IsChartAnswer (DrawRole name) input status bytes
 IsAnswer DrawProtocol input status bytes = IsChartAnswer DrawProtocol input status bytes

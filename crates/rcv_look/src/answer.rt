@@ -9,6 +9,7 @@ use crate::charts::{protocol_answer, role_answer, table_answer};
 use crate::command::Command;
 use crate::journal::journal_answer;
 use crate::output::Output;
+use crate::replay::replay_answer;
 use crate::texts::{explain_answer, points_answer};
 use std::alloc::{AllocError, Global};
 
@@ -20,6 +21,7 @@ pub fn answer(alloc: Global, command: &Command, input: &[u8]) -> Result<Output, 
 {
     match command {
         Command::Journal => journal_answer(alloc, input),
+        Command::Replay => replay_answer(alloc, input),
         Command::Table => table_answer(alloc, input),
         Command::Role { role } => role_answer(alloc, input, role.as_slice()),
         Command::Protocol => protocol_answer(alloc, input),

@@ -7,6 +7,8 @@ use rcv_tree::name::Name;
 pub enum Command {
     /// Draws the journal that stands behind the bundle.
     Journal,
+    /// Says of the journal that stands behind the bundle whether it is legal, and what of it is wrong.
+    Replay,
     /// Draws who restarts where, for each role and each point at which it may fail.
     Table,
     /// Draws what the role with this name does at each of its places.

@@ -82,6 +82,7 @@ impl<'a> Given<'a> {
     {
         match self.command.ok_or(WordsError::Usage)? {
             "journal" => self.alone(Command::Journal).ok_or(WordsError::Usage),
+            "replay" => self.alone(Command::Replay).ok_or(WordsError::Usage),
             "table" => self.alone(Command::Table).ok_or(WordsError::Usage),
             "role" => Ok(Command::Role {
                 role: Name::of(alloc, self.role().ok_or(WordsError::Usage)?.as_bytes())?,

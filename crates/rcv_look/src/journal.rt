@@ -5,10 +5,9 @@ ghost use Rattle.rcv_model.specs.Journal.{IsLegal};
 ghost use Rattle.rcv_script.specs.Scripts.{AreScriptsFor};
 ghost use Rattle.rcv_plan.specs.Lines.{IsPlanned};
 ghost use Rattle.rcv_session.specs.Session.{rules_of};
-ghost use Rattle.rcv_look.specs.Cutting.{cut_of};
+ghost use Rattle.rcv_replay.specs.Cutting.{cut_of};
 ghost use Rattle.rcv_look.specs.Outcome.{IsVerdict, IsTextAnswer, IsBundleAnswer, IsJournalAnswer};
 
-use crate::cut::{Cut, cut_of};
 use crate::draw::draw;
 use crate::input::MOST_OF_BUNDLE;
 use crate::lines::{illegal, malformed, no_journal, refuse};
@@ -22,6 +21,7 @@ use rcv_judge::closing::wrong_closing;
 use rcv_judge::judge::{JudgeError, judge};
 use rcv_lexer::line_feeds;
 use rcv_lines::text::{LinesError, read_text};
+use rcv_replay::cut::{Cut, cut_of};
 use std::alloc::{AllocError, Global};
 
 /// The picture of the journal that stands behind the input's bundle, or why there is none. The input has at most

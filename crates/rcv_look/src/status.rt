@@ -6,7 +6,7 @@ ghost use Rattle.rcv_look.specs.Outcome.{number_of};
 /// How a call ended. The numbers are those of `rcv`, with one more; what 3 says there comes never here.
 #[derive(Clone, Copy, Debug, PartialEq, Eq)]
 pub enum Status {
-    /// The picture or the text was written.
+    /// The picture or the text was written; or the journal is legal, and that was.
     Drawn,
     /// The words are no command, and the usage line was written.
     Usage,
@@ -20,7 +20,7 @@ pub enum Status {
     Memory,
     /// The input, or the bundle in it, is too long, and nothing was written.
     TooLong,
-    /// The journal is of the form but not legal, and its first wrong line was written.
+    /// The journal is of the form but not legal, and its first wrong line was written, or a diagnosis of it.
     Illegal,
 }
 

@@ -52,6 +52,7 @@ three protocol =
       role = 0;
       own = record { events = event 1 ∷ event 2 ∷ event 3 ∷ []; raw = 3; crashes = 0; crashed = false; attempt = 0; clock = 3 };
       held = 3;
+      base = 0;
       log = [];
     }
 

@@ -31,6 +31,7 @@ goes_on a b c f g = record {
   more = f.more ++ g.more;
   setup = g.setup ∙ f.setup;
   role = g.role ∙ f.role;
+  base = g.base ∙ f.base;
   log = g.log ∙ ap (λ l. l ++ g.more) f.log ∙ append_assoc a.part.log f.more g.more;
   lawful = log_join (rules_of a.part.setup) a.part.role a.part.own f.more g.more f.lawful (subst (λ (z : SessionView × (ℕ × Own)). IsOwnLog (rules_of z.0) z.1.0 z.1.1 g.more) (λ i. (f.setup i, (f.role i, f.own i))) g.lawful);
   own = g.own ∙ ap (λ o. own_through o g.more) f.own ∙ sym (through_join a.part.own f.more g.more);
@@ -46,6 +47,7 @@ stays c settled strangers = record {
   more = [];
   setup = refl;
   role = refl;
+  base = refl;
   log = sym (append-nil c.part.log);
   lawful = tt;
   own = refl;
@@ -84,6 +86,7 @@ module _ (p : PartView) (posts inboxes : List End) (q : CellView) (is : cell_of 
       more = record { stamp = p.own.clock; step = Crash p.role } ∷ [];
       setup = refl;
       role = refl;
+      base = refl;
       log = refl;
       lawful = (refl, (refl, declared, due), tt);
       own = refl;

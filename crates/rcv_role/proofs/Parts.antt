@@ -1,10 +1,9 @@
 -- What a part keeps, what follows from it for what the role does next, and how it is kept.
 use Prim.Native.Nat.{zero, suc}
-use Rattle.std.proofs.Common.{◌≡◌, ◌≢◌, ℕ, ◌+◌, ◌*◌, ◌/◌, ◌<◌, ◌≤◌, Bool, true, false, cond, Option, Some, None, List, [], ◌∷◌, ◌++◌, length, take, refl, sym, ◌∙◌, ap, subst, ◌⊎◌, inl, inr, ⊎_elim, arith, length-append, eq-eqb, le_antisymm, mul-le-mul_right, div-mul-le_self, le-div_iff_mul-le}
+use Rattle.std.proofs.Common.{◌≡◌, ◌≢◌, ℕ, ◌+◌, ◌-◌, ◌*◌, ◌/◌, ◌<◌, ◌≤◌, Bool, true, false, cond, Option, Some, None, List, [], ◌∷◌, ◌++◌, length, take, drop, refl, sym, ◌∙◌, ap, subst, ◌⊎◌, inl, inr, ⊎_elim, arith, length-append, eq-eqb, le_antisymm, mul-le-mul_right, div-mul-le_self, le-div_iff_mul-le}
 use Rattle.std.specs.Prelude.{ℤ, pos, min, ◌↔◌, IsTrue, IfSome, nat_le, nat_lt, slice_get, slice_index_or}
 use Rattle.std.specs.List.{All, cons_option, count_by}
 use Rattle.std.proofs.lemmas.Nat.{le-div}
-use Rattle.std.proofs.lemmas.Bool.{cases_lt}
 use Rattle.std.proofs.lemmas.List.{length-take, take-take}
 use Rattle.std.proofs.lemmas.List.Sums.{count_by-le-length}
 use Rattle.rcv_tree.specs.Bits.{IsPoint}
@@ -21,24 +20,24 @@ use Rattle.rcv_model.specs.Script.{pick, number_for}
 use Rattle.rcv_model.proofs.Choosing.{chosen_in}
 use Rattle.rcv_model.proofs.Forms.{proper}
 use Rattle.rcv_model.proofs.Keeping.{is_recv}
-use Rattle.rcv_model.proofs.Lists.{some_same}
 use Rattle.rcv_model.proofs.Steps.{not_taken}
 use Rattle.rcv_model.proofs.Ways.{next_in_text}
 use Rattle.rcv_theory.specs.Own.{Own, own_place, own_event, own_after, own_back, IsOwnDue, MayOwnSend}
 use Rattle.rcv_plan.proofs.Few.{plans_are_short}
 use Rattle.rcv_session.specs.Session.{SessionView, text_of, roles_of, net_for, lines_of, rules_of, IsPointOf}
 use Rattle.rcv_checkpoint.specs.declared.state.State.{State}
-use Rattle.rcv_checkpoint.specs.Stack.{StackView, held, with_states, IsDurable}
-use Rattle.rcv_ledger.specs.Ledger.{state_behind, AreStates}
-use Rattle.rcv_ledger.proofs.Lists.{get_left, get_end, get_within, get_taken, get_more, take_left, take_whole}
+use Rattle.rcv_checkpoint.specs.Tail.{TailView, made, place_of as place_in, Holds, with_held, from_base, IsSaved, AreFrom}
+use Rattle.rcv_checkpoint.proofs.TailStates.{top_from, same_from, more_from, fewer_from, forgotten_from}
+use Rattle.rcv_ledger.specs.Ledger.{state_behind}
+use Rattle.rcv_ledger.proofs.Lists.{get_taken, get_more, take_left, take_whole}
 use Rattle.rcv_core.specs.Setup.{vars_by, vars_behind}
 use Rattle.rcv_core.proofs.Books.{two_ends, less_by, low_role}
 use Rattle.rcv_core.proofs.Pushing.{behind_told}
 use Rattle.rcv_core.proofs.Ranges.{ranges}
-use Rattle.rcv_role.specs.Part.{PartView, IsOwn, AreOwn, IsOwnSend, Offers, AllSends, AllRecvs, IsBelow, HasNoStrangers, HoldsStates, IsPart, with_crash, point_in}
+use Rattle.rcv_role.specs.Part.{PartView, IsOwn, AreOwn, IsOwnSend, Offers, AllSends, AllRecvs, IsBelow, HasNoStrangers, HoldsStates, IsPart, durable_of, state_at, with_crash, point_in}
 
-abbrev pub IsPartOf : PartView → StackView → Type 0
-IsPartOf p stack = IsPart p.setup p.role p.own p.held stack
+abbrev pub IsPartOf : PartView → TailView → Type 0
+IsPartOf p tail = IsPart p.setup p.role p.own p.base p.held tail
 
 -- one more event of the role behind another
 acts_cons : (r : ℕ) (e : Event) (h : List Event) → e.role ≡ r → acts r (e ∷ h) ≡ record { dir = e.dir; point = e.point } ∷ acts r h
@@ -73,36 +72,6 @@ no_strangers setup r t (e ∷ events) out own =
     ap (λ b. cons_option (cond b (Some (record { point = e.point; value = e.value; stamp = e.sent })) None) (taken (net_for setup) t r events)) (takes_none setup r t e out (own zero e refl) e.dir refl)
     ∙ no_strangers setup r t events out (λ n. own (suc n))
 
--- one state more, and fewer
-more_states : (vars : ℕ → List Event → List ℤ) (r : ℕ) (es : List Event) (e : Event) (states : List State) (state : State) → AreStates vars r es states → state ≡ state_behind vars r (es ++ e ∷ []) → AreStates vars r (es ++ e ∷ []) (states ++ state ∷ [])
-more_states vars r es e states state are behind = record {
-  all = (let a = are.all in let b = length-append states (state ∷ []) in let c = length-append es (e ∷ []) in omega (arith, a, b, c));
-  each = λ n le. each n le (cases_lt n (length states));
-}
-  where
-    each : (n : ℕ) → n ≤ length (es ++ e ∷ []) → (n < length states) ⊎ (length states ≤ n) → slice_get (states ++ state ∷ []) n ≡ Some (state_behind vars r (take n (es ++ e ∷ [])))
-    each n le (inl lt) =
-        let within : n ≤ length es = (let a = are.all in omega (arith, lt, a)) in
-        get_left states (state ∷ []) n lt ∙ are.each n within ∙ ap (λ l. Some (state_behind vars r l)) (sym (take_left es (e ∷ []) n within))
-    each n le (inr high) =
-        let here : n ≡ length states = (let a = are.all in let c = length-append es (e ∷ []) in omega (arith, le, high, a, c)) in
-        let there : length (es ++ e ∷ []) ≡ n = (let a = are.all in let c = length-append es (e ∷ []) in omega (arith, here, a, c)) in
-        ap (slice_get (states ++ state ∷ [])) here
-        ∙ get_end states state
-        ∙ ap Some behind
-        ∙ ap (λ l. Some (state_behind vars r l)) (sym (take_whole (es ++ e ∷ [])))
-        ∙ ap (λ k. Some (state_behind vars r (take k (es ++ e ∷ [])))) there
-
-fewer_states : (vars : ℕ → List Event → List ℤ) (r c : ℕ) (es : List Event) (states : List State) → AreStates vars r es states → c ≤ length es → AreStates vars r (take c es) (take (c + 1) states)
-fewer_states vars r c es states are le = record {
-  all = (let a = are.all in let x = length-take (c + 1) states in let y = length-take c es in omega (arith, a, x, y, le));
-  each = λ n within.
-      let low : n ≤ c = (let y = length-take c es in omega (arith, within, y)) in
-      get_within (c + 1) states n (omega (arith, low))
-      ∙ are.each n (omega (arith, low, le))
-      ∙ ap (λ l. Some (state_behind vars r l)) (sym (take-take n c es low));
-}
-
 -- the greatest multiple is what a division leaves
 durable_is : (n every count : ℕ) → 0 < every → (k : ℕ) → k * every ≡ count → count ≤ n → ((other : ℕ) → ((i : ℕ) × (i * every ≡ other)) → other ≤ n → other ≤ count) → count ≡ n / every * every
 durable_is n every count some k is within greatest =
@@ -114,56 +83,70 @@ durable_is n every count some k is within greatest =
 saved_less : (m n every : ℕ) → 0 < every → m ≤ n → m / every * every ≤ n / every * every
 saved_less m n every some le = mul-le-mul_right {m = m / every} {n = n / every} every (le-div (m / every) n every some (let a = div-mul-le_self m every in omega (arith, a, le)))
 
-module _ (p : PartView) (stack : StackView) (part : IsPartOf p stack) where
+-- a multiple within is at most the greatest
+saved_within : (n every base : ℕ) → 0 < every → (k : ℕ) × (k * every ≡ base) → base ≤ n → base ≤ n / every * every
+saved_within n every base some m within =
+    let low : m.0 ≤ n / every = (le-div_iff_mul-le {k = every} {x = m.0} {y = n} some).1 (subst (λ c. c ≤ n) (sym m.1) within) in
+    subst (λ c. c ≤ n / every * every) m.1 (mul-le-mul_right {m = m.0} {n = n / every} every low)
+
+module _ (p : PartView) (tail : TailView) (part : IsPartOf p tail) where
   pub place_is : IsPlaceOf (net_for p.setup) p.role (own_place p.role p.own)
   place_is = place_from p.setup p.role 0 p.own.events (inl refl) part.sound
 
   pub strangers_none : HasNoStrangers p
   strangers_none t out = no_strangers p.setup p.role t p.own.events out part.sound
 
-  pub holds_states : HoldsStates p
-  holds_states = record { within = part.within; running = part.running; saved = part.saved }
-
   steps : 0 < (rules_of p.setup).every p.role
   steps = let a = (ranges p.setup part.planned).every_first p.role in omega (arith, a)
 
-  -- where the role runs, all states are held, and the last one is the present one
+  -- the base is one that the role has saved
+  base_saved : p.base ≤ length p.own.events / (rules_of p.setup).every p.role * (rules_of p.setup).every p.role
+  base_saved = saved_within (length p.own.events) ((rules_of p.setup).every p.role) p.base steps part.step part.low
+
+  pub holds_states : HoldsStates p
+  holds_states = record { base = let b = base_saved in let s = part.saved in omega (arith, b, s); within = part.within; running = part.running; saved = part.saved }
+
+  base_held : tail.base ≤ p.held
+  base_held = let e = part.base_is in let b = base_saved in let s = part.saved in omega (arith, e, b, s)
+
+  -- where the role runs, the last state is the present one
   module _ (running : p.own.crashed ≡ false) where
-    all_held : AreStates (vars_by p.setup) p.role p.own.events stack.states
-    all_held = subst (λ l. AreStates (vars_by p.setup) p.role l stack.states) (ap (λ k. take k p.own.events) (part.running running) ∙ take_whole p.own.events) part.states
+    pub top_is : (x : State) → slice_get tail.states (length tail.states - 1) ≡ Some x → x ≡ state_behind (vars_by p.setup) p.role p.own.events
+    top_is x at =
+        top_from (state_at p.setup p.role p.own.events) tail.base p.held tail.states part.states base_held x at
+        ∙ ap (λ k. state_behind (vars_by p.setup) p.role (take k p.own.events)) (part.running running)
+        ∙ ap (state_behind (vars_by p.setup) p.role) (take_whole p.own.events)
 
-    pub top_is : (x : State) → slice_get stack.states (held stack) ≡ Some x → x ≡ state_behind (vars_by p.setup) p.role p.own.events
-    top_is x at = some_same (
-        sym at
-        ∙ ap (slice_get stack.states) (sym part.count_is ∙ part.running running)
-        ∙ all_held.each (length p.own.events) (omega arith)
-        ∙ ap (λ l. Some (state_behind (vars_by p.setup) p.role l)) (take_whole p.own.events))
-
-    pub top_place : (x : State) → slice_get stack.states (held stack) ≡ Some x → IsPlaceOf (net_for p.setup) p.role x.k
+    pub top_place : (x : State) → slice_get tail.states (length tail.states - 1) ≡ Some x → IsPlaceOf (net_for p.setup) p.role x.k
     top_place x at = subst (λ (y : State). IsPlaceOf (net_for p.setup) p.role y.k) (sym (top_is x at)) place_is
 
-    pub top_offers : (x : State) (zs : List ℕ) → slice_get stack.states (held stack) ≡ Some x → AreNext (net_for p.setup) p.role x.k zs → Offers p zs
+    pub top_offers : (x : State) (zs : List ℕ) → slice_get tail.states (length tail.states - 1) ≡ Some x → AreNext (net_for p.setup) p.role x.k zs → Offers p zs
     top_offers x zs at next = subst (λ (y : State). AreNext (net_for p.setup) p.role y.k zs) (top_is x at) next
 
-    pub top_vars : (x : State) → slice_get stack.states (held stack) ≡ Some x → x.vars ≡ vars_by p.setup p.role p.own.events
+    pub top_vars : (x : State) → slice_get tail.states (length tail.states - 1) ≡ Some x → x.vars ≡ vars_by p.setup p.role p.own.events
     top_vars x at = ap (λ (y : State). y.vars) (top_is x at)
 
-    pub next_state : (e : Event) (x state : State) → IsOwn p.setup p.role e → slice_get stack.states (held stack) ≡ Some x → state.k ≡ e.point → state.vars ≡ vars_behind p.setup e x.vars → state ≡ state_behind (vars_by p.setup) p.role (p.own.events ++ e ∷ [])
+    pub next_state : (e : Event) (x state : State) → IsOwn p.setup p.role e → slice_get tail.states (length tail.states - 1) ≡ Some x → state.k ≡ e.point → state.vars ≡ vars_behind p.setup e x.vars → state ≡ state_behind (vars_by p.setup) p.role (p.own.events ++ e ∷ [])
     next_state e x state own at point vars =
         subst (λ q. state ≡ state_behind (vars_by p.setup) q (p.own.events ++ e ∷ [])) own.role
         (behind_told p.setup p.own.events e state point (vars ∙ ap (vars_behind p.setup e) (top_vars x at ∙ ap (λ q. vars_by p.setup q p.own.events) (sym own.role))))
 
-    pub part_more : (e : Event) (state : State) → IsOwn p.setup p.role e → IsBelow p → state ≡ state_behind (vars_by p.setup) p.role (p.own.events ++ e ∷ []) → IsPart p.setup p.role (own_event p.own e) (p.held + 1) (with_states stack (stack.states ++ state ∷ []))
+    pub part_more : (e : Event) (state : State) → IsOwn p.setup p.role e → IsBelow p → state ≡ state_behind (vars_by p.setup) p.role (p.own.events ++ e ∷ []) → IsPart p.setup p.role (own_event p.own e) p.base (p.held + 1) (with_held tail (tail.states ++ state ∷ []))
     part_more e state own below behind = record {
       protocol = part.protocol;
       planned = part.planned;
       declared = part.declared;
       sound = λ n y at. ⊎_elim (λ f. part.sound n y f) (λ f. subst (IsOwn p.setup p.role) f own) (get_more p.own.events e y n at);
       within = let r = part.running running in omega (arith, r, more);
-      states = subst (λ l. AreStates (vars_by p.setup) p.role l (stack.states ++ state ∷ [])) (sym (ap (λ k. take k (p.own.events ++ e ∷ [])) (let r = part.running running in omega (arith, r, more)) ∙ take_whole (p.own.events ++ e ∷ []))) (more_states (vars_by p.setup) p.role p.own.events e stack.states state all_held behind);
-      count_is = let c = part.count_is in let a = all_held.all in let b = length-append stack.states (state ∷ []) in omega (arith, c, a, b);
+      states = more_from (state_at p.setup p.role (p.own.events ++ e ∷ [])) tail.base p.held tail.states
+          (same_from (state_at p.setup p.role p.own.events) tail.base p.held tail.states part.states base_held (state_at p.setup p.role (p.own.events ++ e ∷ [])) (λ n le. ap (state_behind (vars_by p.setup) p.role) (sym (take_left p.own.events (e ∷ []) n (let w = part.within in omega (arith, le, w))))))
+          base_held state (behind ∙ sym (ap (λ k. state_behind (vars_by p.setup) p.role (take k (p.own.events ++ e ∷ []))) all ∙ ap (state_behind (vars_by p.setup) p.role) (take_whole (p.own.events ++ e ∷ []))));
+      count_is = let a = part.states.all in let b = length-append tail.states (state ∷ []) in let h = base_held in omega (arith, a, b, h);
+      base_is = part.base_is;
       saved = let r = part.running running in let d = div-mul-le_self (length (p.own.events ++ e ∷ [])) ((rules_of p.setup).every p.role) in omega (arith, r, more, d);
       running = λ f. let r = part.running running in omega (arith, r, more);
+      step = part.step;
+      low = let l = part.low in omega (arith, l, more);
       every_is = part.every_is;
       room_is = part.room_is;
       few = let f = part.few in omega (arith, f, more);
@@ -173,25 +156,34 @@ module _ (p : PartView) (stack : StackView) (part : IsPartOf p stack) where
         more : length (p.own.events ++ e ∷ []) ≡ length p.own.events + 1
         more = length-append p.own.events (e ∷ [])
 
-    pub saved_is : (count : ℕ) → IsDurable stack count → count ≡ length p.own.events / (rules_of p.setup).every p.role * (rules_of p.setup).every p.role
+        all : p.held + 1 ≡ length (p.own.events ++ e ∷ [])
+        all = let r = part.running running in let m = more in omega (arith, r, m)
+
+    pub saved_is : (count : ℕ) → IsSaved tail count → count ≡ length p.own.events / (rules_of p.setup).every p.role * (rules_of p.setup).every p.role
     saved_is count durable =
-        let e : held stack ≡ length p.own.events = sym part.count_is ∙ part.running running in
+        let e : made tail ≡ length p.own.events = sym part.count_is ∙ part.running running in
         durable_is (length p.own.events) ((rules_of p.setup).every p.role) count steps durable.multiple.0
         (ap (λ n. durable.multiple.0 * n) (sym part.every_is) ∙ durable.multiple.1)
         (let w = durable.within in omega (arith, w, e))
         (λ other m le. durable.greatest other (m.0, ap (λ n. m.0 * n) part.every_is ∙ m.1) (omega (arith, le, e)))
 
-    pub part_crashed : (count : ℕ) → IsDurable stack count → IsPart p.setup p.role (own_after p.own (Crash p.role)) count (with_states stack (take (count + 1) stack.states))
+    pub from_saved : (count : ℕ) → IsSaved tail count → tail.base ≤ count
+    from_saved count durable = let s = saved_is count durable in let b = base_saved in let e = part.base_is in omega (arith, s, b, e)
+
+    pub part_crashed : (count : ℕ) → IsSaved tail count → IsPart p.setup p.role (own_after p.own (Crash p.role)) p.base count (with_held tail (take (place_in tail count + 1) tail.states))
     part_crashed count durable = record {
       protocol = part.protocol;
       planned = part.planned;
       declared = part.declared;
       sound = part.sound;
       within = low;
-      states = fewer_states (vars_by p.setup) p.role count p.own.events stack.states all_held low;
-      count_is = let a = all_held.all in let x = length-take (count + 1) stack.states in omega (arith, a, x, low);
+      states = kept;
+      count_is = let a = kept.all in let f = from in omega (arith, a, f);
+      base_is = part.base_is;
       saved = let s = saved_is count durable in omega (arith, s);
       running = λ f. absurd (cc);
+      step = part.step;
+      low = part.low;
       every_is = part.every_is;
       room_is = part.room_is;
       few = part.few;
@@ -200,6 +192,12 @@ module _ (p : PartView) (stack : StackView) (part : IsPartOf p stack) where
       where
         low : count ≤ length p.own.events
         low = let s = saved_is count durable in let d = div-mul-le_self (length p.own.events) ((rules_of p.setup).every p.role) in omega (arith, s, d)
+
+        from : tail.base ≤ count
+        from = from_saved count durable
+
+        kept : AreFrom (state_at p.setup p.role p.own.events) tail.base count (take (place_in tail count + 1) tail.states)
+        kept = fewer_from (state_at p.setup p.role p.own.events) tail.base p.held tail.states part.states base_held count from (let s = saved_is count durable in let h = part.saved in omega (arith, s, h))
 
   -- a role that is due has fewer crashes than lines
   pub few_crashes : IsOwnDue (rules_of p.setup) p.role p.own → p.own.crashes < 100001
@@ -214,17 +212,20 @@ module _ (p : PartView) (stack : StackView) (part : IsPartOf p stack) where
   sound_first : (keep : ℕ) → AreOwn p.setup p.role (take keep p.own.events)
   sound_first keep n e at = part.sound n e (get_taken keep p.own.events n e at)
 
-  pub part_back : (keep clock : ℕ) → keep ≤ p.held → IsPart p.setup p.role (own_back p.own keep true clock) keep (with_states stack (take (keep + 1) stack.states))
-  part_back keep clock le = record {
+  pub part_back : (keep clock : ℕ) → p.base ≤ keep → keep ≤ p.held → IsPart p.setup p.role (own_back p.own keep true clock) p.base keep (with_held tail (take (place_in tail keep + 1) tail.states))
+  part_back keep clock from le = record {
     protocol = part.protocol;
     planned = part.planned;
     declared = part.declared;
     sound = sound_first keep;
     within = omega (arith, size);
-    states = subst (λ l. AreStates (vars_by p.setup) p.role l (take (keep + 1) stack.states)) (take-take keep p.held p.own.events le ∙ sym (take-take keep keep p.own.events (omega arith))) (fewer_states (vars_by p.setup) p.role keep (take p.held p.own.events) stack.states part.states (let l = length-take p.held p.own.events in let w = part.within in omega (arith, l, w, le)));
-    count_is = let a = part.states.all in let l = length-take p.held p.own.events in let w = part.within in let x = length-take (keep + 1) stack.states in omega (arith, a, l, w, x, le);
+    states = kept;
+    count_is = let a = kept.all in let f = after in omega (arith, a, f);
+    base_is = part.base_is;
     saved = let d = div-mul-le_self (length (take keep p.own.events)) ((rules_of p.setup).every p.role) in omega (arith, d, size);
     running = λ f. sym size;
+    step = part.step;
+    low = omega (arith, size, from);
     every_is = part.every_is;
     room_is = part.room_is;
     few = let f = part.few in let w = part.within in omega (arith, f, size, w, le);
@@ -234,17 +235,28 @@ module _ (p : PartView) (stack : StackView) (part : IsPartOf p stack) where
       size : length (take keep p.own.events) ≡ keep
       size = let l = length-take keep p.own.events in let w = part.within in omega (arith, l, w, le)
 
-  pub part_cut : (keep clock : ℕ) → p.own.crashed ≡ true → keep ≤ length p.own.events → IsPart p.setup p.role (own_back p.own keep false clock) (min keep p.held) (with_states stack (take (min keep p.held + 1) stack.states))
-  part_cut keep clock crashed le = record {
+      after : tail.base ≤ keep
+      after = let e = part.base_is in omega (arith, e, from)
+
+      kept : AreFrom (state_at p.setup p.role (take keep p.own.events)) tail.base (keep) (take (place_in tail (keep) + 1) tail.states)
+      kept = same_from (state_at p.setup p.role p.own.events) tail.base (keep) (take (place_in tail (keep) + 1) tail.states)
+          (fewer_from (state_at p.setup p.role p.own.events) tail.base p.held tail.states part.states base_held (keep) after (omega (arith, le)))
+          after (state_at p.setup p.role (take keep p.own.events)) (λ n within. ap (state_behind (vars_by p.setup) p.role) (sym (take-take n keep p.own.events (omega (arith, within)))))
+
+  pub part_cut : (keep clock : ℕ) → p.own.crashed ≡ true → p.base ≤ keep → keep ≤ length p.own.events → IsPart p.setup p.role (own_back p.own keep false clock) p.base (min keep p.held) (with_held tail (take (place_in tail (min keep p.held) + 1) tail.states))
+  part_cut keep clock crashed from le = record {
     protocol = part.protocol;
     planned = part.planned;
     declared = part.declared;
     sound = sound_first keep;
     within = omega (arith, size);
-    states = subst (λ l. AreStates (vars_by p.setup) p.role l (take (min keep p.held + 1) stack.states)) (take-take (min keep p.held) p.held p.own.events (omega arith) ∙ sym (take-take (min keep p.held) keep p.own.events (omega arith))) (fewer_states (vars_by p.setup) p.role (min keep p.held) (take p.held p.own.events) stack.states part.states (let l = length-take p.held p.own.events in let w = part.within in omega (arith, l, w)));
-    count_is = let a = part.states.all in let l = length-take p.held p.own.events in let w = part.within in let x = length-take (min keep p.held + 1) stack.states in omega (arith, a, l, w, x);
+    states = kept;
+    count_is = let a = kept.all in let f = after in omega (arith, a, f);
+    base_is = part.base_is;
     saved = let s = part.saved in let d = div-mul-le_self (length (take keep p.own.events)) ((rules_of p.setup).every p.role) in let m = saved_less (length (take keep p.own.events)) (length p.own.events) ((rules_of p.setup).every p.role) steps (omega (arith, size, le)) in omega (arith, s, d, m, size);
     running = λ f. absurd (cc);
+    step = part.step;
+    low = omega (arith, size, from);
     every_is = part.every_is;
     room_is = part.room_is;
     few = let f = part.few in omega (arith, f, size, le);
@@ -254,11 +266,46 @@ module _ (p : PartView) (stack : StackView) (part : IsPartOf p stack) where
       size : length (take keep p.own.events) ≡ keep
       size = let l = length-take keep p.own.events in omega (arith, l, le)
 
+      after : tail.base ≤ min keep p.held
+      after = let e = part.base_is in let h = base_held in omega (arith, e, from, h)
+
+      kept : AreFrom (state_at p.setup p.role (take keep p.own.events)) tail.base (min keep p.held) (take (place_in tail (min keep p.held) + 1) tail.states)
+      kept = same_from (state_at p.setup p.role p.own.events) tail.base (min keep p.held) (take (place_in tail (min keep p.held) + 1) tail.states)
+          (fewer_from (state_at p.setup p.role p.own.events) tail.base p.held tail.states part.states base_held (min keep p.held) after (omega (arith)))
+          after (state_at p.setup p.role (take keep p.own.events)) (λ n within. ap (state_behind (vars_by p.setup) p.role) (sym (take-take n keep p.own.events (omega (arith, within)))))
+
+-- from a later base on
+part_forgot : (p : PartView) (tail : TailView) → IsPartOf p tail → (line : ℕ) → (k : ℕ) × (k * (rules_of p.setup).every p.role ≡ line) → p.base ≤ line → line ≤ durable_of p → IsPart p.setup p.role p.own line p.held (from_base tail line)
+part_forgot p tail part line step above saved = record {
+  protocol = part.protocol;
+  planned = part.planned;
+  declared = part.declared;
+  sound = part.sound;
+  within = part.within;
+  states = kept;
+  count_is = let a = kept.all in omega (arith, a, held);
+  base_is = refl;
+  saved = part.saved;
+  running = part.running;
+  step = step;
+  low = let d = div-mul-le_self (length p.own.events) ((rules_of p.setup).every p.role) in omega (arith, saved, d);
+  every_is = part.every_is;
+  room_is = part.room_is;
+  few = part.few;
+  most = part.most;
+}
+  where
+    held : line ≤ p.held
+    held = let s = part.saved in omega (arith, s, saved)
+
+    kept : AreFrom (state_at p.setup p.role p.own.events) line p.held (drop (line - tail.base) tail.states)
+    kept = forgotten_from (state_at p.setup p.role p.own.events) tail.base p.held tail.states part.states (base_held p tail part) line (let e = part.base_is in omega (arith, e, above)) held
+
 -- the part's Send with this point and number
 abbrev pub sent_event : PartView → ℕ → ℤ → Event
 sent_event p point value = record { role = p.role; dir = Sent; point = point; value = value; stamp = p.own.clock + 1; sent = p.own.clock + 1 }
 
-module _ (p : PartView) (stack : StackView) (zs : List ℕ) (part : IsPartOf p stack) (offers : Offers p zs) where
+module _ (p : PartView) (tail : TailView) (zs : List ℕ) (part : IsPartOf p tail) (offers : Offers p zs) where
   known : IsProper (net_for p.setup) (roles_of p.setup)
   known = proper (text_of p.setup) (roles_of p.setup) part.protocol.form
 
@@ -266,7 +313,7 @@ module _ (p : PartView) (stack : StackView) (zs : List ℕ) (part : IsPartOf p s
   accepted = part.protocol.accepted
 
   here : IsPlaceOf (net_for p.setup) p.role (own_place p.role p.own)
-  here = place_is p stack part
+  here = place_is p tail part
 
   -- a next point is one of the text
   pub text_point : (z : ℕ) → IsIn z zs → (1 ≤ z) × (z ≤ (net_for p.setup).count) × ((net_for p.setup).sender z < roles_of p.setup) × ((net_for p.setup).receiver z < roles_of p.setup)
@@ -289,9 +336,9 @@ module _ (p : PartView) (stack : StackView) (zs : List ℕ) (part : IsPartOf p s
     declared = (text_point x i).2;
   }
 
-  module _ (x : State) (running : p.own.crashed ≡ false) (at : slice_get stack.states (held stack) ≡ Some x) (point : ℕ) (value : ℤ) (some : zs ≢ []) (sends : AllSends p zs) (chosen : point ≡ pick (net_for p.setup) (lines_of p.setup p.role) x.vars p.own.attempt zs) where
+  module _ (x : State) (running : p.own.crashed ≡ false) (at : slice_get tail.states (length tail.states - 1) ≡ Some x) (point : ℕ) (value : ℤ) (some : zs ≢ []) (sends : AllSends p zs) (chosen : point ≡ pick (net_for p.setup) (lines_of p.setup p.role) x.vars p.own.attempt zs) where
     pub among : IsIn point zs
-    among = subst (λ z. IsIn z zs) (sym (chosen ∙ ap (λ v. pick (net_for p.setup) (lines_of p.setup p.role) v p.own.attempt zs) (top_vars p stack part running x at))) (chosen_in (net_for p.setup) (lines_of p.setup) p.role p.own.events p.own.attempt zs some)
+    among = subst (λ z. IsIn z zs) (sym (chosen ∙ ap (λ v. pick (net_for p.setup) (lines_of p.setup p.role) v p.own.attempt zs) (top_vars p tail part running x at))) (chosen_in (net_for p.setup) (lines_of p.setup) p.role p.own.events p.own.attempt zs some)
 
     pub may_send : (IsOwnDue (rules_of p.setup) p.role p.own → ⊥) → IsBelow p → value ≡ number_for ((net_for p.setup).label point) (lines_of p.setup p.role) x.vars p.own.attempt → MayOwnSend (rules_of p.setup) p.own (sent_event p point value)
     may_send calm below number = record {
@@ -301,8 +348,8 @@ module _ (p : PartView) (stack : StackView) (zs : List ℕ) (part : IsPartOf p s
       sends = sends;
       is_send = refl;
       among = among;
-      point = chosen ∙ ap (λ v. pick (net_for p.setup) (lines_of p.setup p.role) v p.own.attempt zs) (top_vars p stack part running x at);
-      value = number ∙ ap (λ v. number_for ((net_for p.setup).label point) (lines_of p.setup p.role) v p.own.attempt) (top_vars p stack part running x at);
+      point = chosen ∙ ap (λ v. pick (net_for p.setup) (lines_of p.setup p.role) v p.own.attempt zs) (top_vars p tail part running x at);
+      value = number ∙ ap (λ v. number_for ((net_for p.setup).label point) (lines_of p.setup p.role) v p.own.attempt) (top_vars p tail part running x at);
       stamp = refl;
       sent = refl;
     }
@@ -323,48 +370,48 @@ in_at (z ∷ zs) zero d lt = inl refl
 in_at (z ∷ zs) (suc k) d lt = inr (in_at zs k d (omega (arith, lt)))
 
 -- the same of the part as contracts see it
-module _ (v q : PartView) (stack : StackView) (is : v ≡ q) (part : IsPartOf v stack) where
-  pub seen : IsPartOf q stack
-  seen = subst (λ p. IsPartOf p stack) is part
+module _ (v q : PartView) (tail : TailView) (is : v ≡ q) (part : IsPartOf v tail) where
+  pub seen : IsPartOf q tail
+  seen = subst (λ p. IsPartOf p tail) is part
 
-  pub seen_place : (x : State) → q.own.crashed ≡ false → slice_get stack.states (held stack) ≡ Some x → IsPlaceOf (net_for v.setup) v.role x.k
-  seen_place x running at = subst (λ (p : PartView). IsPlaceOf (net_for p.setup) p.role x.k) (sym is) (top_place q stack seen running x at)
+  pub seen_place : (x : State) → q.own.crashed ≡ false → slice_get tail.states (length tail.states - 1) ≡ Some x → IsPlaceOf (net_for v.setup) v.role x.k
+  seen_place x running at = subst (λ (p : PartView). IsPlaceOf (net_for p.setup) p.role x.k) (sym is) (top_place q tail seen running x at)
 
-  pub seen_offers : (x : State) (zs : List ℕ) → q.own.crashed ≡ false → slice_get stack.states (held stack) ≡ Some x → AreNext (net_for v.setup) v.role x.k zs → Offers q zs
-  seen_offers x zs running at next = top_offers q stack seen running x zs at (subst (λ (p : PartView). AreNext (net_for p.setup) p.role x.k zs) is next)
+  pub seen_offers : (x : State) (zs : List ℕ) → q.own.crashed ≡ false → slice_get tail.states (length tail.states - 1) ≡ Some x → AreNext (net_for v.setup) v.role x.k zs → Offers q zs
+  seen_offers x zs running at next = top_offers q tail seen running x zs at (subst (λ (p : PartView). AreNext (net_for p.setup) p.role x.k zs) is next)
 
-  pub seen_state : (e : Event) (x state : State) → q.own.crashed ≡ false → IsOwn q.setup q.role e → slice_get stack.states (held stack) ≡ Some x → state.k ≡ e.point → state.vars ≡ vars_behind v.setup e x.vars → state ≡ state_behind (vars_by q.setup) q.role (q.own.events ++ e ∷ [])
-  seen_state e x state running own at point vars = next_state q stack seen running e x state own at point (subst (λ (p : PartView). state.vars ≡ vars_behind p.setup e x.vars) is vars)
+  pub seen_state : (e : Event) (x state : State) → q.own.crashed ≡ false → IsOwn q.setup q.role e → slice_get tail.states (length tail.states - 1) ≡ Some x → state.k ≡ e.point → state.vars ≡ vars_behind v.setup e x.vars → state ≡ state_behind (vars_by q.setup) q.role (q.own.events ++ e ∷ [])
+  seen_state e x state running own at point vars = next_state q tail seen running e x state own at point (subst (λ (p : PartView). state.vars ≡ vars_behind p.setup e x.vars) is vars)
 
   module _ (zs : List ℕ) (offers : Offers q zs) where
     pub offered_point : (z : ℕ) → IsIn z zs → IsPointOf v.setup z
-    offered_point z i = subst (λ (p : PartView). IsPointOf p.setup z) (sym is) (let t = text_point q stack zs seen offers z i in record { first = t.0; last = t.1 })
+    offered_point z i = subst (λ (p : PartView). IsPointOf p.setup z) (sym is) (let t = text_point q tail zs seen offers z i in record { first = t.0; last = t.1 })
 
     pub offered_points : All (IsPointOf v.setup) zs
     offered_points k d lt = offered_point (slice_index_or zs k d) (in_at zs k d lt)
 
-    module _ (x : State) (running : q.own.crashed ≡ false) (at : slice_get stack.states (held stack) ≡ Some x) (point : ℕ) (some : zs ≢ []) (sends : AllSends q zs) (chosen : point ≡ pick (net_for v.setup) (lines_of v.setup v.role) x.vars v.own.attempt zs) where
+    module _ (x : State) (running : q.own.crashed ≡ false) (at : slice_get tail.states (length tail.states - 1) ≡ Some x) (point : ℕ) (some : zs ≢ []) (sends : AllSends q zs) (chosen : point ≡ pick (net_for v.setup) (lines_of v.setup v.role) x.vars v.own.attempt zs) where
       chosen_now : point ≡ pick (net_for q.setup) (lines_of q.setup q.role) x.vars q.own.attempt zs
       chosen_now = subst (λ (p : PartView). point ≡ pick (net_for p.setup) (lines_of p.setup p.role) x.vars p.own.attempt zs) is chosen
 
       pub chosen_point : IsPointOf v.setup point
-      chosen_point = offered_point point (among q stack zs seen offers x running at point (pos 0) some sends chosen_now)
+      chosen_point = offered_point point (among q tail zs seen offers x running at point (pos 0) some sends chosen_now)
 
       pub sent_may : (value : ℤ) → (IsOwnDue (rules_of q.setup) q.role q.own → ⊥) → IsBelow q → value ≡ number_for ((net_for v.setup).label point) (lines_of v.setup v.role) x.vars v.own.attempt → MayOwnSend (rules_of q.setup) q.own (sent_event v point value)
       sent_may value calm below number =
           subst (λ (p : PartView). MayOwnSend (rules_of q.setup) q.own (sent_event p point value)) (sym is)
-          (may_send q stack zs seen offers x running at point value some sends chosen_now calm below (subst (λ (p : PartView). value ≡ number_for ((net_for p.setup).label point) (lines_of p.setup p.role) x.vars p.own.attempt) is number))
+          (may_send q tail zs seen offers x running at point value some sends chosen_now calm below (subst (λ (p : PartView). value ≡ number_for ((net_for p.setup).label point) (lines_of p.setup p.role) x.vars p.own.attempt) is number))
 
       pub sent_own : (value : ℤ) → IsBelow q → IsOwnSend q (sent_event v point value)
-      sent_own value below = subst (λ (p : PartView). IsOwnSend q (sent_event p point value)) (sym is) (own_send q stack zs seen offers x running at point value some sends chosen_now below)
+      sent_own value below = subst (λ (p : PartView). IsOwnSend q (sent_event p point value)) (sym is) (own_send q tail zs seen offers x running at point value some sends chosen_now below)
 
     pub whose_sends : (x sender : ℕ) → IsIn x zs → sender ≡ (net_for v.setup).sender x → sender ≡ v.role → AllSends q zs
-    whose_sends x sender i e g = all_sends q stack zs seen offers x i (subst (λ (p : PartView). (net_for p.setup).sender x ≡ p.role) is (sym e ∙ g))
+    whose_sends x sender i e g = all_sends q tail zs seen offers x i (subst (λ (p : PartView). (net_for p.setup).sender x ≡ p.role) is (sym e ∙ g))
 
     pub whose_recvs : (x sender : ℕ) → IsIn x zs → sender ≡ (net_for v.setup).sender x → (sender ≡ v.role → ⊥) → AllRecvs q zs sender
     whose_recvs x sender i e n =
         let f : sender ≡ (net_for q.setup).sender x = subst (λ (p : PartView). sender ≡ (net_for p.setup).sender x) is e in
-        subst (AllRecvs q zs) (sym f) (all_recvs q stack zs seen offers x i (λ h. n (f ∙ h ∙ ap (λ (p : PartView). p.role) (sym is))))
+        subst (AllRecvs q zs) (sym f) (all_recvs q tail zs seen offers x i (λ h. n (f ∙ h ∙ ap (λ (p : PartView). p.role) (sym is))))
 
   -- what was asked of the part as contracts see it is asked of its fields
   pub fields : (P : PartView → Type 0) → P q → P v
@@ -378,70 +425,118 @@ module _ (v q : PartView) (stack : StackView) (is : v ≡ q) (part : IsPartOf v 
       subst (λ (p : PartView). IsTrue b ↔ IsOwnDue (rules_of p.setup) p.role p.own) is ((λ u. (calm, t.0 u)), λ d. t.1 d.1)
 
 -- the same of other own numbers, as far as a part keeps something of them
-pub same_part : (setup : SessionView) (r : ℕ) (own own' : Own) (count : ℕ) (stack stack' : StackView) → IsPart setup r own count stack → own'.events ≡ own.events → own'.raw ≡ own.raw → (own'.crashed ≡ false → own.crashed ≡ false) → stack' ≡ stack → IsPart setup r own' count stack'
-same_part setup r own own' count stack stack' part events raw runs same = subst (IsPart setup r own' count) (sym same) (record {
+pub same_part : (setup : SessionView) (r : ℕ) (own own' : Own) (base count : ℕ) (tail tail' : TailView) → IsPart setup r own base count tail → own'.events ≡ own.events → own'.raw ≡ own.raw → (own'.crashed ≡ false → own.crashed ≡ false) → tail' ≡ tail → IsPart setup r own' base count tail'
+same_part setup r own own' base count tail tail' part events raw runs same = subst (IsPart setup r own' base count) (sym same) (record {
   protocol = part.protocol;
   planned = part.planned;
   declared = part.declared;
   sound = subst (AreOwn setup r) (sym events) part.sound;
   within = subst (λ (l : List Event). count ≤ length l) (sym events) part.within;
-  states = subst (λ (l : List Event). AreStates (vars_by setup) r (take count l) stack.states) (sym events) part.states;
+  states = subst (λ (l : List Event). AreFrom (state_at setup r l) tail.base count tail.states) (sym events) part.states;
   count_is = part.count_is;
+  base_is = part.base_is;
   saved = subst (λ (l : List Event). length l / (rules_of setup).every r * (rules_of setup).every r ≤ count) (sym events) part.saved;
   running = λ f. part.running (runs f) ∙ ap length (sym events);
+  step = part.step;
+  low = subst (λ (l : List Event). base ≤ length l) (sym events) part.low;
   every_is = part.every_is;
   room_is = part.room_is;
   few = let f = part.few in let e = ap length events in omega (arith, f, e, raw);
   most = let m = part.most in omega (arith, m, raw);
 })
 
+-- the base is the tail's
+from_tail : (setup : SessionView) (r : ℕ) (own : Own) (base count : ℕ) (tail : TailView) → IsPart setup r own base count tail → IsPart setup r own tail.base count tail
+from_tail setup r own base count tail part = subst (λ b. IsPart setup r own b count tail) (sym part.base_is) part
+
 -- the part's fields behind an event, behind a crash, and behind a recovery
-module _ (v q : PartView) (stack stack' : StackView) (is : v ≡ q) (part : IsPartOf v stack) where
-  pub more_is : (e : Event) (state : State) (own' : Own) → q.own.crashed ≡ false → IsOwn q.setup q.role e → IsBelow q → state ≡ state_behind (vars_by q.setup) q.role (q.own.events ++ e ∷ []) → stack' ≡ with_states stack (stack.states ++ state ∷ []) → own'.events ≡ v.own.events ++ e ∷ [] → own'.raw ≡ v.own.raw + 1 → own'.crashed ≡ v.own.crashed → IsPart v.setup v.role own' (v.held + 1) stack'
+module _ (v q : PartView) (tail tail' : TailView) (is : v ≡ q) (part : IsPartOf v tail) where
+  pub more_is : (e : Event) (state : State) (own' : Own) → q.own.crashed ≡ false → IsOwn q.setup q.role e → IsBelow q → state ≡ state_behind (vars_by q.setup) q.role (q.own.events ++ e ∷ []) → tail' ≡ with_held tail (tail.states ++ state ∷ []) → own'.events ≡ v.own.events ++ e ∷ [] → own'.raw ≡ v.own.raw + 1 → own'.crashed ≡ v.own.crashed → IsPart v.setup v.role own' tail'.base (v.held + 1) tail'
   more_is e state own' running own below behind same events raw crashed =
-      same_part v.setup v.role (own_event v.own e) own' (v.held + 1) (with_states stack (stack.states ++ state ∷ [])) stack'
-      (part_more v stack part (fields v q stack is part (λ p. p.own.crashed ≡ false) running) e state (fields v q stack is part (λ p. IsOwn p.setup p.role e) own) (fields v q stack is part IsBelow below) (fields v q stack is part (λ p. state ≡ state_behind (vars_by p.setup) p.role (p.own.events ++ e ∷ [])) behind))
-      events raw (λ f. sym crashed ∙ f) same
+      from_tail v.setup v.role own' v.base (v.held + 1) tail'
+      (same_part v.setup v.role (own_event v.own e) own' v.base (v.held + 1) (with_held tail (tail.states ++ state ∷ [])) tail'
+      (part_more v tail part (fields v q tail is part (λ p. p.own.crashed ≡ false) running) e state (fields v q tail is part (λ p. IsOwn p.setup p.role e) own) (fields v q tail is part IsBelow below) (fields v q tail is part (λ p. state ≡ state_behind (vars_by p.setup) p.role (p.own.events ++ e ∷ [])) behind))
+      events raw (λ f. sym crashed ∙ f) same)
 
-  pub crashed_is : (count : ℕ) (own' : Own) → IsOwnDue (rules_of q.setup) q.role q.own → IsDurable stack count → stack' ≡ with_states stack (take (count + 1) stack.states) → own'.events ≡ v.own.events → own'.raw ≡ v.own.raw → own'.crashed ≡ true → IsPart v.setup v.role own' count stack'
+  pub crashed_is : (count : ℕ) (own' : Own) → IsOwnDue (rules_of q.setup) q.role q.own → IsSaved tail count → tail' ≡ with_held tail (take (place_in tail count + 1) tail.states) → own'.events ≡ v.own.events → own'.raw ≡ v.own.raw → own'.crashed ≡ true → IsPart v.setup v.role own' tail'.base count tail'
   crashed_is count own' due durable same events raw crashed =
-      same_part v.setup v.role (own_after v.own (Crash v.role)) own' count (with_states stack (take (count + 1) stack.states)) stack'
-      (part_crashed v stack part (fields v q stack is part (λ p. p.own.crashed ≡ false) due.0) count durable)
-      events raw (λ f. absurd (let g = sym crashed ∙ f in cc)) same
+      from_tail v.setup v.role own' v.base count tail'
+      (same_part v.setup v.role (own_after v.own (Crash v.role)) own' v.base count (with_held tail (take (place_in tail count + 1) tail.states)) tail'
+      (part_crashed v tail part (fields v q tail is part (λ p. p.own.crashed ≡ false) due.0) count durable)
+      events raw (λ f. absurd (let g = sym crashed ∙ f in cc)) same)
 
-  pub crashed_view : (count : ℕ) (log : List Timed) → IsOwnDue (rules_of q.setup) q.role q.own → IsDurable stack count → log ≡ v.log ++ record { stamp = v.own.clock; step = Crash v.role } ∷ [] → record { setup = v.setup; role = v.role; own = own_after v.own (Crash v.role); held = count; log = log } ≡ with_crash q
-  crashed_view count log due durable logged =
-      ap (λ (x : ℕ × List Timed). record { setup = v.setup; role = v.role; own = own_after v.own (Crash v.role); held = x.0; log = x.1 }) (λ i. (saved_is v stack part (fields v q stack is part (λ p. p.own.crashed ≡ false) due.0) count durable i, logged i))
+  pub crashed_view : (count : ℕ) (log : List Timed) → IsOwnDue (rules_of q.setup) q.role q.own → IsSaved tail count → tail' ≡ with_held tail (take (place_in tail count + 1) tail.states) → log ≡ v.log ++ record { stamp = v.own.clock; step = Crash v.role } ∷ [] → record { setup = v.setup; role = v.role; own = own_after v.own (Crash v.role); held = count; base = tail'.base; log = log } ≡ with_crash q
+  crashed_view count log due durable same logged =
+      let base : tail'.base ≡ v.base = ap (λ (t : TailView). t.base) same ∙ part.base_is in
+      ap (λ (x : ℕ × (ℕ × List Timed)). record { setup = v.setup; role = v.role; own = own_after v.own (Crash v.role); held = x.0; base = x.1.0; log = x.1.1 }) (λ i. (saved_is v tail part (fields v q tail is part (λ p. p.own.crashed ≡ false) due.0) count durable i, (base i, logged i)))
       ∙ ap with_crash is
 
   pub few_crashes_is : IsOwnDue (rules_of q.setup) q.role q.own → v.own.crashes < 100001
-  few_crashes_is due = few_crashes v stack part (fields v q stack is part (λ p. IsOwnDue (rules_of p.setup) p.role p.own) due)
+  few_crashes_is due = few_crashes v tail part (fields v q tail is part (λ p. IsOwnDue (rules_of p.setup) p.role p.own) due)
 
-  pub back_is : (keep clock : ℕ) (own' : Own) → keep ≤ q.held → stack' ≡ with_states stack (take (keep + 1) stack.states) → own'.events ≡ take keep v.own.events → own'.raw ≡ v.own.raw → IsPart v.setup v.role own' keep stack'
-  back_is keep clock own' le same events raw =
-      same_part v.setup v.role (own_back v.own keep true clock) own' keep (with_states stack (take (keep + 1) stack.states)) stack'
-      (part_back v stack part keep clock (fields v q stack is part (λ p. keep ≤ p.held) le))
-      events raw (λ f. refl) same
+  pub back_is : (keep clock : ℕ) (own' : Own) → q.base ≤ keep → keep ≤ q.held → tail' ≡ with_held tail (take (place_in tail keep + 1) tail.states) → own'.events ≡ take keep v.own.events → own'.raw ≡ v.own.raw → IsPart v.setup v.role own' tail'.base keep tail'
+  back_is keep clock own' from le same events raw =
+      from_tail v.setup v.role own' v.base keep tail'
+      (same_part v.setup v.role (own_back v.own keep true clock) own' v.base keep (with_held tail (take (place_in tail keep + 1) tail.states)) tail'
+      (part_back v tail part keep clock (fields v q tail is part (λ p. p.base ≤ keep) from) (fields v q tail is part (λ p. keep ≤ p.held) le))
+      events raw (λ f. refl) same)
 
-  pub cut_is : (keep clock count : ℕ) (own' : Own) → count ≡ min keep v.held → q.own.crashed ≡ true → keep ≤ length q.own.events → stack' ≡ with_states stack (take (count + 1) stack.states) → own'.events ≡ take keep v.own.events → own'.raw ≡ v.own.raw → own'.crashed ≡ v.own.crashed → IsPart v.setup v.role own' count stack'
-  cut_is keep clock count own' least crashed le same events raw stays =
-      subst (λ n. IsPart v.setup v.role own' n stack') (sym least)
-      (same_part v.setup v.role (own_back v.own keep false clock) own' (min keep v.held) (with_states stack (take (min keep v.held + 1) stack.states)) stack'
-      (part_cut v stack part keep clock (fields v q stack is part (λ p. p.own.crashed ≡ true) crashed) (fields v q stack is part (λ p. keep ≤ length p.own.events) le))
-      events raw (λ f. sym stays ∙ f) (same ∙ ap (λ n. with_states stack (take (n + 1) stack.states)) least))
+  pub cut_is : (keep clock count : ℕ) (own' : Own) → count ≡ min keep v.held → q.own.crashed ≡ true → q.base ≤ keep → keep ≤ length q.own.events → tail' ≡ with_held tail (take (place_in tail count + 1) tail.states) → own'.events ≡ take keep v.own.events → own'.raw ≡ v.own.raw → own'.crashed ≡ v.own.crashed → IsPart v.setup v.role own' tail'.base count tail'
+  cut_is keep clock count own' least crashed from le same events raw stays =
+      subst (λ n. IsPart v.setup v.role own' tail'.base n tail') (sym least)
+      (from_tail v.setup v.role own' v.base (min keep v.held) tail'
+      (same_part v.setup v.role (own_back v.own keep false clock) own' v.base (min keep v.held) (with_held tail (take (place_in tail (min keep v.held) + 1) tail.states)) tail'
+      (part_cut v tail part keep clock (fields v q tail is part (λ p. p.own.crashed ≡ true) crashed) (fields v q tail is part (λ p. p.base ≤ keep) from) (fields v q tail is part (λ p. keep ≤ length p.own.events) le))
+      events raw (λ f. sym stays ∙ f) (same ∙ ap (λ n. with_held tail (take (place_in tail n + 1) tail.states)) least)))
+
+-- the states that are asked for are held
+module _ (v q : PartView) (tail : TailView) (is : v ≡ q) (part : IsPartOf v tail) where
+  pub crash_holds : (count : ℕ) → IsOwnDue (rules_of q.setup) q.role q.own → IsSaved tail count → Holds tail count
+  crash_holds count due saved = (from_saved v tail part (fields v q tail is part (λ p. p.own.crashed ≡ false) due.0) count saved, saved.within)
+
+  pub back_holds : (keep : ℕ) → q.base ≤ keep → keep ≤ q.held → Holds tail keep
+  back_holds keep from le =
+      let b = part.base_is in
+      let c = part.count_is in
+      let low : v.base ≤ keep = fields v q tail is part (λ p. p.base ≤ keep) from in
+      let high : keep ≤ v.held = fields v q tail is part (λ p. keep ≤ p.held) le in
+      (omega (arith, b, low), omega (arith, c, high))
+
+  pub cut_holds : (keep count : ℕ) → count ≡ min keep v.held → q.base ≤ keep → Holds tail count
+  cut_holds keep count least from =
+      let b = part.base_is in
+      let c = part.count_is in
+      let h = base_held v tail part in
+      let low : v.base ≤ keep = fields v q tail is part (λ p. p.base ≤ keep) from in
+      (omega (arith, b, low, h, least), omega (arith, c, least))
+
+  pub line_holds : (line : ℕ) → q.base ≤ line → line ≤ durable_of q → Holds tail line
+  line_holds line above saved =
+      let b = part.base_is in
+      let c = part.count_is in
+      let s = part.saved in
+      let low : v.base ≤ line = fields v q tail is part (λ p. p.base ≤ line) above in
+      let high : line ≤ durable_of v = fields v q tail is part (λ p. line ≤ durable_of p) saved in
+      (omega (arith, b, low), omega (arith, c, s, high))
+
+  -- the part's fields from a later base on
+  pub forgot_is : (tail' : TailView) (line : ℕ) → (k : ℕ) × (k * (rules_of q.setup).every q.role ≡ line) → q.base ≤ line → line ≤ durable_of q → tail' ≡ from_base tail line → IsPart v.setup v.role v.own tail'.base v.held tail'
+  forgot_is tail' line step above saved same =
+      subst (λ (t : TailView). IsPart v.setup v.role v.own t.base v.held t) (sym same)
+      (part_forgot v tail part line (fields v q tail is part (λ p. (k : ℕ) × (k * (rules_of p.setup).every p.role ≡ line)) step) (fields v q tail is part (λ p. p.base ≤ line) above) (fields v q tail is part (λ p. line ≤ durable_of p) saved))
 
 -- the events of a part are at points that a set can hold
-pub event_point : (v q : PartView) (stack : StackView) (n : ℕ) (o : Option ℕ) → v ≡ q → IsPartOf v stack → o ≡ point_in (slice_get q.own.events n) → IfSome o IsPoint
-event_point v q stack n o is part e = subst (λ (x : Option ℕ). IfSome x IsPoint) (sym e) (go (slice_get q.own.events n) refl)
+pub event_point : (v q : PartView) (tail : TailView) (n : ℕ) (o : Option ℕ) → v ≡ q → IsPartOf v tail → o ≡ point_in (slice_get q.own.events n) → IfSome o IsPoint
+event_point v q tail n o is part e = subst (λ (x : Option ℕ). IfSome x IsPoint) (sym e) (go (slice_get q.own.events n) refl)
   where
     go : (x : Option Event) → slice_get q.own.events n ≡ x → IfSome (point_in x) IsPoint
     go None at = tt
     go (Some e) at =
-        let kept = seen v q stack is part in
+        let kept = seen v q tail is part in
         let own = kept.sound n e at in
         let few = kept.protocol.form.few_points in
         let last = own.last in
         record { first = own.first; last = omega (arith, few, last) }
 
-pub low : (v q : PartView) (stack : StackView) → v ≡ q → IsPartOf v stack → q.role < 8
-low v q stack is part = subst (λ (p : PartView). p.role < 8) is (low_role v.setup v.role part.protocol part.declared)
+pub low : (v q : PartView) (tail : TailView) → v ≡ q → IsPartOf v tail → q.role < 8
+low v q tail is part = subst (λ (p : PartView). p.role < 8) is (low_role v.setup v.role part.protocol part.declared)

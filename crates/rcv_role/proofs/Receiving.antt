@@ -62,6 +62,7 @@ module _ (p : PartView) (posts inboxes inboxes' : List End) (from : ℕ) (ends :
     more = [];
     setup = refl;
     role = refl;
+    base = refl;
     log = sym (append-nil p.log);
     lawful = tt;
     own = refl;
@@ -102,6 +103,7 @@ module _ (p : PartView) (posts inboxes inboxes' : List End) (from : ℕ) (ends :
     more = record { stamp = e.stamp; step = entry_of e } ∷ [];
     setup = refl;
     role = refl;
+    base = refl;
     log = refl;
     lawful = (one_recv p e own.role own.dir may).0;
     own = (one_recv p e own.role own.dir may).1;

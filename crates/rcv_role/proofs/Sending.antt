@@ -53,6 +53,7 @@ module _ (p : PartView) (posts posts' inboxes : List End) (e : Event) (to : ℕ)
     more = [];
     setup = refl;
     role = refl;
+    base = refl;
     log = sym (append-nil p.log);
     lawful = tt;
     own = refl;
@@ -70,6 +71,7 @@ module _ (p : PartView) (posts posts' inboxes : List End) (e : Event) (to : ℕ)
     more = record { stamp = e.stamp; step = entry_of e } ∷ [];
     setup = refl;
     role = refl;
+    base = refl;
     log = refl;
     lawful = (one_send p e own.own.role own.dir may).0;
     own = (one_send p e own.own.role own.dir may).1;

@@ -149,6 +149,7 @@ module _ (protocol : Protocol) (is : net_for (session protocol) ≡ single) (two
     more = record { stamp = 1; step = entry_of the_event } ∷ [];
     setup = refl;
     role = refl;
+    base = refl;
     log = refl;
     lawful = (refl, (refl, a_may), tt);
     own = refl;

@@ -82,11 +82,12 @@ pub record IsThere : Type 0 where
   pub end : End
 
 -- The cell went on by these entries, each of which the role may make by its own events and numbers, and the entries make
--- of these what it has now. Its ends stay those of the same channels.
+-- of these what it has now. It forgets nothing, and its ends stay those of the same channels.
 pub record Goes (old new : CellView) : Type 0 where
   pub more : List Timed
   pub setup : new.part.setup ≡ old.part.setup
   pub role : new.part.role ≡ old.part.role
+  pub base : new.part.base ≡ old.part.base
   pub log : new.part.log ≡ old.part.log ++ more
   pub lawful : IsOwnLog (rules_of old.part.setup) old.part.role old.part.own more
   pub own : new.part.own ≡ own_through old.part.own more

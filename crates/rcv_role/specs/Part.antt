@@ -18,17 +18,19 @@ use Rattle.rcv_theory.specs.Own.{Own, own_place, own_event, own_after, own_back}
 use Rattle.rcv_accept.specs.Accepted.{IsAcceptedProtocol}
 use Rattle.rcv_plan.specs.Lines.{IsPlanned}
 use Rattle.rcv_session.specs.Session.{SessionView, roles_of, net_for, rules_of}
-use Rattle.rcv_checkpoint.specs.Stack.{StackView, held}
-use Rattle.rcv_ledger.specs.Ledger.{AreStates}
+use Rattle.rcv_checkpoint.specs.declared.state.State.{State}
+use Rattle.rcv_checkpoint.specs.Tail.{TailView, made, AreFrom}
+use Rattle.rcv_ledger.specs.Ledger.{state_behind}
 use Rattle.rcv_core.specs.Setup.{vars_by}
 
--- A role of a session, its own events and numbers, for how many of its events the state behind them is held, and the
--- entries that it has made since its log was cleared.
+-- A role of a session, its own events and numbers, for how many of its events the state behind them is held, from how
+-- many on, since earlier states are forgotten, and the entries that it has made since its log was cleared.
 pub record PartView : Type 0 where
   pub setup : SessionView
   pub role : ℕ
   pub own : Own
   pub held : ℕ
+  pub base : ℕ
   pub log : List Timed
 
 -- The same of these numbers.
@@ -36,8 +38,9 @@ abbrev pub own_by : List Event → (raw crashes : ℕ) (crashed : Bool) (attempt
 own_by events raw crashes crashed attempt clock =
     record { events = events; raw = raw; crashes = crashes; crashed = crashed; attempt = attempt; clock = clock }
 
-abbrev pub part_by : SessionView → ℕ → Own → ℕ → List Timed → PartView
-part_by setup role own held log = record { setup = setup; role = role; own = own; held = held; log = log }
+abbrev pub part_by : SessionView → ℕ → Own → (held base : ℕ) → List Timed → PartView
+part_by setup role own held base log =
+    record { setup = setup; role = role; own = own; held = held; base = base; log = log }
 
 -- The part with its log cleared.
 abbrev pub cleared : PartView → PartView
@@ -48,11 +51,15 @@ abbrev pub first_own : Own
 first_own = record { events = []; raw = 0; crashes = 0; crashed = false; attempt = 0; clock = 0 }
 
 abbrev pub first_part : SessionView → ℕ → PartView
-first_part setup role = record { setup = setup; role = role; own = first_own; held = 0; log = [] }
+first_part setup role = record { setup = setup; role = role; own = first_own; held = 0; base = 0; log = [] }
 
 -- How many of its events the role has saved: the greatest multiple of its step.
 abbrev pub durable_of : PartView → ℕ
 durable_of p = length p.own.events / (rules_of p.setup).every p.role * (rules_of p.setup).every p.role
+
+-- The part without the states before the one behind so many events.
+abbrev pub from_base : PartView → ℕ → PartView
+from_base p base = record p { base = base }
 
 -- These are the part's next points.
 abbrev pub Offers : PartView → List ℕ → Type 0
@@ -128,26 +135,35 @@ abbrev pub HasNoStrangers : PartView → Type 0
 HasNoStrangers p =
     (t : ℕ) → (t ≡ p.role) ⊎ (roles_of p.setup ≤ t) → taken (net_for p.setup) t p.role p.own.events ≡ []
 
--- How many states are held: all where the role runs, and at least the saved ones where it is crashed.
+-- How many states are held, from the base on: all where the role runs, and at least the saved ones where it is crashed.
 pub record HoldsStates (p : PartView) : Type 0 where
+  pub base : p.base ≤ p.held
   pub within : p.held ≤ length p.own.events
   pub running : p.own.crashed ≡ false → p.held ≡ length p.own.events
   pub saved : durable_of p ≤ p.held
 
+-- The state of a role behind the first n of its events.
+abbrev pub state_at : SessionView → ℕ → List Event → ℕ → State
+state_at setup r events n = state_behind (vars_by setup) r (take n events)
+
 -- What a part keeps: the session is accepted and planned, the events are the role's own, and their states are held, all
--- where the role runs and at least the saved ones where it is crashed.
-pub record IsPart (setup : SessionView) (r : ℕ) (own : Own) (count : ℕ) (stack : StackView) : Type 0 where
+-- where the role runs and at least the saved ones where it is crashed, from the base on, which is one that the role has
+-- saved.
+pub record IsPart (setup : SessionView) (r : ℕ) (own : Own) (base count : ℕ) (tail : TailView) : Type 0 where
   pub protocol : IsAcceptedProtocol setup.protocol
   pub planned : IsPlanned (roles_of setup) setup.plan
   pub declared : r < roles_of setup
   pub sound : AreOwn setup r own.events
   pub within : count ≤ length own.events
-  pub states : AreStates (vars_by setup) r (take count own.events) stack.states
-  pub count_is : count ≡ held stack
+  pub states : AreFrom (state_at setup r own.events) tail.base count tail.states
+  pub count_is : count ≡ made tail
+  pub base_is : tail.base ≡ base
   pub saved : length own.events / (rules_of setup).every r * (rules_of setup).every r ≤ count
   pub running : own.crashed ≡ false → count ≡ length own.events
-  pub every_is : stack.every ≡ (rules_of setup).every r
-  pub room_is : stack.room ≡ (rules_of setup).limit
+  pub step : (k : ℕ) × (k * (rules_of setup).every r ≡ base)
+  pub low : base ≤ length own.events
+  pub every_is : tail.every ≡ (rules_of setup).every r
+  pub room_is : tail.room ≡ (rules_of setup).limit
   pub few : length own.events ≤ own.raw
   pub most : own.raw ≤ (rules_of setup).limit
 

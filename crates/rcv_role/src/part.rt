@@ -1,6 +1,6 @@
 // What one role did in a session, and what it does next.
 
-ghost use Rattle.std.specs.Prelude.{◌≡◌, ◌≢◌, ◌+◌, ◌^◌, ◌<◌, ◌≤◌, ◌==◌, ◌↔◌, ◌∷◌, ◌++◌, [], true, false, if◌then◌else◌};
+ghost use Rattle.std.specs.Prelude.{◌≡◌, ◌≢◌, ℕ, ◌+◌, ◌*◌, ◌^◌, ◌<◌, ◌≤◌, ◌==◌, ◌↔◌, ◌∷◌, ◌++◌, [], true, false, if◌then◌else◌};
 ghost use Rattle.std.specs.Prelude.{length, slice_get, IfOk, IfSome, IsTrue, MatchOption};
 ghost use Rattle.rcv_tree.specs.Bits.{IsPoint};
 ghost use Rattle.rcv_tables.specs.Starts.{IsOwnPoint};
@@ -8,17 +8,17 @@ ghost use Rattle.rcv_model.specs.Net.{IsIn};
 ghost use Rattle.rcv_model.specs.Table.{IsConcerned};
 ghost use Rattle.rcv_theory.specs.Own.{MayOwnSend, MayOwnRecv, IsOwnDue};
 ghost use Rattle.rcv_session.specs.Session.{roles_of, net_for, rules_of};
-ghost use Rattle.rcv_checkpoint.specs.Stack.{held, with_states};
+ghost use Rattle.rcv_checkpoint.specs.Tail.{made, with_held};
 ghost use Rattle.rcv_ledger.specs.Ledger.{state_behind};
 ghost use Rattle.rcv_core.specs.Setup.{vars_by};
 ghost use Rattle.rcv_role.specs.Part.{PartView, IsOwn, IsOwnSend, IsRecvOf, Offers, AllSends, AllRecvs, IsBelow};
 ghost use Rattle.rcv_role.specs.Part.{HasNoStrangers, HoldsStates, first_part, with_event, with_crash, entry_of};
 ghost use Rattle.rcv_role.specs.Part.{first_lost, point_in};
-ghost use Rattle.rcv_role.specs.Part.{IsReached, cleared, gone_back, cut_back};
+ghost use Rattle.rcv_role.specs.Part.{IsReached, cleared, from_base, durable_of, gone_back, cut_back};
 
 use rcv_checkpoint::changed::Changed;
-use rcv_checkpoint::stack::Stack;
 use rcv_checkpoint::state::State;
+use rcv_checkpoint::tail::Tail;
 use rcv_core::setup::Setup;
 use rcv_tree::entry::{Entry, Timed};
 use rcv_tree::event::{Dir, Event, Message};
@@ -42,8 +42,9 @@ pub struct Part<'a> {
     attempt: u32,
     clock: u64,
     events: Vec<Event>,
-    stack: Stack,
-    // How many events' states the stack has.
+    // The states from the one on that the role never goes back behind.
+    tail: Tail,
+    // Up to how many events it has them.
     held: u32,
     log: Vec<Timed>,
 }
@@ -61,10 +62,10 @@ impl<'a> Model for Part<'a> {
     ghost coded = { Prim.hlevel (codes, e.the_row.coded, expr_code) };
 
     ghost view = { λ p. part_by p.setup.now p.role
-        (own_by p.events.items p.raw p.crashes p.crashed p.attempt p.clock) p.held p.log.items };
+        (own_by p.events.items p.raw p.crashes p.crashed p.attempt p.clock) p.held p.tail.base p.log.items };
 
     ghost invariant = { λ p. IsPart p.setup.now p.role
-        (own_by p.events.items p.raw p.crashes p.crashed p.attempt p.clock) p.held p.stack
+        (own_by p.events.items p.raw p.crashes p.crashed p.attempt p.clock) p.tail.base p.held p.tail
         × ((rules_of p.setup.now).limit ≤ vec_capacity p.events) × (65 ≤ vec_capacity p.log) };
 }
 
@@ -91,7 +92,7 @@ impl<'a> Part<'a> {
             attempt: 0,
             clock: 0,
             events: Vec::with_capacity(alloc, limit as usize)?,
-            stack: Stack::new(alloc, first, setup.every(role), limit)?,
+            tail: Tail::new(alloc, first, setup.every(role), limit)?,
             held: 0,
             log: Vec::with_capacity(alloc, LOG)?,
         })
@@ -165,7 +166,7 @@ impl<'a> Part<'a> {
         ensures { Offers self.now result.now }
     {
         let setup = self.setup;
-        setup.next(self.role, self.stack.top().k)
+        setup.next(self.role, self.tail.top().k)
     }
 
     /// The role that all next points are to be received from, the first of them being this one. None where all are
@@ -203,7 +204,7 @@ impl<'a> Part<'a> {
         ensures may { MayOwnSend (rules_of self.now.setup) self.now.own result }
         ensures own { IsOwnSend self.now result }
     {
-        let state = self.stack.top();
+        let state = self.tail.top();
         let point = self
             .setup
             .choose(self.role, &state.vars, self.attempt, offered);
@@ -249,7 +250,7 @@ impl<'a> Part<'a> {
         requires own { IsOwn self.now.setup self.now.role event.now }
         ensures { result ≡ state_behind (vars_by self.now.setup) self.now.role (self.now.own.events ++ event.now ∷ []) }
     {
-        let mut vars = self.stack.top().vars;
+        let mut vars = self.tail.top().vars;
         let _changed = self.setup.receive(event, &mut vars);
         State {
             k: place_behind(event),
@@ -267,7 +268,7 @@ impl<'a> Part<'a> {
     {
         let _limit = self.setup.limit();
         let state = self.state_behind(event);
-        hold(&mut self.stack, &state);
+        hold(&mut self.tail, &state);
         self.held += 1;
         self.raw += 1;
         self.clock = event.stamp;
@@ -284,8 +285,8 @@ impl<'a> Part<'a> {
         requires log { length self.old.log < 65 }
         ensures { self.new ≡ with_crash self.old }
     {
-        let durable = self.stack.durable();
-        self.stack.lose_to(durable);
+        let durable = self.tail.durable();
+        self.tail.lose_to(durable);
         self.held = durable;
         self.crashes += 1;
         self.crashed = true;
@@ -353,15 +354,27 @@ impl<'a> Part<'a> {
         points.is_of(point, role)
     }
 
+    /// Forgets the states before the one behind so many events, which the role has saved: it never goes back behind
+    /// them. It takes no memory.
+    pub fn forget(&mut self, line: u32)
+        requires step { (k : ℕ) × (k * (rules_of self.old.setup).every self.old.role ≡ line) }
+        requires above { self.old.base ≤ line }
+        requires saved { line ≤ durable_of self.old }
+        ensures { self.new ≡ from_base self.old line }
+    {
+        self.tail.forget(line);
+    }
+
     /// Goes back to so many of its first events, whose state is held, and runs on.
     pub fn back_to(&mut self, keep: u32, clock: u64)
+        requires base { self.old.base ≤ keep }
         requires held { keep ≤ self.old.held }
         requires attempt { self.old.own.attempt + 1 < 2 ^ 32 }
         ensures { self.new ≡ gone_back self.old keep clock }
     {
         self.attempt = attempt_behind(self.attempt, keep as usize, self.events.len());
         self.events.truncate(keep as usize);
-        self.stack.rewind(keep);
+        self.tail.rewind(keep);
         self.held = keep;
         self.clock = clock;
         self.crashed = false;
@@ -370,6 +383,7 @@ impl<'a> Part<'a> {
     /// Keeps so many of its first events, and stays crashed.
     pub fn cut_to(&mut self, keep: u32, clock: u64)
         requires crashed { self.old.own.crashed ≡ true }
+        requires base { self.old.base ≤ keep }
         requires made { keep ≤ length self.old.own.events }
         requires attempt { self.old.own.attempt + 1 < 2 ^ 32 }
         ensures { self.new ≡ cut_back self.old keep clock }
@@ -377,19 +391,19 @@ impl<'a> Part<'a> {
         self.attempt = attempt_behind(self.attempt, keep as usize, self.events.len());
         self.events.truncate(keep as usize);
         let held = keep.min(self.held);
-        self.stack.rewind(held);
+        self.tail.rewind(held);
         self.held = held;
         self.clock = clock;
     }
 }
 
 // Saves the state behind one event more, for which there is room.
-fn hold(stack: &mut Stack, state: &State)
-    requires room { held stack.old < stack.old.room }
-    requires few { held stack.old + 1 < 2 ^ 32 }
-    ensures { stack.new ≡ with_states stack.old (stack.old.states ++ state.now ∷ []) }
+fn hold(tail: &mut Tail, state: &State)
+    requires room { made tail.old < tail.old.room }
+    requires few { made tail.old + 1 < 2 ^ 32 }
+    ensures { tail.new ≡ with_held tail.old (tail.old.states ++ state.now ∷ []) }
 {
-    let _saved = stack.save(state.k, &state.vars, Changed::Any);
+    let _saved = tail.save(state.k, &state.vars, Changed::Any);
 }
 
 // The number of the attempt behind a recovery that keeps so many of the events made.

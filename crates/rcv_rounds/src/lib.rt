@@ -13,6 +13,8 @@ mod counting;
 #[cfg(test)]
 mod flag;
 #[cfg(test)]
+mod forgetting;
+#[cfg(test)]
 mod inputs;
 #[cfg(test)]
 mod meeting;

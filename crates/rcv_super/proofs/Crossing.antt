@@ -21,7 +21,7 @@ use Rattle.std.specs.contracts.vec.Vec as vector
 use Rattle.rcv_tree.proofs.entry.Timed.TheSendSync as timed
 use Rattle.rcv_tree.proofs.event.Event.TheSendSync as event
 use Rattle.rcv_tree.proofs.role.RoleId.TheSendSync as role
-use Rattle.rcv_checkpoint.proofs.stack.Stack.TheSendSync as stack
+use Rattle.rcv_checkpoint.proofs.tail.Tail.TheSendSync as tail
 use Rattle.rcv_mailbox.proofs.post.Post.TheSendSync as post
 use Rattle.rcv_mailbox.proofs.inbox.Inbox.TheSendSync as inbox
 use Rattle.rcv_fence.proofs.watch.Watch.TheSendSync as watch
@@ -29,7 +29,7 @@ use Rattle.rcv_lanes.specs.contracts.lanes.Lane as lane
 use Rattle.rcv_lanes.proofs.Crossing.{setup_sync}
 
 pub place_send : (ℓ : NamedLft) → IsSend (option.the_row (lane.the_row ℓ))
-place_send ℓ = search (std.crosses, vec.the_send, timed.the_send, event.the_send, role.the_send, stack.the_send, post.the_send, inbox.the_send, watch.the_send, setup_sync, sendable) depth 60 fits 20000
+place_send ℓ = search (std.crosses, vec.the_send, timed.the_send, event.the_send, role.the_send, tail.the_send, post.the_send, inbox.the_send, watch.the_send, setup_sync, sendable) depth 60 fits 20000
 
 pub half_send : (ℓ : NamedLft) → IsSend (vector.the_row (option.the_row (lane.the_row ℓ)) allocator.the_row heaps.ghosts)
 half_send ℓ = search (std.crosses, place_send ℓ, sendable) depth 60 fits 20000

@@ -1,24 +1,24 @@
 -- How a book goes on, and where a session is at its end.
-use Rattle.std.proofs.Common.{◌≡◌, Bool, true, false, ℕ, ◌<◌, ◌≤◌, List, [], ◌∷◌, length, length-append, append-nil, refl, sym, ◌∙◌, ap, subst, ◌⊎◌, ⊎_elim, arith}
+use Rattle.std.proofs.Common.{◌≡◌, Bool, true, false, ℕ, ◌+◌, ◌%◌, ◌<◌, ◌≤◌, List, [], ◌∷◌, length, length-append, append-nil, refl, sym, ◌∙◌, ap, subst, ◌⊎◌, ⊎_elim, arith}
 use Rattle.rcv_tree.specs.declared.entry.Entry.{Entry}
 use Rattle.std.specs.Prelude.{Result, Ok, Err, OnOk}
 use Rattle.std.proofs.lemmas.Bool.{cases_lt}
 use Rattle.rcv_model.specs.Final.{IsCrashed, IsFinal, IsLeastOf}
 use Rattle.rcv_model.specs.Journal.{State}
-use Rattle.rcv_session.specs.Session.{rules_of}
-use Rattle.rcv_core.specs.Book.{BookView, state_of, with_more, HasMore}
-use Rattle.rcv_lanes.specs.Home.{HasGrown, AreHome}
+use Rattle.rcv_session.specs.Session.{roles_of, rules_of}
+use Rattle.rcv_core.specs.Book.{BookView, state_of, with_more, HasMore, IsStableLineOf}
+use Rattle.rcv_lanes.specs.Home.{HasGrown, AreHome, HaveBases}
 use Rattle.std.specs.Prelude.{MatchOption, Option, Some}
 use Rattle.rcv_core.specs.declared.skip.Skip.{Skip}
 use Rattle.rcv_core.specs.Book.{IsAtEnd}
-use Rattle.rcv_core.specs.Skips.{IsSkip}
+use Rattle.rcv_core.specs.Skips.{IsSkip, no_skip}
 use Rattle.rcv_role.specs.Cell.{CellView}
 use Rattle.rcv_super.specs.Super.{SuperView, IsAlone, Stands}
 use Rattle.rcv_super.proofs.OneByOne.{stepped_on, same_setup}
 use Rattle.rcv_super.specs.declared.session.Turn.{Turn}
 use Rattle.rcv_super.specs.declared.session.Turn.TheVariants.{More, Completed, Limited}
 use Rattle.rcv_super.specs.declared.session.SessionError.TheVariants.{Memory}
-use Rattle.rcv_super.specs.Turn.{IsAtCompletion, IsAtLimit, GoesOn, IsEndOf, Turned, Recovered}
+use Rattle.rcv_super.specs.Turn.{IsAtCompletion, IsAtLimit, GoesOn, IsEndOf, HasCounted, HasNotCounted, Turned}
 use Rattle.rcv_super.specs.Steps.{HasStepped, HasGoneOn, HasRecovered, HasRecoveredBeside, HasRecoveredLeast}
 
 -- where something is left to do, a session isn't at its end
@@ -76,14 +76,29 @@ on_ok (Err e) A here = tt
 pub grown_same : (old new : BookView) → new ≡ old → HasGrown old new
 grown_same old new same = record { more = []; added = same ∙ sym (ap (λ (l : List Entry). record { setup = old.setup; entries = l }) (append-nil old.entries)) }
 
+pub grown_on : (old new : BookView) → HasGoneOn old new → HasGrown old new
+grown_on old new on = record { more = on.first ∷ on.more; added = on.added }
+
+pub more_entries : (old new : BookView) → HasGoneOn old new → length old.entries < length new.entries
+more_entries old new on = let n = length-append old.entries (on.first ∷ on.more) in let e = ap (λ (b : BookView). length b.entries) on.added in omega (arith, n, e)
+
+pub fewer_entries : (old new : BookView) → HasGrown old new → length old.entries ≤ length new.entries
+fewer_entries old new grown = let n = length-append old.entries grown.more in let e = ap (λ (b : BookView). length b.entries) grown.added in omega (arith, n, e)
+
+pub grown_recovery : (old new : BookView) (role : ℕ) → (new ≡ old) ⊎ HasRecovered old new role → HasGrown old new
+grown_recovery old new role some = ⊎_elim (grown_same old new) (λ s. record { more = s.entry ∷ []; added = s.added }) some
+
 pub grown_step : (old new : BookView) → (new ≡ old) ⊎ HasStepped old new → HasGrown old new
 grown_step old new some = ⊎_elim (grown_same old new) (λ s. record { more = s.entry ∷ []; added = s.added }) some
 
 -- what a turn answers, of a session with this book
-abbrev session_of : BookView → Bool → SuperView
-session_of book closed = record { book = book; closed = closed }
+abbrev session_of : BookView → Bool → ℕ → List ℕ → SuperView
+session_of book closed turns line = record { book = book; closed = closed; turns = turns; stable = line }
 
-module _ (workers : ℕ) (old : SuperView) (book : BookView) (closed : Bool) (is : session_of book closed ≡ old) (not_closed : closed ≡ false) where
+module _ (workers : ℕ) (old : SuperView) (book : BookView) (closed : Bool) (turns : ℕ) (line : List ℕ) (is : session_of book closed turns line ≡ old) (not_closed : closed ≡ false) where
+  not_counted : (new : BookView) (closed' : Bool) → HasNotCounted old (session_of new closed' turns line)
+  not_counted new closed' = subst (λ (s : SuperView). HasNotCounted s (session_of new closed' turns line)) is (record { turns = refl; stable = refl })
+
   pub ends : (turn : Turn) → IsEndOf book turn → (new : SuperView) → new ≡ old → Turned workers old new (Ok turn)
   ends Completed end new same = (subst (λ (s : SuperView). IsAtCompletion s) is (record { not_closed = not_closed; end = end }), same)
   ends Limited end new same = (subst (λ (s : SuperView). IsAtLimit s) is (record { not_closed = not_closed; end = end }), same)
@@ -92,29 +107,24 @@ module _ (workers : ℕ) (old : SuperView) (book : BookView) (closed : Bool) (is
   goes : HasMore book → GoesOn old
   goes more = subst (λ (s : SuperView). GoesOn s) is (record { not_closed = not_closed; more = more })
 
-  pub more_made : HasMore book → (new : BookView) → HasGoneOn book new → (workers ≡ 1 → HasStepped book new) → (2 ≤ workers → HasRecoveredLeast book new) → Turned workers old (session_of new false) (Ok More)
-  more_made more new gone stepped recovered = (
+  pub more_made : HasMore book → (new : BookView) → HasGoneOn book new → (workers ≡ 1 → HasStepped book new) → (2 ≤ workers → HasRecoveredLeast book new) → (count : ℕ) (line' : List ℕ) → count ≡ turns + 1 → (count % 1024 ≡ 0 → IsStableLineOf new line') → ((count % 1024 ≡ 0 → ⊥) → line' ≡ line) → Turned workers old (session_of new false count line') (Ok More)
+  more_made more new gone stepped recovered count line' counted found stays = (
     goes more,
     refl,
     subst (λ (s : SuperView). HasGoneOn s.book new) is gone,
     λ one. subst (λ (s : SuperView). HasStepped s.book new) is (stepped one),
     λ several. subst (λ (s : SuperView). HasRecoveredLeast s.book new) is (recovered several),
+    subst (λ (s : SuperView). HasCounted s (session_of new false count line')) is (record { turns = counted; line = found; stays = stays }),
   )
 
-  pub memory_wanted : HasMore book → (new : BookView) → HasGrown book new → (workers ≡ 1 → (new ≡ book) ⊎ HasStepped book new) → Turned workers old (session_of new true) (Err Memory)
+  pub memory_wanted : HasMore book → (new : BookView) → HasGrown book new → (workers ≡ 1 → (new ≡ book) ⊎ HasStepped book new) → Turned workers old (session_of new true turns line) (Err Memory)
   memory_wanted more new grown some = (
     goes more,
     refl,
     subst (λ (s : SuperView). HasGrown s.book new) is grown,
     λ one. subst (λ (s : SuperView). (new ≡ s.book) ⊎ HasStepped s.book new) is (some one),
+    not_counted new true,
   )
-
-module _ (role : ℕ) (old : SuperView) (book : BookView) (closed : Bool) (is : session_of book closed ≡ old) (not_closed : closed ≡ false) where
-  pub recovered_made : (new : BookView) → HasRecovered book new role → Recovered role old (session_of new false) (Ok tt)
-  recovered_made new recovered = subst (λ (s : SuperView). (s.closed ≡ false) × (false ≡ false) × HasRecovered s.book new role) is (not_closed, refl, recovered)
-
-  pub recovery_wanted : (new : BookView) → (new ≡ book) ⊎ HasRecovered book new role → Recovered role old (session_of new true) (Err Memory)
-  recovery_wanted new some = subst (λ (s : SuperView). (s.closed ≡ false) × (true ≡ true) × ((new ≡ s.book) ⊎ HasRecovered s.book new role)) is (not_closed, refl, some)
 
 -- what a step of the book alone came to
 abbrev pub Came : BookView → BookView → Option Skip → Type 0
@@ -123,12 +133,27 @@ Came old new result = MatchOption result ((new ≡ old) × IsAtEnd old) (λ behi
 pub came_some : (old new : BookView) (result : Option Skip) (skip : Skip) → result ≡ Some skip → Came old new result → HasMore old × HasStepped old new × IsSkip new skip
 came_some old new result skip is came = subst (Came old new) is came
 
+-- where nothing is known, that is right
+pub nothing_known : (book : BookView) → IsSkip book no_skip
+nothing_known book = record { calm = λ t. absurd (cc); idle = λ r lt. absurd (omega (arith, lt)) }
+
+-- where the cells of a session stand
+pub was_alone : (alone : Bool) (book : BookView) (skip : Skip) (line : List ℕ) (cells : List CellView) → alone ≡ true → Stands alone book skip line cells → IsAlone book skip cells
+was_alone alone book skip line cells is stands = subst (λ b. Stands b book skip line cells) is stands
+
+pub now_alone : (alone : Bool) (book : BookView) (skip : Skip) (line : List ℕ) (cells : List CellView) → alone ≡ true → IsAlone book skip cells → Stands alone book skip line cells
+now_alone alone book skip line cells is was = subst (λ b. Stands b book skip line cells) (sym is) was
+
+pub was_home : (alone : Bool) (book : BookView) (skip : Skip) (line : List ℕ) (cells : List CellView) → alone ≡ false → Stands alone book skip line cells → AreHome book cells × HaveBases (roles_of book.setup) line cells
+was_home alone book skip line cells is stands = subst (λ b. Stands b book skip line cells) is stands
+
 -- and a book that goes on alone does so still
-pub alone_on : (alone : Bool) (old new : BookView) (skip skip' : Skip) (cells : List CellView) → alone ≡ true → Stands alone old skip cells → HasMore old × HasStepped old new × IsSkip new skip' → Stands alone new skip' cells
-alone_on alone old new skip skip' cells is stands came =
-    let was : IsAlone old skip cells = subst (λ b. Stands b old skip cells) is stands in
-    subst (λ b. Stands b new skip' cells) (sym is) (record {
+pub alone_on : (alone : Bool) (old new : BookView) (skip skip' : Skip) (line line' : List ℕ) (cells : List CellView) → alone ≡ true → Stands alone old skip line cells → HasMore old × HasStepped old new × IsSkip new skip' → Stands alone new skip' line' cells
+alone_on alone old new skip skip' line line' cells is stands came =
+    let was : IsAlone old skip cells = subst (λ b. Stands b old skip line cells) is stands in
+    subst (λ b. Stands b new skip' line' cells) (sym is) (record {
       steps = stepped_on old new was.steps came.1;
       skip_is = came.2;
       cells_are = subst (λ s. AreHome (record { setup = s; entries = [] }) cells) (sym (same_setup old new came.1)) was.cells_are;
+      bases = subst (λ s. HaveBases (roles_of s) [] cells) (sym (same_setup old new came.1)) was.bases;
     })

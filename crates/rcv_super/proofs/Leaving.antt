@@ -37,7 +37,9 @@ use Rattle.rcv_role.specs.Cell.{CellView, AreJoined, post_to, inbox_from}
 use Rattle.rcv_lanes.specs.Home.{cell_at, AreHome}
 use Rattle.rcv_back.specs.Halves.{Has, Lacks, AreSplit}
 use Rattle.rcv_back.specs.Back.{kept_of, kept_in, clock_in_book, CanGo, CanGoBack}
+use Rattle.rcv_super.specs.Bases.{AreBased}
 use Rattle.rcv_super.specs.Steps.{concerned_of}
+use Rattle.rcv_super.proofs.Bases.{held_above}
 use Rattle.rcv_super.proofs.Apart.{IsGone, IsHomeAt, gone_cell, left_cell, home_at}
 
 -- what a book leaves with a Recover more
@@ -82,7 +84,7 @@ module _ (book : BookView) (accepted : IsAcceptedProtocol book.setup.protocol) (
       let b : bound r ≡ durable (rules_of book.setup) (state_of book) r = ap (λ x. cond x (durable (rules_of book.setup) (state_of book) r) (length (acts r (state_of book).kept))) t in
       omega (arith, a, b)
 
-  module _ (planned : IsPlanned (roles_of book.setup) book.setup.plan) (r : ℕ) (c : CellView) (lt : r < roles_of book.setup) (here : IsHomeAt book r c) (states : HoldsStates c.part) where
+  module _ (planned : IsPlanned (roles_of book.setup) book.setup.plan) (r : ℕ) (c : CellView) (lt : r < roles_of book.setup) (here : IsHomeAt book r c) (states : HoldsStates c.part) (above : c.part.base ≤ kept_in (with_recover book p concerned kept undone) r) where
     events : events_of r (state_of book).kept ≡ c.part.own.events
     events = ap (λ (o : Own). o.events) here.own
 
@@ -129,14 +131,15 @@ module _ (book : BookView) (accepted : IsAcceptedProtocol book.setup.protocol) (
       failed = is_listed (group_of (rules_of book.setup) p) r;
       back = back;
       made = made;
+      base = above;
       held = held;
       attempt = attempt;
       settled = here.settled;
     }
 
 -- the concerned cells can go back
-pub can_go_back : (book : BookView) (cells : List CellView) (p : ℕ) (concerned : RoleSet) (kept : List ℕ) (undone : ℕ) (back beside : List (Option CellView)) → IsAcceptedProtocol book.setup.protocol → IsPlanned (roles_of book.setup) book.setup.plan → IsLegal (rules_of book.setup) book.entries → May (rules_of book.setup) (state_of book) (Recover p concerned kept undone) → AreHome book cells → ((r : ℕ) (d : CellView) → r < length cells → HoldsStates (cell_at cells r d).part) → AreSplit concerned cells back beside → CanGoBack (with_recover book p concerned kept undone) back
-can_go_back book cells p concerned kept undone back beside accepted planned legal may home states split = record {
+pub can_go_back : (book : BookView) (cells : List CellView) (p : ℕ) (concerned : RoleSet) (kept : List ℕ) (undone : ℕ) (back beside : List (Option CellView)) → IsAcceptedProtocol book.setup.protocol → IsPlanned (roles_of book.setup) book.setup.plan → IsLegal (rules_of book.setup) book.entries → May (rules_of book.setup) (state_of book) (Recover p concerned kept undone) → AreHome book cells → AreBased book cells → ((r : ℕ) (d : CellView) → r < length cells → HoldsStates (cell_at cells r d).part) → AreSplit concerned cells back beside → CanGoBack (with_recover book p concerned kept undone) back
+can_go_back book cells p concerned kept undone back beside accepted planned legal may home based states split = record {
   count = split.back_count ∙ home.out.count;
   each = λ r c has. each r c has;
   joined = λ s r a b here there n e. joined s r a b here there n e;
@@ -156,7 +159,7 @@ can_go_back book cells p concerned kept undone back beside accepted planned lega
     each : (r : ℕ) (c : CellView) → Has back r c → CanGo (with_recover book p concerned kept undone) r c
     each r c has =
         let g = of r c has in
-        can_go book accepted legal p concerned kept undone planned r c (low r g.declared) (here_at r c has) (subst (λ (x : CellView). HoldsStates x.part) (sym (g.is c)) (states r c g.declared))
+        can_go book accepted legal p concerned kept undone planned r c (low r g.declared) (here_at r c has) (subst (λ (x : CellView). HoldsStates x.part) (sym (g.is c)) (states r c g.declared)) (subst (λ (x : CellView). x.part.base ≤ kept_in (with_recover book p concerned kept undone) r) (sym (g.is c)) (held_above book cells (Recover p concerned kept undone) accepted legal may based r c (low r g.declared)))
 
     -- the ends of two of them, as both name them
     named : (P : End → End → Type 0) (s r : ℕ) (a b : CellView) (d : CellView) (e : End) → Has back s a → Has back r b → P (end_at (cell_at cells s d).posts s r e) (end_at (cell_at cells r d).inboxes r s e) → P (post_to a b e) (inbox_from a b e)
@@ -185,8 +188,8 @@ may_come book p (Recv e) is = absurd is
 may_come book p (Crash q) is = absurd is
 may_come book p (Recover q concerned kept undone) is = is.1
 
-pub can_go_back_by : (book : BookView) (cells : List CellView) (p : ℕ) (e : Entry) (back beside : List (Option CellView)) → IsAcceptedProtocol book.setup.protocol → IsPlanned (roles_of book.setup) book.setup.plan → IsLegal (rules_of book.setup) book.entries → IsRecoveryOf book p e → AreHome book cells → ((r : ℕ) (d : CellView) → r < length cells → HoldsStates (cell_at cells r d).part) → AreSplit (concerned_of e) cells back beside → CanGoBack (with_entry book e) back
-can_go_back_by book cells p (Send e) half beside accepted planned legal is home states split = absurd is
-can_go_back_by book cells p (Recv e) half beside accepted planned legal is home states split = absurd is
-can_go_back_by book cells p (Crash q) half beside accepted planned legal is home states split = absurd is
-can_go_back_by book cells p (Recover q concerned kept undone) half beside accepted planned legal is home states split = can_go_back book cells q concerned kept undone half beside accepted planned legal is.1 home states split
+pub can_go_back_by : (book : BookView) (cells : List CellView) (p : ℕ) (e : Entry) (back beside : List (Option CellView)) → IsAcceptedProtocol book.setup.protocol → IsPlanned (roles_of book.setup) book.setup.plan → IsLegal (rules_of book.setup) book.entries → IsRecoveryOf book p e → AreHome book cells → AreBased book cells → ((r : ℕ) (d : CellView) → r < length cells → HoldsStates (cell_at cells r d).part) → AreSplit (concerned_of e) cells back beside → CanGoBack (with_entry book e) back
+can_go_back_by book cells p (Send e) half beside accepted planned legal is home based states split = absurd is
+can_go_back_by book cells p (Recv e) half beside accepted planned legal is home based states split = absurd is
+can_go_back_by book cells p (Crash q) half beside accepted planned legal is home based states split = absurd is
+can_go_back_by book cells p (Recover q concerned kept undone) half beside accepted planned legal is home based states split = can_go_back book cells q concerned kept undone half beside accepted planned legal is.1 home based states split

@@ -1,5 +1,6 @@
 pub mod OneByOne
 pub mod Apart
+pub mod Bases
 pub mod Leaving
 pub mod Returning
 pub mod Uniting

@@ -13,9 +13,9 @@ use Rattle.rcv_super.specs.declared.session.Turn.TheVariants as turns
 use Rattle.rcv_super.specs.declared.session.SessionError.{SessionError}
 use Rattle.rcv_super.specs.declared.session.SessionError.TheVariants.{Closed, Memory}
 use Rattle.rcv_super.specs.Super.{SuperView, IsAlone}
-use Rattle.rcv_super.specs.Turn.{Turned}
+use Rattle.rcv_super.specs.Turn.{HasCounted, HasNotCounted, Turned}
 use Rattle.rcv_super.specs.Steps.{HasGoneOn, HasStepped}
-use Rattle.rcv_super.specs.Finish.{HasFinished, Finished}
+use Rattle.rcv_super.specs.Finish.{HasFinished, HasTurned, Finished}
 use Rattle.rcv_super.proofs.Ending.{Came, came_some, step_on, alone_on}
 
 -- entries were added; one worker added the first ones of one thread
@@ -54,14 +54,37 @@ few_in n seen book same is few = subst (λ (b : BookView). length b.entries ≤ 
 abbrev after_turn : ℕ → SuperView → SuperView → Turn → Type 0
 after_turn workers old new t = Turned workers old new (Ok t)
 
+-- what was counted so far, and a turn more or none
+pub counted_on : (first old new : SuperView) → HasTurned first old → HasCounted old new → HasTurned first new
+counted_on first old new so counted =
+    let least = so.turns in
+    let next = counted.turns in
+    record {
+      turns = omega (arith, least, next);
+      stays = λ none. counted.stays (none new.turns (omega (arith, least, next)) (omega arith)) ∙ so.stays (λ n lt le is. none n lt (omega (arith, le, next)) is);
+    }
+
+pub still_counted : (first old new : SuperView) → HasTurned first old → HasNotCounted old new → HasTurned first new
+still_counted first old new so same =
+    let least = so.turns in
+    let count = same.turns in
+    record {
+      turns = omega (arith, least, count);
+      stays = λ none. same.stable ∙ so.stays (λ n lt le is. none n lt (omega (arith, le, count)) is);
+    }
+
+pub none_counted : (session : SuperView) → HasTurned session session
+none_counted session = record { turns = omega arith; stays = λ none. refl }
+
 -- the turns of a session so far: it is open as it was, and where it is closed nothing was done
 pub record Turns (workers : ℕ) (old now : SuperView) : Type 0 where
   pub goes : Goes workers old.book now.book
+  pub turned : HasTurned old now
   pub as_open : now.closed ≡ old.closed
   pub still : now.closed ≡ true → now ≡ old
 
 pub no_turn : (workers : ℕ) (session : SuperView) → Turns workers session session
-no_turn workers session = record { goes = begins workers session.book; as_open = refl; still = λ closed. refl }
+no_turn workers session = record { goes = begins workers session.book; turned = none_counted session; as_open = refl; still = λ closed. refl }
 
 not_both : (closed : Bool) → closed ≡ false → closed ≡ true → ⊥
 not_both closed shut open_then = absurd (cc)
@@ -76,6 +99,7 @@ module _ (workers : ℕ) (first old new : SuperView) (so : Turns workers first o
       let more = subst (after_turn workers old new) is turned in
       record {
         goes = goes_on workers first.book old.book new.book so.goes more.2 more.3;
+        turned = counted_on first old new so.turned more.5;
         as_open = more.1 ∙ sym more.0.not_closed ∙ so.as_open;
         still = λ closed. absurd (not_both new.closed more.1 closed);
       }
@@ -85,6 +109,7 @@ module _ (workers : ℕ) (first old new : SuperView) (so : Turns workers first o
     sym so.as_open ∙ not_closed,
     ap (λ (v : SuperView). v.closed) same ∙ not_closed,
     subst (λ (v : SuperView). HasFinished workers first.book v.book) (sym same) (finishes workers first.book old.book so.goes end),
+    subst (λ (v : SuperView). HasTurned first v) (sym same) so.turned,
   )
 
   pub turn_completes : (t : Turn) → after_turn workers old new t → t ≡ turns.Completed → Finished workers first new (Ok tt)
@@ -110,6 +135,7 @@ module _ (workers : ℕ) (first old new : SuperView) (so : Turns workers first o
           ∙ ap (λ (b : BookView). with_more b turned.2.more) so.goes.added
           ∙ ap (λ (j : List Entry). record { setup = first.book.setup; entries = j }) (append_assoc first.book.entries so.goes.more turned.2.more);
     },
+    still_counted first old new so.turned turned.4,
   )
 
 -- ---- one thread alone
@@ -134,5 +160,5 @@ module _ (first old new : BookView) (skip skip' skip'' : Skip) (so : StepsAlone 
       record {
         goes = goes_on 1 first old new so.goes (step_on old new made.1) (λ one. made.1);
         skip_is = made.2;
-        alone = λ cells here. alone_on true old new skip' skip'' cells refl (so.alone cells here) made;
+        alone = λ cells here. alone_on true old new skip' skip'' [] [] cells refl (so.alone cells here) made;
       }

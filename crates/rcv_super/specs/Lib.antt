@@ -1,3 +1,4 @@
+pub mod Bases
 pub mod Super
 pub mod Steps
 pub mod Turn

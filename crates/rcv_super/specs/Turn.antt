@@ -1,8 +1,8 @@
 -- What a turn of a session and a recovery do, by what they answer.
-use Rattle.std.specs.Prelude.{◌≡◌, ◌⊎◌, ◌≤◌, ℕ, true, false, Result, Ok, Err}
+use Rattle.std.specs.Prelude.{◌≡◌, ◌⊎◌, ◌+◌, ◌%◌, ◌≤◌, ℕ, true, false, Result, Ok, Err}
 use Rattle.rcv_model.specs.Final.{IsCompleted, IsLimited}
 use Rattle.rcv_session.specs.Session.{rules_of}
-use Rattle.rcv_core.specs.Book.{BookView, state_of, HasMore}
+use Rattle.rcv_core.specs.Book.{BookView, state_of, HasMore, IsStableLineOf}
 use Rattle.rcv_lanes.specs.Home.{HasGrown}
 use Rattle.rcv_super.specs.Super.{SuperView}
 use Rattle.rcv_super.specs.Steps.{HasStepped, HasGoneOn, HasRecovered, HasRecoveredLeast}
@@ -31,6 +31,17 @@ IsEndOf book Completed = IsCompleted (rules_of book.setup) (state_of book)
 IsEndOf book Limited = IsLimited (rules_of book.setup) (state_of book)
 IsEndOf book More = ⊥
 
+-- A turn was counted. Behind each 1,024th of them the line is the book's stable line, and else it is what it was.
+pub record HasCounted (old new : SuperView) : Type 0 where
+  pub turns : new.turns ≡ old.turns + 1
+  pub line : new.turns % 1024 ≡ 0 → IsStableLineOf new.book new.stable
+  pub stays : (new.turns % 1024 ≡ 0 → ⊥) → new.stable ≡ old.stable
+
+-- None was, and the line is what it was.
+pub record HasNotCounted (old new : SuperView) : Type 0 where
+  pub turns : new.turns ≡ old.turns
+  pub stable : new.stable ≡ old.stable
+
 -- What a turn of so many workers did. An open session with something left to do goes on by at least one entry, or wants
 -- memory and is closed from then on; with one worker it goes on by the entry that one thread makes. With several, where a
 -- role is crashed, the least such one recovers, and what else is added stands behind its Recover.
@@ -39,15 +50,17 @@ Turned workers old new (Ok Completed) = IsAtCompletion old × (new ≡ old)
 Turned workers old new (Ok Limited) = IsAtLimit old × (new ≡ old)
 Turned workers old new (Ok More) =
     GoesOn old × (new.closed ≡ false) × HasGoneOn old.book new.book × (workers ≡ 1 → HasStepped old.book new.book)
-    × (2 ≤ workers → HasRecoveredLeast old.book new.book)
+    × (2 ≤ workers → HasRecoveredLeast old.book new.book) × HasCounted old new
 Turned workers old new (Err Closed) = (old.closed ≡ true) × (new ≡ old)
 Turned workers old new (Err Memory) =
     GoesOn old × (new.closed ≡ true) × HasGrown old.book new.book
-    × (workers ≡ 1 → (new.book ≡ old.book) ⊎ HasStepped old.book new.book)
+    × (workers ≡ 1 → (new.book ≡ old.book) ⊎ HasStepped old.book new.book) × HasNotCounted old new
 
 -- What a recovery of a crashed role did.
 abbrev pub Recovered : ℕ → SuperView → SuperView → Result (Unit {0}) SessionError → Type 0
-Recovered role old new (Ok done) = (old.closed ≡ false) × (new.closed ≡ false) × HasRecovered old.book new.book role
+Recovered role old new (Ok done) =
+    (old.closed ≡ false) × (new.closed ≡ false) × HasRecovered old.book new.book role × HasNotCounted old new
 Recovered role old new (Err Closed) = (old.closed ≡ true) × (new ≡ old)
 Recovered role old new (Err Memory) =
     (old.closed ≡ false) × (new.closed ≡ true) × ((new.book ≡ old.book) ⊎ HasRecovered old.book new.book role)
+    × HasNotCounted old new

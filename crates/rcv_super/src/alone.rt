@@ -6,13 +6,15 @@ ghost use Rattle.rcv_model.specs.Final.{IsStep};
 ghost use Rattle.rcv_session.specs.Session.{roles_of, rules_of};
 ghost use Rattle.rcv_core.specs.Book.{state_of, HasMore, IsAtEnd};
 ghost use Rattle.rcv_core.specs.Skips.{IsSkip};
-ghost use Rattle.rcv_lanes.specs.Home.{AreHome};
+ghost use Rattle.rcv_lanes.specs.Home.{AreHome, HaveBases};
 ghost use Rattle.rcv_role.specs.Cell.{CellView};
+ghost use Rattle.rcv_super.specs.Bases.{IsStableIn};
 ghost use Rattle.rcv_super.specs.Steps.{HasStepped, AreSteps};
 ghost use Rattle.rcv_super.specs.Super.{IsAlone};
 ghost use Rattle.rcv_super.specs.Finish.{HasFinished};
 ghost use Rattle.rcv_super.specs.Turn.{IsEndOf};
 
+use crate::forgetting::forget_before;
 use crate::session::Turn;
 use crate::step::make_step;
 use rcv_core::book::Book;
@@ -82,20 +84,25 @@ fn announce<G: Gate>(book: &Book, entry: &Entry, gate: &G)
     }
 }
 
-/// Brings the cells to where the book stands, where it has gone on alone; from then on they choose. Fails where memory
-/// runs out; then the cells are at home nowhere.
+/// Brings the cells to where the book stands, where it has gone on alone; from then on they choose, and have forgotten
+/// the states before the line. Fails where memory runs out; then the cells are at home nowhere.
 pub fn bring_home<'a>(
     alloc: Global,
     book: &mut Book<'a>,
     lanes: &mut Vec<Lane<'a>>,
     alone: bool,
+    line: &[u32; 8],
 ) -> Result<(), AllocError>
     requires ahead { alone ≡ true → AreSteps (rules_of book.old.setup)
         (start (roles_of book.old.setup)) book.old.entries
-        × AreHome (record { setup = book.old.setup; entries = [] }) lanes.old.items }
-    requires home { alone ≡ false → AreHome book.old lanes.old.items }
+        × AreHome (record { setup = book.old.setup; entries = [] }) lanes.old.items
+        × HaveBases (roles_of book.old.setup) [] lanes.old.items }
+    requires home { alone ≡ false → AreHome book.old lanes.old.items
+        × HaveBases (roles_of book.old.setup) line.now lanes.old.items }
+    requires stable { IsStableIn book.old line.now }
     ensures same { book.new ≡ book.old }
     ensures home { OnOk result (AreHome book.new lanes.new.items) }
+    ensures bases { OnOk result (HaveBases (roles_of book.new.setup) line.now lanes.new.items) }
 {
     if !alone {
         return Ok(());
@@ -106,6 +113,7 @@ pub fn bring_home<'a>(
         return Ok(());
     }
     *book = catch_up(alloc, book, lanes)?;
+    forget_before(book, lanes, line);
     Ok(())
 }
 
@@ -117,8 +125,10 @@ fn catch_up<'a>(
 ) -> Result<Book<'a>, AllocError>
     requires steps { AreSteps (rules_of book.now.setup) (start (roles_of book.now.setup)) book.now.entries }
     requires home { AreHome (record { setup = book.now.setup; entries = [] }) lanes.old.items }
+    requires bases { HaveBases (roles_of book.now.setup) [] lanes.old.items }
     ensures same { IfOk result (λ copy. copy ≡ book.now) }
     ensures home { OnOk result (AreHome book.now lanes.new.items) }
+    ensures bases { OnOk result (HaveBases (roles_of book.now.setup) [] lanes.new.items) }
 {
     // Tells the proof that the protocol is accepted.
     let _protocol = book.setup().protocol();

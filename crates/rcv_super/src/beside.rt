@@ -4,8 +4,9 @@ ghost use Rattle.std.specs.Prelude.{◌≡◌, ◌≤◌, ◌<◌, All, OnOk};
 ghost use Rattle.rcv_model.specs.Final.{IsCrashed};
 ghost use Rattle.rcv_core.specs.Book.{state_of};
 ghost use Rattle.rcv_fence.specs.Shown.{with_raised};
-ghost use Rattle.rcv_lanes.specs.Home.{AreHome, HasGrown};
+ghost use Rattle.rcv_lanes.specs.Home.{AreHome, HasGrown, SameBases};
 ghost use Rattle.rcv_back.specs.Back.{CanGoBack, HaveGoneBack};
+ghost use Rattle.rcv_super.specs.Bases.{AreBased};
 ghost use Rattle.rcv_super.specs.Beside.{MayRun, RanAt, HaveRun, ArePartedBehind};
 ghost use Rattle.rcv_super.specs.Steps.{HasRecoveredBeside};
 
@@ -98,6 +99,7 @@ fn hand_in<'a>(
 ) -> Result<(), AllocError>
     requires { ArePartedBehind book.old lanes.old.items }
     ensures home { OnOk result (AreHome book.new lanes.new.items) }
+    ensures bases { OnOk result (SameBases lanes.old.items lanes.new.items) }
     ensures grown { HasGrown book.old book.new }
 {
     // Tells the proof that the journal is legal, and the protocol accepted.
@@ -127,8 +129,10 @@ pub fn recover_beside<'a, G: Gate, R: Threads + Sync>(
 ) -> Result<(), AllocError>
     requires workers { 2 ≤ workers }
     requires home { AreHome book.old lanes.old.items }
+    requires based { AreBased book.old lanes.old.items }
     requires crashed { IsCrashed (state_of book.old) role }
     ensures home { OnOk result (AreHome book.new lanes.new.items) }
+    ensures bases { OnOk result (SameBases lanes.old.items lanes.new.items) }
     ensures recovered { OnOk result (HasRecoveredBeside book.old book.new role) }
     ensures grown { HasGrown book.old book.new }
     ensures lowered { watch.new ≡ with_raised watch.old 0 }

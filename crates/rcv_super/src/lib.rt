@@ -3,6 +3,7 @@
 
 mod alone;
 mod beside;
+mod forgetting;
 mod known;
 mod recovery;
 mod rounds;

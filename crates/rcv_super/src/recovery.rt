@@ -3,7 +3,8 @@
 ghost use Rattle.std.specs.Prelude.{◌≡◌, ◌⊎◌, OnOk};
 ghost use Rattle.rcv_model.specs.Final.{IsCrashed};
 ghost use Rattle.rcv_core.specs.Book.{state_of};
-ghost use Rattle.rcv_lanes.specs.Home.{AreHome};
+ghost use Rattle.rcv_lanes.specs.Home.{AreHome, SameBases};
+ghost use Rattle.rcv_super.specs.Bases.{AreBased};
 ghost use Rattle.rcv_super.specs.Steps.{HasRecovered};
 
 use crate::known::{concerned_by, know_all};
@@ -23,8 +24,10 @@ pub fn recover_alone<'a>(
     role: RoleId,
 ) -> Result<(), AllocError>
     requires home { AreHome book.old lanes.old.items }
+    requires based { AreBased book.old lanes.old.items }
     requires crashed { IsCrashed (state_of book.old) role }
     ensures home { OnOk result (AreHome book.new lanes.new.items) }
+    ensures bases { OnOk result (SameBases lanes.old.items lanes.new.items) }
     ensures recovered { OnOk result (HasRecovered book.old book.new role) }
     ensures some { (book.new ≡ book.old) ⊎ HasRecovered book.old book.new role }
 {

@@ -5,7 +5,8 @@ ghost use Rattle.rcv_model.specs.Journal.{start};
 ghost use Rattle.rcv_model.specs.Final.{IsCrashed};
 ghost use Rattle.rcv_session.specs.Session.{roles_of, rules_of};
 ghost use Rattle.rcv_core.specs.Book.{state_of, HasMore};
-ghost use Rattle.rcv_lanes.specs.Home.{AreHome, HasGrown};
+ghost use Rattle.rcv_lanes.specs.Home.{AreHome, HasGrown, HaveBases, SameBases};
+ghost use Rattle.rcv_super.specs.Bases.{IsStableIn, AreBased};
 ghost use Rattle.rcv_super.specs.Steps.{AreSteps, HasStepped, HasGoneOn, HasRecovered, HasRecoveredLeast};
 
 use crate::alone::bring_home;
@@ -29,8 +30,8 @@ const FEW: usize = 8;
 const REST: u32 = 16;
 
 /// A turn of so many workers, behind which the cells are at home, where they were or where the book had gone on alone.
-/// `resting` is how many rounds are still to be made on this thread alone. Fails where memory runs out; then the cells
-/// aren't at home.
+/// They have forgotten the states before the line, and no others. `resting` is how many rounds are still to be made on
+/// this thread alone. Fails where memory runs out; then the cells aren't at home.
 pub fn go<'a, G: Gate, R: Threads + Sync>(
     rt: &R,
     alloc: Global,
@@ -39,23 +40,28 @@ pub fn go<'a, G: Gate, R: Threads + Sync>(
     watch: &mut Watch,
     resting: &mut u32,
     alone: bool,
+    line: &[u32; 8],
     workers: u32,
     gate: &G,
 ) -> Result<(), AllocError>
     requires workers { 1 ≤ workers }
     requires ahead { alone ≡ true → AreSteps (rules_of book.old.setup)
         (start (roles_of book.old.setup)) book.old.entries
-        × AreHome (record { setup = book.old.setup; entries = [] }) lanes.old.items }
-    requires home { alone ≡ false → AreHome book.old lanes.old.items }
+        × AreHome (record { setup = book.old.setup; entries = [] }) lanes.old.items
+        × HaveBases (roles_of book.old.setup) [] lanes.old.items }
+    requires home { alone ≡ false → AreHome book.old lanes.old.items
+        × HaveBases (roles_of book.old.setup) line.now lanes.old.items }
+    requires stable { IsStableIn book.old line.now }
     requires more { HasMore book.old }
     ensures home { OnOk result (AreHome book.new lanes.new.items) }
+    ensures bases { OnOk result (HaveBases (roles_of book.new.setup) line.now lanes.new.items) }
     ensures gone_on { OnOk result (HasGoneOn book.old book.new) }
     ensures stepped { OnOk result (workers ≡ 1 → HasStepped book.old book.new) }
     ensures recovered { OnOk result (2 ≤ workers → HasRecoveredLeast book.old book.new) }
     ensures grown { HasGrown book.old book.new }
     ensures some { workers ≡ 1 → (book.new ≡ book.old) ⊎ HasStepped book.old book.new }
 {
-    bring_home(alloc, book, lanes, alone)?;
+    bring_home(alloc, book, lanes, alone, line)?;
     if workers == 1 {
         return make_step(alloc, book, lanes, gate);
     }
@@ -78,18 +84,23 @@ pub fn recover_home<'a>(
     book: &mut Book<'a>,
     lanes: &mut Vec<Lane<'a>>,
     alone: bool,
+    line: &[u32; 8],
     role: RoleId,
 ) -> Result<(), AllocError>
     requires ahead { alone ≡ true → AreSteps (rules_of book.old.setup)
         (start (roles_of book.old.setup)) book.old.entries
-        × AreHome (record { setup = book.old.setup; entries = [] }) lanes.old.items }
-    requires home { alone ≡ false → AreHome book.old lanes.old.items }
+        × AreHome (record { setup = book.old.setup; entries = [] }) lanes.old.items
+        × HaveBases (roles_of book.old.setup) [] lanes.old.items }
+    requires home { alone ≡ false → AreHome book.old lanes.old.items
+        × HaveBases (roles_of book.old.setup) line.now lanes.old.items }
+    requires stable { IsStableIn book.old line.now }
     requires crashed { IsCrashed (state_of book.old) role }
     ensures home { OnOk result (AreHome book.new lanes.new.items) }
+    ensures bases { OnOk result (HaveBases (roles_of book.new.setup) line.now lanes.new.items) }
     ensures recovered { OnOk result (HasRecovered book.old book.new role) }
     ensures some { (book.new ≡ book.old) ⊎ HasRecovered book.old book.new role }
 {
-    bring_home(alloc, book, lanes, alone)?;
+    bring_home(alloc, book, lanes, alone, line)?;
     recover_alone(alloc, book, lanes, role)
 }
 
@@ -107,8 +118,10 @@ fn go_on<'a, G: Gate, R: Threads + Sync>(
 ) -> Result<(), AllocError>
     requires workers { 2 ≤ workers }
     requires home { AreHome book.old lanes.old.items }
+    requires based { AreBased book.old lanes.old.items }
     requires more { HasMore book.old }
     ensures home { OnOk result (AreHome book.new lanes.new.items) }
+    ensures bases { OnOk result (SameBases lanes.old.items lanes.new.items) }
     ensures gone_on { OnOk result (HasGoneOn book.old book.new) }
     ensures recovered { OnOk result (HasRecoveredLeast book.old book.new) }
     ensures grown { HasGrown book.old book.new }
@@ -131,14 +144,19 @@ fn round_or_step<'a, G: Gate, R: Threads + Sync>(
 ) -> Result<(), AllocError>
     requires workers { 2 ≤ workers }
     requires home { AreHome book.old lanes.old.items }
+    requires based { AreBased book.old lanes.old.items }
     requires more { HasMore book.old }
     ensures home { OnOk result (AreHome book.new lanes.new.items) }
+    ensures bases { OnOk result (SameBases lanes.old.items lanes.new.items) }
     ensures gone_on { OnOk result (HasGoneOn book.old book.new) }
     ensures grown { HasGrown book.old book.new }
 {
     let before = book.len();
     let threads = threads_for(workers, *resting);
     make_round(rt, alloc, book, lanes, watch, threads, gate)?;
+    // Tells the proof that the journal is legal, and the protocol accepted.
+    let _entries = book.entries();
+    let _protocol = book.setup().protocol();
     *resting = rest_behind(*resting, book.len().saturating_sub(before));
     if book.len() > before {
         return Ok(());

@@ -8,6 +8,7 @@ ghost use Rattle.rcv_super.specs.Finish.{Finished, HasFinishedAlone};
 ghost use Rattle.rcv_super.specs.Turn.{Turned, Recovered};
 
 use crate::alone::{end_of, finish_alone, step_alone};
+use crate::forgetting::{keep_line, next_turn, still_stable};
 use crate::rounds::{go, recover_home};
 use rcv_core::book::Book;
 use rcv_core::outcome::Outcome;
@@ -23,7 +24,9 @@ use std::marker::Model;
 use std::thread::Threads;
 use thiserror::Error;
 
-/// A book, and the cells of its roles. Contracts see the book, and whether want of memory closed the session.
+/// A book, and the cells of its roles. Contracts see the book, whether want of memory closed the session, how many turns
+/// added entries, and the stable line that was found last: the cells, once they follow the book, have forgotten the states
+/// before it.
 #[derive(Drop)]
 pub struct Session<'a> {
     book: Book<'a>,
@@ -36,6 +39,8 @@ pub struct Session<'a> {
     alone: bool,
     // What is known then of the next one.
     skip: Skip,
+    turns: u32,
+    line: [u32; 8],
 }
 
 impl<'a> Model for Session<'a> {
@@ -48,9 +53,9 @@ impl<'a> Model for Session<'a> {
 
     ghost coded = { Prim.hlevel (codes, e.the_row.coded, expr_code) };
 
-    ghost view = { λ s. record { book = s.book; closed = s.closed } };
+    ghost view = { λ s. record { book = s.book; closed = s.closed; turns = s.turns; stable = s.line } };
 
-    ghost invariant = { λ s. IsSuper s.book s.closed s.alone s.skip s.lanes.items };
+    ghost invariant = { λ s. IsSuper s.book s.closed s.alone s.skip s.turns s.line s.lanes.items };
 }
 
 /// What a turn came to.
@@ -95,6 +100,8 @@ impl<'a> Session<'a> {
             closed: false,
             alone: true,
             skip: Skip::nothing(),
+            turns: 0,
+            line: [0; 8],
         })
     }
 
@@ -111,6 +118,9 @@ impl<'a> Session<'a> {
     /// the threads, while the cells that aren't concerned run on the others, and its Recover is added before what they
     /// did. Of a turn with several workers the clause says that legal entries were added, at least one, and first the
     /// Recover of the least crashed role; not that a round was made.
+    ///
+    /// Behind each 1,024th turn that added entries the book's stable line is found, and the cells forget the states before
+    /// it, which no recovery can ask for.
     ///
     /// The gate is called before each step that a role attempts and before a recovery moves anything, on the thread
     /// that does it.
@@ -137,6 +147,14 @@ impl<'a> Session<'a> {
                 return Ok(end_of(&self.book));
             };
             self.skip = skip;
+            self.turns = next_turn(&self.book, self.turns);
+            keep_line(
+                &self.book,
+                &mut self.lanes,
+                true,
+                self.turns,
+                &mut self.line,
+            );
             return Ok(Turn::More);
         }
         match self.book.final_state() {
@@ -153,6 +171,7 @@ impl<'a> Session<'a> {
             &mut self.watch,
             &mut self.resting,
             self.alone,
+            &self.line,
             workers,
             gate,
         );
@@ -160,6 +179,14 @@ impl<'a> Session<'a> {
             return Err(SessionError::Memory);
         }
         self.alone = false;
+        self.turns = next_turn(&self.book, self.turns);
+        keep_line(
+            &self.book,
+            &mut self.lanes,
+            false,
+            self.turns,
+            &mut self.line,
+        );
         self.closed = false;
         Ok(Turn::More)
     }
@@ -204,6 +231,7 @@ impl<'a> Session<'a> {
             return false;
         }
         self.skip = finish_alone(&mut self.book, self.skip, gate);
+        still_stable(&self.book, &self.line);
         true
     }
 
@@ -217,12 +245,36 @@ impl<'a> Session<'a> {
             return Err(SessionError::Closed);
         }
         self.closed = true;
-        if recover_home(alloc, &mut self.book, &mut self.lanes, self.alone, role).is_err() {
+        let recovered = recover_home(
+            alloc,
+            &mut self.book,
+            &mut self.lanes,
+            self.alone,
+            &self.line,
+            role,
+        );
+        if recovered.is_err() {
             return Err(SessionError::Memory);
         }
+        still_stable(&self.book, &self.line);
         self.alone = false;
         self.closed = false;
         Ok(())
+    }
+
+    /// How many turns added entries.
+    pub fn turns(&self) -> u32
+        ensures { result ≡ self.now.turns }
+    {
+        self.turns
+    }
+
+    /// The stable line that was found last, behind a turn whose number is a multiple of 1,024: for each of eight roles how
+    /// many of its events no recovery takes back. 0 of each at first.
+    pub fn stable(&self) -> [u32; 8]
+        ensures { result ≡ self.now.stable }
+    {
+        self.line
     }
 
     /// The book.

@@ -6,7 +6,8 @@ ghost use Rattle.rcv_model.specs.Final.{IsCrashed, IsLeastOf, IsStep};
 ghost use Rattle.rcv_session.specs.Session.{rules_of};
 ghost use Rattle.rcv_core.specs.Book.{state_of, HasMore};
 ghost use Rattle.rcv_role.specs.Cell.{CellView};
-ghost use Rattle.rcv_lanes.specs.Home.{cell_at, AreHome};
+ghost use Rattle.rcv_lanes.specs.Home.{cell_at, AreHome, SameBases};
+ghost use Rattle.rcv_super.specs.Bases.{AreBased};
 ghost use Rattle.rcv_super.specs.OneStep.{IsNextEvent, CanPoll, WasPolled, AreOutWith};
 ghost use Rattle.rcv_super.specs.Steps.{HasStepped};
 
@@ -29,8 +30,10 @@ pub fn make_step<'a, G: Gate>(
     gate: &G,
 ) -> Result<(), AllocError>
     requires home { AreHome book.old lanes.old.items }
+    requires based { AreBased book.old lanes.old.items }
     requires more { HasMore book.old }
     ensures home { OnOk result (AreHome book.new lanes.new.items) }
+    ensures bases { OnOk result (SameBases lanes.old.items lanes.new.items) }
     ensures stepped { OnOk result (HasStepped book.old book.new) }
     ensures some { (book.new ≡ book.old) ⊎ HasStepped book.old book.new }
 {
@@ -49,8 +52,10 @@ fn make_entry<'a, G: Gate>(
     entry: &Entry,
 ) -> Result<(), AllocError>
     requires home { AreHome book.old lanes.old.items }
+    requires based { AreBased book.old lanes.old.items }
     requires step { IsStep (rules_of book.old.setup) (state_of book.old) entry.now }
     ensures home { OnOk result (AreHome book.new lanes.new.items) }
+    ensures bases { OnOk result (SameBases lanes.old.items lanes.new.items) }
     ensures stepped { OnOk result (HasStepped book.old book.new) }
     ensures some { (book.new ≡ book.old) ⊎ HasStepped book.old book.new }
 {
@@ -71,8 +76,10 @@ fn make_recovery<'a, G: Gate>(
     role: RoleId,
 ) -> Result<(), AllocError>
     requires home { AreHome book.old lanes.old.items }
+    requires based { AreBased book.old lanes.old.items }
     requires least { IsLeastOf (IsCrashed (state_of book.old)) role }
     ensures home { OnOk result (AreHome book.new lanes.new.items) }
+    ensures bases { OnOk result (SameBases lanes.old.items lanes.new.items) }
     ensures stepped { OnOk result (HasStepped book.old book.new) }
     ensures some { (book.new ≡ book.old) ⊎ HasStepped book.old book.new }
 {
@@ -90,6 +97,7 @@ fn make_crash<'a, G: Gate>(
     requires home { AreHome book.old lanes.old.items }
     requires step { IsStep (rules_of book.old.setup) (state_of book.old) (Crash role) }
     ensures home { OnOk result (AreHome book.new lanes.new.items) }
+    ensures bases { OnOk result (SameBases lanes.old.items lanes.new.items) }
     ensures stepped { OnOk result (HasStepped book.old book.new) }
     ensures some { (book.new ≡ book.old) ⊎ HasStepped book.old book.new }
 {
@@ -111,6 +119,7 @@ fn make_event<'a, G: Gate>(
     requires home { AreHome book.old lanes.old.items }
     requires next { IsNextEvent book.old entry.now event.now }
     ensures home { OnOk result (AreHome book.new lanes.new.items) }
+    ensures bases { OnOk result (SameBases lanes.old.items lanes.new.items) }
     ensures stepped { OnOk result (HasStepped book.old book.new) }
     ensures some { (book.new ≡ book.old) ⊎ HasStepped book.old book.new }
 {
@@ -133,6 +142,7 @@ fn add_entry<'a>(
 ) -> Result<(), AllocError>
     requires { AreOutWith book.old lanes.old.items entry }
     ensures home { OnOk result (AreHome book.new lanes.new.items) }
+    ensures bases { OnOk result (SameBases lanes.old.items lanes.new.items) }
     ensures stepped { OnOk result (HasStepped book.old book.new) }
     ensures some { (book.new ≡ book.old) ⊎ HasStepped book.old book.new }
 {

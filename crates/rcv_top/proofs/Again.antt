@@ -24,7 +24,7 @@ use Rattle.rcv_top.specs.declared.status.Status.{Status}
 use Rattle.rcv_top.specs.declared.status.Status.TheVariants as statuses
 use Rattle.rcv_words.specs.Commands.{CommandView, Check}
 use Rattle.rcv_top.specs.Commands.{text_for}
-use Rattle.rcv_top.specs.Outcome.{most_bytes, IsAnswer, IsOutcome, usage, too_long, answered, refused, made}
+use Rattle.rcv_top.specs.Outcome.{most_bytes, IsAnswer, IsOutcome, usage, too_long, answered, refused, made, replayed}
 use Rattle.rcv_top.specs.Laws.{ChecksStay}
 use Rattle.rcv_top.proofs.Asking.{one_command, check_command}
 
@@ -61,7 +61,8 @@ pub checks_stay : ChecksStay
 checks_stay input bytes outcome short = go statuses.Completed bytes refl outcome short
   where
     once_more : (s : Status) (b : List ℕ) → s ≡ statuses.Completed → IsAnswer Check input s b → length b ≤ most_bytes → IsOutcome (codes "check" ∷ []) b statuses.Completed b
-    once_more s b is (refused refusal first) few = absurd cc
+    once_more s b is (refused whole refusal first) few = absurd cc
+    once_more s b is (replayed check answer) few = absurd cc
     once_more s b is (made session taken makes) few =
         let text = again input session taken in
         answered Check (record { words_are = check_command; short = few }) (made (bare session.protocol) (subst (λ (t : List ℕ). IsTaken t (bare session.protocol)) (sym makes.1) text) (refl, makes.1))

@@ -24,11 +24,14 @@ use Rattle.rcv_accept.specs.Accepted.{IsAcceptedProtocol}
 use Rattle.rcv_session.specs.Session.{SessionView, rules_of}
 use Rattle.rcv_top.specs.declared.status.Status.{Status}
 use Rattle.rcv_top.specs.declared.status.Status.TheVariants as statuses
-use Rattle.rcv_words.specs.Commands.{CommandView, Run, Check, Project, Table, Gen, IsCommand, IsNoCommand}
+use Rattle.rcv_words.specs.Commands.{CommandView, Run, Check, Project, Table, Gen, Replay, Line, IsCommand, IsNoCommand}
 use Rattle.rcv_top.specs.Commands.{AskForSource, text_for}
 use Rattle.rcv_top.specs.Inputs.{ReadNothing, HasGot}
 use Rattle.rcv_top.specs.Running.{EndsAs, all_done, at_limit, IsSomeRun}
-use Rattle.rcv_top.specs.Outcome.{usage_line, most_bytes, Makes, IsAnswer, IsOutcome, usage, too_long, answered as answered_so, refused, made}
+use Rattle.rcv_top.specs.Outcome.{usage_line, most_bytes, Makes, IsAnswer, IsOutcome, usage, too_long, answered as answered_so, refused, made, replayed}
+use Rattle.rcv_replay.specs.declared.replayed.Replayed.{Replayed}
+use Rattle.rcv_replay.specs.declared.replayed.Replayed.TheVariants as replays
+use Rattle.rcv_top.specs.Replaying.{IsSaidOf}
 use Rattle.rcv_top.specs.Laws.{SessionsAreLegal}
 use Rattle.rcv_top.specs.Headline.{IsHeadline}
 use Rattle.rcv_top.proofs.Asking.{one_command, text_given, gen_asks, none_asks}
@@ -52,6 +55,7 @@ IsAnswerStatus statuses.ReadFault = ⊥
 IsAnswerStatus statuses.WriteFault = ⊥
 IsAnswerStatus statuses.Memory = ⊥
 IsAnswerStatus statuses.TooLong = ⊥
+IsAnswerStatus statuses.Wrong = Unit {0}
 
 run_answers : (rules : Rules) (s : State) (status : Status) → EndsAs rules s status → IsAnswerStatus status
 run_answers rules s status (all_done done) = tt
@@ -64,9 +68,18 @@ command_answers session Table status bytes makes = subst IsAnswerStatus (sym mak
 command_answers session (Project name) status bytes (inl makes) = subst IsAnswerStatus (sym makes.2) tt
 command_answers session (Project name) status bytes (inr makes) = subst IsAnswerStatus (sym makes.1) tt
 command_answers session (Gen number) status bytes makes = subst IsAnswerStatus (sym makes.completed) tt
+command_answers session Line status bytes makes = subst IsAnswerStatus (sym makes.completed) tt
+command_answers session Replay status bytes makes = absurd makes
+
+said_answers : (x : Replayed) (status : Status) (bytes : List ℕ) → IsSaidOf x status bytes → IsAnswerStatus status
+said_answers (replays.Refused r) status bytes is = subst IsAnswerStatus (sym is.0) tt
+said_answers (replays.Legal entries limited) status bytes is = subst IsAnswerStatus (sym is.0) tt
+said_answers (replays.WrongEntry k) status bytes is = subst IsAnswerStatus (sym is.0) tt
+said_answers replays.WrongEnd status bytes is = subst IsAnswerStatus (sym is.0) tt
 
 answer_answers : (command : CommandView) (text : List ℕ) (status : Status) (bytes : List ℕ) → IsAnswer command text status bytes → IsAnswerStatus status
-answer_answers command text status bytes (refused refusal first) = tt
+answer_answers command text status bytes (refused whole refusal first) = tt
+answer_answers command text status bytes (replayed is answer) = said_answers answer.said status bytes answer.says
 answer_answers command text status bytes (made session taken makes) = command_answers session command status bytes makes
 
 answers : (words : List (List ℕ)) (input : List ℕ) (status : Status) (bytes : List ℕ) → (status ≡ statuses.TooLong → ⊥) → IsOutcome words input status bytes → IsAnswerStatus status
@@ -83,6 +96,7 @@ says words call statuses.ReadFault is said = absurd is
 says words call statuses.WriteFault is said = absurd is
 says words call statuses.Memory is said = absurd is
 says words call statuses.TooLong is said = absurd is
+says words call statuses.Wrong is said = said
 
 -- what was written whole, or in part
 pub answered : (words : List (List ℕ)) (call : Around) (input bytes : List ℕ) (status result : Status) → IsInput words call input → (status ≡ statuses.TooLong → ⊥) → IsOutcome words input status bytes → Wrote call.written_before call.written_after call.write_faults_before call.write_faults_after bytes status result → Says words call result
@@ -271,7 +285,8 @@ wrote_headline words call command v bytes status result workers json is run got 
     runs = subst (λ (t : List ℕ). IsAnswer (Run workers json) t status bytes) (sym given) (subst (λ (c : CommandView). IsAnswer c v.items status bytes) same answer)
 
     go : (s : Status) (b : List ℕ) → b ≡ bytes → IsAnswer (Run workers json) text.input s b → (s ≡ statuses.Completed) ⊎ (s ≡ statuses.Limited) → WritesLegalJournal json call s
-    go s b is_bytes (refused refusal first) e = absurd (⊎_elim (λ f. cc) (λ f. cc) e)
+    go s b is_bytes (replayed is answer) e = absurd (cc)
+    go s b is_bytes (refused whole refusal first) e = absurd (⊎_elim (λ f. cc) (λ f. cc) e)
     go s b is_bytes (made session taken makes) e =
         let held : IsSomeRun json session s bytes = subst (λ (l : List ℕ). IsSomeRun json session s l) is_bytes makes.some in
         record {

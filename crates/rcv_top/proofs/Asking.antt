@@ -1,7 +1,7 @@
 -- What words ask for: one command or none, and whether it works on the source.
 use Rattle.std.proofs.Common.{◌≡◌, ℕ, codes, List, [], ◌∷◌, refl, ◌∙◌, subst, ◌⊎◌, inl, inr}
 use Rattle.clap.proofs.OnLiterals.{clap_on_literals}
-use Rattle.rcv_words.specs.Commands.{CommandView, Run, Check, Project, Table, Gen, IsCommand, IsNoCommand, given}
+use Rattle.rcv_words.specs.Commands.{CommandView, Run, Check, Project, Table, Gen, Replay, Line, IsCommand, IsNoCommand, given}
 use Rattle.rcv_words.proofs.OneCommand as said
 use Rattle.rcv_top.specs.Commands.{AskForSource, WorksOnSource, text_for}
 
@@ -20,6 +20,8 @@ source_or_gen (Run n json) = inl tt
 source_or_gen Check = inl tt
 source_or_gen (Project name) = inl tt
 source_or_gen Table = inl tt
+source_or_gen Replay = inl tt
+source_or_gen Line = inl tt
 source_or_gen (Gen n) = inr (n, refl)
 
 -- what works on the source works on what this gave
@@ -28,6 +30,8 @@ text_given (Run n json) input works = refl
 text_given Check input works = refl
 text_given (Project name) input works = refl
 text_given Table input works = refl
+text_given Replay input works = refl
+text_given Line input works = refl
 text_given (Gen n) input works = absurd works
 
 -- `gen` doesn't ask for the source

@@ -1,6 +1,7 @@
 -- Words that are commands. And each law has something to speak of: applied to the input that rcv_input's worked case takes.
 use Rattle.std.proofs.Common.{◌≡◌, ℕ, true, false, codes, ◌<◌, ◌≤◌, List, [], ◌∷◌, length, refl, ap, arith}
-use Rattle.std.specs.Prelude.{◌↔◌}
+use Rattle.std.specs.Prelude.{◌↔◌, slice_index}
+use Rattle.std.specs.Fmt.{digits}
 use Rattle.rcv_session.specs.Session.{rules_of}
 use Rattle.rcv_accept.specs.Accepted.{IsAcceptedProtocol, net_for}
 use Rattle.rcv_lexer.specs.Parts.{parts_of}
@@ -32,9 +33,10 @@ use Rattle.clap.specs.Words.{fault_of}
 use Rattle.clap.specs.declared.error.kind.ErrorKind.TheVariants as kind
 use Rattle.clap.proofs.OnLiterals.{clap_on_literals}
 use Rattle.rcv_words.specs.Program.{rcv}
-use Rattle.rcv_words.specs.Commands.{Run, Check, Project, Gen, IsCommand, IsNoCommand, line_of}
+use Rattle.rcv_words.specs.Commands.{Run, Check, Project, Gen, Line, IsCommand, IsNoCommand, line_of}
 use Rattle.rcv_top.specs.Commands.{AskForSeveral, AskForSource}
 use Rattle.rcv_top.specs.Generating.{IsSummaryRun}
+use Rattle.rcv_top.specs.Lining.{line_text, IsLineRun}
 use Rattle.rcv_top.specs.Laws.{HasOutcome}
 use Rattle.rcv_top.specs.Running.{IsOneThreadRun}
 use Rattle.rcv_top.specs.Recovering.{IsTableText, accepted_as}
@@ -43,10 +45,11 @@ use Rattle.rcv_top.specs.Outcome.{most_bytes, IsOutcome, answered, made}
 use Rattle.rcv_top.proofs.Asking.{one_command, check_command, gen_asks}
 use Rattle.rcv_top.proofs.Again.{checks_stay}
 use Rattle.rcv_top.proofs.Answering.{session_headline}
-use Rattle.rcv_top.proofs.Ending.{sessions_end, summary_exists}
+use Rattle.rcv_top.proofs.Ending.{sessions_end, summary_exists, line_exists}
 use Rattle.rcv_top.proofs.Existing.{outcomes_exist}
 use Rattle.rcv_json.proofs.OneJson.{one_json}
 use Rattle.rcv_top.proofs.OneSummary.{one_summary}
+use Rattle.rcv_top.proofs.OneLine.{one_line_of}
 use Rattle.rcv_top.proofs.Outcomes.{one_outcome}
 use Rattle.rcv_top.proofs.RoleTexts.{text_exists}
 use Rattle.rcv_top.proofs.TableTexts.{table_exists}
@@ -103,6 +106,11 @@ reads_nothing = gen_asks gen_12 (Gen 12) 12 generates refl
 reads : AskForSource (codes "check" ∷ [])
 reads = (Check, tt, check_command)
 
+-- `line` is one, which takes no option
+of_line : IsCommand (codes "line" ∷ []) Line
+unfolding clap_on_literals
+of_line = (refl, (refl, record { workers = refl; json = refl; role = refl; number = refl }), tt)
+
 -- ---- whatever the source gave, `gen` answers the same
 abbrev anything : List ℕ
 anything = codes "anything"
@@ -152,6 +160,17 @@ summed = summary_exists 12 input session taken
 
 same_summary : summed.0 ≡ summed.0
 same_summary = one_summary session summed.1.journal 12 summed.0 summed.0 summed.1.summary summed.1.summary
+
+-- it has a stable line, and one alone, whose text names each role with its count
+lined : (bytes : List ℕ) × IsLineRun session Completed bytes
+lined = line_exists input session taken
+
+same_line : lined.0 ≡ lined.0
+same_line = one_line_of session lined.1.journal lined.0 lined.0 lined.1.line lined.1.line
+
+worked_line : line_text (codes "A" ∷ codes "B" ∷ codes "S" ∷ []) (slice_index (3 ∷ 4 ∷ 14 ∷ [])) ≡ codes "line A 3 B 4 S 14\n"
+unfolding digits
+worked_line = refl
 
 -- each role and point of the journal has a name, and its last line tells whether all roles are done
 named : AreNamed session ended.2.journal

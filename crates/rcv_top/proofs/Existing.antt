@@ -1,5 +1,5 @@
 -- All words and inputs have an outcome.
-use Rattle.std.proofs.Common.{◌≡◌, ℕ, ◌≤◌, Bool, Option, Some, None, List, [], length, refl, sym, subst, inl, inr, ⊎_elim, arith}
+use Rattle.std.proofs.Common.{◌≡◌, ℕ, ◌≤◌, Bool, Option, Some, None, List, [], length, refl, sym, subst, inl, inr, ⊎_elim, ◌⊎◌, arith}
 use Rattle.std.specs.Str.{bytes_eq}
 use Rattle.std.proofs.lemmas.Bool.{cases_lt}
 use Rattle.std.proofs.lemmas.List.Quantifiers.{position-Some}
@@ -10,17 +10,22 @@ use Rattle.rcv_input.specs.declared.refused.Refused.TheVariants.{NoRole}
 use Rattle.rcv_input.proofs.Once.{one_answer}
 use Rattle.rcv_printer.specs.CanonicalText.{canonical}
 use Rattle.rcv_top.specs.declared.status.Status.{Status}
-use Rattle.rcv_top.specs.declared.status.Status.TheVariants.{Completed, Usage, Refused, TooLong}
-use Rattle.rcv_words.specs.Commands.{CommandView, Run, Check, Project, Table, Gen, IsCommand, IsWithin}
+use Rattle.rcv_top.specs.declared.status.Status.TheVariants.{Completed, Usage, Refused, TooLong, Wrong}
+use Rattle.rcv_words.specs.Commands.{CommandView, Run, Check, Project, Table, Gen, Replay, Line, IsCommand, IsWithin}
 use Rattle.rcv_words.proofs.Deciding.{command_or_none}
-use Rattle.rcv_top.specs.Commands.{WorksOnSource, text_for}
+use Rattle.rcv_top.specs.Commands.{WorksOnSource, TakesWhole, text_for}
 use Rattle.rcv_gen.proofs.Lengths.{generated_fits}
 use Rattle.rcv_top.specs.Projection.{place_of}
 use Rattle.rcv_top.specs.Running.{IsOneThreadRun, IsRunOf}
-use Rattle.rcv_top.specs.Outcome.{most_bytes, usage_line, IsAnswer, Makes, usage, too_long, answered, refused, made}
+use Rattle.rcv_top.specs.Outcome.{most_bytes, usage_line, IsAnswer, Makes, usage, too_long, answered, refused, made, replayed}
+use Rattle.rcv_replay.specs.declared.replayed.Replayed.{Replayed}
+use Rattle.rcv_replay.specs.declared.replayed.Replayed.TheVariants as replays
+use Rattle.rcv_replay.proofs.Existing.{replays_exist}
+use Rattle.rcv_replay.specs.Lines.{legal_line, wrong_line, wrong_end_line}
+use Rattle.rcv_top.specs.Replaying.{IsSaidOf}
 use Rattle.rcv_top.specs.Laws.{HasOutcome, OutcomesExist}
 use Rattle.rcv_top.proofs.Asking.{source_or_gen, text_given}
-use Rattle.rcv_top.proofs.Ending.{sessions_end, summary_exists}
+use Rattle.rcv_top.proofs.Ending.{sessions_end, summary_exists, line_exists}
 use Rattle.rcv_top.proofs.RoleTexts.{text_exists}
 use Rattle.rcv_top.proofs.TableTexts.{table_exists}
 
@@ -30,12 +35,14 @@ use Rattle.rcv_top.proofs.TableTexts.{table_exists}
 run_some : (workers : ℕ) (json : Bool) (session : SessionView) → (status : Status) × (bytes : List ℕ) × IsOneThreadRun json session status bytes → (status : Status) × (bytes : List ℕ) × IsRunOf workers json session status bytes
 run_some workers json session run = (run.0, run.1, record { some = record { journal = run.2.journal; is_journal = run.2.is_journal }; alone = λ one. run.2 })
 
-makes_some : (input : List ℕ) (session : SessionView) (command : CommandView) → IsTaken input session → (status : Status) × (bytes : List ℕ) × Makes session command status bytes
-makes_some input session (Run workers json) taken = run_some workers json session (sessions_end json input session taken)
-makes_some input session (Gen number) taken = let text = summary_exists number input session taken in (Completed, text.0, text.1)
-makes_some input session Check taken = (Completed, canonical session.protocol, (refl, refl))
-makes_some input session Table taken = let text = table_exists session.protocol taken.protocol.accepted in (Completed, text.0, (refl, text.1))
-makes_some input session (Project name) taken = go (place_of session.protocol.roles name) refl
+makes_some : (input : List ℕ) (session : SessionView) (command : CommandView) → TakesWhole command → IsTaken input session → (status : Status) × (bytes : List ℕ) × Makes session command status bytes
+makes_some input session (Run workers json) whole taken = run_some workers json session (sessions_end json input session taken)
+makes_some input session (Gen number) whole taken = let text = summary_exists number input session taken in (Completed, text.0, text.1)
+makes_some input session Check whole taken = (Completed, canonical session.protocol, (refl, refl))
+makes_some input session Line whole taken = let text = line_exists input session taken in (Completed, text.0, text.1)
+makes_some input session Replay whole taken = absurd whole
+makes_some input session Table whole taken = let text = table_exists session.protocol taken.protocol.accepted in (Completed, text.0, (refl, text.1))
+makes_some input session (Project name) whole taken = go (place_of session.protocol.roles name) refl
   where
     go : (place : Option ℕ) → place_of session.protocol.roles name ≡ place → (status : Status) × (bytes : List ℕ) × Makes session (Project name) status bytes
     go None at = (Refused, refusal_line NoRole, inr (at, refl, refl))
@@ -43,11 +50,32 @@ makes_some input session (Project name) taken = go (place_of session.protocol.ro
         let text = text_exists session.protocol role taken.protocol.accepted (position-Some (λ other. bytes_eq other name) session.protocol.roles role [] at).0 in
         (Completed, text.0, inl (role, at, refl, text.1))
 
+-- it takes its whole text as a bundle, or it is `replay`
+whole_or_replay : (c : CommandView) → TakesWhole c ⊎ (c ≡ Replay)
+whole_or_replay (Run n json) = inl tt
+whole_or_replay Check = inl tt
+whole_or_replay (Project name) = inl tt
+whole_or_replay Table = inl tt
+whole_or_replay (Gen n) = inl tt
+whole_or_replay Line = inl tt
+whole_or_replay Replay = inr refl
+
+said_some : (x : Replayed) → (status : Status) × (bytes : List ℕ) × IsSaidOf x status bytes
+said_some (replays.Refused r) = (Refused, refusal_line r, (refl, refl))
+said_some (replays.Legal entries limited) = (Completed, legal_line entries limited, (refl, refl))
+said_some (replays.WrongEntry k) = (Wrong, wrong_line k, (refl, refl))
+said_some replays.WrongEnd = (Wrong, wrong_end_line, (refl, refl))
+
 answer_some : (command : CommandView) (text : List ℕ) → length text ≤ most_bytes → (status : Status) × (bytes : List ℕ) × IsAnswer command text status bytes
 answer_some command text short = ⊎_elim
-    (λ t. let m = makes_some text t.0 command t.1 in (m.0, m.1, made t.0 t.1 m.2))
-    (λ r. (Refused, refusal_line r.0, refused r.0 r.1))
-    (one_answer.answered text (omega (arith, short)))
+    (λ whole. ⊎_elim
+    (λ t. let m = makes_some text t.0 command whole t.1 in (m.0, m.1, made t.0 t.1 m.2))
+    (λ r. (Refused, refusal_line r.0, refused whole r.0 r.1))
+    (one_answer.answered text (omega (arith, short))))
+    (λ is. let said = replays_exist text (omega (arith, short)) in
+    let told = said_some said.0 in
+    (told.0, told.1, replayed is (record { said = said.0; is_said = said.1; says = told.2 })))
+    (whole_or_replay command)
 
 asked_some : (words : List (List ℕ)) (input : List ℕ) (command : CommandView) → IsCommand words command → length (text_for command input) ≤ most_bytes → HasOutcome words input
 asked_some words input command is short =

@@ -5,6 +5,8 @@ pub mod Summing
 pub mod Answering
 pub mod SameJson
 pub mod OneSummary
+pub mod OneLine
+pub mod Counting
 pub mod Outcomes
 pub mod Ending
 pub mod RoleTexts

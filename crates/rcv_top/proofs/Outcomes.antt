@@ -1,19 +1,10 @@
 -- The answer to words and an input is one.
-use Rattle.std.proofs.Common.{◌≡◌, ℕ, ◌<◌, Bool, true, false, Option, Some, None, inl, inr, ⊎_elim, sym, List, [], ◌∷◌, ◌++◌, length, codes, flat_map, refl, ◌∙◌, ap, subst, arith}
-use Rattle.std.specs.Prelude.{slice_index_or, slice_index, decimal, if◌then◌else◌}
-use Rattle.std.specs.List.{list_all, range_with_len}
+use Rattle.std.proofs.Common.{◌≡◌, ℕ, ◌<◌, Bool, true, false, Option, Some, None, inl, inr, ⊎_elim, sym, List, [], length, flat_map, refl, ◌∙◌, ap, subst, arith}
 use Rattle.std.proofs.lemmas.Bool.{cases_lt}
-use Rattle.rcv_tree.specs.Bits.{has_bit}
-use Rattle.rcv_tree.specs.declared.role.RoleSet.{RoleSet}
-use Rattle.std.specs.Fmt.{signed_decimal}
 use Rattle.rcv_tree.specs.declared.protocol.Protocol.{Protocol}
-use Rattle.rcv_tree.specs.declared.event.Event.{Event}
 use Rattle.rcv_tree.specs.declared.entry.Entry.{Entry}
-use Rattle.rcv_tree.specs.declared.entry.Entry.TheVariants as entries
 use Rattle.rcv_model.specs.Text.{Body, body_of}
 use Rattle.rcv_model.specs.Places.{net_of}
-use Rattle.rcv_model.specs.Script.{Line}
-use Rattle.rcv_model.specs.Plan.{session_rules}
 use Rattle.rcv_model.specs.Journal.{Rules, State, reading}
 use Rattle.rcv_model.specs.Final.{IsOneThread}
 use Rattle.rcv_model.proofs.OneThread.{one_journal}
@@ -24,14 +15,15 @@ use Rattle.rcv_input.specs.Refusals.{IsFirstRefusal}
 use Rattle.rcv_input.specs.Line.{refusal_line}
 use Rattle.rcv_input.proofs.Once.{one_answer}
 use Rattle.rcv_printer.specs.CanonicalText.{canonical}
-use Rattle.rcv_session.specs.Session.{SessionView, lines_of, rules_of}
+use Rattle.rcv_session.specs.Session.{SessionView, rules_of}
 use Rattle.rcv_journal.specs.declared.line.RoleLine.{RoleLine}
-use Rattle.rcv_journal.specs.JournalText.{entry_line, role_line, limit_text, word_text, is_done, is_limit, journal_text, last_line}
+use Rattle.rcv_journal.specs.JournalText.{limit_text, last_line}
 use Rattle.rcv_gen.specs.Summary.{summary_text}
 use Rattle.rcv_journal.specs.Lines.{AreLinesOf}
 use Rattle.rcv_journal.proofs.OneText.{one_text}
-use Rattle.rcv_words.specs.Commands.{CommandView, Run, Check, Project, Table, Gen, IsCommand, IsNoCommand}
-use Rattle.rcv_top.specs.Commands.{AskForSeveral, AskForSource, text_for}
+use Rattle.rcv_journal.proofs.SameText.{both, same_rules, same_limit, all_same, text_with, same_text}
+use Rattle.rcv_words.specs.Commands.{CommandView, Run, Check, Project, Table, Gen, Replay, Line, IsCommand, IsNoCommand}
+use Rattle.rcv_top.specs.Commands.{AskForSeveral, AskForSource, TakesWhole, text_for}
 use Rattle.rcv_accept.specs.Accepted.{IsAcceptedProtocol}
 use Rattle.rcv_input.specs.Laws.{AreSame}
 use Rattle.rcv_tables.specs.Rows.{TableView, IsTable}
@@ -42,61 +34,21 @@ use Rattle.rcv_top.specs.Projection.{place_of, IsProjection}
 use Rattle.rcv_top.specs.Recovering.{accepted_as, IsTableText}
 use Rattle.rcv_top.specs.Running.{EndsAs, all_done, at_limit, IsOneThreadRun, IsWritten}
 use Rattle.rcv_top.specs.Generating.{kept_in, IsSummaryOf, IsSummaryRun}
-use Rattle.rcv_top.specs.Outcome.{most_bytes, Makes, IsAsked, IsAnswer, usage, too_long, answered, refused, made}
+use Rattle.rcv_top.specs.Lining.{line_text as stable_text, IsLineBehind, IsLineOf, IsLineRun}
+use Rattle.rcv_top.specs.Outcome.{most_bytes, Makes, IsAsked, IsAnswer, usage, too_long, answered, refused, made, replayed}
 use Rattle.rcv_project.specs.LocalText as projection
 use Rattle.rcv_project.specs.LocalText.{LineView, AreLinesAt, places_to, line_text}
 use Rattle.rcv_project.proofs.OneText.{roles_have_one_text}
+use Rattle.rcv_replay.specs.declared.replayed.Replayed.{Replayed}
+use Rattle.rcv_replay.specs.declared.replayed.Replayed.TheVariants as replays
+use Rattle.rcv_replay.proofs.Once.{one_replay}
+use Rattle.rcv_top.specs.Replaying.{IsSaidOf, IsReplayAnswer}
 use Rattle.rcv_top.specs.Laws.{OneOutcome}
 use Rattle.rcv_top.proofs.Asking.{one_command, text_given}
 use Rattle.rcv_top.proofs.SameJson.{same_json}
 use Rattle.rcv_json.proofs.OneJson.{one_json}
 use Rattle.rcv_top.proofs.OneSummary.{one_summary}
-
--- what two lists of roles and two bodies have in common
-both : {A : Type 0} (f : List (List ℕ) → Body → A) (p q : Protocol) → p.roles ≡ q.roles → body_of p.body ≡ body_of q.body → f p.roles (body_of p.body) ≡ f q.roles (body_of q.body)
-both f p q roles bodies = ap (λ rs. f rs (body_of p.body)) roles ∙ ap (λ b. f q.roles b) bodies
-
-same_rules : (s t : SessionView) → s.protocol.roles ≡ t.protocol.roles → body_of s.protocol.body ≡ body_of t.protocol.body → s.scripts ≡ t.scripts → s.plan ≡ t.plan → rules_of s ≡ rules_of t
-same_rules s t roles bodies scripts plans =
-    both (λ names body. session_rules body (length names) (λ r. slice_index_or s.scripts r []) s.plan) s.protocol t.protocol roles bodies
-    ∙ ap (λ (lines : List (List Line)). session_rules (body_of t.protocol.body) (length t.protocol.roles) (λ r. slice_index_or lines r []) s.plan) scripts
-    ∙ ap (session_rules (body_of t.protocol.body) (length t.protocol.roles) (lines_of t)) plans
-
--- a line says the same of two protocols that say the same
-abbrev event_words : Event → List (List ℕ) → Body → List ℕ
-event_words e roles body = slice_index_or roles e.role [] ++ codes " " ++ decimal e.point ++ codes " " ++ (net_of body).label e.point ++ codes " " ++ signed_decimal e.value ++ codes " @" ++ decimal e.stamp
-
-abbrev recover_words : ℕ → RoleSet → List ℕ → ℕ → List (List ℕ) → List ℕ
-recover_words r concerned kept undone roles =
-    codes "recover " ++ slice_index_or roles r [] ++ codes " undone " ++ decimal undone ++ codes ":"
-    ++ flat_map (λ q. if has_bit concerned.0 q then codes " " ++ slice_index_or roles q [] ++ codes " " ++ decimal (slice_index kept q) else []) (range_with_len 0 (length roles)) ++ codes "\n"
-
-same_entry : (s t : SessionView) → s.protocol.roles ≡ t.protocol.roles → body_of s.protocol.body ≡ body_of t.protocol.body → (e : Entry) → entry_line s e ≡ entry_line t e
-same_entry s t roles bodies (entries.Send e) = both (λ rs b. codes "send " ++ event_words e rs b ++ codes "\n") s.protocol t.protocol roles bodies
-same_entry s t roles bodies (entries.Recv e) = both (λ rs b. codes "recv " ++ event_words e rs b ++ codes " <" ++ decimal e.sent ++ codes "\n") s.protocol t.protocol roles bodies
-same_entry s t roles bodies (entries.Crash r) = ap (λ (rs : List (List ℕ)). codes "crash " ++ slice_index_or rs r [] ++ codes "\n") roles
-same_entry s t roles bodies (entries.Recover r concerned kept undone) = ap (recover_words r concerned kept undone) roles
-
-same_role : (s t : SessionView) → s.protocol.roles ≡ t.protocol.roles → (line : RoleLine) → role_line s line ≡ role_line t line
-same_role s t roles line = ap (λ (rs : List (List ℕ)). codes "role " ++ slice_index_or rs line.role [] ++ codes " kept " ++ decimal line.kept ++ codes " raw " ++ decimal line.raw ++ codes " " ++ word_text line.word ++ codes "\n") roles
-
-same_limit : (s t : SessionView) → s.protocol.roles ≡ t.protocol.roles → (line : RoleLine) → limit_text s line ≡ limit_text t line
-same_limit s t roles line = ap (λ (rs : List (List ℕ)). if is_limit line.word then codes " " ++ slice_index_or rs line.role [] else []) roles
-
-all_same : {X : Type 0} (f g : X → List ℕ) → ((x : X) → f x ≡ g x) → (xs : List X) → flat_map f xs ≡ flat_map g xs
-all_same f g each [] = refl
-all_same f g each (x ∷ xs) = ap (λ l. l ++ flat_map f xs) (each x) ∙ ap (λ l. g x ++ l) (all_same f g each xs)
-
--- the whole text, by the texts of its parts
-abbrev text_with : List RoleLine → List ℕ → List ℕ → List ℕ → List ℕ
-text_with lines entries roles limits =
-    entries ++ roles ++ (if list_all (λ line. is_done line.word) lines then codes "completed\n" else codes "limited" ++ limits ++ codes "\n")
-
-same_text : (s t : SessionView) → s.protocol.roles ≡ t.protocol.roles → body_of s.protocol.body ≡ body_of t.protocol.body → (journal : List Entry) (lines : List RoleLine) → journal_text s journal lines ≡ journal_text t journal lines
-same_text s t roles bodies journal lines =
-    ap (λ es. text_with lines es (flat_map (role_line s) lines) (flat_map (limit_text s) lines)) (all_same (entry_line s) (entry_line t) (same_entry s t roles bodies) journal)
-    ∙ ap (λ rs. text_with lines (flat_map (entry_line t) journal) rs (flat_map (limit_text s) lines)) (all_same (role_line s) (role_line t) (same_role s t roles) lines)
-    ∙ ap (λ ls. text_with lines (flat_map (entry_line t) journal) (flat_map (role_line t) lines) ls) (all_same (limit_text s) (limit_text t) (same_limit s t roles) lines)
+use Rattle.rcv_top.proofs.OneLine.{one_line_of}
 
 -- a final state ends in one way
 same_end : (rules : Rules) (s : State) (a b : Status) → EndsAs rules s a → EndsAs rules s b → a ≡ b
@@ -187,6 +139,31 @@ one_summary_run number s t a b x y lawful same run other = (run.completed ∙ sy
           is_summary = text.is_summary ∙ same_summary s t number same.protocols.role_names same.protocols.bodies j text.lines;
         }
 
+-- two stable lines of sessions that say the same
+one_line_run : (s t : SessionView) (a b : Status) (x y : List ℕ) → IsAcceptedProtocol t.protocol → AreSame s t → IsLineRun s a x → IsLineRun t b y → (a ≡ b) × (x ≡ y)
+one_line_run s t a b x y lawful same run other = (run.completed ∙ sym other.completed, one_line_of t k x y (subst (λ (es : List Entry). IsLineOf t es x) journals moved) other.line)
+  where
+    j : List Entry
+    j = run.journal
+
+    k : List Entry
+    k = other.journal
+
+    rules : rules_of s ≡ rules_of t
+    rules = rules_same s t same
+
+    journals : j ≡ k
+    journals = one_journal_of s t j k lawful rules run.alone other.alone
+
+    moved : IsLineOf t j x
+    moved =
+        let line = run.line in
+        record {
+          counts = line.counts;
+          are_counts = subst (λ (r : Rules). IsLineBehind r j line.counts) rules line.are_counts;
+          is_text = line.is_text ∙ ap (λ (names : List (List ℕ)). stable_text names line.counts) same.protocols.role_names;
+        }
+
 -- ---- what excludes what
 
 is_asked : (words : List (List ℕ)) (input : List ℕ) (command : CommandView) → IsNoCommand words → IsAsked words command input → ⊥
@@ -258,6 +235,8 @@ IsForOne Check = Unit {0}
 IsForOne (Project name) = Unit {0}
 IsForOne Table = Unit {0}
 IsForOne (Gen number) = Unit {0}
+IsForOne Replay = Unit {0}
+IsForOne Line = Unit {0}
 
 is_for_one : (words : List (List ℕ)) (command : CommandView) → (AskForSeveral words → ⊥) → IsCommand words command → IsForOne command
 is_for_one words (Run workers json) few command =
@@ -266,6 +245,8 @@ is_for_one words Check few command = tt
 is_for_one words (Project name) few command = tt
 is_for_one words Table few command = tt
 is_for_one words (Gen number) few command = tt
+is_for_one words Replay few command = tt
+is_for_one words Line few command = tt
 
 -- what a command makes of two sessions that say the same
 one_making : (s t : SessionView) (command : CommandView) (a b : Status) (x y : List ℕ) → IsForOne command → IsAcceptedProtocol t.protocol → AreSame s t → Makes s command a x → Makes t command b y → (a ≡ b) × (x ≡ y)
@@ -274,13 +255,31 @@ one_making s t Check a b x y one lawful same m n = (m.0 ∙ sym n.0, m.1 ∙ one
 one_making s t (Project name) a b x y one lawful same m n = one_projection s.protocol t.protocol name a b x y lawful same.protocols m n
 one_making s t Table a b x y one lawful same m n = (m.0 ∙ sym n.0, one_table s.protocol t.protocol x y lawful same.protocols m.1 n.1)
 one_making s t (Gen number) a b x y one lawful same m n = one_summary_run number s t a b x y lawful same m n
+one_making s t Replay a b x y one lawful same m n = absurd m
+one_making s t Line a b x y one lawful same m n = one_line_run s t a b x y lawful same m n
+
+-- what `replay` says
+one_said : (x : Replayed) (s t : Status) (b c : List ℕ) → IsSaidOf x s b → IsSaidOf x t c → (s ≡ t) × (b ≡ c)
+one_said (replays.Refused r) s t b c is other = (is.0 ∙ sym other.0, is.1 ∙ sym other.1)
+one_said (replays.Legal entries limited) s t b c is other = (is.0 ∙ sym other.0, is.1 ∙ sym other.1)
+one_said (replays.WrongEntry k) s t b c is other = (is.0 ∙ sym other.0, is.1 ∙ sym other.1)
+one_said replays.WrongEnd s t b c is other = (is.0 ∙ sym other.0, is.1 ∙ sym other.1)
+
+one_replay_answer : (text : List ℕ) (s t : Status) (b c : List ℕ) → IsReplayAnswer text s b → IsReplayAnswer text t c → (s ≡ t) × (b ≡ c)
+one_replay_answer text s t b c is other =
+    one_said other.said s t b c (subst (λ (x : Replayed). IsSaidOf x s b) (one_replay text is.said other.said is.is_said other.is_said) is.says) other.says
 
 -- what it answers to a text
 one_answer_of : (command : CommandView) (text : List ℕ) (s t : Status) (b c : List ℕ) → IsForOne command → IsAnswer command text s b → IsAnswer command text t c → (s ≡ t) × (b ≡ c)
-one_answer_of command text s t b c one (refused refusal1 first1) (refused refusal2 first2) = (refl, one_line text refusal1 refusal2 first1 first2)
-one_answer_of command text s t b c one (refused refusal1 first1) (made s2 taken2 makes2) = absurd (one_answer.either text s2 refusal1 taken2 first1)
-one_answer_of command text s t b c one (made s1 taken1 makes1) (refused refusal2 first2) = absurd (one_answer.either text s1 refusal2 taken1 first2)
+one_answer_of command text s t b c one (refused whole1 refusal1 first1) (refused whole2 refusal2 first2) = (refl, one_line text refusal1 refusal2 first1 first2)
+one_answer_of command text s t b c one (refused whole1 refusal1 first1) (made s2 taken2 makes2) = absurd (one_answer.either text s2 refusal1 taken2 first1)
+one_answer_of command text s t b c one (made s1 taken1 makes1) (refused whole2 refusal2 first2) = absurd (one_answer.either text s1 refusal2 taken1 first2)
 one_answer_of command text s t b c one (made s1 taken1 makes1) (made s2 taken2 makes2) = one_making s1 s2 command s t b c one taken2.protocol.accepted (one_answer.sessions text s1 s2 taken1 taken2) makes1 makes2
+one_answer_of command text s t b c one (refused whole1 refusal1 first1) (replayed is2 answer2) = absurd (subst TakesWhole is2 whole1)
+one_answer_of command text s t b c one (replayed is1 answer1) (refused whole2 refusal2 first2) = absurd (subst TakesWhole is1 whole2)
+one_answer_of command text s t b c one (made s1 taken1 makes1) (replayed is2 answer2) = absurd (subst (λ (d : CommandView). Makes s1 d s b) is2 makes1)
+one_answer_of command text s t b c one (replayed is1 answer1) (made s2 taken2 makes2) = absurd (subst (λ (d : CommandView). Makes s2 d t c) is1 makes2)
+one_answer_of command text s t b c one (replayed is1 answer1) (replayed is2 answer2) = one_replay_answer text s t b c answer1 answer2
 
 pub one_outcome : OneOutcome
 one_outcome words input s t b c few (usage n1) (usage n2) = (refl, refl)

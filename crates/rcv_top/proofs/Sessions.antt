@@ -1,5 +1,5 @@
 -- What a command makes of a session is the answer to its input.
-use Rattle.std.proofs.Common.{◌≡◌, ℕ, Bool, false, List, [], sym, ◌∙◌, ap, subst}
+use Rattle.std.proofs.Common.{◌≡◌, ℕ, Bool, List, [], sym, ◌∙◌, ap, subst}
 use Rattle.std.specs.Prelude.{Result, Ok, Err, IfOk}
 use Rattle.rcv_tree.specs.declared.entry.Entry.{Entry}
 use Rattle.rcv_model.specs.Final.{IsOneThread}
@@ -12,7 +12,7 @@ use Rattle.rcv_input.specs.declared.refused.InputError.TheVariants as causes
 use Rattle.rcv_input.specs.Refusals.{IsRefused}
 use Rattle.rcv_input.specs.Line.{refusal_line}
 use Rattle.rcv_core.specs.Book.{BookView, EndsAlone}
-use Rattle.rcv_super.specs.Super.{SuperView}
+use Rattle.rcv_super.specs.Super.{SuperView, new_session}
 use Rattle.rcv_words.specs.Commands.{CommandView}
 use Rattle.rcv_top.specs.Finishing.{FinishesAs}
 use Rattle.rcv_top.specs.declared.status.Status.TheVariants as statuses
@@ -20,6 +20,11 @@ use Rattle.rcv_top.specs.declared.status.Status.{Status}
 use Rattle.rcv_top.specs.declared.output.Output.{Output}
 use Rattle.rcv_top.specs.Running.{IsJournalOf, IsOneThreadRun, IsRunOf}
 use Rattle.rcv_top.specs.Generating.{IsSummaryOf, IsSummaryRun}
+use Rattle.rcv_top.specs.Lining.{IsLineOf, IsLineRun}
+use Rattle.rcv_replay.specs.declared.replayed.Replayed.{Replayed}
+use Rattle.rcv_replay.specs.Replaying.{IsReplay}
+use Rattle.rcv_top.specs.Commands.{TakesWhole}
+use Rattle.rcv_top.specs.Replaying.{IsSaidOf, IsReplayAnswer}
 use Rattle.rcv_top.specs.Outcome.{IsAnswer, Makes, refused, made}
 
 -- ---- a book that one thread ran to its end
@@ -50,7 +55,7 @@ run_of workers json session first status bytes empty done = record {
     same = ap (λ (b : BookView). b.setup) done.finished.added ∙ ap (λ (b : BookView). b.setup) empty
 
 -- the same of a session's book
-pub ran : (workers : ℕ) (json : Bool) (session : SessionView) (first : SuperView) → first ≡ record { book = record { setup = session; entries = [] }; closed = false }
+pub ran : (workers : ℕ) (json : Bool) (session : SessionView) (first : SuperView) → first ≡ new_session session
     → (status : Status) (bytes : List ℕ) → FinishesAs workers json first.book status bytes → IsRunOf workers json session status bytes
 ran workers json session first empty status bytes = run_of workers json session first.book status bytes (ap (λ (v : SuperView). v.book) empty)
 
@@ -69,6 +74,21 @@ summed number session first last status bytes empty ends summary completed =
       completed = completed;
     }
 
+-- the stable line behind the journal of such a book
+pub lined : (session : SessionView) (first last : BookView) (status : Status) (bytes : List ℕ) → first ≡ record { setup = session; entries = [] } → EndsAlone first last
+    → IsLineOf last.setup last.entries bytes → status ≡ statuses.Completed → IsLineRun session status bytes
+lined session first last status bytes empty ends line completed =
+    let e = ended session first last empty ends in
+    let law = one_journal (rules_of session) e.journal e.journal in
+    record {
+      journal = e.journal;
+      legal = law.legal e.alone;
+      final = law.final e.alone;
+      alone = e.alone;
+      line = subst (λ (b : BookView). IsLineOf b.setup b.entries bytes) e.is line;
+      completed = completed;
+    }
+
 -- ---- the answers
 
 pub made_of : {E : Type 0} (text : List ℕ) (command : CommandView) (session : SessionView) (result : Result Output E) → IsTaken text session
@@ -77,11 +97,18 @@ pub made_of : {E : Type 0} (text : List ℕ) (command : CommandView) (session : 
 made_of text command session (Err e) taken makes = tt
 made_of text command session (Ok output) taken makes = made session taken makes
 
-pub refused_of : {E : Type 0} (text : List ℕ) (command : CommandView) (error : InputError) (result : Result Output E) → IsRefused text error
+pub refused_of : {E : Type 0} (text : List ℕ) (command : CommandView) (error : InputError) (result : Result Output E) → TakesWhole command → IsRefused text error
     → IfOk result (λ output. (refusal : refusals.Refused) × (error ≡ causes.Refused refusal) × (output.status ≡ statuses.Refused) × (output.bytes.items ≡ refusal_line refusal))
     → IfOk result (λ output. IsAnswer command text output.status output.bytes.items)
-refused_of text command error (Err e) is said = tt
-refused_of text command error (Ok output) is said =
+refused_of text command error (Err e) whole is said = tt
+refused_of text command error (Ok output) whole is said =
     subst (λ (s : Status). IsAnswer command text s output.bytes.items) (sym said.2)
     (subst (λ (b : List ℕ). IsAnswer command text statuses.Refused b) (sym said.3)
-    (refused said.0 (subst (IsRefused text) said.1 is)))
+    (refused whole said.0 (subst (IsRefused text) said.1 is)))
+
+-- what is said of a journal, in its line
+pub replay_said : {E : Type 0} (input : List ℕ) (said : Replayed) (result : Result Output E) → IsReplay input said
+    → IfOk result (λ output. IsSaidOf said output.status output.bytes.items)
+    → IfOk result (λ output. IsReplayAnswer input output.status output.bytes.items)
+replay_said input said (Err e) is says = tt
+replay_said input said (Ok output) is says = record { said = said; is_said = is; says = says }

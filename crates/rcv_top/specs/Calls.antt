@@ -10,7 +10,7 @@ use Rattle.rcv_session.specs.Session.{SessionView, rules_of}
 use Rattle.rcv_transparent.specs.Calm.{ReadsNoAttempt}
 use Rattle.rcv_transparent.specs.Traces.{LeavesNoTrace}
 use Rattle.rcv_top.specs.declared.status.Status.{Status}
-use Rattle.rcv_top.specs.declared.status.Status.TheVariants.{Completed, Usage, Refused, Limited, ReadFault, WriteFault, Memory, TooLong}
+use Rattle.rcv_top.specs.declared.status.Status.TheVariants.{Completed, Usage, Refused, Limited, ReadFault, WriteFault, Memory, TooLong, Wrong}
 use Rattle.rcv_top.specs.Commands.{AskForSource}
 use Rattle.rcv_top.specs.Inputs.{Reading, ReadNothing}
 use Rattle.rcv_input.specs.Input.{IsTaken}
@@ -133,6 +133,7 @@ Says words call ReadFault = FailsToRead words call
 Says words call WriteFault = FailsToWrite words call
 Says words call Memory = WantsMemory words call
 Says words call TooLong = TakesTooMuch words call
+Says words call Wrong = Answers words call Wrong
 
 -- The count of faults didn't fall. The call ends with this status only where it rose, and always where it is greater
 -- than before.

@@ -1,6 +1,6 @@
 -- What words ask for, and what a command works on.
 use Rattle.std.specs.Prelude.{◌≤◌, ℕ, Bool, List, ⊤}
-use Rattle.rcv_words.specs.Commands.{CommandView, Run, Gen, IsCommand}
+use Rattle.rcv_words.specs.Commands.{CommandView, Run, Gen, Replay, IsCommand}
 use Rattle.rcv_gen.specs.Generated.{generated}
 
 -- The words ask for more than one worker.
@@ -15,6 +15,11 @@ WorksOnSource _ = ⊤
 -- The words are such a command.
 abbrev pub AskForSource : List (List ℕ) → Type 0
 AskForSource words = (command : CommandView) × WorksOnSource command × IsCommand words command
+
+-- The command takes its whole text as a bundle: any but `replay`, whose bundle ends where its journal begins.
+abbrev pub TakesWhole : CommandView → Type 0
+TakesWhole Replay = ⊥
+TakesWhole _ = ⊤
 
 -- The text that a command works on: `gen` on a generated one, any other on what the source gave.
 abbrev pub text_for : CommandView → List ℕ → List ℕ

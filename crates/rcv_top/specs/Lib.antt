@@ -5,6 +5,8 @@ pub mod Finishing
 pub mod Generating
 pub mod Projection
 pub mod Recovering
+pub mod Replaying
+pub mod Lining
 pub mod Outcome
 pub mod Headline
 pub mod Inputs

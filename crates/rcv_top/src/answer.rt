@@ -1,18 +1,20 @@
 // What the commands answer, from the bytes of an input to those of an output.
 
-ghost use Rattle.std.specs.Prelude.{◌≡◌, ◌≤◌, length, IfOk};
+ghost use Rattle.std.specs.Prelude.{◌≡◌, ◌≤◌, ◌↔◌, length, IfOk, IsTrue};
 ghost use Rattle.rcv_input.specs.declared.refused.Refused as refusals;
 ghost use Rattle.rcv_input.specs.Line.{refusal_line};
 ghost use Rattle.rcv_printer.specs.CanonicalText.{canonical};
 ghost use Rattle.rcv_accept.specs.Accepted.{IsAcceptedProtocol};
-ghost use Rattle.rcv_words.specs.Commands.{view_of, IsWithin};
+ghost use Rattle.rcv_words.specs.Commands.{view_of, IsWithin, Replay};
 ghost use Rattle.rcv_top.specs.Outcome.{IsAnswer};
 ghost use Rattle.rcv_top.specs.Projection.{IsProjection};
 ghost use Rattle.rcv_top.specs.Recovering.{IsTableText};
 ghost use Rattle.rcv_top.specs.Writing.{Writes};
 
 use crate::generated::run_generated;
+use crate::line::run_line;
 use crate::output::{Output, put};
+use crate::replaying::replay_answer;
 use crate::role::place_of;
 use crate::run::run;
 use crate::status::Status;
@@ -32,7 +34,8 @@ use std::alloc::{AllocError, Global};
 use std::thread::Threads;
 
 /// Writes what a command answers to the text of at most 1,048,576 bytes that it works on, and says how that ended: the
-/// first refusal of the text, or what the command makes of its protocol, its scripts and its plan.
+/// first refusal of the text, or what the command makes of its protocol, its scripts and its plan. `replay` asks first
+/// where the text is cut, and says what of the journal behind the bundle is right or wrong.
 ///
 /// The error comes where no memory was left; then nothing was written.
 pub fn answer<R: Threads + Sync, K: Sink, G: Gate>(
@@ -49,6 +52,9 @@ pub fn answer<R: Threads + Sync, K: Sink, G: Gate>(
     ensures answers { Writes (IsAnswer (view_of command.now) input.now)
         (K.written sink.old) (K.written sink.new) (K.faults sink.old) (K.faults sink.new) result }
 {
+    if is_replay(command) {
+        return put(sink, replay_answer(alloc, input));
+    }
     match read_input(alloc, input) {
         Ok(taken) => match command {
             Command::Run { workers, json } => { run(rt, alloc, taken, *workers, *json, sink, gate) }
@@ -69,9 +75,18 @@ pub fn answer<R: Threads + Sync, K: Sink, G: Gate>(
                 put(sink, made)
             }
             Command::Gen { number } => put(sink, run_generated(alloc, taken, *number)),
+            Command::Line => put(sink, run_line(alloc, taken)),
+            Command::Replay => unreachable!(),
         },
         Err(error) => put(sink, refuse(alloc, error)),
     }
+}
+
+// Whether a command judges a journal.
+fn is_replay(command: &Command) -> bool
+    ensures { IsTrue result ↔ view_of command.now ≡ Replay }
+{
+    matches!(command, Command::Replay)
 }
 
 // Writes the canonical text of a protocol.

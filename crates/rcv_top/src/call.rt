@@ -17,17 +17,19 @@ use std::thread::Threads;
 
 /// What is written where the words are no command.
 const USAGE: &[u8] =
-    b"usage: rcv run|check|project|table|gen [--workers N] [--json] [--role R] [--number N]\n";
+    b"usage: rcv run|check|project|table|gen|replay|line [--workers N] [--json] [--role R] [--number N]\n";
 
 /// Does what the program does: reads the words, then the whole source unless the command is `gen`, and writes the
 /// answer.
 ///
 /// `words` are those behind the program's name, as `clap` takes them: one of the words `run`, `check`, `project`,
-/// `table` and `gen`, with the options `--workers N` and `--json` of `run`, `--role R` of `project` and `--number N` of
-/// `gen` before or behind it. The answer says how the call ended:
+/// `table`, `gen`, `replay` and `line`, with the options `--workers N` and `--json` of `run`, `--role R` of `project` and
+/// `--number N` of `gen` before or behind it. The answer says how the call ended:
 /// - `Completed`: under `run` the session of the input completed, and its journal was written; under `check` the
 ///   input's protocol was written as its canonical text; under `table` its recovery table was written; under `project`
-///   what the role does was written; under `gen` the summary of the generated session was written.
+///   what the role does was written; under `gen` the summary of the generated session was written; under `replay` the
+///   journal behind the bundle is legal and whole, and it was written how many entries it has and how it ended; under
+///   `line` the stable line behind the journal that one thread makes of the session was written, limited or not.
 /// - `Limited`: under `run` the session's journal was written, and at its end some role that isn't done has come to the
 ///   limit.
 /// - `Usage`: the words are no command; nothing was read, and the usage line was written.
@@ -39,6 +41,7 @@ const USAGE: &[u8] =
 ///   comes always where that count is greater than before.
 /// - `Memory`: memory was wanted, and nothing was written.
 /// - `TooLong`: more than 1,048,576 bytes were taken from the source, and nothing was written.
+/// - `Wrong`: under `replay` the journal isn't legal and whole, and it was written what of it is wrong.
 ///
 /// `gen` reads nothing from the source, however the call ends.
 ///

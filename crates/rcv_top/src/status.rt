@@ -24,10 +24,12 @@ pub enum Status {
     Memory,
     /// More than 1,048,576 bytes were taken from the source, and nothing was written.
     TooLong,
+    /// The journal behind the bundle isn't legal and whole, and it was written what of it is wrong.
+    Wrong,
 }
 
 impl Status {
-    /// The number with which the process ends, from 0 to 7.
+    /// The number with which the process ends, from 0 to 8.
     pub fn number(self) -> u8
         ensures { result ≡ number_of self }
     {
@@ -40,6 +42,7 @@ impl Status {
             Status::WriteFault => 5,
             Status::Memory => 6,
             Status::TooLong => 7,
+            Status::Wrong => 8,
         }
     }
 }

@@ -5,7 +5,7 @@ use Rattle.std.specs.Str.{bytes_eq}
 use Rattle.std.proofs.lemmas.Bool.{cases_lt}
 use Rattle.std.proofs.lemmas.Slice.Eq.{bytes_eq-Decides}
 use Rattle.clap.specs.Words.{Kinds, Text, fault_of}
-use Rattle.rcv_words.specs.Commands.{CommandView, Run, Check, Project, Table, Gen, Given, HasOptions, Says, IsWithin, IsCommand, IsNoCommand, given, line_of}
+use Rattle.rcv_words.specs.Commands.{CommandView, Run, Check, Project, Table, Gen, Replay, Line, Given, HasOptions, Says, IsWithin, IsCommand, IsNoCommand, given, line_of}
 use Rattle.rcv_words.specs.Program.{rcv}
 
 abbrev OrNot : Type 0 → Type 0
@@ -86,13 +86,15 @@ says_gen g = both (both (is_word g.command (codes "gen")) (has_options g None (S
 value_of : {X : Type 0} (o : Option X) (x y : X) → o ≡ Some y → y ≡ unwrap_or o x
 value_of o x y e = sym (ap (λ p. unwrap_or p x) e)
 
--- None of the five, never command.
-none_of : (g : Given) → (SaysWithin g (run_of g) → ⊥) → (SaysWithin g Check → ⊥) → (SaysWithin g (project_of g) → ⊥) → (SaysWithin g Table → ⊥) → (SaysWithin g (gen_of g) → ⊥) → (c : CommandView) → SaysWithin g c → ⊥
-none_of g run check project table gen (Run n json) s = run (subst (SaysWithin g) (ap₂ Run (sym s.0.1) (sym s.0.2)) s)
-none_of g run check project table gen Check s = check s
-none_of g run check project table gen (Project r) s = project (subst (SaysWithin g) (ap Project (value_of g.role [] r s.0.1.role)) s)
-none_of g run check project table gen Table s = table s
-none_of g run check project table gen (Gen n) s = gen (subst (SaysWithin g) (ap Gen (value_of g.number 0 n s.0.1.number)) s)
+-- None of the seven, never command.
+none_of : (g : Given) → (SaysWithin g (run_of g) → ⊥) → (SaysWithin g Check → ⊥) → (SaysWithin g (project_of g) → ⊥) → (SaysWithin g Table → ⊥) → (SaysWithin g (gen_of g) → ⊥) → (SaysWithin g Replay → ⊥) → (SaysWithin g Line → ⊥) → (c : CommandView) → SaysWithin g c → ⊥
+none_of g run check project table gen replay line (Run n json) s = run (subst (SaysWithin g) (ap₂ Run (sym s.0.1) (sym s.0.2)) s)
+none_of g run check project table gen replay line Check s = check s
+none_of g run check project table gen replay line (Project r) s = project (subst (SaysWithin g) (ap Project (value_of g.role [] r s.0.1.role)) s)
+none_of g run check project table gen replay line Table s = table s
+none_of g run check project table gen replay line (Gen n) s = gen (subst (SaysWithin g) (ap Gen (value_of g.number 0 n s.0.1.number)) s)
+none_of g run check project table gen replay line Replay s = replay s
+none_of g run check project table gen replay line Line s = line s
 
 says_or_not : (g : Given) → ((c : CommandView) × SaysWithin g c) ⊎ ((c : CommandView) → SaysWithin g c → ⊥)
 says_or_not g =
@@ -100,8 +102,10 @@ says_or_not g =
     ⊎_elim (λ s. inl (Check, s)) (λ check.
     ⊎_elim (λ s. inl (project_of g, s)) (λ project.
     ⊎_elim (λ s. inl (Table, s)) (λ table.
-    ⊎_elim (λ s. inl (gen_of g, s)) (λ gen. inr (none_of g run check project table gen))
-    (says_gen g)) (free (says_alone g (codes "table")))) (says_project g)) (free (says_alone g (codes "check")))) (says_run g)
+    ⊎_elim (λ s. inl (gen_of g, s)) (λ gen.
+    ⊎_elim (λ s. inl (Replay, s)) (λ replay.
+    ⊎_elim (λ s. inl (Line, s)) (λ line. inr (none_of g run check project table gen replay line))
+    (free (says_alone g (codes "line")))) (free (says_alone g (codes "replay")))) (says_gen g)) (free (says_alone g (codes "table")))) (says_project g)) (free (says_alone g (codes "check")))) (says_run g)
 
 pub command_or_none : (words : List Text) → ((c : CommandView) × IsCommand words c) ⊎ IsNoCommand words
 command_or_none words = go (fault_of rcv (line_of words)) refl

@@ -19,6 +19,8 @@ pub data CommandView : Type 0 where
   Project : (role : Text) → CommandView
   Table : CommandView
   Gen : (number : ℕ) → CommandView
+  Replay : CommandView
+  Line : CommandView
 
 -- What a command says.
 abbrev pub view_of : Command → CommandView
@@ -27,6 +29,8 @@ view_of commands.Check = Check
 view_of (commands.Project role) = Project role
 view_of commands.Table = Table
 view_of (commands.Gen number) = Gen number
+view_of commands.Replay = Replay
+view_of commands.Line = Line
 
 -- Words as their bytes.
 abbrev pub texts_of : List (String Global) → List Text
@@ -96,6 +100,8 @@ Says g Check = (g.command ≡ Some (codes "check")) × HasOptions g None None
 Says g (Project role) = (g.command ≡ Some (codes "project")) × HasOptions g (Some role) None
 Says g Table = (g.command ≡ Some (codes "table")) × HasOptions g None None
 Says g (Gen number) = (g.command ≡ Some (codes "gen")) × HasOptions g None (Some number)
+Says g Replay = (g.command ≡ Some (codes "replay")) × HasOptions g None None
+Says g Line = (g.command ≡ Some (codes "line")) × HasOptions g None None
 
 -- Its numbers are in range.
 abbrev pub IsWithin : CommandView → Type 0

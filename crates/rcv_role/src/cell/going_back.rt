@@ -1,9 +1,10 @@
-// A cell goes back: its ends first, one channel after another, and then its part.
+// A cell goes back: its ends first, one channel after another, and then its part. It forgets the states that it never
+// goes back to.
 
-ghost use Rattle.std.specs.Prelude.{◌≡◌, ◌+◌, ◌^◌, ◌<◌, ◌≤◌, true, length, take};
-ghost use Rattle.rcv_session.specs.Session.{roles_of};
+ghost use Rattle.std.specs.Prelude.{◌≡◌, ℕ, ◌+◌, ◌*◌, ◌^◌, ◌<◌, ◌≤◌, true, length, take};
+ghost use Rattle.rcv_session.specs.Session.{roles_of, rules_of};
 ghost use Rattle.rcv_mailbox.specs.Ends.{End};
-ghost use Rattle.rcv_role.specs.Part.{gone_back, cut_back};
+ghost use Rattle.rcv_role.specs.Part.{durable_of, from_base, gone_back, cut_back};
 ghost use Rattle.rcv_role.specs.Ends.{slot, end_at};
 ghost use Rattle.rcv_role.specs.Cell.{cell_of, IsSettled, IsSettledAt, post_to, inbox_from, AreJoined, HaveRewound};
 ghost use Rattle.rcv_role.specs.Cell.{HasRewoundAlone};
@@ -52,6 +53,7 @@ impl<'a> Cell<'a> {
     /// Goes back to so many of the role's first events, to which its ends were rewound and whose state is held, and
     /// sets the clock. The attempt is one more where an event was lost, and a crashed role runs on. It takes no memory.
     pub fn back_to(&mut self, keep: u32, clock: u64)
+        requires base { self.old.part.base ≤ keep }
         requires held { keep ≤ self.old.part.held }
         requires settled { IsSettledAt self.old (take keep self.old.part.own.events) }
         requires attempt { self.old.part.own.attempt + 1 < 2 ^ 32 }
@@ -65,6 +67,7 @@ impl<'a> Cell<'a> {
     /// its events those that are still held stay, up to so many events. It takes no memory.
     pub fn cut_to(&mut self, keep: u32, clock: u64)
         requires crashed { self.old.part.own.crashed ≡ true }
+        requires base { self.old.part.base ≤ keep }
         requires made { keep ≤ length self.old.part.own.events }
         requires settled { IsSettledAt self.old (take keep self.old.part.own.events) }
         requires attempt { self.old.part.own.attempt + 1 < 2 ^ 32 }
@@ -72,5 +75,16 @@ impl<'a> Cell<'a> {
         ensures settled { IsSettled self.new }
     {
         self.part.cut_to(keep, clock);
+    }
+
+    /// Forgets the states before the one behind so many of the role's events, which it has saved: no recovery takes back
+    /// an event before it. All else stays. It takes no memory.
+    pub fn forget(&mut self, line: u32)
+        requires step { (k : ℕ) × (k * (rules_of self.old.part.setup).every self.old.part.role ≡ line) }
+        requires above { self.old.part.base ≤ line }
+        requires saved { line ≤ durable_of self.old.part }
+        ensures { self.new ≡ cell_of (from_base self.old.part line) self.old.posts self.old.inboxes }
+    {
+        self.part.forget(line);
     }
 }

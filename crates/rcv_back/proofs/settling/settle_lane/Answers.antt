@@ -3,6 +3,9 @@ use Rattle.std.proofs.Common.{◌≤◌, subst, sym}
 use Rattle.rcv_back.proofs.Ending.{is_running, was_crashed, gone_in_place}
 use Rattle.rcv_back.proofs.settling.settle_lane.Goals as goal
 
+pub back_or_cut-requires-clause-base : goal.back_or_cut-requires-clause-base
+back_or_cut-requires-clause-base c = subst (λ k. c.args.lane.now.part.base ≤ k) (sym c.kept.ensures) c.requires.going.base
+
 pub back_or_cut-requires-clause-held : goal.back_or_cut-requires-clause-held
 back_or_cut-requires-clause-held c = λ e. subst (λ k. k ≤ c.args.lane.now.part.held) (sym c.kept.ensures) (c.requires.going.held (is_running c.args.book.now c.args.role c.crashed-stays.result c.entries-entries.ensures.legal c.requires.role c.crashed-stays.ensures e))
 

@@ -11,20 +11,16 @@ pub loop-number-init : goal.loop-number-init
 loop-number-init c = record {
   book_is = c.stop_choosing.ensures ∙ c.in_ok-book.ensures;
   legal = tt;
-  reached = c.nothing_known-known.ensures c.stop_choosing.new.self;
 }
-
-pub may_come-requires : goal.may_come-requires
-may_come-requires c = c.loop-number.invariant.reached
 
 pub returns-then-not-may_come-clause-wrong : goal.returns-then-not-may_come-clause-wrong
 returns-then-not-may_come-clause-wrong c k told =
     let at : slice_get c.args.entries.now c.loop-number.number ≡ Some c.index-entries-number.result = slice_get_read c.args.entries.now (length c.args.entries.now) c.loop-number.number c.index-entries-number.result refl c.loop-number-test.true c.index-entries-number.is in
     let same : c.loop-number.number ≡ k = cc in
     subst (IsFirstWrong (rules_of c.args.setup.now) c.args.entries.now) same
-    (first_wrong c.args.setup.now c.args.entries.now c.loop-number.number c.index-entries-number.result c.loop-number.book c.loop-number.known c.loop-number.invariant at (λ come. let yes = c.may_come.ensures.may.1 come in let no = c.if-not-may_come.true in absurd (cc)))
+    (first_wrong c.args.setup.now c.args.entries.now c.loop-number.number c.index-entries-number.result c.loop-number.book c.loop-number.invariant at (λ come. let yes = c.may_come.ensures.1 come in let no = c.if-not-may_come.true in absurd (cc)))
 
 pub loop-number-preserved : goal.loop-number-preserved
 loop-number-preserved c =
     let at : slice_get c.args.entries.now c.loop-number.number ≡ Some c.index-entries-number.result = slice_get_read c.args.entries.now (length c.args.entries.now) c.loop-number.number c.index-entries-number.result refl c.loop-number-test.true c.index-entries-number.is in
-    read_more c.args.setup.now c.args.entries.now c.loop-number.number c.index-entries-number.result c.loop-number.book c.loop-number.known c.loop-number.invariant at c.push.new.self c.keep_behind.new.known (c.may_come.ensures.may.0 c.if-not-may_come.false) c.in_ok-push.ensures.ok (c.keep_behind.ensures c.loop-number.book c.may_come.ensures.known)
+    read_more c.args.setup.now c.args.entries.now c.loop-number.number c.index-entries-number.result c.loop-number.book c.loop-number.invariant at c.push.new.self (c.may_come.ensures.0 c.if-not-may_come.false) c.in_ok-push.ensures.ok

@@ -1,13 +1,19 @@
--- A role stands at one of its places.
-use Rattle.std.proofs.Common.{sym, subst}
-use Rattle.rcv_model.specs.Next.{IsPlaceOf}
-use Rattle.rcv_accept.specs.Accepted.{IsAcceptedProtocol}
-use Rattle.rcv_session.specs.Session.{SessionView, net_for}
-use Rattle.rcv_judge.proofs.Sends.{stands_there}
+-- A role that isn't free doesn't send, nor one that is done.
+use Rattle.std.proofs.Common.{◌≡◌, true, false}
+use Rattle.rcv_judge.proofs.Sends.{none_to_send}
 use Rattle.rcv_judge.proofs.sending.may_send.Goals as goal
 
-pub next-offered-requires-clause-place : goal.next-offered-requires-clause-place
-next-offered-requires-clause-place c =
-    let plain : IsAcceptedProtocol c.args.book.now.setup.protocol = subst (λ (s : SessionView). IsAcceptedProtocol s.protocol) c.setup-setup.ensures c.protocol-protocol.ensures.accepted in
-    subst (λ (s : SessionView). IsPlaceOf (net_for s) c.args.event.now.role c.place.result) (sym c.setup-setup.ensures)
-    (subst (IsPlaceOf (net_for c.args.book.now.setup) c.args.event.now.role) (sym c.place.ensures) (stands_there c.args.book.now plain c.entries-entries.ensures.legal c.args.event.now.role))
+pub returns-then-not-is_free : goal.returns-then-not-is_free
+returns-then-not-is_free c = (
+  (λ t. let wrong : false ≡ true = t in absurd (cc)),
+  λ may. let yes = c.is_free.ensures.1 may.free in let no = c.if-not-is_free.true in absurd (cc),
+)
+
+pub is_chosen-requires-clause-free : goal.is_chosen-requires-clause-free
+is_chosen-requires-clause-free c = c.is_free.ensures.0 (let no = c.if-not-is_free.false in cc)
+
+pub returns-in-None : goal.returns-in-None
+returns-in-None c = (
+  (λ t. let wrong : false ≡ true = t in absurd (cc)),
+  λ may. absurd (none_to_send c.args.book.now c.args.event.now c.in-None.ensures may),
+)

@@ -17,8 +17,8 @@ returns-then-role-roles c = (
       absurd (omega (arith, low, roles, many, same, high)),
 )
 
-pub returns-in-Ok : goal.returns-in-Ok
-returns-in-Ok c = (
-  (λ t. subst (IsRecoveryOf c.args.book.now c.args.role) (c.is_same.ensures.0 t) c.in-Ok.ensures.recovers),
-  λ x. c.is_same.ensures.1 (one_recover c.args.book.now c.args.role c.in-Ok.recovery c.args.entry.now c.in-Ok.ensures.recovers x),
+pub returns : goal.returns
+returns c = (
+  (λ t. subst (IsRecoveryOf c.args.book.now c.args.role) (c.is_same.ensures.0 t) c.recovery_of.ensures),
+  λ x. c.is_same.ensures.1 (one_recover c.args.book.now c.args.role c.recovery_of.result c.args.entry.now c.recovery_of.ensures x),
 )

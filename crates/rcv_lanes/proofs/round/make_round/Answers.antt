@@ -9,6 +9,7 @@ use Rattle.rcv_core.specs.Book.{state_of, with_more}
 use Rattle.rcv_theory.specs.Round.{NeverFalls}
 use Rattle.rcv_merge.specs.Merge.{IsMergeOf}
 use Rattle.rcv_lanes.specs.Home.{logs_in}
+use Rattle.rcv_lanes.proofs.Bases.{round_bases}
 use Rattle.rcv_lanes.proofs.Rounds.{rise, may_come, come_back, gone_can_meet}
 use Rattle.rcv_lanes.proofs.round.make_round.Goals as goal
 
@@ -27,3 +28,6 @@ pub returns-clause-home : goal.returns-clause-home
 returns-clause-home g c =
     let is : IsMergeOf (logs_in c.meet_all.new.lanes.items) c.in_ok-merged.merged.items = subst (λ l. IsMergeOf l c.in_ok-merged.merged.items) c.in_ok-logs.ensures c.in_ok-merged.ensures in
     come_back c.args.book.now c.args.lanes.now.items c.round.new.lanes.items c.meet_all.new.lanes.items c.requires.home c.round.ensures c.in_ok-meet_all.ensures.met c.in_ok-meet_all.ensures.begun (subst (λ (s : SessionView). IsAcceptedProtocol s.protocol) c.setup.ensures c.protocol-protocol.ensures.accepted) c.entries-entries.ensures.legal c.in_ok-merged.merged.items is c.push_all.new.book c.clear_logs.new.lanes.items (c.in_ok-push_all.ensures.ok ∙ ap (with_more c.args.book.now) c.as_slice.ensures.value) c.clear_logs.ensures.count c.clear_logs.ensures.cleared
+
+pub returns-clause-bases : goal.returns-clause-bases
+returns-clause-bases g c = round_bases c.args.lanes.now.items c.round.new.lanes.items c.meet_all.new.lanes.items c.clear_logs.new.lanes.items c.round.ensures c.in_ok-meet_all.ensures.met c.clear_logs.ensures.count c.clear_logs.ensures.cleared

@@ -3,7 +3,8 @@ use Rattle.std.proofs.Common.{◌+◌, ℕ, length, ap, ◌∙◌}
 use Rattle.rcv_model.specs.Journal.{reading}
 use Rattle.rcv_session.specs.Session.{rules_of}
 use Rattle.rcv_judge.specs.Closing.{IsFirstWrongClosing}
-use Rattle.rcv_look.proofs.Journals.{at_none, at_some, drawn_said, misclosed_said}
+use Rattle.rcv_replay.proofs.Judging.{at_none, at_some}
+use Rattle.rcv_look.proofs.Journals.{drawn_said, misclosed_said}
 use Rattle.rcv_look.proofs.journal.close.Goals as goal
 
 pub returns-in-Some : goal.returns-in-Some

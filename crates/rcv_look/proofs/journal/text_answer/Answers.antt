@@ -2,7 +2,8 @@
 use Rattle.std.proofs.Common.{◌+◌, refl, arith}
 use Rattle.rcv_session.specs.Session.{SessionView}
 use Rattle.rcv_form.specs.Journal.{bare}
-use Rattle.rcv_look.proofs.Journals.{few_entries, few_wrong, formed_said, malformed_said}
+use Rattle.rcv_replay.proofs.Judging.{few_entries, few_wrong}
+use Rattle.rcv_look.proofs.Journals.{formed_said, malformed_said}
 use Rattle.rcv_look.proofs.journal.text_answer.Goals as goal
 
 pub verdict-requires : goal.verdict-requires

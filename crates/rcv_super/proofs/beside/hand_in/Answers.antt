@@ -9,6 +9,7 @@ use Rattle.rcv_core.specs.Book.{state_of, with_more}
 use Rattle.rcv_theory.specs.Round.{NeverFalls}
 use Rattle.rcv_merge.specs.Merge.{IsMergeOf}
 use Rattle.rcv_lanes.specs.Home.{logs_in}
+use Rattle.rcv_lanes.proofs.Bases.{met_bases, cleared_bases}
 use Rattle.rcv_super.proofs.Behind.{meet_behind, rise_behind, follow_behind, home_behind}
 use Rattle.rcv_super.proofs.beside.hand_in.Goals as goal
 
@@ -27,3 +28,6 @@ pub returns-clause-home : goal.returns-clause-home
 returns-clause-home c =
     let is : IsMergeOf (logs_in c.meet_all.new.lanes.items) c.in_ok-merged.merged.items = subst (λ l. IsMergeOf l c.in_ok-merged.merged.items) c.in_ok-logs.ensures c.in_ok-merged.ensures in
     home_behind c.args.book.now c.args.lanes.now.items c.meet_all.new.lanes.items c.requires c.in_ok-meet_all.ensures.met c.in_ok-meet_all.ensures.begun (subst (λ (s : SessionView). IsAcceptedProtocol s.protocol) c.setup.ensures c.protocol-protocol.ensures.accepted) c.entries-entries.ensures.legal c.in_ok-merged.merged.items is c.push_all.new.book c.clear_logs.new.lanes.items (c.in_ok-push_all.ensures.ok ∙ ap (with_more c.args.book.now) c.as_slice.ensures.value) c.clear_logs.ensures.count c.clear_logs.ensures.cleared
+
+pub returns-clause-bases : goal.returns-clause-bases
+returns-clause-bases c r d = cleared_bases c.meet_all.new.lanes.items c.clear_logs.new.lanes.items c.clear_logs.ensures.count c.clear_logs.ensures.cleared r d ∙ met_bases c.args.lanes.now.items c.meet_all.new.lanes.items c.in_ok-meet_all.ensures.met r d

@@ -1,6 +1,5 @@
 -- The concerned cells can go back behind the Recover, can be put back, and are at home then.
 use Rattle.std.proofs.Common.{sym, subst}
-use Rattle.std.specs.Prelude.{Result, Ok, Err, OnOk}
 use Rattle.rcv_tree.specs.declared.role.RoleSet.{RoleSet}
 use Rattle.rcv_accept.specs.Accepted.{IsAcceptedProtocol}
 use Rattle.rcv_plan.specs.Lines.{IsPlanned}
@@ -9,13 +8,10 @@ use Rattle.rcv_core.specs.Book.{BookView}
 use Rattle.rcv_lanes.specs.Home.{AreHome}
 use Rattle.rcv_back.specs.Halves.{AreSplit}
 use Rattle.rcv_back.specs.Back.{CanGoBack, HaveGoneBack}
+use Rattle.rcv_super.proofs.Bases.{split_bases, then_ok}
 use Rattle.rcv_super.proofs.Leaving.{can_go_back_by}
 use Rattle.rcv_super.proofs.Returning.{can_unite, come_back_by}
 use Rattle.rcv_super.proofs.recovery.recover_alone.Goals as goal
-
-on_ok : {A E : Type 0} {P Q : Type 0} (result : Result A E) → (P → Q) → OnOk result P → OnOk result Q
-on_ok (Ok a) f p = f p
-on_ok (Err e) f p = tt
 
 pub go_back-requires : goal.go_back-requires
 go_back-requires c = subst (λ (b : BookView). CanGoBack b c.in_ok-back.back.items) (sym c.in_ok-push.ensures.ok)
@@ -25,6 +21,7 @@ go_back-requires c = subst (λ (b : BookView). CanGoBack b c.in_ok-back.back.ite
     c.entries-entries.ensures.legal
     c.in_ok-entry.ensures.recovers
     c.requires.home
+    c.requires.based
     c.know_all.ensures
     (subst (λ (x : RoleSet). AreSplit x c.args.lanes.now.items c.in_ok-back.back.items c.in_ok-back.beside.items) c.concerned_by-concerned.ensures c.in_ok-back.ensures.split))
 
@@ -32,7 +29,7 @@ pub unite-requires-clause-halves : goal.unite-requires-clause-halves
 unite-requires-clause-halves c = can_unite c.push.new.self c.concerned_by-concerned.result c.args.lanes.now.items c.in_ok-back.back.items c.go_back.new.half.items c.in_ok-back.beside.items c.in_ok-back.ensures.split c.go_back.ensures
 
 pub returns-clause-home : goal.returns-clause-home
-returns-clause-home c = on_ok c.unite.result
+returns-clause-home c = then_ok c.unite.result
     (λ united. subst (λ (b : BookView). AreHome b c.unite.new.lanes.items) (sym c.in_ok-push.ensures.ok)
     (come_back_by c.args.book.now c.args.lanes.now.items c.unite.new.lanes.items c.args.role c.in_ok-entry.entry c.in_ok-back.back.items c.go_back.new.half.items c.in_ok-back.beside.items
     (subst (λ (s : SessionView). IsAcceptedProtocol s.protocol) c.setup.ensures c.roles-roles.ensures.accepted)
@@ -42,4 +39,9 @@ returns-clause-home c = on_ok c.unite.result
     (subst (λ (x : RoleSet). AreSplit x c.args.lanes.now.items c.in_ok-back.back.items c.in_ok-back.beside.items) c.concerned_by-concerned.ensures c.in_ok-back.ensures.split)
     (subst (λ (b : BookView). HaveGoneBack b c.in_ok-back.back.items c.go_back.new.half.items) c.in_ok-push.ensures.ok c.go_back.ensures)
     (subst (λ (x : RoleSet). AreSplit x c.unite.new.lanes.items c.go_back.new.half.items c.in_ok-back.beside.items) c.concerned_by-concerned.ensures united)))
+    c.unite.ensures
+
+pub returns-clause-bases : goal.returns-clause-bases
+returns-clause-bases c = then_ok c.unite.result
+    (λ united. split_bases c.push.new.self c.concerned_by-concerned.result c.args.lanes.now.items c.unite.new.lanes.items c.in_ok-back.back.items c.go_back.new.half.items c.in_ok-back.beside.items c.in_ok-back.ensures.split c.go_back.ensures united)
     c.unite.ensures

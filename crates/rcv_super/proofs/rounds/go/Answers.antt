@@ -1,6 +1,9 @@
 -- The cells come home to the same book.
 use Rattle.std.proofs.Common.{subst, sym}
-use Rattle.rcv_core.specs.Book.{HasMore}
+use Rattle.rcv_core.specs.Book.{BookView, HasMore}
+use Rattle.rcv_super.specs.Bases.{IsStableIn}
+use Rattle.rcv_super.proofs.Bases.{held_on, then_ok}
+use Rattle.rcv_super.proofs.Ending.{grown_step}
 use Rattle.rcv_super.proofs.rounds.go.Goals as goal
 
 pub make_step-requires-clause-more : goal.make_step-requires-clause-more
@@ -8,3 +11,27 @@ make_step-requires-clause-more g c κs within = subst HasMore (sym c.bring_home.
 
 pub go_on-requires-clause-more : goal.go_on-requires-clause-more
 go_on-requires-clause-more g c κs within = subst HasMore (sym c.bring_home.ensures.same) c.requires.more
+
+pub make_step-requires-clause-based : goal.make_step-requires-clause-based
+make_step-requires-clause-based g c κs within = record {
+  line = c.args.line.now;
+  stable = subst (λ (b : BookView). IsStableIn b c.args.line.now) (sym c.bring_home.ensures.same) c.requires.stable;
+  bases = c.in_ok-bring_home.ensures.bases;
+}
+
+pub go_on-requires-clause-based : goal.go_on-requires-clause-based
+go_on-requires-clause-based g c κs within = record {
+  line = c.args.line.now;
+  stable = subst (λ (b : BookView). IsStableIn b c.args.line.now) (sym c.bring_home.ensures.same) c.requires.stable;
+  bases = c.in_ok-bring_home.ensures.bases;
+}
+
+pub returns-then-workers-eq1-clause-bases : goal.returns-then-workers-eq1-clause-bases
+returns-then-workers-eq1-clause-bases g c = then_ok c.make_step.result
+    (held_on c.bring_home.new.book c.make_step.new.book c.args.line.now c.bring_home.new.lanes.items c.make_step.new.lanes.items (grown_step c.bring_home.new.book c.make_step.new.book c.make_step.ensures.some) c.in_ok-bring_home.ensures.bases)
+    c.make_step.ensures.bases
+
+pub returns-clause-bases : goal.returns-clause-bases
+returns-clause-bases g c = then_ok c.go_on.result
+    (held_on c.bring_home.new.book c.go_on.new.book c.args.line.now c.bring_home.new.lanes.items c.go_on.new.lanes.items c.go_on.ensures.grown c.in_ok-bring_home.ensures.bases)
+    c.go_on.ensures.bases

@@ -1,4 +1,6 @@
 -- The cell whose role is due crashes.
+use Rattle.std.proofs.Common.{◌∙◌}
+use Rattle.rcv_super.proofs.Bases.{polled_bases, then_ok}
 use Rattle.rcv_super.proofs.Stepping.{can_poll, out_with_crash}
 use Rattle.rcv_super.proofs.step.make_crash.Goals as goal
 
@@ -7,3 +9,8 @@ poll_at-requires-clause-ready g c κs within = λ d. can_poll c.args.book.now c.
 
 pub add_entry-requires : goal.add_entry-requires
 add_entry-requires g c = out_with_crash c.args.book.now c.args.lanes.now.items c.poll_at.new.lanes.items c.requires.home c.args.role c.requires.step c.poll_at.ensures.count c.poll_at.ensures.others c.poll_at.ensures.polled c.entries-entries.ensures.legal
+
+pub returns-clause-bases : goal.returns-clause-bases
+returns-clause-bases g c = then_ok c.add_entry.result
+    (λ added r d. added r d ∙ polled_bases c.args.lanes.now.items c.poll_at.new.lanes.items c.args.role c.poll_at.ensures.others c.poll_at.ensures.polled r d)
+    c.add_entry.ensures.bases

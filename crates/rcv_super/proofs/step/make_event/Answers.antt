@@ -3,6 +3,7 @@ use Rattle.std.proofs.Common.{◌≡◌, ◌≤◌, sym, ◌∙◌, ap, subst}
 use Rattle.rcv_plan.specs.Lines.{IsPlanned}
 use Rattle.rcv_accept.specs.Accepted.{IsAcceptedProtocol}
 use Rattle.rcv_session.specs.Session.{SessionView, roles_of, net_for}
+use Rattle.rcv_super.proofs.Bases.{event_bases, then_ok}
 use Rattle.rcv_super.proofs.Stepping.{event_between, old_from, old_to, from_apart, met_can_poll, gone_from, gone_to, gone_meet, event_out}
 use Rattle.rcv_super.proofs.step.make_event.Goals as goal
 
@@ -92,3 +93,8 @@ add_entry-requires g c =
     let accepted : IsAcceptedProtocol c.args.book.now.setup.protocol = subst (λ (s : SessionView). IsAcceptedProtocol s.protocol) c.setup.ensures c.roles-roles.ensures.accepted in
     let planned : IsPlanned (roles_of c.args.book.now.setup) c.args.book.now.setup.plan = subst (λ (s : SessionView). IsPlanned (roles_of s) s.plan) c.setup.ensures c.roles-roles.ensures.planned in
     event_out c.args.book.now c.args.lanes.now.items c.requires.home c.args.entry.now c.args.event.now c.requires.next c.from.inside.0 c.to.inside.0 from to accepted c.meet_pair.new.lanes.items c.in_ok-meet_pair.ensures.met c.in_ok-meet_pair.ensures.paired planned c.entries-entries.ensures.legal c.poll_at.new.lanes.items c.poll_at.ensures.count c.poll_at.ensures.others c.poll_at.ensures.polled c.meet_pair-2.new.lanes.items c.in_ok-meet_pair-2.ensures.met c.in_ok-meet_pair-2.ensures.paired
+
+pub returns-clause-bases : goal.returns-clause-bases
+returns-clause-bases g c = then_ok c.add_entry.result
+    (λ added r d. added r d ∙ event_bases c.args.lanes.now.items c.meet_pair.new.lanes.items c.poll_at.new.lanes.items c.meet_pair-2.new.lanes.items c.args.event.now.role c.in_ok-meet_pair.ensures.met c.poll_at.ensures.others c.poll_at.ensures.polled c.in_ok-meet_pair-2.ensures.met r d)
+    c.add_entry.ensures.bases

@@ -1,11 +1,14 @@
 -- A part that stays crashed keeps its facts with fewer events.
 use Rattle.std.proofs.Common.{rules, refl}
-use Rattle.rcv_role.proofs.Parts.{cut_is}
+use Rattle.rcv_role.proofs.Parts.{cut_is, cut_holds}
 use Rattle.rcv_role.proofs.part.Part.cut_to.Goals as goal
 
 pub invariant_of-self : goal.invariant_of-self
 invariant_of-self c = (
-  cut_is _ c.args.self.now c.self.inside.stack _ c.self.view_is c.self.invariant.0 c.args.keep c.args.clock c.min-held.result _ c.min-held.ensures c.requires.crashed c.requires.made c.rewind.ensures c.truncate.ensures.items refl refl,
+  cut_is _ c.args.self.now c.self.inside.tail _ c.self.view_is c.self.invariant.0 c.args.keep c.args.clock c.min-held.result _ c.min-held.ensures c.requires.crashed c.requires.base c.requires.made c.rewind.ensures c.truncate.ensures.items refl refl,
   search rules,
   search rules,
 )
+
+pub rewind-requires : goal.rewind-requires
+rewind-requires c = cut_holds _ c.args.self.now c.self.inside.tail c.self.view_is c.self.invariant.0 c.args.keep c.min-held.result c.min-held.ensures c.requires.base

@@ -1,0 +1,4 @@
+pub mod Telling
+pub mod Making
+pub mod Diagnosing
+pub mod Laws

@@ -1,0 +1,6 @@
+pub mod LineCount
+pub mod Judging
+pub mod Moving
+pub mod Once
+pub mod Existing
+pub mod Journals

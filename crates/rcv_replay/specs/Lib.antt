@@ -1,0 +1,4 @@
+pub mod Cutting
+pub mod Replaying
+pub mod Lines
+pub mod Laws

@@ -1,0 +1,25 @@
+// Whether a journal that stands behind its bundle is legal, and closes as its entries leave it.
+#![tactic(auto)]
+
+ghost use Rattle.rcv_replay.specs.Laws.{OneReplay, ReplaysExist, LegalReplaysAreJournals};
+
+pub mod cut;
+pub mod lines;
+pub mod replay;
+pub mod replayed;
+
+/// Of an input one thing is said.
+pub fn one_replay()
+    ensures { OneReplay }
+{}
+
+/// And something is said of each.
+pub fn replays_exist()
+    ensures { ReplaysExist }
+{}
+
+/// Where the bundle is taken as a session, a replay is legal exactly where the text behind it is that of a legal and
+/// final journal of this session.
+pub fn legal_replays_are_journals()
+    ensures { LegalReplaysAreJournals }
+{}

@@ -1,0 +1,117 @@
+// Sessions of more than 1,024 turns: they find their stable line behind the 1,024th, the cells forget what is before it,
+// and a role that crashes behind it recovers.
+
+use crate::inputs::setup_of;
+use rcv_core::book::Book;
+use rcv_core::outcome::Outcome;
+use rcv_core::setup::Setup;
+use rcv_super::session::{Session, Turn};
+use rcv_top::NoGate;
+use rcv_tree::entry::Entry;
+use std::alloc::AllocError;
+use std::test::Fail;
+use std::thread::Threads;
+
+// One worker adds a Send and its Recv by turns. B crashes behind the 1,024th turn, also where the first turn was a round.
+const STREAM: &[u8] = b"module stream;
+global protocol Stream(role A, role B) {
+  rec X {
+    choice at A { more() from A to B; continue X; } or { stop() from A to B; }
+  }
+}
+%% scripts
+role A { var n = 0; on more set n = n + 1; pick more when n < 640; pick stop; }
+%% plan
+every A 3 every B 4 crash B 590 room 1
+";
+
+const NOTHING: [u32; 8] = [0; 8];
+
+// A has made 512 events then, and saved 510. B has 512, and saved all: but the last of these that A saved the Send of
+// is the 510th, and before it B saved the 508th.
+const LINE: [u32; 8] = [510, 508, 0, 0, 0, 0, 0, 0];
+
+// Turns a session with one worker until so many turns were made, and says whether each of them added entries.
+fn comes_to<R: AllocGlobal + Threads + Sync>(
+    rt: &R,
+    session: &mut Session<'_>,
+    turns: u32,
+) -> bool {
+    for _ in session.turns()..turns {
+        if session.turn(rt, rt.alloc(), 1, &NoGate) != Ok(Turn::More) {
+            return false;
+        }
+    }
+    true
+}
+
+// Turns it to its end with two workers, and says whether it completes behind one recovery.
+fn recovers<R: AllocGlobal + Threads + Sync>(rt: &R, session: &mut Session<'_>) -> bool {
+    session.finish(rt, rt.alloc(), 2, &NoGate) == Ok(())
+        && matches!(session.book().final_state(), Outcome::Completed)
+        && recoveries(session.book()) == 1
+}
+
+fn recoveries(book: &Book<'_>) -> usize {
+    book.entries()
+        .iter()
+        .filter(|entry| matches!(entry, Entry::Recover { .. }))
+        .count()
+}
+
+// Whether a session forgets, its cells behind a first turn of several, or where a later turn of several brings them home.
+fn forgets<R: AllocGlobal + Threads + Sync>(
+    rt: &R,
+    session: &mut Session<'_>,
+    several: bool,
+) -> bool {
+    if several && session.turn(rt, rt.alloc(), 2, &NoGate) != Ok(Turn::More) {
+        return false;
+    }
+    if !comes_to(rt, session, 1023) || session.stable() != NOTHING {
+        return false;
+    }
+    if !comes_to(rt, session, 1024) {
+        return false;
+    }
+    let line = session.stable();
+    let found = if several {
+        line != NOTHING
+    } else {
+        line == LINE
+    };
+    found && recovers(rt, session)
+}
+
+// The same of the session of the stream.
+fn stream_forgets<R: AllocGlobal + Threads + Sync>(
+    rt: &R,
+    several: bool,
+) -> Result<bool, AllocError> {
+    match setup_of(rt.alloc(), STREAM)? {
+        Some(setup) => forgets_in(rt, &setup, several),
+        None => Ok(false),
+    }
+}
+
+// And of the session of a setup.
+fn forgets_in<R: AllocGlobal + Threads + Sync>(
+    rt: &R,
+    setup: &Setup,
+    several: bool,
+) -> Result<bool, AllocError> {
+    let mut session = Session::new(rt.alloc(), setup)?;
+    Ok(forgets(rt, &mut session, several))
+}
+
+#[test]
+fn one_worker_finds_the_line(rt: HostRuntime) -> Result<(), Fail> {
+    assert!(rt; stream_forgets(&rt, false)?);
+    Ok(())
+}
+
+#[test]
+fn cells_forget_at_home(rt: HostRuntime) -> Result<(), Fail> {
+    assert!(rt; stream_forgets(&rt, true)?);
+    Ok(())
+}

@@ -1,0 +1,6 @@
+-- The new line is no less than the one before, which was stable still.
+use Rattle.rcv_super.proofs.Bases.{line_rises}
+use Rattle.rcv_super.proofs.forgetting.keep_line.Goals as goal
+
+pub forget_before-requires-clause-above : goal.forget_before-requires-clause-above
+forget_before-requires-clause-above c = line_rises c.args.book.now c.args.line.now c.stable_line-new.result c.args.lanes.now.items c.stable_line-new.ensures c.still_stable.ensures (c.requires.home c.if-not-alone.true).1
