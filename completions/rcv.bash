@@ -9,13 +9,14 @@ _rcv_complete() {
     case $before in
     --workers) COMPREPLY=($(compgen -W "1 2 3 4 5 6 7 8" -- "$current")) && return ;;
     --code)
-        COMPREPLY=($(compgen -W "$(echo {10..36} {40..43} {50..54})" -- "$current")) && return
+        COMPREPLY=($(compgen -W "$(echo {10..36} {40..43} {50..55})" -- "$current")) && return
         ;;
-    --role | --number) COMPREPLY=() && return ;;
+    --role | --number | --sessions | --session) COMPREPLY=() && return ;;
     esac
     case $command in
     "") COMPREPLY=($(compgen -W "$1" -- "$current")) ;;
-    run) COMPREPLY=($(compgen -W "--workers --json" -- "$current")) ;;
+    run) COMPREPLY=($(compgen -W "--workers --json --sessions" -- "$current")) ;;
+    journal) COMPREPLY=($(compgen -W "--session" -- "$current")) ;;
     project | role) COMPREPLY=($(compgen -W "--role" -- "$current")) ;;
     gen) COMPREPLY=($(compgen -W "--number" -- "$current")) ;;
     explain) COMPREPLY=($(compgen -W "--code" -- "$current")) ;;

@@ -10,6 +10,7 @@ complete -c rcv -n __fish_use_subcommand -a replay -d 'judge the journal behind 
 complete -c rcv -n __fish_use_subcommand -a line -d 'write how many events of each role no recovery takes back'
 complete -c rcv -n '__fish_seen_subcommand_from run' -l workers -x -a '1 2 3 4 5 6 7 8' -d 'how many workers'
 complete -c rcv -n '__fish_seen_subcommand_from run' -l json -d 'one line of JSON'
+complete -c rcv -n '__fish_seen_subcommand_from run' -l sessions -x -d 'from 1 to 64, each with later crashes'
 complete -c rcv -n '__fish_seen_subcommand_from project' -l role -x -d 'the role'
 complete -c rcv -n '__fish_seen_subcommand_from gen' -l number -x -d 'from 0 to 4000'
 
@@ -21,5 +22,6 @@ complete -c rcv-show -n __fish_use_subcommand -a role -d 'draw what a role does 
 complete -c rcv-show -n __fish_use_subcommand -a protocol -d 'draw the protocol as a sequence chart'
 complete -c rcv-show -n __fish_use_subcommand -a points -d 'list the points with their lines, and say what a refusal says'
 complete -c rcv-show -n __fish_use_subcommand -a explain -d 'write the rule of a code, an example and its repair'
+complete -c rcv-show -n '__fish_seen_subcommand_from journal' -l session -x -d 'which of several, from 1 to 64'
 complete -c rcv-show -n '__fish_seen_subcommand_from role' -l role -x -d 'the role'
-complete -c rcv-show -n '__fish_seen_subcommand_from explain' -l code -x -a '(seq 10 36; seq 40 43; seq 50 54)' -d 'the code of a refusal'
+complete -c rcv-show -n '__fish_seen_subcommand_from explain' -l code -x -a '(seq 10 36; seq 40 43; seq 50 55)' -d 'the code of a refusal'

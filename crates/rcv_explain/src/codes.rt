@@ -4,10 +4,11 @@ ghost use Rattle.std.specs.Prelude.{IfOk, IfSome, IfNone};
 ghost use Rattle.rcv_explain.specs.Explained.{HasRule, IsNamed, IsToldOf};
 
 use crate::explanation::Explanation;
-use crate::{calls, journals, plans, rules, scripts, texts};
+use crate::{calls, journals, plans, rules, scripts, sessions, texts};
 use std::alloc::{AllocError, Global};
 
-/// The explanation of a code: of those that docs/FORMATS.md lists, which are 10 to 36, 40 to 43, and 50 to 54. None of any other number.
+/// The explanation of a code: of those that docs/FORMATS.md lists, which are 10 to 36, 40 to 43, and 50 to 55. None of any
+/// other number.
 pub fn explain(code: u8) -> Option<Explanation>
     ensures some { IfSome result (λ e. IsNamed code e.name.now) }
     ensures none { IfNone result (HasRule code → ⊥) }
@@ -49,6 +50,7 @@ pub fn explain(code: u8) -> Option<Explanation>
         52 => Some(calls::ARITY),
         53 => Some(calls::RECURSIVE),
         54 => Some(calls::EMPTY_DO),
+        55 => Some(sessions::TOO_MUCH),
         _ => None,
     }
 }

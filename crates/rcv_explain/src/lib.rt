@@ -8,6 +8,7 @@ mod journals;
 mod plans;
 mod rules;
 mod scripts;
+mod sessions;
 mod texts;
 
 pub use codes::{explain, explanation_text};

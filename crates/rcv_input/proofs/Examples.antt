@@ -7,7 +7,7 @@ use Rattle.rcv_lexer.specs.Parts.{span}
 use Rattle.rcv_syntax.specs.declared.fault.Fault.TheVariants as faults
 use Rattle.rcv_syntax.specs.Symbols.{symbols_of}
 use Rattle.rcv_machine.proofs.Exactly.{refusal_is_first}
-use Rattle.rcv_input.specs.declared.refused.Refused.TheVariants.{Line, Rule, NoRole}
+use Rattle.rcv_input.specs.declared.refused.Refused.TheVariants.{Line, Rule, NoRole, TooMuch}
 use Rattle.rcv_input.specs.Refusals.{IsFirstRefusal, letter, unread}
 use Rattle.rcv_input.specs.Line.{refusal_line}
 
@@ -22,6 +22,9 @@ last_code = refl
 rule_line : refusal_line (Rule 24 (codes "C") 0) ≡ codes "refused 24 NotEnabled C 0\n"
 unfolding digits
 rule_line = refl
+
+too_much_line : refusal_line TooMuch ≡ codes "refused 55 TooMuch\n"
+too_much_line = refl
 
 no_role_line : refusal_line NoRole ≡ codes "refused 27 NoRole\n"
 no_role_line = refl

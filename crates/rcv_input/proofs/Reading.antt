@@ -30,7 +30,7 @@ use Rattle.rcv_plan.specs.Refusing as planning
 use Rattle.rcv_model.specs.Script as model
 use Rattle.rcv_input.specs.Input.{IsProtocolOf, AreOriginsIn, IsAcceptedOf, AreScriptsOf, IsPlanOf}
 use Rattle.rcv_input.specs.declared.refused.Refused.TheVariants as refused
-use Rattle.rcv_input.specs.declared.refused.Refused.TheVariants.{Rule, NoRole}
+use Rattle.rcv_input.specs.declared.refused.Refused.TheVariants.{Rule, NoRole, TooMuch}
 use Rattle.rcv_input.specs.declared.refused.InputError.{InputError}
 use Rattle.rcv_input.specs.declared.refused.InputError.TheVariants as causes
 use Rattle.rcv_input.specs.Refusals.{letter, unread, uncallable, ruled_out, script_letter, unscripted, plan_letter, unplanned, IsRefused, IsUnread, IsUnscripted, IsUnplanned, IsRule, IsRuledOut}
@@ -127,6 +127,7 @@ by_rule input p causes.Memory text h = tt
 by_rule input p (causes.Refused (Rule code name number)) text h = ruled_out p code h.0 number name text h.2 h.1
 by_rule input p (causes.Refused (refused.Line code line)) text h = absurd h
 by_rule input p (causes.Refused NoRole) text h = absurd h
+by_rule input p (causes.Refused TooMuch) text h = absurd h
 
 -- a refusal by a rule is at a declared role
 pub is_rule : (names : List (List ℕ)) (p : Protocol) (r : Refusal) → names ≡ p.roles → HasForm (body_of p.body) (length p.roles) → IsRefusedBy (body_of p.body) (length p.roles) (errors.Refused r) → IsRule names r

@@ -17,7 +17,7 @@ use Rattle.rcv_reader.specs.Refusals as reader
 use Rattle.rcv_script.specs.Scripts.{AreRefusedFor}
 use Rattle.rcv_plan.specs.Refusing as planning
 use Rattle.rcv_input.specs.declared.refused.Refused.{Refused}
-use Rattle.rcv_input.specs.declared.refused.Refused.TheVariants.{Line, Rule, NoRole}
+use Rattle.rcv_input.specs.declared.refused.Refused.TheVariants.{Line, Rule, NoRole, TooMuch}
 use Rattle.rcv_input.specs.declared.refused.InputError.{InputError}
 use Rattle.rcv_input.specs.declared.refused.InputError.TheVariants as causes
 use Rattle.rcv_input.specs.Input.{AreProtocolTokens, AreScriptTokens, ArePlanTokens, IsProtocolOf, IsAcceptedOf, AreScriptsOf}
@@ -116,3 +116,4 @@ IsRuledOut p (causes.Refused (Rule code name number)) =
     (role : ℕ) × (slice_get p.roles role ≡ Some name) × IsRefusal (body_of p.body) (length p.roles) code role number
 IsRuledOut p (causes.Refused (Line code line)) = ⊥
 IsRuledOut p (causes.Refused NoRole) = ⊥
+IsRuledOut p (causes.Refused TooMuch) = ⊥

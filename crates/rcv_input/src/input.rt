@@ -1,8 +1,9 @@
 // Reads an input.
 
 ghost use Rattle.std.specs.Prelude.{◌+◌, ◌^◌, ◌<◌, length, MatchResult, IfOk};
+ghost use Rattle.std.specs.List.{All};
 ghost use Rattle.rcv_script.specs.Scripts.{AreScriptsFor};
-ghost use Rattle.rcv_plan.specs.Lines.{IsPlanned};
+ghost use Rattle.rcv_plan.specs.Lines.{IsPlanned, HasReadCount};
 ghost use Rattle.rcv_input.specs.Input.{AreOriginsIn, IsTaken};
 ghost use Rattle.rcv_input.specs.Refusals.{IsRefused};
 
@@ -42,6 +43,7 @@ pub fn read_input(alloc: Global, input: &[u8]) -> Result<Input, InputError>
     ensures origins { IfOk result (λ x. AreOriginsIn input.now x.origins) }
     ensures belong { IfOk result (λ x. AreScriptsFor x.accepted.protocol x.scripts) }
     ensures planned { IfOk result (λ x. IsPlanned (length x.accepted.protocol.roles) x.plan) }
+    ensures counted { IfOk result (λ x. All HasReadCount x.plan) }
 {
     let parts = split(input);
     let source = match protocol::read_part(alloc, input, parts.protocol) {

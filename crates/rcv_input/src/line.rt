@@ -48,12 +48,13 @@ fn name_of(code: u8) -> &'static [u8]
         52 => b"Arity",
         53 => b"Recursive",
         54 => b"EmptyDo",
+        55 => b"TooMuch",
         _ => b"",
     }
 }
 
-/// What is written for a refusal, as `refused 11 Token line 2`, `refused 24 NotEnabled C 0` or `refused 27 NoRole`, and
-/// a line end. It fails where memory runs out.
+/// What is written for a refusal, as `refused 11 Token line 2`, `refused 24 NotEnabled C 0`, `refused 27 NoRole` or
+/// `refused 55 TooMuch`, and a line end. It fails where memory runs out.
 pub fn refusal_line(alloc: Global, refused: &Refused) -> Result<Vec<u8>, AllocError>
     ensures { IfOk result (λ text. text.items ≡ refusal_line refused.now) }
 {
@@ -61,6 +62,7 @@ pub fn refusal_line(alloc: Global, refused: &Refused) -> Result<Vec<u8>, AllocEr
         Refused::Line { code, line } => at_line(alloc, *code, *line),
         Refused::Rule { code, role, number } => at_role(alloc, *code, role.as_slice(), *number),
         Refused::NoRole => Vec::from_slice(alloc, b"refused 27 NoRole\n"),
+        Refused::TooMuch => Vec::from_slice(alloc, b"refused 55 TooMuch\n"),
     }
 }
 

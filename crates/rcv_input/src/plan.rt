@@ -1,8 +1,9 @@
 // Reads the plan part of an input.
 
 ghost use Rattle.std.specs.Prelude.{◌≡◌, ◌+◌, ◌^◌, ◌<◌, ◌≤◌, length, IfOk, MatchResult};
+ghost use Rattle.std.specs.List.{All};
 ghost use Rattle.rcv_lexer.specs.Parts.{LiesIn, parts_of};
-ghost use Rattle.rcv_plan.specs.Lines.{IsPlanned};
+ghost use Rattle.rcv_plan.specs.Lines.{IsPlanned, HasReadCount};
 ghost use Rattle.rcv_input.specs.Input.{IsPlanOf};
 ghost use Rattle.rcv_input.specs.Refusals.{IsUnplanned};
 
@@ -27,6 +28,7 @@ pub fn read_part(
     ensures read { MatchResult result (IsPlanOf input.now accepted.now.protocol)
         (IsUnplanned input.now accepted.now.protocol) }
     ensures planned { IfOk result (IsPlanned (length accepted.now.protocol.roles)) }
+    ensures counted { IfOk result (All HasReadCount) }
 {
     let list = tokens(alloc, input, part)?;
     let last = line_at(input, part.end);

@@ -20,6 +20,8 @@ pub enum Refused {
     Rule { code: u8, role: Name, number: u16 },
     /// The role that the command names isn't declared.
     NoRole,
+    /// The sessions that are asked for may make more events in all than there is room for.
+    TooMuch,
 }
 
 /// Why an input isn't taken.

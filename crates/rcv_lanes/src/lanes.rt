@@ -5,9 +5,9 @@ ghost use Rattle.rcv_role.specs.Cell.{CellView, Goes, without_log};
 ghost use Rattle.rcv_lanes.specs.Home.{cell_at, IsReady, AllGo, logs_in};
 
 use rcv_fence::Watch;
+use rcv_gate::Gate;
 use rcv_merge::TimedLogs;
 use rcv_role::cell::Cell;
-use rcv_role::gate::Gate;
 use std::alloc::{AllocError, Global};
 use std::marker::Model;
 use std::thread;

@@ -9,8 +9,8 @@ use crate::meet::meet_all;
 use crate::push::push_all;
 use rcv_core::book::Book;
 use rcv_fence::Watch;
+use rcv_gate::Gate;
 use rcv_merge::merge_round;
-use rcv_role::gate::Gate;
 use std::alloc::{AllocError, Global};
 use std::thread::Threads;
 

@@ -142,7 +142,7 @@ module _ (session : SessionView) (plain : IsAcceptedProtocol session.protocol) (
   lawful = proper (text_of session) (roles_of session) plain.form
 
   -- journals are short
-  few : (entries : List Entry) → IsLegal rules entries → length entries ≤ 2400016
+  few : (entries : List Entry) → IsLegal rules entries → length entries ≤ 2401024
   few entries legal =
       let steps : roles_of session * rules.limit ≤ 8 * 100000 = mul-le-mul plain.form.few_roles (ranges session planned).limit_last in
       let crashes = few_crash_lines session plain.form.few_roles planned in

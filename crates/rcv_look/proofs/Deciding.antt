@@ -5,7 +5,7 @@ use Rattle.std.specs.Str.{bytes_eq}
 use Rattle.std.proofs.lemmas.Bool.{cases_lt}
 use Rattle.std.proofs.lemmas.Slice.Eq.{bytes_eq-Decides}
 use Rattle.clap.specs.Words.{Kinds, Text, fault_of}
-use Rattle.rcv_look.specs.Commands.{CommandView, DrawJournal, ReplayJournal, DrawTable, DrawRole, DrawProtocol, ListPoints, Explain, Given, IsGiven, Says, IsWithin, IsCommand, IsNoCommand, given, line_of}
+use Rattle.rcv_look.specs.Commands.{CommandView, DrawJournal, DrawSession, ReplayJournal, DrawTable, DrawRole, DrawProtocol, ListPoints, Explain, Given, IsGiven, Says, IsWithin, IsCommand, IsNoCommand, given, line_of}
 use Rattle.rcv_look.specs.Program.{rcv_show}
 
 abbrev OrNot : Type 0 → Type 0
@@ -38,14 +38,14 @@ is_word (Some v) w = ⊎_elim (λ e. inl (ap Some e)) (λ never. inr (λ e. neve
 is_at_most : (m n : ℕ) → OrNot (m ≤ n)
 is_at_most m n = ⊎_elim (λ more. inr (λ few. omega (arith, more, few))) (λ few. inl few) (cases_lt n m)
 
-is_given : (g : Given) (w : Text) (r : Option Text) (n : Option ℕ) → OrNot (g.role ≡ r) → OrNot (g.code ≡ n) → OrNot (IsGiven g w r n)
-is_given g w r n role code = go (both (is_word g.command w) (both role code))
+is_given : (g : Given) (w : Text) (r : Option Text) (n i : Option ℕ) → OrNot (g.role ≡ r) → OrNot (g.code ≡ n) → OrNot (g.session ≡ i) → OrNot (IsGiven g w r n i)
+is_given g w r n i role code session = go (both (is_word g.command w) (both role (both code session)))
   where
-    go : OrNot ((g.command ≡ Some w) × ((g.role ≡ r) × (g.code ≡ n))) → OrNot (IsGiven g w r n)
-    go (inl a) = inl (record { word_is = a.0; role_is = a.1.0; code_is = a.1.1 })
-    go (inr never) = inr (λ h. never (h.word_is, (h.role_is, h.code_is)))
+    go : OrNot ((g.command ≡ Some w) × ((g.role ≡ r) × ((g.code ≡ n) × (g.session ≡ i)))) → OrNot (IsGiven g w r n i)
+    go (inl a) = inl (record { word_is = a.0; role_is = a.1.0; code_is = a.1.1.0; session_is = a.1.1.1 })
+    go (inr never) = inr (λ h. never (h.word_is, (h.role_is, (h.code_is, h.session_is))))
 
--- What is given says this command, whose code is in range.
+-- What is given says this command, whose number is in range.
 abbrev SaysWithin : Given → CommandView → Type 0
 SaysWithin g c = Says g c × IsWithin c
 
@@ -55,26 +55,33 @@ role_of g = DrawRole (unwrap_or g.role [])
 abbrev explain_of : Given → CommandView
 explain_of g = Explain (unwrap_or g.code 0)
 
+abbrev session_of : Given → CommandView
+session_of g = DrawSession (unwrap_or g.session 0)
+
 -- For each word there is one command that it can be.
-alone : (g : Given) (word : Text) → OrNot (IsGiven g word None None)
-alone g word = is_given g word None None (is_none g.role) (is_none g.code)
+alone : (g : Given) (word : Text) → OrNot (IsGiven g word None None None)
+alone g word = is_given g word None None None (is_none g.role) (is_none g.code) (is_none g.session)
 
 free : {A : Type 0} → OrNot A → OrNot (A × Unit {0})
 free (inl a) = inl (a, tt)
 free (inr never) = inr (λ b. never b.0)
 
 says_role : (g : Given) → OrNot (SaysWithin g (role_of g))
-says_role g = free (is_given g (codes "role") (Some (unwrap_or g.role [])) None (is_some g.role []) (is_none g.code))
+says_role g = free (is_given g (codes "role") (Some (unwrap_or g.role [])) None None (is_some g.role []) (is_none g.code) (is_none g.session))
+
+says_session : (g : Given) → OrNot (SaysWithin g (session_of g))
+says_session g = both (is_given g (codes "journal") None None (Some (unwrap_or g.session 0)) (is_none g.role) (is_none g.code) (is_some g.session 0)) (both (is_at_most 1 (unwrap_or g.session 0)) (is_at_most (unwrap_or g.session 0) 64))
 
 says_explain : (g : Given) → OrNot (SaysWithin g (explain_of g))
-says_explain g = both (is_given g (codes "explain") None (Some (unwrap_or g.code 0)) (is_none g.role) (is_some g.code 0)) (is_at_most (unwrap_or g.code 0) 255)
+says_explain g = both (is_given g (codes "explain") None (Some (unwrap_or g.code 0)) None (is_none g.role) (is_some g.code 0) (is_none g.session)) (is_at_most (unwrap_or g.code 0) 255)
 
 value_of : {X : Type 0} (o : Option X) (x y : X) → o ≡ Some y → y ≡ unwrap_or o x
 value_of o x y e = sym (ap (λ p. unwrap_or p x) e)
 
--- None of the seven, never command.
+-- None of the eight, never command.
 record SaysNone (g : Given) : Type 0 where
   pub journal : SaysWithin g DrawJournal → ⊥
+  pub session : SaysWithin g (session_of g) → ⊥
   pub replay : SaysWithin g ReplayJournal → ⊥
   pub table : SaysWithin g DrawTable → ⊥
   pub role : SaysWithin g (role_of g) → ⊥
@@ -84,6 +91,7 @@ record SaysNone (g : Given) : Type 0 where
 
 none_of : (g : Given) → SaysNone g → (c : CommandView) → SaysWithin g c → ⊥
 none_of g none DrawJournal s = none.journal s
+none_of g none (DrawSession number) s = none.session (subst (SaysWithin g) (ap DrawSession (value_of g.session 0 number s.0.session_is)) s)
 none_of g none ReplayJournal s = none.replay s
 none_of g none DrawTable s = none.table s
 none_of g none (DrawRole name) s = none.role (subst (SaysWithin g) (ap DrawRole (value_of g.role [] name s.0.role_is)) s)
@@ -94,14 +102,15 @@ none_of g none (Explain code) s = none.explain (subst (SaysWithin g) (ap Explain
 says_or_not : (g : Given) → ((c : CommandView) × SaysWithin g c) ⊎ ((c : CommandView) → SaysWithin g c → ⊥)
 says_or_not g =
     ⊎_elim (λ s. inl (DrawJournal, s)) (λ journal.
+    ⊎_elim (λ s. inl (session_of g, s)) (λ session.
     ⊎_elim (λ s. inl (ReplayJournal, s)) (λ replay.
     ⊎_elim (λ s. inl (DrawTable, s)) (λ table.
     ⊎_elim (λ s. inl (role_of g, s)) (λ role.
     ⊎_elim (λ s. inl (DrawProtocol, s)) (λ protocol.
     ⊎_elim (λ s. inl (ListPoints, s)) (λ points.
     ⊎_elim (λ s. inl (explain_of g, s)) (λ explain.
-    inr (none_of g (record { journal = journal; replay = replay; table = table; role = role; protocol = protocol; points = points; explain = explain })))
-    (says_explain g)) (free (alone g (codes "points")))) (free (alone g (codes "protocol")))) (says_role g)) (free (alone g (codes "table")))) (free (alone g (codes "replay")))) (free (alone g (codes "journal")))
+    inr (none_of g (record { journal = journal; session = session; replay = replay; table = table; role = role; protocol = protocol; points = points; explain = explain })))
+    (says_explain g)) (free (alone g (codes "points")))) (free (alone g (codes "protocol")))) (says_role g)) (free (alone g (codes "table")))) (free (alone g (codes "replay")))) (says_session g)) (free (alone g (codes "journal")))
 
 pub command_or_none : (words : List Text) → ((c : CommandView) × IsCommand words c) ⊎ IsNoCommand words
 command_or_none words = go (fault_of rcv_show (line_of words)) refl

@@ -10,15 +10,19 @@ abbrev faults : List Text → Kinds
 faults words = fault_of rcv_show (line_of words)
 
 -- Options stand before or behind the word, with `=` or without.
-role_first : given (codes "--role=B" ∷ codes "role" ∷ []) ≡ record { command = Some (codes "role"); role = Some (codes "B"); code = None }
+role_first : given (codes "--role=B" ∷ codes "role" ∷ []) ≡ record { command = Some (codes "role"); role = Some (codes "B"); code = None; session = None }
 unfolding clap_on_literals
 role_first = refl
 
-code_24 : given (codes "explain" ∷ codes "--code" ∷ codes "024" ∷ []) ≡ record { command = Some (codes "explain"); role = None; code = Some 24 }
+code_24 : given (codes "explain" ∷ codes "--code" ∷ codes "024" ∷ []) ≡ record { command = Some (codes "explain"); role = None; code = Some 24; session = None }
 unfolding clap_on_literals
 code_24 = refl
 
--- No words; a code out of range; an option of the other program; an option twice; a word too many.
+session_2 : given (codes "journal" ∷ codes "--session=2" ∷ []) ≡ record { command = Some (codes "journal"); role = None; code = None; session = Some 2 }
+unfolding clap_on_literals
+session_2 = refl
+
+-- No words; a code and a session out of range; an option of the other program; an option twice; a word too many.
 nothing : faults [] ≡ kind.MissingRequiredArgument ∷ []
 unfolding clap_on_literals
 nothing = refl
@@ -26,6 +30,14 @@ nothing = refl
 too_great : faults (codes "explain" ∷ codes "--code" ∷ codes "256" ∷ []) ≡ kind.ValueValidation ∷ []
 unfolding clap_on_literals
 too_great = refl
+
+no_session : faults (codes "journal" ∷ codes "--session" ∷ codes "0" ∷ []) ≡ kind.ValueValidation ∷ []
+unfolding clap_on_literals
+no_session = refl
+
+session_65 : faults (codes "journal" ∷ codes "--session" ∷ codes "65" ∷ []) ≡ kind.ValueValidation ∷ []
+unfolding clap_on_literals
+session_65 = refl
 
 no_json : faults (codes "journal" ∷ codes "--json" ∷ []) ≡ kind.UnknownArgument ∷ []
 unfolding clap_on_literals

@@ -1,7 +1,6 @@
 -- What is answered to a journal, from what its parts are.
-use Rattle.std.proofs.Common.{◌≡◌, ℕ, ◌+◌, ◌<◌, ◌≤◌, List, [], ◌∷◌, ◌++◌, length, map, Some, None, sym, ◌∙◌, ap, subst, ⊎_elim, arith, length-append}
-use Rattle.std.specs.Prelude.{Result, Option, IfOk, IfSome, IfNone}
-use Rattle.std.proofs.lemmas.List.{length-map}
+use Rattle.std.proofs.Common.{◌≡◌, ℕ, ◌+◌, ◌<◌, ◌≤◌, List, [], length, Some, None, sym, ◌∙◌, ap, subst}
+use Rattle.std.specs.Prelude.{Result, IfOk}
 use Rattle.rcv_tree.specs.declared.entry.Entry.{Entry}
 use Rattle.rcv_tree.specs.declared.protocol.Protocol.{Protocol}
 use Rattle.rcv_model.specs.Journal.{reading, IsLegal}
@@ -12,8 +11,7 @@ use Rattle.rcv_input.specs.declared.refused.InputError.TheVariants as causes
 use Rattle.rcv_input.specs.Input.{IsTaken}
 use Rattle.rcv_input.specs.Refusals.{IsRefused}
 use Rattle.rcv_input.specs.Line.{refusal_line}
-use Rattle.rcv_journal.specs.JournalText.{entry_line, role_line}
-use Rattle.rcv_form.specs.Form.{IsFirstWrong, Spells, journal_lines, lines_of, end_line}
+use Rattle.rcv_form.specs.Form.{IsFirstWrong, Spells}
 use Rattle.rcv_form.specs.Journal.{JournalView, bare}
 use Rattle.rcv_judge.specs.Closing.{ClosesRight, IsFirstWrongClosing}
 use Rattle.rcv_judge.specs.Judged.{IsFirstWrong as IsFirstIllegal}
@@ -44,10 +42,11 @@ module _ {E : Type 0} (result : Result Output E) where
       (subst (λ (t : List ℕ). IsBundleAnswer (bundle_of input cut) t feeds s b) same_text (subst (λ (u : List ℕ). IsBundleAnswer u text feeds s b) same_bundle answer)))) makes
 
   -- a bundle that is taken, or refused
-  pub taken_said : (bundle text : List ℕ) (session : SessionView) (feeds : ℕ) → IsTaken bundle session
-      → Makes (IsTextAnswer session text feeds) result → Makes (IsBundleAnswer bundle text feeds) result
-  taken_said bundle text session feeds is_taken makes =
-      widen (IsTextAnswer session text feeds) (IsBundleAnswer bundle text feeds) result (λ s b answer. outcomes.taken session is_taken answer) makes
+  pub taken_said : (bundle text : List ℕ) (session setup : SessionView) (feeds : ℕ) → setup ≡ session → IsTaken bundle session
+      → Makes (IsTextAnswer setup text feeds) result → Makes (IsBundleAnswer bundle text feeds) result
+  taken_said bundle text session setup feeds same is_taken makes =
+      widen (IsTextAnswer setup text feeds) (IsBundleAnswer bundle text feeds) result
+      (λ s b answer. outcomes.taken session is_taken (subst (λ (v : SessionView). IsTextAnswer v text feeds s b) same answer)) makes
 
   pub refused_said : (bundle text : List ℕ) (feeds : ℕ) (error : InputError) → IsRefused bundle error
       → IfOk result (λ output. (refusal : refusals.Refused) × (error ≡ causes.Refused refusal) × (output.status ≡ statuses.Refused) × (output.bytes.items ≡ refusal_line refusal))
@@ -55,20 +54,19 @@ module _ {E : Type 0} (result : Result Output E) where
   refused_said bundle text feeds error is said = refused (IsBundleAnswer bundle text feeds) error result said (λ refusal same. outcomes.refused refusal (subst (IsRefused bundle) same is))
 
   -- a text of the form, or one with a wrong line
-  pub formed_said : (session setup : SessionView) (protocol : Protocol) (text : List ℕ) (feeds : ℕ) (j : JournalView) → setup ≡ session → protocol ≡ setup.protocol
-      → Spells (bare protocol) text j → Makes (IsVerdict setup j feeds) result → Makes (IsTextAnswer session text feeds) result
-  formed_said session setup protocol text feeds j same_setup same spells makes =
-      widen (IsVerdict setup j feeds) (IsTextAnswer session text feeds) result
-      (λ s b verdict. formed j (subst (λ (p : Protocol). Spells (bare p) text j) (same ∙ ap (λ (v : SessionView). v.protocol) same_setup) spells)
-      (subst (λ (v : SessionView). IsVerdict v j feeds s b) same_setup verdict)) makes
+  pub formed_said : (setup : SessionView) (protocol : Protocol) (text : List ℕ) (feeds : ℕ) (j : JournalView) → protocol ≡ setup.protocol
+      → Spells (bare protocol) text j → Makes (IsVerdict setup j feeds) result → Makes (IsTextAnswer setup text feeds) result
+  formed_said setup protocol text feeds j same spells makes =
+      widen (IsVerdict setup j feeds) (IsTextAnswer setup text feeds) result
+      (λ s b verdict. formed j (subst (λ (p : Protocol). Spells (bare p) text j) same spells) verdict) makes
 
-  pub malformed_said : (session setup : SessionView) (protocol : Protocol) (text : List ℕ) (feeds number sum : ℕ) → setup ≡ session → protocol ≡ setup.protocol
+  pub malformed_said : (setup : SessionView) (protocol : Protocol) (text : List ℕ) (feeds number sum : ℕ) → protocol ≡ setup.protocol
       → IsFirstWrong (bare protocol) text number → sum ≡ feeds + number
-      → IfOk result (λ output. output.status ≡ statuses.Refused) → IfOk result (λ output. output.bytes.items ≡ malformed_line sum) → Makes (IsTextAnswer session text feeds) result
-  malformed_said session setup protocol text feeds number sum same_setup same wrong is status bytes =
-      made (IsTextAnswer session text feeds) result statuses.Refused (malformed_line sum) status bytes
-      (subst (λ (n : ℕ). IsTextAnswer session text feeds statuses.Refused (malformed_line n)) (sym is)
-      (malformed number (subst (λ (p : Protocol). IsFirstWrong (bare p) text number) (same ∙ ap (λ (v : SessionView). v.protocol) same_setup) wrong)))
+      → IfOk result (λ output. output.status ≡ statuses.Refused) → IfOk result (λ output. output.bytes.items ≡ malformed_line sum) → Makes (IsTextAnswer setup text feeds) result
+  malformed_said setup protocol text feeds number sum same wrong is status bytes =
+      made (IsTextAnswer setup text feeds) result statuses.Refused (malformed_line sum) status bytes
+      (subst (λ (n : ℕ). IsTextAnswer setup text feeds statuses.Refused (malformed_line n)) (sym is)
+      (malformed number (subst (λ (p : Protocol). IsFirstWrong (bare p) text number) same wrong)))
 
   -- an entry that can't come
   pub illegal_said : (session : SessionView) (j : JournalView) (entries : List Entry) (feeds k sum : ℕ) → entries ≡ j.entries → IsFirstIllegal (rules_of session) entries k → sum ≡ feeds + 1 + k

@@ -9,5 +9,7 @@ pub mod Ending
 pub mod Answering
 pub mod Telling
 pub mod Journals
+pub mod Sessions
+pub mod Plain
 pub mod Pictures
 mod Examples

@@ -35,5 +35,5 @@ number_is_read E G least most found name r only fits none some passes = go (one_
         at t pass.0 got.0 reads got.1
 
 -- What is given, option by option.
-pub same_given : (a b : Given) → a.command ≡ b.command → a.role ≡ b.role → a.code ≡ b.code → a ≡ b
-same_given a b command role code i = record { command = command i; role = role i; code = code i }
+pub same_given : (a b : Given) → a.command ≡ b.command → a.role ≡ b.role → a.code ≡ b.code → a.session ≡ b.session → a ≡ b
+same_given a b command role code session i = record { command = command i; role = role i; code = code i; session = session i }

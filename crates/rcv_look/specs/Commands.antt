@@ -13,6 +13,7 @@ use Rattle.rcv_look.specs.Program.{rcv_show}
 -- What words may ask for.
 pub data CommandView : Type 0 where
   DrawJournal : CommandView
+  DrawSession : (number : ℕ) → CommandView
   ReplayJournal : CommandView
   DrawTable : CommandView
   DrawRole : (name : Text) → CommandView
@@ -23,6 +24,7 @@ pub data CommandView : Type 0 where
 -- What a command says.
 abbrev pub view_of : Command → CommandView
 view_of commands.Journal = DrawJournal
+view_of (commands.Session number) = DrawSession number
 view_of commands.Replay = ReplayJournal
 view_of commands.Table = DrawTable
 view_of (commands.Role role) = DrawRole role
@@ -51,6 +53,7 @@ pub record Given : Type 0 where
   pub command : Option Text
   pub role : Option Text
   pub code : Option ℕ
+  pub session : Option ℕ
 
 -- The number that is given for the option. `one_of` gives the text without a `-` in front, which only a 0 that passed
 -- has.
@@ -62,6 +65,7 @@ given_in rows = record {
   command = first_of (codes "command") rows;
   role = first_of (codes "role") rows;
   code = number_in (codes "code") rows;
+  session = number_in (codes "session") rows;
 }
 
 abbrev pub given_of : Found → Given
@@ -69,29 +73,38 @@ given_of found = record {
   command = option_map (λ text. text.now) found.command;
   role = option_map (λ text. text.now) found.role;
   code = found.code;
+  session = found.session;
 }
 
 abbrev pub given : List Text → Given
 given words = given_in (found_in words)
 
+-- The journal of an input is asked for, or that of one of its sessions.
+abbrev pub journal_for : Option ℕ → CommandView
+journal_for None = DrawJournal
+journal_for (Some number) = DrawSession number
+
 -- The word is given, and these of the options.
-pub record IsGiven (g : Given) (word : Text) (role : Option Text) (code : Option ℕ) : Type 0 where
+pub record IsGiven (g : Given) (word : Text) (role : Option Text) (code session : Option ℕ) : Type 0 where
   pub word_is : g.command ≡ Some word
   pub role_is : g.role ≡ role
   pub code_is : g.code ≡ code
+  pub session_is : g.session ≡ session
 
 -- What is given says the command: its word and its option, and no option of another one.
 abbrev pub Says : Given → CommandView → Type 0
-Says g DrawJournal = IsGiven g (codes "journal") None None
-Says g ReplayJournal = IsGiven g (codes "replay") None None
-Says g DrawTable = IsGiven g (codes "table") None None
-Says g (DrawRole name) = IsGiven g (codes "role") (Some name) None
-Says g DrawProtocol = IsGiven g (codes "protocol") None None
-Says g ListPoints = IsGiven g (codes "points") None None
-Says g (Explain code) = IsGiven g (codes "explain") None (Some code)
+Says g DrawJournal = IsGiven g (codes "journal") None None None
+Says g (DrawSession number) = IsGiven g (codes "journal") None None (Some number)
+Says g ReplayJournal = IsGiven g (codes "replay") None None None
+Says g DrawTable = IsGiven g (codes "table") None None None
+Says g (DrawRole name) = IsGiven g (codes "role") (Some name) None None
+Says g DrawProtocol = IsGiven g (codes "protocol") None None None
+Says g ListPoints = IsGiven g (codes "points") None None None
+Says g (Explain code) = IsGiven g (codes "explain") None (Some code) None
 
--- Its code is in range.
+-- Its number is in range.
 abbrev pub IsWithin : CommandView → Type 0
+IsWithin (DrawSession number) = (1 ≤ number) × (number ≤ 64)
 IsWithin (Explain code) = code ≤ 255
 IsWithin _ = ⊤
 

@@ -1,5 +1,5 @@
 -- What the program answers: a status and bytes, for words and an input.
-use Rattle.std.specs.Prelude.{◌≡◌, ℕ, ◌+◌, ◌<◌, ◌≤◌, codes, decimal, List, [], ◌++◌, length, Some, None}
+use Rattle.std.specs.Prelude.{◌≡◌, ℕ, ◌+◌, ◌-◌, ◌<◌, ◌≤◌, codes, decimal, List, [], ◌++◌, length, take, Some, None}
 use Rattle.rcv_model.specs.Journal.{reading, IsLegal}
 use Rattle.rcv_session.specs.Session.{SessionView, rules_of}
 use Rattle.rcv_input.specs.declared.refused.Refused as refusals
@@ -17,9 +17,12 @@ use Rattle.rcv_diagnosis.specs.declared.diagnosis.Finding.TheVariants as finding
 use Rattle.rcv_diagnosis.specs.Diagnosing.{IsDiagnosis}
 use Rattle.rcv_look.specs.declared.status.Status.{Status}
 use Rattle.rcv_look.specs.declared.status.Status.TheVariants.{Drawn, Usage, Refused, ReadFault, WriteFault, Memory, TooLong, Illegal}
-use Rattle.rcv_look.specs.Commands.{CommandView, DrawJournal, ReplayJournal, DrawTable, DrawRole, DrawProtocol, ListPoints, Explain, IsCommand, IsNoCommand}
+use Rattle.rcv_look.specs.Commands.{CommandView, DrawJournal, DrawSession, ReplayJournal, DrawTable, DrawRole, DrawProtocol, ListPoints, Explain, IsCommand, IsNoCommand}
 use Rattle.rcv_look.specs.Asking.{most_for, most_of_bundle, IsAskedOfSource}
-use Rattle.rcv_replay.specs.Cutting.{cut_of, bundle_of, journal_of, feeds_before, line_of_end}
+use Rattle.rcv_replay.specs.Cutting.{cut_of, bundle_of, journal_of, feeds_before, feeds_in, line_of_end}
+use Rattle.rcv_section.specs.declared.section.Section.{Section}
+use Rattle.rcv_section.specs.Sections.{IsSection, HasNoSection, section_text}
+use Rattle.rcv_later.specs.Later.{IsLaterOf}
 use Rattle.rcv_look.specs.Drawing.{IsJournalDrawing, IsTableDrawing, IsRoleAnswer, IsProtocolDrawing, ArePoints, IsExplanation}
 
 -- The number of a status, with which the process ends.
@@ -35,7 +38,7 @@ number_of Illegal = 8
 
 -- What is written where the words are no command.
 abbrev pub usage_line : List ℕ
-usage_line = codes "usage: rcv-show journal|replay|table|role|protocol|points|explain [--role R] [--code N]\n"
+usage_line = codes "usage: rcv-show journal|replay|table|role|protocol|points|explain [--session I] [--role R] [--code N]\n"
 
 -- `refused 50 NoJournal line L`: an input that ends at this line has no line `%% journal`.
 abbrev pub no_journal_line : ℕ → List ℕ
@@ -83,7 +86,7 @@ pub data IsBundleAnswer (bundle text : List ℕ) (feeds : ℕ) : Status → List
       {status : Status} {bytes : List ℕ} (session : SessionView) → IsTaken bundle session
       → IsTextAnswer session text feeds status bytes → IsBundleAnswer bundle text feeds status bytes
 
--- What is answered to `journal`: that the input has no line `%% journal`, at the line of its end; the bundle before that
+-- What is answered to `journal` without an option: that the input has no line `%% journal`, at the line of its end; the bundle before that
 -- line is too long; or what the bundle and the text behind the line are answered.
 pub data IsJournalAnswer (input : List ℕ) : Status → List ℕ → Type 0 where
   uncut : cut_of input ≡ None → IsJournalAnswer input Refused (no_journal_line (line_of_end input))
@@ -92,6 +95,37 @@ pub data IsJournalAnswer (input : List ℕ) : Status → List ℕ → Type 0 whe
       {status : Status} {bytes : List ℕ} (cut : Cut) → cut_of input ≡ Some cut → cut.end ≤ most_of_bundle
       → IsBundleAnswer (bundle_of input cut) (journal_of input cut) (feeds_before input cut) status bytes
       → IsJournalAnswer input status bytes
+
+-- What is answered to a bundle with the text of its session i, counted from 0, behind so many line feeds of the input:
+-- the bundle's first refusal, or what the text is answered as one of this session. It has the same plan, but that each
+-- crash count is i more.
+pub data IsLaterAnswer (i : ℕ) (bundle text : List ℕ) (feeds : ℕ) : Status → List ℕ → Type 0 where
+  refused :
+      (refusal : refusals.Refused) → IsFirstRefusal bundle refusal
+      → IsLaterAnswer i bundle text feeds Refused (refusal_line refusal)
+  taken :
+      {status : Status} {bytes : List ℕ} (session : SessionView) → IsLaterOf bundle i session
+      → IsTextAnswer session text feeds status bytes → IsLaterAnswer i bundle text feeds status bytes
+
+-- How many line feeds stand before the section of the text behind a cut.
+abbrev pub feeds_up_to : List ℕ → Cut → Section → ℕ
+feeds_up_to input cut section = feeds_in (take (cut.behind + section.begin) input)
+
+-- What is answered to `journal --session I`: that the input has no line `%% journal`, at the line of its end; the
+-- bundle before that line is too long; that no line behind it is `session I`, at the line of the input's end, too; or
+-- what the bundle and the section of session I, counted from 1, are answered.
+pub data IsSessionAnswer (number : ℕ) (input : List ℕ) : Status → List ℕ → Type 0 where
+  uncut : cut_of input ≡ None → IsSessionAnswer number input Refused (no_journal_line (line_of_end input))
+  long : (cut : Cut) → cut_of input ≡ Some cut → most_of_bundle < cut.end → IsSessionAnswer number input TooLong []
+  missing :
+      (cut : Cut) → cut_of input ≡ Some cut → cut.end ≤ most_of_bundle → HasNoSection number (journal_of input cut)
+      → IsSessionAnswer number input Refused (no_journal_line (line_of_end input))
+  parted :
+      {status : Status} {bytes : List ℕ} (cut : Cut) (section : Section) → cut_of input ≡ Some cut
+      → cut.end ≤ most_of_bundle → IsSection number (journal_of input cut) section
+      → IsLaterAnswer (number - 1) (bundle_of input cut) (section_text (journal_of input cut) section)
+      (feeds_up_to input cut section) status bytes
+      → IsSessionAnswer number input status bytes
 
 -- The status that says what a diagnosis found.
 abbrev pub status_of : Finding → Status
@@ -112,6 +146,7 @@ Draws session DrawTable status bytes = (status ≡ Drawn) × IsTableDrawing sess
 Draws session (DrawRole name) status bytes = IsRoleAnswer session.protocol name status bytes
 Draws session DrawProtocol status bytes = (status ≡ Drawn) × IsProtocolDrawing session.protocol bytes
 Draws session DrawJournal status bytes = ⊥
+Draws session (DrawSession number) status bytes = ⊥
 Draws session ReplayJournal status bytes = ⊥
 Draws session ListPoints status bytes = ⊥
 Draws session (Explain code) status bytes = ⊥
@@ -127,6 +162,7 @@ pub data IsChartAnswer (command : CommandView) (input : List ℕ) : Status → L
 -- What a command answers to its input.
 abbrev pub IsAnswer : CommandView → List ℕ → Status → List ℕ → Type 0
 IsAnswer DrawJournal input status bytes = IsJournalAnswer input status bytes
+IsAnswer (DrawSession number) input status bytes = IsSessionAnswer number input status bytes
 IsAnswer ReplayJournal input status bytes = IsReplayAnswer input status bytes
 IsAnswer DrawTable input status bytes = IsChartAnswer DrawTable input status bytes
 IsAnswer (DrawRole name) input status bytes = IsChartAnswer (DrawRole name) input status bytes

@@ -1,4 +1,4 @@
--- What the crate `clap` is told of the program: a simple command of a word and two options.
+-- What the crate `clap` is told of the program: a simple command of a word and three options.
 use Rattle.std.specs.Prelude.{◌≡◌, ℕ, pos, true, codes, Some}
 use Rattle.clap.specs.Words.{App, IsParsedFrom, IsSignedIn, Rule, Text, app_of, new_app, new_rule, with_rule, without_minus}
 use Rattle.clap.specs.declared.builder.value_parser.ValueParser.TheVariants as vp
@@ -19,10 +19,11 @@ command_rule = record (new_rule (codes "command")) { required = true }
 
 abbrev pub rcv_show : App
 rcv_show =
-    with_rule (with_rule (with_rule (new_app (codes "rcv-show"))
+    with_rule (with_rule (with_rule (with_rule (new_app (codes "rcv-show"))
     command_rule)
     (text_rule (codes "role")))
-    (number_rule (codes "code") 0 255)
+    (number_rule (codes "code") 0 255))
+    (number_rule (codes "session") 1 64)
 
 -- The crate found these matches by what it was told of the program.
 abbrev pub IsOfProgram : ArgMatches → Type 0

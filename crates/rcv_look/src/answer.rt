@@ -10,6 +10,7 @@ use crate::command::Command;
 use crate::journal::journal_answer;
 use crate::output::Output;
 use crate::replay::replay_answer;
+use crate::session::session_answer;
 use crate::texts::{explain_answer, points_answer};
 use std::alloc::{AllocError, Global};
 
@@ -21,6 +22,7 @@ pub fn answer(alloc: Global, command: &Command, input: &[u8]) -> Result<Output, 
 {
     match command {
         Command::Journal => journal_answer(alloc, input),
+        Command::Session { number } => session_answer(alloc, input, *number),
         Command::Replay => replay_answer(alloc, input),
         Command::Table => table_answer(alloc, input),
         Command::Role { role } => role_answer(alloc, input, role.as_slice()),

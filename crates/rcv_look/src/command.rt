@@ -7,6 +7,8 @@ use rcv_tree::name::Name;
 pub enum Command {
     /// Draws the journal that stands behind the bundle.
     Journal,
+    /// Draws the journal of the session with this number, from 1 to 64, of those that stand behind the bundle.
+    Session { number: u32 },
     /// Says of the journal that stands behind the bundle whether it is legal, and what of it is wrong.
     Replay,
     /// Draws who restarts where, for each role and each point at which it may fail.

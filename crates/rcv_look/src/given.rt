@@ -2,7 +2,8 @@
 
 ghost use Rattle.std.specs.Prelude.{◌≡◌, ◌≤◌, ◌↔◌, ℕ, List, Some, None, codes, IfSome, IfNone, IfOk, IfErr};
 ghost use Rattle.clap.specs.Words.{found_of, one_text, rows_of};
-ghost use Rattle.rcv_look.specs.Commands.{CommandView, Says, number_in, given_in, given_of, view_of, IsWithin};
+ghost use Rattle.rcv_look.specs.Commands.{CommandView, Says, number_in, given_in, given_of};
+ghost use Rattle.rcv_look.specs.Commands.{journal_for, view_of, IsWithin};
 ghost use Rattle.rcv_look.specs.Program.{IsOfProgram, IsNumberText};
 ghost use Rattle.rcv_words.specs.declared.error.WordsError.TheVariants.{Usage};
 
@@ -18,6 +19,7 @@ pub struct Given<'a> {
     command: Option<&'a str>,
     role: Option<&'a str>,
     code: Option<u32>,
+    session: Option<u32>,
 }
 
 // The number that is given for the option.
@@ -29,26 +31,53 @@ fn number_in(matches: &ArgMatches<'_>, name: &str, least: u32, most: u32) -> Opt
     matches.get_one::<u32>(name)
 }
 
+// The journal of an input, or of one of its sessions.
+fn journal_for(session: Option<u32>) -> Command
+    ensures { view_of result ≡ journal_for session }
+{
+    match session {
+        Some(number) => Command::Session { number },
+        None => Command::Journal,
+    }
+}
+
 impl<'a> Given<'a> {
     // What the crate found.
     pub fn of(matches: &ArgMatches<'a>) -> Given<'a>
         requires { IsOfProgram matches.now }
         ensures value { given_of result ≡ given_in (rows_of (found_of matches.now)) }
         ensures code { IfSome result.code (λ number. number ≤ 255) }
+        ensures session { IfSome result.session (λ number. (1 ≤ number) × (number ≤ 64)) }
     {
         Given {
             command: matches.get_str("command"),
             role: matches.get_str("role"),
             code: number_in(matches, "code", 0, 255),
+            session: number_in(matches, "session", 1, 64),
+        }
+    }
+
+    // No option but the one of `journal`.
+    fn journal(&self) -> Option<Command>
+        ensures some { IfSome result (λ command. (view_of command ≡ journal_for self.now.session)
+            × (self.now.role ≡ None) × (self.now.code ≡ None)) }
+        ensures none { IfNone result (self.now.role ≡ None → self.now.code ≡ None → ⊥) }
+    {
+        if self.role.is_none() && self.code.is_none() {
+            Some(journal_for(self.session))
+        } else {
+            None
         }
     }
 
     // No option.
     fn alone(&self, command: Command) -> Option<Command>
-        ensures some { IfSome result (λ given. (given ≡ command) × (self.now.role ≡ None) × (self.now.code ≡ None)) }
-        ensures none { IfNone result (self.now.role ≡ None → self.now.code ≡ None → ⊥) }
+        ensures some { IfSome result (λ given. (given ≡ command)
+            × (self.now.role ≡ None) × (self.now.code ≡ None) × (self.now.session ≡ None)) }
+        ensures none { IfNone result
+            (self.now.role ≡ None → self.now.code ≡ None → self.now.session ≡ None → ⊥) }
     {
-        if self.role.is_none() && self.code.is_none() {
+        if self.role.is_none() && self.code.is_none() && self.session.is_none() {
             Some(command)
         } else {
             None
@@ -57,31 +86,43 @@ impl<'a> Given<'a> {
 
     // A role, and no other option.
     fn role(&self) -> Option<&'a str>
-        ensures some { IfSome result (λ role. ((given_of self.now).role ≡ Some role.now) × (self.now.code ≡ None)) }
-        ensures none { IfNone result ((role : List ℕ) → (given_of self.now).role ≡ Some role → self.now.code ≡ None
-            → ⊥) }
+        ensures some { IfSome result (λ role. ((given_of self.now).role ≡ Some role.now)
+            × (self.now.code ≡ None) × (self.now.session ≡ None)) }
+        ensures none { IfNone result ((role : List ℕ) → (given_of self.now).role ≡ Some role
+            → self.now.code ≡ None → self.now.session ≡ None → ⊥) }
     {
-        if self.code.is_none() { self.role } else { None }
+        if self.code.is_none() && self.session.is_none() {
+            self.role
+        } else {
+            None
+        }
     }
 
     // A code, and no other option.
     fn code(&self) -> Option<u32>
-        ensures some { IfSome result (λ code. (self.now.role ≡ None) × (self.now.code ≡ Some code)) }
-        ensures none { IfNone result ((code : ℕ) → self.now.role ≡ None → self.now.code ≡ Some code → ⊥) }
+        ensures some { IfSome result (λ code. (self.now.role ≡ None) × (self.now.code ≡ Some code)
+            × (self.now.session ≡ None)) }
+        ensures none { IfNone result ((code : ℕ) → self.now.role ≡ None → self.now.code ≡ Some code
+            → self.now.session ≡ None → ⊥) }
     {
-        if self.role.is_none() { self.code } else { None }
+        if self.role.is_none() && self.session.is_none() {
+            self.code
+        } else {
+            None
+        }
     }
 
     // The command that has this word and these options, and no others.
     pub fn command(&self, alloc: Global) -> Result<Command, WordsError>
-        requires { IfSome self.now.code (λ number. number ≤ 255) }
+        requires code { IfSome self.now.code (λ number. number ≤ 255) }
+        requires session { IfSome self.now.session (λ number. (1 ≤ number) × (number ≤ 64)) }
         ensures command { IfOk result (λ command. Says (given_of self.now) (view_of command)) }
         ensures within { IfOk result (λ command. IsWithin (view_of command)) }
         ensures usage { IfErr result (λ error. error ≡ Usage → (command : CommandView)
             → Says (given_of self.now) command → ⊥) }
     {
         match self.command.ok_or(WordsError::Usage)? {
-            "journal" => self.alone(Command::Journal).ok_or(WordsError::Usage),
+            "journal" => self.journal().ok_or(WordsError::Usage),
             "replay" => self.alone(Command::Replay).ok_or(WordsError::Usage),
             "table" => self.alone(Command::Table).ok_or(WordsError::Usage),
             "role" => Ok(Command::Role {

@@ -2,8 +2,6 @@
 
 ghost use Rattle.std.specs.Prelude.{◌≡◌, ◌≤◌, ◌<◌, ◌^◌, Some, length, IfOk};
 ghost use Rattle.rcv_model.specs.Journal.{IsLegal};
-ghost use Rattle.rcv_script.specs.Scripts.{AreScriptsFor};
-ghost use Rattle.rcv_plan.specs.Lines.{IsPlanned};
 ghost use Rattle.rcv_session.specs.Session.{rules_of};
 ghost use Rattle.rcv_replay.specs.Cutting.{cut_of};
 ghost use Rattle.rcv_look.specs.Outcome.{IsVerdict, IsTextAnswer, IsBundleAnswer, IsJournalAnswer};
@@ -16,7 +14,7 @@ use crate::status::Status;
 use rcv_core::book::Book;
 use rcv_core::setup::Setup;
 use rcv_form::journal::Journal;
-use rcv_input::{Input, read_input};
+use rcv_input::read_input;
 use rcv_judge::closing::wrong_closing;
 use rcv_judge::judge::{JudgeError, judge};
 use rcv_lexer::line_feeds;
@@ -67,24 +65,29 @@ fn bundle_answer(
     ensures { IfOk result (λ output. IsBundleAnswer bundle.now text.now feeds output.status output.bytes.items) }
 {
     match read_input(alloc, bundle) {
-        Ok(taken) => text_answer(alloc, taken, text, feeds),
+        Ok(taken) => {
+            let setup = Setup::new(alloc, taken.accepted, taken.scripts, taken.plan)?;
+            text_answer(alloc, &setup, text, feeds)
+        }
         Err(error) => refuse(alloc, error),
     }
 }
 
-// What is answered to the text behind so many line feeds.
-fn text_answer(alloc: Global, taken: Input, text: &[u8], feeds: u32) -> Result<Output, AllocError>
-    requires belong { AreScriptsFor taken.accepted.protocol taken.scripts }
-    requires planned { IsPlanned (length taken.accepted.protocol.roles) taken.plan }
+/// What is answered to the text of a session behind so many line feeds of the input: its picture, or the first line at
+/// which it isn't a legal journal of the session. It has at most 134,217,728 bytes, and so many line feeds stand before
+/// it at most. Fails where memory runs out.
+pub fn text_answer(
+    alloc: Global,
+    setup: &Setup,
+    text: &[u8],
+    feeds: u32,
+) -> Result<Output, AllocError>
     requires text { length text.now ≤ 134217728 }
     requires feeds { feeds ≤ 134217728 }
-    ensures { IfOk result (λ output. IsTextAnswer
-        (record { protocol = taken.accepted.protocol; scripts = taken.scripts.lines; plan = taken.plan })
-        text.now feeds output.status output.bytes.items) }
+    ensures { IfOk result (λ output. IsTextAnswer setup.now text.now feeds output.status output.bytes.items) }
 {
-    let setup = Setup::new(alloc, taken.accepted, taken.scripts, taken.plan)?;
     match read_text(alloc, text, setup.accepted()) {
-        Ok(journal) => verdict(alloc, &setup, &journal, feeds),
+        Ok(journal) => verdict(alloc, setup, &journal, feeds),
         Err(LinesError::Line(number)) => malformed(alloc, feeds + number),
         Err(LinesError::Memory) => Err(AllocError),
     }

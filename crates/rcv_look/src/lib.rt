@@ -1,7 +1,7 @@
 // Pictures and explanations as one call: from words and an input to a status and bytes.
 #![tactic(auto)]
 
-ghost use Rattle.rcv_look.specs.Laws.{WordsAreOneCommand};
+ghost use Rattle.rcv_look.specs.Laws.{SectionsAreJournals, WordsAreOneCommand};
 
 mod answer;
 mod call;
@@ -16,6 +16,7 @@ mod output;
 mod program;
 mod replay;
 mod role;
+mod session;
 mod status;
 mod texts;
 mod whole;
@@ -27,4 +28,10 @@ pub use status::Status;
 /// Words are one command at most.
 pub fn words_are_one_command()
     ensures { WordsAreOneCommand }
+{}
+
+/// Where at most 64 journals stand one behind another, each behind the line of its session, section I is journal I: the
+/// journals are of the form of one protocol.
+pub fn sections_are_journals()
+    ensures { SectionsAreJournals }
 {}

@@ -31,6 +31,14 @@ fn code<'a>(alloc: Global) -> Arg<'a>
     text(alloc, "code").value_parser(value_parser!(u32).range(0..=255))
 }
 
+// Which of several sessions: 1 to 64.
+fn session<'a>(alloc: Global) -> Arg<'a>
+    ensures rule { rule_of result ≡ number_rule (codes "session") 1 64 }
+    ensures local { result.global ≡ false }
+{
+    text(alloc, "session").value_parser(value_parser!(u32).range(1..=64))
+}
+
 /// What `clap` is told of the program.
 pub fn program<'a>(alloc: Global) -> Result<Command<'a>, AllocError>
     ensures { IfOk result (λ program. app_of program ≡ rcv_show) }
@@ -38,5 +46,6 @@ pub fn program<'a>(alloc: Global) -> Result<Command<'a>, AllocError>
     Command::new(alloc, "rcv-show")
         .arg(command(alloc))?
         .arg(text(alloc, "role"))?
-        .arg(code(alloc))
+        .arg(code(alloc))?
+        .arg(session(alloc))
 }

@@ -10,7 +10,9 @@ use Rattle.rcv_plan.specs.declared.fault.Fault.{Fault}
 use Rattle.rcv_plan.specs.declared.fault.Fault.TheVariants.{Token, Role, Twice, Range}
 use Rattle.rcv_plan.specs.declared.fault.ReadError.{ReadError}
 use Rattle.rcv_plan.specs.declared.fault.ReadError.TheVariants as causes
-use Rattle.rcv_plan.specs.Lines.{IsPlanFor, AreOnce, IsPlanned}
+use Rattle.rcv_plan.proofs.Shifting.{read_fits, read_counts}
+use Rattle.std.specs.List.{All}
+use Rattle.rcv_plan.specs.Lines.{IsReadPlan, HasReadCount, AreOnce, IsPlanned}
 use Rattle.rcv_plan.specs.Grammar.{Written, WrittenEvery, WrittenCrash, WrittenLimit, WrittenRoom, WrittenHost, more_roles, item_text, plan_text, IsDerived, IsBeginning, said}
 use Rattle.rcv_plan.specs.Codes.{is_between}
 use Rattle.rcv_plan.specs.Refusing.{code_of, backward, HoldsAt, IsFree, IsFirst, IsRead, Ends}
@@ -131,7 +133,7 @@ begin roles symbols k e n = record {
   free = tt;
   over = refl;
   settled = λ m us x. refl;
-  knows = record { lines = e; names = n; fits = subst (λ (l : List PlanLine). IsPlanFor (length roles) l) (sym e) (λ i d l. absurd (omega (arith, l))) };
+  knows = record { lines = e; names = n; fits = subst (λ (l : List PlanLine). IsReadPlan (length roles) l) (sym e) (λ i d l. absurd (omega (arith, l))) };
   said_by = e;
   once = subst (λ (l : List PlanLine). AreOnce l) (sym e) none_once;
 }
@@ -173,7 +175,10 @@ done roles symbols left k h e =
     }
 
 pub planned : (roles : List (List ℕ)) (symbols left : List Symbol) (k : KnownView) → SoFar roles symbols left k → IsPlanned (length roles) k.lines
-planned roles symbols left k h = record { fits = h.knows.fits; once = h.once }
+planned roles symbols left k h = record { fits = read_fits (length roles) k.lines h.knows.fits; once = h.once }
+
+pub counted : (roles : List (List ℕ)) (symbols left : List Symbol) (k : KnownView) → SoFar roles symbols left k → All HasReadCount k.lines
+counted roles symbols left k h = read_counts (length roles) k.lines h.knows.fits
 
 -- ---- where it stops
 

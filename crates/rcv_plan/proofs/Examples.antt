@@ -33,5 +33,5 @@ undeclared : IsPlanned 1 (CrashLine 1 3 ∷ []) → ⊥
 undeclared p = let first = All-head (IsLineFor 1) (CrashLine 1 3) [] p.fits in omega (arith, first.0)
 
 -- the count is out of its range
-out_of_range : IsPlanned 2 (CrashLine 1 100001 ∷ []) → ⊥
-out_of_range p = let first = All-head (IsLineFor 2) (CrashLine 1 100001) [] p.fits in omega (arith, first.1)
+out_of_range : IsPlanned 2 (CrashLine 1 100064 ∷ []) → ⊥
+out_of_range p = let first = All-head (IsLineFor 2) (CrashLine 1 100064) [] p.fits in omega (arith, first.1)

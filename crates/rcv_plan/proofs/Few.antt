@@ -77,7 +77,7 @@ one_there (CrashLine q n ∷ plan) r b once = go (q == r) (n == b) refl refl (on
         let more = those_cons b n (crashes_in plan r) in
         rw e (grind (arith, nat_tests))
 
-all_below : (m : ℕ) (plan : List PlanLine) (r : ℕ) → IsPlanFor m plan → below 100001 (crashes_in plan r) ≡ length (crashes_in plan r)
+all_below : (m : ℕ) (plan : List PlanLine) (r : ℕ) → IsPlanFor m plan → below 100064 (crashes_in plan r) ≡ length (crashes_in plan r)
 all_below m [] r fits = refl
 all_below m (EveryLine q n ∷ plan) r fits = all_below m plan r (All-tail (IsLineFor m) (EveryLine q n) plan fits)
 all_below m (LimitLine n ∷ plan) r fits = all_below m plan r (All-tail (IsLineFor m) (LimitLine n) plan fits)
@@ -85,28 +85,28 @@ all_below m (RoomLine n ∷ plan) r fits = all_below m plan r (All-tail (IsLineF
 all_below m (HostLine qs ∷ plan) r fits = all_below m plan r (All-tail (IsLineFor m) (HostLine qs) plan fits)
 all_below m (CrashLine q n ∷ plan) r fits = go (q == r) refl (all_below m plan r (All-tail (IsLineFor m) (CrashLine q n) plan fits))
   where
-    last : n ≤ 100000
+    last : n ≤ 100063
     last = (All-head (IsLineFor m) (CrashLine q n) plan fits).1
 
-    go : (x : Bool) → (q == r) ≡ x → below 100001 (crashes_in plan r) ≡ length (crashes_in plan r) → below 100001 (crashes_in (CrashLine q n ∷ plan) r) ≡ length (crashes_in (CrashLine q n ∷ plan) r)
+    go : (x : Bool) → (q == r) ≡ x → below 100064 (crashes_in plan r) ≡ length (crashes_in plan r) → below 100064 (crashes_in (CrashLine q n ∷ plan) r) ≡ length (crashes_in (CrashLine q n ∷ plan) r)
     go false e others = rw e others
     go true e others =
-        let more = below_cons 100001 n (crashes_in plan r) in
-        let within : n < 100001 = omega (arith, last) in
-        let first : nat_lt n 100001 ≡ true = grind (arith, nat_tests) in
+        let more = below_cons 100064 n (crashes_in plan r) in
+        let within : n < 100064 = omega (arith, last) in
+        let first : nat_lt n 100064 ≡ true = grind (arith, nat_tests) in
         rw e (more ∙ grind (arith, nat_tests))
 
 -- ---- the law
 
-few_crashes : (m : ℕ) (plan : List PlanLine) (r : ℕ) → IsPlanned m plan → length (crashes_in plan r) ≤ 100001
+few_crashes : (m : ℕ) (plan : List PlanLine) (r : ℕ) → IsPlanned m plan → length (crashes_in plan r) ≤ 100064
 few_crashes m plan r p =
     let all = all_below m plan r p.fits in
-    let few = few_below 100001 (crashes_in plan r) (λ n. one_there plan r n p.once) in
+    let few = few_below 100064 (crashes_in plan r) (λ n. one_there plan r n p.once) in
     omega (arith, all, few)
 
-few_in_all : (roles : ℕ) (plan : List PlanLine) (m : ℕ) → IsPlanned roles plan → sum_by (λ r. length (crashes_in plan r)) (range_with_len 0 m) ≤ m * 100001
-few_in_all roles plan m p = subst (λ (n : ℕ). sum_by (λ r. length (crashes_in plan r)) (range_with_len 0 m) ≤ n * 100001) (length-range_with_len 0 m)
-    (sum_by-le (λ r. length (crashes_in plan r)) 100001 (range_with_len 0 m) (λ k d l. few_crashes roles plan (slice_index_or (range_with_len 0 m) k d) p))
+few_in_all : (roles : ℕ) (plan : List PlanLine) (m : ℕ) → IsPlanned roles plan → sum_by (λ r. length (crashes_in plan r)) (range_with_len 0 m) ≤ m * 100064
+few_in_all roles plan m p = subst (λ (n : ℕ). sum_by (λ r. length (crashes_in plan r)) (range_with_len 0 m) ≤ n * 100064) (length-range_with_len 0 m)
+    (sum_by-le (λ r. length (crashes_in plan r)) 100064 (range_with_len 0 m) (λ k d l. few_crashes roles plan (slice_index_or (range_with_len 0 m) k d) p))
 
 pub plans_are_short : PlansAreShort
 plans_are_short = record { role = few_crashes; all = few_in_all }

@@ -1,7 +1,7 @@
 -- What a plan that was read says: each line fits the roles, and no role crashes twice at one count. This goes by what
 -- "read" means alone, without the reader: where no code holds, each role is declared, each number is in its range, and no
 -- crash line stands before.
-use Rattle.std.proofs.Common.{◌≡◌, ℕ, Bool, true, false, List, [], ◌∷◌, ◌++◌, ◌<◌, ◌≤◌, length, refl, sym, ap, subst, ◌∙◌, append_assoc, append-nil}
+use Rattle.std.proofs.Common.{◌≡◌, ℕ, Bool, true, false, List, [], ◌∷◌, ◌++◌, ◌<◌, ◌≤◌, length, refl, sym, ap, subst, ◌∙◌, append_assoc, append-nil, arith}
 use Rattle.std.specs.Prelude.{not, codes, map, Option, Some, None, is_some, unwrap_or}
 use Rattle.std.specs.List.{All}
 use Rattle.std.proofs.lemmas.List.Elements.{All-nil, All-cons}
@@ -87,7 +87,7 @@ every_fits roles back r n rest f clear = record {
 
 crash_fits : (roles : List (List ℕ)) (back : List Symbol) (r : List ℕ) (n : ℕ) (rest : List Symbol) → Fresh back → IsClear roles back (Word (codes "crash") ∷ Word r ∷ Number n ∷ rest) → IsFitting roles back (WrittenCrash r n)
 crash_fits roles back r n rest f clear = record {
-  fits = (known_place roles r (rw f.between at clear.1.0.known), number.1);
+  fits = (known_place roles r (rw f.between at clear.1.0.known), omega (arith, number.1));
   alone = rw (f.between, f.hosted (lines_before roles back) (place roles (codes "crash"))) at clear.1.1.0.single;
   over = refl;
   lines_are = rw (f.word (codes "crash"), f.hosted (lines_before roles back) (place roles (codes "crash")), f.between) refl;

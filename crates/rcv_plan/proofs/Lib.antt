@@ -1,4 +1,5 @@
 mod Rows
+pub mod Shifting
 mod Due
 mod Groups
 mod Found

@@ -11,7 +11,7 @@ use Rattle.rcv_plan.specs.declared.fault.Fault.TheVariants.{Token, Role, Twice, 
 use Rattle.std.proofs.lemmas.Bool.Decides.{nat_tests}
 use Rattle.std.proofs.lemmas.List.Quantifiers.{position-Some}
 use Rattle.std.proofs.lemmas.List.Elements.{All-head, All-tail, All-cons}
-use Rattle.rcv_plan.specs.Lines.{IsLineFor, IsPlanFor, has_crash}
+use Rattle.rcv_plan.specs.Lines.{IsReadLine, IsReadPlan, has_crash}
 use Rattle.rcv_plan.specs.Grammar.{Written, WrittenEvery, WrittenCrash, WrittenLimit, WrittenRoom, item_text, place_of, place, said}
 use Rattle.rcv_plan.specs.Codes.{is_between, is_behind, is_behind_role, is_in_list, lines_before, hosts_before, is_unknown, is_repeated, is_second, is_out_of_range, within}
 use Rattle.rcv_plan.specs.Refusing.{backward}
@@ -51,7 +51,7 @@ Speaks roles Range back (t ∷ ts) = (has back t ≡ true) × (is_unknown roles 
 pub record Knows (roles : List (List ℕ)) (back : List Symbol) (k : KnownView) : Type 0 where
   pub lines : k.lines ≡ lines_before roles back
   pub names : k.names ≡ hosts_before back
-  pub fits : IsPlanFor (length roles) k.lines
+  pub fits : IsReadPlan (length roles) k.lines
 
 -- An item was taken, or the first and least code holds where the reader stops.
 pub record TakesItem (roles : List (List ℕ)) (back : List Symbol) (k k' : KnownView) (symbols left : List Symbol) : Type 0 where
@@ -93,19 +93,19 @@ pub declared : (roles : List (List ℕ)) (r : List ℕ) (p : ℕ) → place_of r
 declared roles r p e = (position-Some (λ other. bytes_eq other r) roles p [] e).0
 
 -- a line more
-pub fits_more : (m : ℕ) (lines : List PlanLine) (line : PlanLine) → IsPlanFor m lines → IsLineFor m line → IsPlanFor m (lines ++ line ∷ [])
-fits_more m [] line f g = All-cons (IsLineFor m) line [] g f
-fits_more m (x ∷ lines) line f g = All-cons (IsLineFor m) x (lines ++ line ∷ []) (All-head (IsLineFor m) x lines f) (fits_more m lines line (All-tail (IsLineFor m) x lines f) g)
+pub fits_more : (m : ℕ) (lines : List PlanLine) (line : PlanLine) → IsReadPlan m lines → IsReadLine m line → IsReadPlan m (lines ++ line ∷ [])
+fits_more m [] line f g = All-cons (IsReadLine m) line [] g f
+fits_more m (x ∷ lines) line f g = All-cons (IsReadLine m) x (lines ++ line ∷ []) (All-head (IsReadLine m) x lines f) (fits_more m lines line (All-tail (IsReadLine m) x lines f) g)
 
 pub in_range : (low high n : ℕ) → within low high n ≡ true → (low ≤ n) × (n ≤ high)
 in_range low high n e = (grind (arith, nat_tests), grind (arith, nat_tests))
 
 -- a number out of range stands in no crash line
-no_crash : (m p n : ℕ) (lines : List PlanLine) → IsPlanFor m lines → within 0 100000 n ≡ false → has_crash p n lines ≡ false
+no_crash : (m p n : ℕ) (lines : List PlanLine) → IsReadPlan m lines → within 0 100000 n ≡ false → has_crash p n lines ≡ false
 no_crash m p n [] f w = refl
 no_crash m p n (CrashLine q c ∷ lines) f w =
-    let others = no_crash m p n lines (All-tail (IsLineFor m) (CrashLine q c) lines f) w in
-    let first = All-head (IsLineFor m) (CrashLine q c) lines f in
+    let others = no_crash m p n lines (All-tail (IsReadLine m) (CrashLine q c) lines f) w in
+    let first = All-head (IsReadLine m) (CrashLine q c) lines f in
     let last : c ≤ 100000 = first.1 in
     let other : (c == n) ≡ false = grind (arith, nat_tests) in
     rw (other, others) (none (q == p))
@@ -113,10 +113,10 @@ no_crash m p n (CrashLine q c ∷ lines) f w =
     none : (a : Bool) → ((a && false) || false) ≡ false
     none true = refl
     none false = refl
-no_crash m p n (EveryLine q c ∷ lines) f w = no_crash m p n lines (All-tail (IsLineFor m) (EveryLine q c) lines f) w
-no_crash m p n (LimitLine c ∷ lines) f w = no_crash m p n lines (All-tail (IsLineFor m) (LimitLine c) lines f) w
-no_crash m p n (RoomLine c ∷ lines) f w = no_crash m p n lines (All-tail (IsLineFor m) (RoomLine c) lines f) w
-no_crash m p n (HostLine qs ∷ lines) f w = no_crash m p n lines (All-tail (IsLineFor m) (HostLine qs) lines f) w
+no_crash m p n (EveryLine q c ∷ lines) f w = no_crash m p n lines (All-tail (IsReadLine m) (EveryLine q c) lines f) w
+no_crash m p n (LimitLine c ∷ lines) f w = no_crash m p n lines (All-tail (IsReadLine m) (LimitLine c) lines f) w
+no_crash m p n (RoomLine c ∷ lines) f w = no_crash m p n lines (All-tail (IsReadLine m) (RoomLine c) lines f) w
+no_crash m p n (HostLine qs ∷ lines) f w = no_crash m p n lines (All-tail (IsReadLine m) (HostLine qs) lines f) w
 
 -- ---- limit
 

@@ -22,11 +22,11 @@ pub record PlansHaveOneAnswer : Type 0 where
   pub first : (roles : List (List ℕ)) (symbols : List Symbol) (f g : Fault) (left other : List Symbol)
       → IsFirst roles symbols f left → IsFirst roles symbols g other → (f ≡ g) × (left ≡ other)
 
--- In a plan that was read a role has at most 100,001 crash lines, and so many roles have at most that many each.
+-- In such a plan a role has at most 100,064 crash lines, and so many roles have at most that many each.
 pub record PlansAreShort : Type 0 where
-  pub role : (roles : ℕ) (plan : List PlanLine) (r : ℕ) → IsPlanned roles plan → length (crashes_in plan r) ≤ 100001
+  pub role : (roles : ℕ) (plan : List PlanLine) (r : ℕ) → IsPlanned roles plan → length (crashes_in plan r) ≤ 100064
   pub all : (roles : ℕ) (plan : List PlanLine) (m : ℕ) → IsPlanned roles plan
-      → sum_by (λ r. length (crashes_in plan r)) (range_with_len 0 m) ≤ m * 100001
+      → sum_by (λ r. length (crashes_in plan r)) (range_with_len 0 m) ≤ m * 100064
 
 -- What is read fits the roles that are declared, and no role crashes twice at one count.
 abbrev pub ReadPlansArePlanned : Type 0

@@ -1,5 +1,5 @@
 -- The lines of a plan: what they are for, and which of them stand among others.
-use Rattle.std.specs.Prelude.{◌≡◌, ℕ, ◌≤◌, ◌<◌, Bool, true, false, ◌&&◌, ◌==◌, List, ◌∷◌, ◌++◌}
+use Rattle.std.specs.Prelude.{◌≡◌, ℕ, ◌≤◌, ◌<◌, Bool, true, false, ◌&&◌, ◌==◌, List, ◌∷◌, ◌++◌, ⊤}
 use Rattle.std.specs.List.{All, list_any}
 use Rattle.rcv_tree.specs.Bits.{is_listed}
 use Rattle.rcv_model.specs.Plan.{PlanLine, EveryLine, CrashLine, LimitLine, RoomLine, HostLine}
@@ -14,10 +14,26 @@ line_in (lines.Limit number) = LimitLine number
 line_in (lines.Room number) = RoomLine number
 line_in (lines.Host roles) = HostLine roles
 
--- The numbers of a line are in their ranges, and its roles are among so many.
+-- The numbers of a line that was read are in their ranges, and its roles are among so many.
+abbrev pub IsReadLine : ℕ → PlanLine → Type 0
+IsReadLine roles (EveryLine q n) = (q < roles) × (1 ≤ n) × (n ≤ 100000)
+IsReadLine roles (CrashLine q n) = (q < roles) × (n ≤ 100000)
+IsReadLine roles (LimitLine n) = (1 ≤ n) × (n ≤ 100000)
+IsReadLine roles (RoomLine n) = (1 ≤ n) × (n ≤ 1024)
+IsReadLine roles (HostLine qs) = All (λ q. q < roles) qs
+
+abbrev pub IsReadPlan : ℕ → List PlanLine → Type 0
+IsReadPlan roles plan = All (IsReadLine roles) plan
+
+-- A crash line's count is as it may be read.
+abbrev pub HasReadCount : PlanLine → Type 0
+HasReadCount (CrashLine q n) = n ≤ 100000
+HasReadCount _ = ⊤
+
+-- So they are but for a crash count, which is up to 63 more in a later one of several sessions.
 abbrev pub IsLineFor : ℕ → PlanLine → Type 0
 IsLineFor roles (EveryLine q n) = (q < roles) × (1 ≤ n) × (n ≤ 100000)
-IsLineFor roles (CrashLine q n) = (q < roles) × (n ≤ 100000)
+IsLineFor roles (CrashLine q n) = (q < roles) × (n ≤ 100063)
 IsLineFor roles (LimitLine n) = (1 ≤ n) × (n ≤ 100000)
 IsLineFor roles (RoomLine n) = (1 ≤ n) × (n ≤ 1024)
 IsLineFor roles (HostLine qs) = All (λ q. q < roles) qs
@@ -67,7 +83,7 @@ is_hosted r plan = list_any (is_host r) plan
 abbrev pub AreOnce : List PlanLine → Type 0
 AreOnce plan = (front back : List PlanLine) (r n : ℕ) → plan ≡ front ++ CrashLine r n ∷ back → has_crash r n front ≡ false
 
--- A plan that was read for so many roles.
+-- A plan that was read for so many roles, or one of a later session.
 pub record IsPlanned (roles : ℕ) (plan : List PlanLine) : Type 0 where
   pub fits : IsPlanFor roles plan
   pub once : AreOnce plan

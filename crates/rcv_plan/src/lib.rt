@@ -20,7 +20,7 @@ pub fn plans_have_one_answer()
     ensures { PlansHaveOneAnswer }
 {}
 
-/// In a plan that was read each role has at most 100,001 crash lines.
+/// In a plan that was read, or in that of a later session, each role has at most 100,064 crash lines.
 pub fn plans_are_short()
     ensures { PlansAreShort }
 {}

@@ -1,10 +1,12 @@
 // The lines of a plan.
 
-ghost use Rattle.std.specs.Prelude.{◌≡◌};
+ghost use Rattle.std.specs.Prelude.{◌≡◌, ◌≤◌, IfOk};
 ghost use Rattle.rcv_tree.specs.Bits.{is_listed};
-ghost use Rattle.rcv_plan.specs.Lines.{line_in, is_every, is_limit, is_room, is_host};
+ghost use Rattle.rcv_plan.specs.Lines.{line_in, is_every, is_limit, is_room, is_host, HasReadCount};
+ghost use Rattle.rcv_plan.specs.Shifted.{later_line};
 
 use rcv_tree::role::{RoleId, Roles};
+use std::alloc::{AllocError, Global};
 
 /// A line of a plan.
 #[derive(Drop)]
@@ -22,6 +24,27 @@ pub enum Line {
 }
 
 impl Line {
+    /// The line of a later session, in which crash counts are so many more. Fails where memory runs out.
+    pub fn shifted(&self, alloc: Global, by: u32) -> Result<Line, AllocError>
+        requires by { by ≤ 63 }
+        requires count { HasReadCount (line_in self.now) }
+        ensures { IfOk result (λ line. line_in line ≡ later_line by (line_in self.now)) }
+    {
+        Ok(match self {
+            Line::Every { role, number } => Line::Every {
+                role: *role,
+                number: *number,
+            },
+            Line::Crash { role, number } => Line::Crash {
+                role: *role,
+                number: *number + by,
+            },
+            Line::Limit(number) => Line::Limit(*number),
+            Line::Room(number) => Line::Room(*number),
+            Line::Host(roles) => Line::Host(copied(alloc, roles)?),
+        })
+    }
+
     /// Whether it says how often this role saves.
     pub fn is_every(&self, role: RoleId) -> bool
         ensures { result ≡ is_every role (line_in self.now) }
@@ -62,4 +85,15 @@ pub fn is_listed(roles: &[RoleId], role: RoleId) -> bool
     ensures { result ≡ is_listed roles.now role }
 {
     roles.iter().any(|other| *other == role)
+}
+
+// The same roles.
+fn copied(alloc: Global, roles: &Roles) -> Result<Roles, AllocError>
+    ensures { IfOk result (λ copy. copy ≡ roles.now) }
+{
+    let mut copy = Roles::new(alloc);
+    for role in roles.as_slice() {
+        copy.push(*role)?;
+    }
+    Ok(copy)
 }

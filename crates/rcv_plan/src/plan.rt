@@ -5,7 +5,8 @@ ghost use Rattle.std.specs.List.{count_by, All};
 ghost use Rattle.std.specs.List.Sorted.{IsNonDecreasing, IsPermutation};
 ghost use Rattle.rcv_tree.specs.Bits.{is_listed};
 ghost use Rattle.rcv_model.specs.Plan.{every_in, limit_in, room_in, crashes_in, host_in};
-ghost use Rattle.rcv_plan.specs.Lines.{line_in, IsPlanFor};
+ghost use Rattle.rcv_plan.specs.Lines.{line_in, IsPlanFor, HasReadCount, IsPlanned};
+ghost use Rattle.rcv_plan.specs.Shifted.{shifted};
 ghost use Rattle.rcv_plan.specs.Plans.{IsGroup, IsRow, IsSilentOn};
 
 use crate::line::{Line, is_listed};
@@ -64,6 +65,18 @@ impl Plan {
             limit,
             room,
         })
+    }
+
+    /// The plan of a later one of several sessions: with so many added to each crash count. The counts of this one
+    /// are at most 100,000. Fails where memory runs out.
+    pub fn shifted(&self, alloc: Global, by: u32) -> Result<Plan, AllocError>
+        requires by { by ≤ 63 }
+        requires counts { All HasReadCount self.now }
+        ensures lines { IfOk result (λ plan. plan ≡ shifted by self.now) }
+        ensures planned { (roles : ℕ) → IsPlanned roles self.now → IsPlanned roles (shifted by self.now) }
+    {
+        let lines = shifted_lines(alloc, self.lines.as_slice(), by)?;
+        Plan::of(alloc, self.rows.len() as u8, lines)
     }
 
     // What the lines say of a role, where they say anything.
@@ -136,6 +149,19 @@ impl Plan {
             None => RoleSet(0).with(role),
         }
     }
+}
+
+// The lines of a later session.
+fn shifted_lines(alloc: Global, lines: &[Line], by: u32) -> Result<Vec<Line>, AllocError>
+    requires by { by ≤ 63 }
+    requires counts { All (λ line. HasReadCount (line_in line)) lines.now }
+    ensures { IfOk result (λ later. map line_in later.items ≡ shifted by (map line_in lines.now)) }
+{
+    let mut later = Vec::new(alloc);
+    for line in lines {
+        later.push(line.shifted(alloc, by)?)?;
+    }
+    Ok(later)
 }
 
 // Whether the count that stands behind so many others has been reached.

@@ -5,7 +5,7 @@ ghost use Rattle.std.specs.List.{All};
 ghost use Rattle.rcv_lexer.specs.Parts.{LiesIn};
 ghost use Rattle.rcv_plan.specs.Symbols.{symbols_of};
 ghost use Rattle.rcv_accept.specs.Accepted.{roles_of};
-ghost use Rattle.rcv_plan.specs.Lines.{IsPlanned};
+ghost use Rattle.rcv_plan.specs.Lines.{IsPlanned, HasReadCount};
 ghost use Rattle.rcv_plan.specs.Refusing.{IsRead, IsRefused};
 ghost use Rattle.rcv_plan.specs.Refusing.{Ends};
 
@@ -31,6 +31,7 @@ fn items<'a>(
     requires fresh { (known.old.lines ≡ []) × (known.old.names ≡ []) }
     ensures ok { OnOk result (IsRead roles.now reader.old.rest known.new.lines) }
     ensures planned { OnOk result (IsPlanned (length roles.now) known.new.lines) }
+    ensures counted { OnOk result (All HasReadCount known.new.lines) }
     ensures err { IfErr result (λ e. Ends roles.now e reader.old.rest reader.new.rest) }
 {
     while !reader.rest.is_empty() {
@@ -59,6 +60,7 @@ pub fn read_plan(
     ensures read { MatchResult result (IsRead accepted.now.protocol.roles (symbols_of bundle.now list.now))
         (IsRefused bundle.now list.now last accepted.now.protocol.roles) }
     ensures planned { IfOk result (IsPlanned (roles_of accepted.now)) }
+    ensures counted { IfOk result (All HasReadCount) }
 {
     let mut reader = Reader {
         rest: Ahead::new(bundle, list),

@@ -200,7 +200,7 @@ module _ (p : PartView) (tail : TailView) (part : IsPartOf p tail) where
         kept = fewer_from (state_at p.setup p.role p.own.events) tail.base p.held tail.states part.states base_held count from (let s = saved_is count durable in let h = part.saved in omega (arith, s, h))
 
   -- a role that is due has fewer crashes than lines
-  pub few_crashes : IsOwnDue (rules_of p.setup) p.role p.own → p.own.crashes < 100001
+  pub few_crashes : IsOwnDue (rules_of p.setup) p.role p.own → p.own.crashes < 100064
   few_crashes due =
       let lines = crashes_in p.setup.plan p.role in
       let a = due.1 in
@@ -471,7 +471,7 @@ module _ (v q : PartView) (tail tail' : TailView) (is : v ≡ q) (part : IsPartO
       ap (λ (x : ℕ × (ℕ × List Timed)). record { setup = v.setup; role = v.role; own = own_after v.own (Crash v.role); held = x.0; base = x.1.0; log = x.1.1 }) (λ i. (saved_is v tail part (fields v q tail is part (λ p. p.own.crashed ≡ false) due.0) count durable i, (base i, logged i)))
       ∙ ap with_crash is
 
-  pub few_crashes_is : IsOwnDue (rules_of q.setup) q.role q.own → v.own.crashes < 100001
+  pub few_crashes_is : IsOwnDue (rules_of q.setup) q.role q.own → v.own.crashes < 100064
   few_crashes_is due = few_crashes v tail part (fields v q tail is part (λ p. IsOwnDue (rules_of p.setup) p.role p.own) due)
 
   pub back_is : (keep clock : ℕ) (own' : Own) → q.base ≤ keep → keep ≤ q.held → tail' ≡ with_held tail (take (place_in tail keep + 1) tail.states) → own'.events ≡ take keep v.own.events → own'.raw ≡ v.own.raw → IsPart v.setup v.role own' tail'.base keep tail'

@@ -6,7 +6,6 @@ ghost use Rattle.rcv_role.specs.Laws.{RewindsHoldFirstEvents, RewindsAloneHoldFi
 
 pub mod cell;
 mod ends;
-pub mod gate;
 mod part;
 pub mod poll;
 

@@ -1,4 +1,4 @@
-// A call of `run` with several workers over memory.
+// Calls of `run` with several workers over memory, for one session and for several.
 
 use rcv_io::{MemSink, MemSource};
 use rcv_top::{Gate, recover};
@@ -12,9 +12,20 @@ pub fn run<R: AllocGlobal + Threads + Sync, G: Gate>(
     input: &[u8],
     gate: &G,
 ) -> Result<(u8, Vec<u8>), AllocError> {
+    run_sessions(rt, "1", workers, input, gate)
+}
+
+/// The same of so many sessions of the input.
+pub fn run_sessions<R: AllocGlobal + Threads + Sync, G: Gate>(
+    rt: &R,
+    sessions: &str,
+    workers: &str,
+    input: &[u8],
+    gate: &G,
+) -> Result<(u8, Vec<u8>), AllocError> {
     let alloc = rt.alloc();
     let mut words = Vec::new(alloc);
-    for word in ["run", "--workers", workers] {
+    for word in ["run", "--sessions", sessions, "--workers", workers] {
         words.push(String::from_str(alloc, word)?)?;
     }
     let mut source = MemSource::new(Vec::from_slice(alloc, input)?, 4096, Vec::new(alloc));

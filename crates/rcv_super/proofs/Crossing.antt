@@ -26,7 +26,7 @@ use Rattle.rcv_mailbox.proofs.post.Post.TheSendSync as post
 use Rattle.rcv_mailbox.proofs.inbox.Inbox.TheSendSync as inbox
 use Rattle.rcv_fence.proofs.watch.Watch.TheSendSync as watch
 use Rattle.rcv_lanes.specs.contracts.lanes.Lane as lane
-use Rattle.rcv_lanes.proofs.Crossing.{setup_sync}
+use Rattle.rcv_core.proofs.Crossing.{setup_sync}
 
 pub place_send : (ℓ : NamedLft) → IsSend (option.the_row (lane.the_row ℓ))
 place_send ℓ = search (std.crosses, vec.the_send, timed.the_send, event.the_send, role.the_send, tail.the_send, post.the_send, inbox.the_send, watch.the_send, setup_sync, sendable) depth 60 fits 20000

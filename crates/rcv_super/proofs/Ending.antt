@@ -19,7 +19,8 @@ use Rattle.rcv_super.specs.declared.session.Turn.{Turn}
 use Rattle.rcv_super.specs.declared.session.Turn.TheVariants.{More, Completed, Limited}
 use Rattle.rcv_super.specs.declared.session.SessionError.TheVariants.{Memory}
 use Rattle.rcv_super.specs.Turn.{IsAtCompletion, IsAtLimit, GoesOn, IsEndOf, HasCounted, HasNotCounted, Turned}
-use Rattle.rcv_super.specs.Steps.{HasStepped, HasGoneOn, HasRecovered, HasRecoveredBeside, HasRecoveredLeast}
+use Rattle.rcv_alone.specs.Steps.{HasStepped}
+use Rattle.rcv_super.specs.Steps.{HasGoneOn, HasRecovered, HasRecoveredBeside, HasRecoveredLeast}
 
 -- where something is left to do, a session isn't at its end
 pub not_final : (book : BookView) → HasMore book → IsFinal (rules_of book.setup) (state_of book) → ⊥

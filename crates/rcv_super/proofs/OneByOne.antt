@@ -1,39 +1,15 @@
 -- The steps that one worker makes by the book alone, and cells that follow.
 use Prim.Native.Nat.{zero, suc}
-use Rattle.std.proofs.Common.{◌≡◌, ℕ, ◌+◌, ◌<◌, Some, List, [], ◌∷◌, ◌++◌, length, take, refl, sym, ◌∙◌, ap, subst, inl, inr, arith}
-use Rattle.std.specs.Prelude.{slice_get}
+use Rattle.std.proofs.Common.{◌≡◌, ℕ, ◌+◌, ◌<◌, List, [], ◌∷◌, ◌++◌, length, take, refl, sym, ◌∙◌, ap, subst, arith}
 use Rattle.rcv_tree.specs.declared.entry.Entry.{Entry}
-use Rattle.rcv_tree.specs.declared.entry.Entry.TheVariants.{Send, Recv, Crash, Recover}
 use Rattle.rcv_model.specs.Net.{HasTwoEnds}
 use Rattle.rcv_model.specs.Journal.{Rules, State, start, after, reading_from, IsLegal}
 use Rattle.rcv_model.specs.Final.{IsStep}
-use Rattle.rcv_model.proofs.Numbers.{bounded}
 use Rattle.rcv_model.proofs.OneThread.{one_step}
 use Rattle.rcv_session.specs.Session.{roles_of, rules_of}
 use Rattle.rcv_core.specs.Book.{BookView, state_of, with_entry, HasMore}
-use Rattle.rcv_super.specs.Steps.{AreSteps, HasStepped}
-
--- who has a number is declared
-within : {A : Type 0} (xs : List A) (k : ℕ) (x : A) → slice_get xs k ≡ Some x → k < length xs
-within [] k x e = absurd (cc)
-within (y ∷ xs) zero x e = omega arith
-within (y ∷ xs) (suc k) x e = let lt = within xs k x e in omega (arith, lt)
-
--- where a step is to be made, something is left to do
-pub step_left : (book : BookView) (e : Entry) → IsLegal (rules_of book.setup) book.entries → IsStep (rules_of book.setup) (state_of book) e → HasMore book
-step_left book (Send e) legal x = inr (inr (e.role, x.3.1.free.declared, x.2.0))
-step_left book (Recv e) legal x = inr (inr (e.role, x.3.1.free.declared, x.2.0))
-step_left book (Crash p) legal x = inr (inl (p, x.2, x.1.0))
-step_left book (Recover p c k u) legal x =
-    let numbers = (bounded (rules_of book.setup) book.entries legal).numbers in
-    let lt = within (state_of book).crashed p _ x.0.0 in
-    let count = numbers.crashed in
-    inl (p, omega (arith, lt, count), x.0.0)
-
--- one step more
-pub steps_more : (rules : Rules) (s : State) (j : List Entry) (e : Entry) → AreSteps rules s j → IsStep rules (reading_from rules s j) e → AreSteps rules s (j ++ e ∷ [])
-steps_more rules s [] e are step = (step, tt)
-steps_more rules s (d ∷ j) e are step = (are.0, steps_more rules (after rules s d) j e are.1 step)
+use Rattle.rcv_alone.specs.Steps.{AreSteps, HasStepped}
+use Rattle.rcv_alone.proofs.Stepping.{step_left, steps_more}
 
 -- the step behind the first k of them
 pub record StepAt (rules : Rules) (s : State) (j : List Entry) (k : ℕ) : Type 0 where

@@ -14,7 +14,8 @@ use Rattle.rcv_super.specs.declared.session.SessionError.{SessionError}
 use Rattle.rcv_super.specs.declared.session.SessionError.TheVariants.{Closed, Memory}
 use Rattle.rcv_super.specs.Super.{SuperView, IsAlone}
 use Rattle.rcv_super.specs.Turn.{HasCounted, HasNotCounted, Turned}
-use Rattle.rcv_super.specs.Steps.{HasGoneOn, HasStepped}
+use Rattle.rcv_alone.specs.Steps.{HasStepped}
+use Rattle.rcv_super.specs.Steps.{HasGoneOn}
 use Rattle.rcv_super.specs.Finish.{HasFinished, HasTurned, Finished}
 use Rattle.rcv_super.proofs.Ending.{Came, came_some, step_on, alone_on}
 

@@ -1,18 +1,10 @@
 -- How a session's book goes on.
-use Rattle.std.specs.Prelude.{◌≡◌, ℕ, List, [], ◌∷◌}
+use Rattle.std.specs.Prelude.{◌≡◌, ℕ, List, ◌∷◌}
 use Rattle.rcv_tree.specs.declared.entry.Entry.{Entry}
 use Rattle.rcv_tree.specs.declared.entry.Entry.TheVariants.{Send, Recv, Crash, Recover}
 use Rattle.rcv_tree.specs.declared.role.RoleSet.{RoleSet}
-use Rattle.rcv_model.specs.Journal.{Rules, State, after}
-use Rattle.rcv_model.specs.Final.{IsCrashed, IsLeastOf, IsStep}
-use Rattle.rcv_session.specs.Session.{rules_of}
+use Rattle.rcv_model.specs.Final.{IsCrashed, IsLeastOf}
 use Rattle.rcv_core.specs.Book.{BookView, state_of, with_entry, with_more, IsRecoveryOf}
-
--- One entry was added: the one that one thread makes next.
-pub record HasStepped (old new : BookView) : Type 0 where
-  pub entry : Entry
-  pub step : IsStep (rules_of old.setup) (state_of old) entry
-  pub added : new ≡ with_entry old entry
 
 -- At least one entry was added.
 pub record HasGoneOn (old new : BookView) : Type 0 where
@@ -36,11 +28,6 @@ pub record HasRecoveredBeside (old new : BookView) (role : ℕ) : Type 0 where
 -- Where a role was crashed, the least such one recovered, and what else was added stands behind its Recover.
 abbrev pub HasRecoveredLeast : BookView → BookView → Type 0
 HasRecoveredLeast old new = (p : ℕ) → IsLeastOf (IsCrashed (state_of old)) p → HasRecoveredBeside old new p
-
--- Each of these entries is the one that one thread makes next.
-abbrev pub AreSteps : Rules → State → List Entry → Type 0
-AreSteps rules s [] = Unit {0}
-AreSteps rules s (e ∷ more) = IsStep rules s e × AreSteps rules (after rules s e) more
 
 -- Whom an entry concerns: a Recover the roles that it names, any other nobody.
 abbrev pub concerned_of : Entry → RoleSet

@@ -8,7 +8,7 @@ use Rattle.rcv_core.specs.Skips.{IsSkip}
 use Rattle.rcv_role.specs.Cell.{CellView}
 use Rattle.rcv_lanes.specs.Home.{AreHome, HaveBases}
 use Rattle.rcv_super.specs.Bases.{IsStableIn}
-use Rattle.rcv_super.specs.Steps.{AreSteps}
+use Rattle.rcv_alone.specs.Steps.{AreSteps}
 
 -- Its book, whether want of memory closed it, how many turns added entries, and the stable line that was found last.
 pub record SuperView : Type 0 where

@@ -5,7 +5,8 @@ use Rattle.rcv_session.specs.Session.{rules_of}
 use Rattle.rcv_core.specs.Book.{BookView, state_of, HasMore, IsStableLineOf}
 use Rattle.rcv_lanes.specs.Home.{HasGrown}
 use Rattle.rcv_super.specs.Super.{SuperView}
-use Rattle.rcv_super.specs.Steps.{HasStepped, HasGoneOn, HasRecovered, HasRecoveredLeast}
+use Rattle.rcv_alone.specs.Steps.{HasStepped}
+use Rattle.rcv_super.specs.Steps.{HasGoneOn, HasRecovered, HasRecoveredLeast}
 use Rattle.rcv_super.specs.declared.session.Turn.{Turn}
 use Rattle.rcv_super.specs.declared.session.Turn.TheVariants.{More, Completed, Limited}
 use Rattle.rcv_super.specs.declared.session.SessionError.{SessionError}

@@ -1,15 +1,14 @@
 // One worker on its own: the book makes the entries. The cells follow where several workers are asked for.
 
-ghost use Rattle.std.specs.Prelude.{◌≡◌, true, false, [], IfOk, MatchOption, OnOk, List};
+ghost use Rattle.std.specs.Prelude.{◌≡◌, true, false, [], IfOk, OnOk, List};
 ghost use Rattle.rcv_model.specs.Journal.{start};
-ghost use Rattle.rcv_model.specs.Final.{IsStep};
 ghost use Rattle.rcv_session.specs.Session.{roles_of, rules_of};
-ghost use Rattle.rcv_core.specs.Book.{state_of, HasMore, IsAtEnd};
+ghost use Rattle.rcv_core.specs.Book.{IsAtEnd};
 ghost use Rattle.rcv_core.specs.Skips.{IsSkip};
 ghost use Rattle.rcv_lanes.specs.Home.{AreHome, HaveBases};
 ghost use Rattle.rcv_role.specs.Cell.{CellView};
 ghost use Rattle.rcv_super.specs.Bases.{IsStableIn};
-ghost use Rattle.rcv_super.specs.Steps.{HasStepped, AreSteps};
+ghost use Rattle.rcv_alone.specs.Steps.{AreSteps};
 ghost use Rattle.rcv_super.specs.Super.{IsAlone};
 ghost use Rattle.rcv_super.specs.Finish.{HasFinished};
 ghost use Rattle.rcv_super.specs.Turn.{IsEndOf};
@@ -17,31 +16,12 @@ ghost use Rattle.rcv_super.specs.Turn.{IsEndOf};
 use crate::forgetting::forget_before;
 use crate::session::Turn;
 use crate::step::make_step;
+use rcv_alone::step_alone;
 use rcv_core::book::Book;
 use rcv_core::skip::Skip;
+use rcv_gate::{Gate, NoGate};
 use rcv_lanes::lanes::Lane;
-use rcv_role::gate::{Gate, NoGate};
-use rcv_tree::entry::Entry;
 use std::alloc::{AllocError, Global};
-
-/// Adds the entry that one thread makes next, and says what is known behind it; None at the end of the session. It
-/// takes no memory.
-#[inline(always)]
-pub fn step_alone<G: Gate>(book: &mut Book, skip: Skip, gate: &G) -> Option<Skip>
-    requires { IsSkip book.old skip }
-    ensures { MatchOption result ((book.new ≡ book.old) × IsAtEnd book.old)
-        (λ behind. HasMore book.old × HasStepped book.old book.new × IsSkip book.new behind) }
-{
-    // Tells the proof that the journal is legal.
-    let _entries = book.entries();
-    let Some(entry) = book.next_entry(skip) else {
-        return None;
-    };
-    announce(book, &entry, gate);
-    // The room is there, so it succeeds.
-    let _added = book.push(entry);
-    Some(book.skip_behind(&entry))
-}
 
 /// Adds the entries that one thread makes, to the end of the session, and says what is known there. It takes no memory.
 pub fn finish_alone<G: Gate>(book: &mut Book, skip: Skip, gate: &G) -> Skip
@@ -69,18 +49,6 @@ pub fn end_of(book: &Book) -> Turn
         Turn::Completed
     } else {
         Turn::Limited
-    }
-}
-
-// Tells the gate of a step before it is made.
-fn announce<G: Gate>(book: &Book, entry: &Entry, gate: &G)
-    requires { IsStep (rules_of book.now.setup) (state_of book.now) entry.now }
-{
-    match entry {
-        Entry::Send(event) => gate.enter(event.role, book.raw(event.role)),
-        Entry::Recv(event) => gate.enter(event.role, book.raw(event.role)),
-        Entry::Crash(role) => gate.enter(*role, book.raw(*role)),
-        Entry::Recover { role, .. } => gate.recovering(*role),
     }
 }
 

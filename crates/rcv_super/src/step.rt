@@ -9,13 +9,13 @@ ghost use Rattle.rcv_role.specs.Cell.{CellView};
 ghost use Rattle.rcv_lanes.specs.Home.{cell_at, AreHome, SameBases};
 ghost use Rattle.rcv_super.specs.Bases.{AreBased};
 ghost use Rattle.rcv_super.specs.OneStep.{IsNextEvent, CanPoll, WasPolled, AreOutWith};
-ghost use Rattle.rcv_super.specs.Steps.{HasStepped};
+ghost use Rattle.rcv_alone.specs.Steps.{HasStepped};
 
 use crate::recovery::recover_alone;
 use rcv_core::book::Book;
+use rcv_gate::Gate;
 use rcv_lanes::lanes::{Lane, clear_logs};
 use rcv_lanes::meet::meet_pair;
-use rcv_role::gate::Gate;
 use rcv_tree::entry::Entry;
 use rcv_tree::event::Event;
 use rcv_tree::role::RoleId;

@@ -1,6 +1,7 @@
 -- What the top call says, from what it read and wrote.
-use Rattle.std.proofs.Common.{◌≡◌, ℕ, Bool, Some, None, Option, List, [], length, refl, sym, ◌∙◌, ap, subst, ◌⊎◌, inl, inr, ⊎_elim, append-nil, arith}
-use Rattle.std.specs.Prelude.{◌<◌, ◌≤◌, Result, Ok, Err, Vec}
+use Rattle.std.proofs.Common.{◌≡◌, ℕ, Bool, true, false, Some, None, Option, List, [], length, refl, sym, ◌∙◌, ap, subst, ◌⊎◌, inl, inr, ⊎_elim, append-nil, arith}
+use Rattle.std.specs.Prelude.{◌<◌, ◌≤◌, Result, Ok, Err, Vec, if◌then◌else◌}
+use Rattle.std.specs.List.{list_any}
 use Rattle.std.proofs.lemmas.Bool.{cases_lt}
 use Rattle.std.specs.declared.alloc.Global.{Global}
 use Rattle.std.specs.Io.KnownBytes.{append_known}
@@ -24,10 +25,11 @@ use Rattle.rcv_accept.specs.Accepted.{IsAcceptedProtocol}
 use Rattle.rcv_session.specs.Session.{SessionView, rules_of}
 use Rattle.rcv_top.specs.declared.status.Status.{Status}
 use Rattle.rcv_top.specs.declared.status.Status.TheVariants as statuses
-use Rattle.rcv_words.specs.Commands.{CommandView, Run, Check, Project, Table, Gen, Replay, Line, IsCommand, IsNoCommand}
+use Rattle.rcv_words.specs.Commands.{CommandView, Run, RunMany, Check, Project, Table, Gen, Replay, Line, IsCommand, IsNoCommand}
 use Rattle.rcv_top.specs.Commands.{AskForSource, text_for}
 use Rattle.rcv_top.specs.Inputs.{ReadNothing, HasGot}
 use Rattle.rcv_top.specs.Running.{EndsAs, all_done, at_limit, IsSomeRun}
+use Rattle.rcv_top.specs.Many.{OneRun, is_limited, ended_as}
 use Rattle.rcv_top.specs.Outcome.{usage_line, most_bytes, Makes, IsAnswer, IsOutcome, usage, too_long, answered as answered_so, refused, made, replayed}
 use Rattle.rcv_replay.specs.declared.replayed.Replayed.{Replayed}
 use Rattle.rcv_replay.specs.declared.replayed.Replayed.TheVariants as replays
@@ -61,8 +63,18 @@ run_answers : (rules : Rules) (s : State) (status : Status) → EndsAs rules s s
 run_answers rules s status (all_done done) = tt
 run_answers rules s status (at_limit at) = tt
 
+-- several sessions end so in all
+ended_answers : (runs : List OneRun) → IsAnswerStatus (ended_as runs)
+ended_answers runs = go (list_any is_limited runs)
+  where
+    go : (b : Bool) → IsAnswerStatus (if b then statuses.Limited else statuses.Completed)
+    go true = tt
+    go false = tt
+
 command_answers : (session : SessionView) (command : CommandView) (status : Status) (bytes : List ℕ) → Makes session command status bytes → IsAnswerStatus status
 command_answers session (Run workers json) status bytes makes = run_answers (rules_of session) (reading (rules_of session) makes.some.journal) status makes.some.is_journal.ends
+command_answers session (RunMany sessions workers json) status bytes (inl much) = subst IsAnswerStatus (sym much.status_is) tt
+command_answers session (RunMany sessions workers json) status bytes (inr fits) = subst IsAnswerStatus (sym fits.many_run.status_is) (ended_answers fits.many_run.runs)
 command_answers session Check status bytes makes = subst IsAnswerStatus (sym makes.0) tt
 command_answers session Table status bytes makes = subst IsAnswerStatus (sym makes.0) tt
 command_answers session (Project name) status bytes (inl makes) = subst IsAnswerStatus (sym makes.2) tt
@@ -186,7 +198,7 @@ pub record Got (words : List (List ℕ)) (call : Around) (command : CommandView)
 abbrev TextResult : Type 0
 TextResult = Result (Vec ℕ Global) ReadError
 
-got_text : (words : List (List ℕ)) (call : Around) (command : CommandView) (v : Vec ℕ Global) → IsCommand words command → HasGot command (source_of call) (Ok v) → Got words call command v.items
+pub got_text : (words : List (List ℕ)) (call : Around) (command : CommandView) (v : Vec ℕ Global) → IsCommand words command → HasGot command (source_of call) (Ok v) → Got words call command v.items
 got_text words call command v is (inl (works, read)) = record {
   input = read.whole.taken;
   is_input = record {

@@ -13,9 +13,7 @@ use Rattle.rcv_model.proofs.Threads.{one_thread}
 use Rattle.rcv_model.proofs.Finals.{done_or_limited}
 use Rattle.rcv_model.proofs.GreatestLine as greatest
 use Rattle.rcv_input.specs.Input.{IsTaken}
-use Rattle.rcv_plan.specs.Symbols.{symbols_of}
-use Rattle.rcv_plan.proofs.Fitting.{read_is_planned}
-use Rattle.rcv_core.proofs.Ranges.{ranges}
+use Rattle.rcv_accept.specs.Accepted.{IsAcceptedProtocol}
 use Rattle.rcv_session.specs.Session.{SessionView, net_for, lines_of, roles_of, rules_of}
 use Rattle.rcv_journal.specs.declared.line.RoleLine.{RoleLine}
 use Rattle.rcv_journal.specs.JournalText.{journal_text, last_line}
@@ -24,11 +22,13 @@ use Rattle.rcv_journal.proofs.LinesExist.{lines_from, are_lines}
 use Rattle.rcv_top.specs.declared.status.Status.TheVariants.{Completed, Limited}
 use Rattle.rcv_top.specs.declared.status.Status.{Status}
 use Rattle.rcv_form.specs.Json.{json_text}
-use Rattle.rcv_top.specs.Running.{EndsAs, all_done, at_limit, IsWritten}
+use Rattle.rcv_top.specs.Running.{EndsAs, all_done, at_limit, IsOneThreadRun}
+use Rattle.rcv_jobs.specs.Texts.{IsWritten}
 use Rattle.rcv_top.specs.Generating.{kept_in, IsSummaryRun}
 use Rattle.rcv_gen.specs.Summary.{summary_text}
 use Rattle.rcv_top.specs.Lining.{line_text, IsLineRun}
 use Rattle.rcv_top.specs.Laws.{SessionsEnd}
+use Rattle.rcv_top.proofs.Rooms.{room_of}
 
 -- ---- what is written
 
@@ -54,25 +54,25 @@ record IsEnd (session : SessionView) : Type 0 where
   pub are_lines : AreLinesOf (rules_of session) (reading (rules_of session) journal) lines
   pub ends : (status : Status) × EndsAs (rules_of session) (reading (rules_of session) journal) status
 
-end_of : (input : List ℕ) (session : SessionView) → IsTaken input session → IsEnd session
-end_of input session taken = record {
+end_by : (session : SessionView) → IsAcceptedProtocol session.protocol → 1 ≤ (rules_of session).room → IsEnd session
+end_by session accepted room = record {
   journal = one.0;
   alone = one.1;
   legal = law.legal one.1;
   final = final;
   lines = lines_from rules (reading rules one.0) lawful 0 rules.roles;
   are_lines = are_lines rules (reading rules one.0) lawful;
-  ends = ⊎_elim (λ done. (Completed, all_done done)) (λ at. (Limited, at_limit at)) (done_or_limited rules one.0 lawful taken.protocol.accepted.accepted chooses room (law.legal one.1) final);
+  ends = ⊎_elim (λ done. (Completed, all_done done)) (λ at. (Limited, at_limit at)) (done_or_limited rules one.0 lawful accepted.accepted chooses room (law.legal one.1) final);
 }
   where
     rules : Rules
     rules = rules_of session
 
     lawful : IsProper rules.net rules.roles
-    lawful = proper (body_of session.protocol.body) (length session.protocol.roles) taken.protocol.accepted.form
+    lawful = proper (body_of session.protocol.body) (length session.protocol.roles) accepted.form
 
     one : (journal : List Entry) × IsOneThread rules journal
-    one = one_thread rules lawful taken.protocol.accepted.accepted.lanes_end
+    one = one_thread rules lawful accepted.accepted.lanes_end
 
     law : OneJournal rules one.0 one.0
     law = one_journal rules one.0 one.0
@@ -80,15 +80,16 @@ end_of input session taken = record {
     final : IsFinal rules (reading rules one.0)
     final = law.final one.1
 
-    room : 1 ≤ rules.room
-    room = (ranges session (read_is_planned session.protocol.roles (symbols_of input taken.plan.tokens) session.plan taken.plan.read)).room_first
-
     chooses : ChoosesOffered rules
     chooses r events attempt zs some = chosen_in (net_for session) (lines_of session) r events attempt zs some
 
-pub sessions_end : SessionsEnd
-sessions_end json input session taken =
-    let end = end_of input session taken in
+end_of : (input : List ℕ) (session : SessionView) → IsTaken input session → IsEnd session
+end_of input session taken = end_by session taken.protocol.accepted (room_of input session taken)
+
+-- what one thread makes of it
+pub run_exists : (json : Bool) (session : SessionView) → IsAcceptedProtocol session.protocol → 1 ≤ (rules_of session).room → (status : Status) × (bytes : List ℕ) × IsOneThreadRun json session status bytes
+run_exists json session accepted room =
+    let end = end_by session accepted room in
     let bytes = written json session end.journal end.lines end.are_lines in (
       end.ends.0,
       bytes.0,
@@ -98,6 +99,9 @@ sessions_end json input session taken =
         alone = end.alone;
       },
     )
+
+pub sessions_end : SessionsEnd
+sessions_end json input session taken = run_exists json session taken.protocol.accepted (room_of input session taken)
 
 -- its summary under a number
 pub summary_exists : (number : ℕ) (input : List ℕ) (session : SessionView) → IsTaken input session → (bytes : List ℕ) × IsSummaryRun number session Completed bytes

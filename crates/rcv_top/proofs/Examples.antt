@@ -59,18 +59,18 @@ use Rattle.rcv_top.proofs.TableTexts.{table_exists}
 -- `run` alone asks for one worker, and so does `--workers 1`; `--workers 2` for two
 alone : IsCommand (codes "run" ∷ []) (Run 1 false)
 unfolding clap_on_literals
-alone = (refl, (refl, refl, refl, refl, refl), (omega arith, omega arith))
+alone = (refl, (refl, refl, refl, refl, refl, refl), (omega arith, omega arith))
 
 abbrev with_workers : List ℕ → List (List ℕ)
 with_workers word = codes "run" ∷ codes "--workers" ∷ word ∷ []
 
 said : IsCommand (with_workers (codes "1")) (Run 1 false)
 unfolding clap_on_literals
-said = (refl, (refl, refl, refl, refl, refl), (omega arith, omega arith))
+said = (refl, (refl, refl, refl, refl, refl, refl), (omega arith, omega arith))
 
 two : IsCommand (with_workers (codes "2")) (Run 2 false)
 unfolding clap_on_literals
-two = (refl, (refl, refl, refl, refl, refl), (omega arith, omega arith))
+two = (refl, (refl, refl, refl, refl, refl, refl), (omega arith, omega arith))
 
 several : AskForSeveral (with_workers (codes "2"))
 several = (2, false, omega arith, two)
@@ -78,11 +78,11 @@ several = (2, false, omega arith, two)
 -- an option may stand in front of the word
 as_json : IsCommand (codes "--json" ∷ codes "run" ∷ []) (Run 1 true)
 unfolding clap_on_literals
-as_json = (refl, (refl, refl, refl, refl, refl), (omega arith, omega arith))
+as_json = (refl, (refl, refl, refl, refl, refl, refl), (omega arith, omega arith))
 
 of_role : IsCommand (codes "project" ∷ codes "--role=B" ∷ []) (Project (codes "B"))
 unfolding clap_on_literals
-of_role = (refl, (refl, record { workers = refl; json = refl; role = refl; number = refl }), tt)
+of_role = (refl, (refl, record { workers = refl; json = refl; role = refl; number = refl; sessions = refl }), tt)
 
 -- `--workers 9` is no command
 nine_fails : fault_of rcv (line_of (with_workers (codes "9"))) ≡ kind.ValueValidation ∷ []
@@ -98,7 +98,7 @@ gen_12 = codes "gen" ∷ codes "--number" ∷ codes "12" ∷ []
 
 generates : IsCommand gen_12 (Gen 12)
 unfolding clap_on_literals
-generates = (refl, (refl, record { workers = refl; json = refl; role = refl; number = refl }), omega arith)
+generates = (refl, (refl, record { workers = refl; json = refl; role = refl; number = refl; sessions = refl }), omega arith)
 
 reads_nothing : AskForSource gen_12 → ⊥
 reads_nothing = gen_asks gen_12 (Gen 12) 12 generates refl
@@ -109,7 +109,7 @@ reads = (Check, tt, check_command)
 -- `line` is one, which takes no option
 of_line : IsCommand (codes "line" ∷ []) Line
 unfolding clap_on_literals
-of_line = (refl, (refl, record { workers = refl; json = refl; role = refl; number = refl }), tt)
+of_line = (refl, (refl, record { workers = refl; json = refl; role = refl; number = refl; sessions = refl }), tt)
 
 -- ---- whatever the source gave, `gen` answers the same
 abbrev anything : List ℕ

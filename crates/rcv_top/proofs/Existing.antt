@@ -11,7 +11,7 @@ use Rattle.rcv_input.proofs.Once.{one_answer}
 use Rattle.rcv_printer.specs.CanonicalText.{canonical}
 use Rattle.rcv_top.specs.declared.status.Status.{Status}
 use Rattle.rcv_top.specs.declared.status.Status.TheVariants.{Completed, Usage, Refused, TooLong, Wrong}
-use Rattle.rcv_words.specs.Commands.{CommandView, Run, Check, Project, Table, Gen, Replay, Line, IsCommand, IsWithin}
+use Rattle.rcv_words.specs.Commands.{CommandView, Run, RunMany, Check, Project, Table, Gen, Replay, Line, IsCommand, IsWithin}
 use Rattle.rcv_words.proofs.Deciding.{command_or_none}
 use Rattle.rcv_top.specs.Commands.{WorksOnSource, TakesWhole, text_for}
 use Rattle.rcv_gen.proofs.Lengths.{generated_fits}
@@ -26,6 +26,7 @@ use Rattle.rcv_top.specs.Replaying.{IsSaidOf}
 use Rattle.rcv_top.specs.Laws.{HasOutcome, OutcomesExist}
 use Rattle.rcv_top.proofs.Asking.{source_or_gen, text_given}
 use Rattle.rcv_top.proofs.Ending.{sessions_end, summary_exists, line_exists}
+use Rattle.rcv_top.proofs.ManyExist.{many_some}
 use Rattle.rcv_top.proofs.RoleTexts.{text_exists}
 use Rattle.rcv_top.proofs.TableTexts.{table_exists}
 
@@ -37,6 +38,7 @@ run_some workers json session run = (run.0, run.1, record { some = record { jour
 
 makes_some : (input : List ℕ) (session : SessionView) (command : CommandView) → TakesWhole command → IsTaken input session → (status : Status) × (bytes : List ℕ) × Makes session command status bytes
 makes_some input session (Run workers json) whole taken = run_some workers json session (sessions_end json input session taken)
+makes_some input session (RunMany sessions workers json) whole taken = many_some sessions json input session taken
 makes_some input session (Gen number) whole taken = let text = summary_exists number input session taken in (Completed, text.0, text.1)
 makes_some input session Check whole taken = (Completed, canonical session.protocol, (refl, refl))
 makes_some input session Line whole taken = let text = line_exists input session taken in (Completed, text.0, text.1)
@@ -53,6 +55,7 @@ makes_some input session (Project name) whole taken = go (place_of session.proto
 -- it takes its whole text as a bundle, or it is `replay`
 whole_or_replay : (c : CommandView) → TakesWhole c ⊎ (c ≡ Replay)
 whole_or_replay (Run n json) = inl tt
+whole_or_replay (RunMany k n json) = inl tt
 whole_or_replay Check = inl tt
 whole_or_replay (Project name) = inl tt
 whole_or_replay Table = inl tt

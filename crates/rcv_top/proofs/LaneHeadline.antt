@@ -18,7 +18,8 @@ use Rattle.rcv_parallel.proofs.LaneSession as lanes
 use Rattle.rcv_parallel.proofs.LaneTraces.{view, same_rules, is_blind, is_done}
 use Rattle.rcv_top.specs.declared.status.Status.TheVariants.{Completed}
 use Rattle.rcv_top.specs.Headline.{IsHeadline}
-use Rattle.rcv_top.specs.Running.{all_done, IsWritten, IsJournalOf}
+use Rattle.rcv_top.specs.Running.{all_done, IsJournalOf}
+use Rattle.rcv_jobs.specs.Texts.{IsWritten}
 use Rattle.rcv_top.proofs.Answering.{headline_by, headline_of}
 use Rattle.rcv_top.proofs.Ending.{has_text}
 use Rattle.rcv_top.proofs.LaneProtocol.{lawful}

@@ -1,4 +1,6 @@
 pub mod Writing
+pub mod Adding
+pub mod Prepared
 pub mod Asking
 pub mod Sessions
 pub mod Summing
@@ -7,15 +9,24 @@ pub mod SameJson
 pub mod OneSummary
 pub mod OneLine
 pub mod Counting
+pub mod Rooms
+pub mod Runs
+pub mod ManyRuns
 pub mod Outcomes
+pub mod Workers
 pub mod Ending
+pub mod ManyExist
 pub mod RoleTexts
 pub mod TableTexts
 pub mod Existing
 pub mod Again
 pub mod Traceless
+pub mod Alike
+pub mod ManyAnswering
 mod Examples
+mod ManyExamples
 mod Unseen
+mod UnseenLater
 mod HostHeadline
 mod LaneProtocol
 mod LaneTold

@@ -1,14 +1,11 @@
 -- The answer to words and an input is one.
-use Rattle.std.proofs.Common.{◌≡◌, ℕ, ◌<◌, Bool, true, false, Option, Some, None, inl, inr, ⊎_elim, sym, List, [], length, flat_map, refl, ◌∙◌, ap, subst, arith}
+use Rattle.std.proofs.Common.{◌≡◌, ℕ, ◌<◌, Option, Some, None, inl, inr, ⊎_elim, sym, List, [], length, flat_map, refl, ◌∙◌, ap, subst, arith}
 use Rattle.std.proofs.lemmas.Bool.{cases_lt}
 use Rattle.rcv_tree.specs.declared.protocol.Protocol.{Protocol}
 use Rattle.rcv_tree.specs.declared.entry.Entry.{Entry}
 use Rattle.rcv_model.specs.Text.{Body, body_of}
 use Rattle.rcv_model.specs.Places.{net_of}
-use Rattle.rcv_model.specs.Journal.{Rules, State, reading}
-use Rattle.rcv_model.specs.Final.{IsOneThread}
-use Rattle.rcv_model.proofs.OneThread.{one_journal}
-use Rattle.rcv_model.proofs.Forms.{proper}
+use Rattle.rcv_model.specs.Journal.{Rules, reading}
 use Rattle.rcv_grammar.specs.Laws.{SayTheSame}
 use Rattle.rcv_input.specs.declared.refused.Refused as refusals
 use Rattle.rcv_input.specs.Refusals.{IsFirstRefusal}
@@ -20,9 +17,8 @@ use Rattle.rcv_journal.specs.declared.line.RoleLine.{RoleLine}
 use Rattle.rcv_journal.specs.JournalText.{limit_text, last_line}
 use Rattle.rcv_gen.specs.Summary.{summary_text}
 use Rattle.rcv_journal.specs.Lines.{AreLinesOf}
-use Rattle.rcv_journal.proofs.OneText.{one_text}
-use Rattle.rcv_journal.proofs.SameText.{both, same_rules, same_limit, all_same, text_with, same_text}
-use Rattle.rcv_words.specs.Commands.{CommandView, Run, Check, Project, Table, Gen, Replay, Line, IsCommand, IsNoCommand}
+use Rattle.rcv_journal.proofs.SameText.{both, same_limit, all_same, text_with}
+use Rattle.rcv_words.specs.Commands.{CommandView, Run, RunMany, Check, Project, Table, Gen, Replay, Line, IsCommand, IsNoCommand}
 use Rattle.rcv_top.specs.Commands.{AskForSeveral, AskForSource, TakesWhole, text_for}
 use Rattle.rcv_accept.specs.Accepted.{IsAcceptedProtocol}
 use Rattle.rcv_input.specs.Laws.{AreSame}
@@ -32,7 +28,6 @@ use Rattle.rcv_tables.proofs.OneText.{one_table_text}
 use Rattle.rcv_top.specs.declared.status.Status.{Status}
 use Rattle.rcv_top.specs.Projection.{place_of, IsProjection}
 use Rattle.rcv_top.specs.Recovering.{accepted_as, IsTableText}
-use Rattle.rcv_top.specs.Running.{EndsAs, all_done, at_limit, IsOneThreadRun, IsWritten}
 use Rattle.rcv_top.specs.Generating.{kept_in, IsSummaryOf, IsSummaryRun}
 use Rattle.rcv_top.specs.Lining.{line_text as stable_text, IsLineBehind, IsLineOf, IsLineRun}
 use Rattle.rcv_top.specs.Outcome.{most_bytes, Makes, IsAsked, IsAnswer, usage, too_long, answered, refused, made, replayed}
@@ -45,64 +40,10 @@ use Rattle.rcv_replay.proofs.Once.{one_replay}
 use Rattle.rcv_top.specs.Replaying.{IsSaidOf, IsReplayAnswer}
 use Rattle.rcv_top.specs.Laws.{OneOutcome}
 use Rattle.rcv_top.proofs.Asking.{one_command, text_given}
-use Rattle.rcv_top.proofs.SameJson.{same_json}
-use Rattle.rcv_json.proofs.OneJson.{one_json}
+use Rattle.rcv_top.proofs.Runs.{one_journal_of, rules_same, one_run}
+use Rattle.rcv_top.proofs.ManyRuns.{one_run_of_many}
 use Rattle.rcv_top.proofs.OneSummary.{one_summary}
 use Rattle.rcv_top.proofs.OneLine.{one_line_of}
-
--- a final state ends in one way
-same_end : (rules : Rules) (s : State) (a b : Status) → EndsAs rules s a → EndsAs rules s b → a ≡ b
-same_end rules s a b (all_done done) (all_done other) = refl
-same_end rules s a b (all_done done) (at_limit at) = absurd (at.2 (done at.0 at.1))
-same_end rules s a b (at_limit at) (all_done done) = absurd (at.2 (done at.0 at.1))
-same_end rules s a b (at_limit at) (at_limit other) = refl
-
--- what is written of a journal of one is written of it of the other
-written_moves : (json : Bool) (s t : SessionView) (journal : List Entry) (bytes : List ℕ) → AreSame s t → rules_of s ≡ rules_of t → IsWritten json s journal bytes → IsWritten json t journal bytes
-written_moves true s t journal bytes same rules text = record {
-  lines = text.lines;
-  are_lines = subst (λ (r : Rules). AreLinesOf r (reading r journal) text.lines) rules text.are_lines;
-  is_json = text.is_json ∙ same_json s t same.protocols.role_names same.protocols.bodies journal text.lines;
-}
-written_moves false s t journal bytes same rules text = record {
-  lines = text.lines;
-  are_lines = subst (λ (r : Rules). AreLinesOf r (reading r journal) text.lines) rules text.are_lines;
-  is_text = text.is_text ∙ same_text s t same.protocols.role_names same.protocols.bodies journal text.lines;
-}
-
-one_written : (json : Bool) (session : SessionView) (journal : List Entry) (a b : List ℕ) → IsWritten json session journal a → IsWritten json session journal b → a ≡ b
-one_written true session journal a b x y = one_json session journal a b x y
-one_written false session journal a b x y = one_text session journal a b x y
-
--- one thread makes one journal of sessions that say the same
-one_journal_of : (s t : SessionView) (j k : List Entry) → IsAcceptedProtocol t.protocol → rules_of s ≡ rules_of t → IsOneThread (rules_of s) j → IsOneThread (rules_of t) k → j ≡ k
-one_journal_of s t j k lawful rules is other =
-    (one_journal (rules_of t) j k).same (proper (body_of t.protocol.body) (length t.protocol.roles) lawful.form).two_ends (subst (λ (r : Rules). IsOneThread r j) rules is) other
-
-rules_same : (s t : SessionView) → AreSame s t → rules_of s ≡ rules_of t
-rules_same s t same = same_rules s t same.protocols.role_names same.protocols.bodies same.scripts same.plans
-
--- two runs of sessions that say the same
-one_run : (json : Bool) (s t : SessionView) (a b : Status) (x y : List ℕ) → IsAcceptedProtocol t.protocol → AreSame s t → IsOneThreadRun json s a x → IsOneThreadRun json t b y → (a ≡ b) × (x ≡ y)
-one_run json s t a b x y lawful same run other = (same_end (rules_of t) (reading (rules_of t) k) a b ends other.is_journal.ends, one_written json t k x y moved other.is_journal.written)
-  where
-    j : List Entry
-    j = run.journal
-
-    k : List Entry
-    k = other.journal
-
-    rules : rules_of s ≡ rules_of t
-    rules = rules_same s t same
-
-    journals : j ≡ k
-    journals = one_journal_of s t j k lawful rules run.alone other.alone
-
-    ends : EndsAs (rules_of t) (reading (rules_of t) k) a
-    ends = subst (λ (es : List Entry). EndsAs (rules_of t) (reading (rules_of t) es) a) journals (subst (λ (r : Rules). EndsAs r (reading r j) a) rules run.is_journal.ends)
-
-    moved : IsWritten json t k x
-    moved = subst (λ (es : List Entry). IsWritten json t es x) journals (written_moves json s t j x same rules run.is_journal.written)
 
 -- the last line says the same
 same_last : (s t : SessionView) → s.protocol.roles ≡ t.protocol.roles → (lines : List RoleLine) → last_line s lines ≡ last_line t lines
@@ -228,9 +169,10 @@ one_projection p q name s t b c lawful say x y = go x y
     go (inr (none, is, line)) (inl (o, there, also, other)) = absurd (let moved = place_moves None none in cc)
     go (inr (none, is, line)) (inr (other, also, same)) = (is ∙ sym also, line ∙ sym same)
 
--- a command that doesn't ask for several workers
+-- a command that doesn't ask for several workers of one session
 abbrev IsForOne : CommandView → Type 0
 IsForOne (Run workers json) = workers ≡ 1
+IsForOne (RunMany sessions workers json) = Unit {0}
 IsForOne Check = Unit {0}
 IsForOne (Project name) = Unit {0}
 IsForOne Table = Unit {0}
@@ -241,6 +183,7 @@ IsForOne Line = Unit {0}
 is_for_one : (words : List (List ℕ)) (command : CommandView) → (AskForSeveral words → ⊥) → IsCommand words command → IsForOne command
 is_for_one words (Run workers json) few command =
     ⊎_elim (λ many. absurd (few (workers, json, many, command))) (λ most. let least = command.2.0 in omega (arith, most, least)) (cases_lt 1 workers)
+is_for_one words (RunMany sessions workers json) few command = tt
 is_for_one words Check few command = tt
 is_for_one words (Project name) few command = tt
 is_for_one words Table few command = tt
@@ -251,6 +194,7 @@ is_for_one words Line few command = tt
 -- what a command makes of two sessions that say the same
 one_making : (s t : SessionView) (command : CommandView) (a b : Status) (x y : List ℕ) → IsForOne command → IsAcceptedProtocol t.protocol → AreSame s t → Makes s command a x → Makes t command b y → (a ≡ b) × (x ≡ y)
 one_making s t (Run workers json) a b x y one lawful same m n = one_run json s t a b x y lawful same (m.alone one) (n.alone one)
+one_making s t (RunMany sessions workers json) a b x y one lawful same m n = one_run_of_many sessions json s t a b x y lawful same m n
 one_making s t Check a b x y one lawful same m n = (m.0 ∙ sym n.0, m.1 ∙ one_text_of s.protocol t.protocol same.protocols ∙ sym n.1)
 one_making s t (Project name) a b x y one lawful same m n = one_projection s.protocol t.protocol name a b x y lawful same.protocols m n
 one_making s t Table a b x y one lawful same m n = (m.0 ∙ sym n.0, one_table s.protocol t.protocol x y lawful same.protocols m.1 n.1)

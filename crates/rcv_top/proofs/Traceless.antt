@@ -4,9 +4,6 @@ use Rattle.rcv_tree.specs.declared.entry.Entry.{Entry}
 use Rattle.rcv_model.specs.Journal.{Rules, State}
 use Rattle.rcv_model.specs.Final.{AreDone}
 use Rattle.rcv_input.specs.Input.{IsTaken}
-use Rattle.rcv_plan.specs.Symbols.{symbols_of}
-use Rattle.rcv_plan.proofs.Fitting.{read_is_planned}
-use Rattle.rcv_core.proofs.Ranges.{ranges}
 use Rattle.rcv_session.specs.Session.{SessionView}
 use Rattle.rcv_transparent.specs.Calm.{ReadsNoAttempt, IsBlindSession}
 use Rattle.rcv_transparent.specs.Traces.{LeavesNoTrace}
@@ -15,9 +12,10 @@ use Rattle.rcv_top.specs.declared.status.Status.{Status}
 use Rattle.rcv_top.specs.declared.status.Status.TheVariants as statuses
 use Rattle.rcv_top.specs.Running.{EndsAs, all_done, at_limit, IsJournalOf}
 use Rattle.rcv_top.specs.Laws.{SessionsLeaveNoTrace, CalmSessionsComplete}
+use Rattle.rcv_top.proofs.Rooms.{room_of}
 
 -- a journal that ends so leaves all roles done
-done_by : (rules : Rules) (s : State) (status : Status) → EndsAs rules s status → status ≡ statuses.Completed → AreDone rules s
+pub done_by : (rules : Rules) (s : State) (status : Status) → EndsAs rules s status → status ≡ statuses.Completed → AreDone rules s
 done_by rules s status (all_done done) same = done
 done_by rules s status (at_limit at) same = absurd (cc)
 
@@ -29,7 +27,7 @@ completed_by rules s status (at_limit at) all = absurd (at.2 (all at.0 at.1))
 blind_by : (input : List ℕ) (session : SessionView) → IsTaken input session → ReadsNoAttempt session → IsBlindSession session
 blind_by input session taken blind = record {
   of_text = record { net = refl; form = taken.protocol.accepted.form; accepted = taken.protocol.accepted.accepted };
-  room = (ranges session (read_is_planned session.protocol.roles (symbols_of input taken.plan.tokens) session.plan taken.plan.read)).room_first;
+  room = room_of input session taken;
   blind = blind;
 }
 

@@ -27,12 +27,13 @@ use Rattle.rcv_transparent.specs.Calm.{calm, ReadsNoAttempt}
 use Rattle.rcv_transparent.specs.Traces.{LeavesNoTrace}
 use Rattle.rcv_top.specs.declared.status.Status.{Status}
 use Rattle.rcv_top.specs.declared.status.Status.TheVariants.{Completed}
-use Rattle.rcv_top.specs.Running.{all_done, IsWritten, IsJournalOf, IsRunOf}
+use Rattle.rcv_top.specs.Running.{all_done, IsJournalOf, IsRunOf}
+use Rattle.rcv_jobs.specs.Texts.{IsWritten}
 use Rattle.rcv_top.specs.Laws.{CompletesBlind}
 use Rattle.rcv_top.proofs.Ending.{has_text}
 use Rattle.rcv_top.proofs.Traceless.{sessions_leave_no_trace, calm_sessions_complete}
 
-abbrev net : Net
+abbrev pub net : Net
 net = net_of one
 
 abbrev rules : Rules
@@ -44,17 +45,17 @@ same_rules = ap (λ b. session_rules b 2 (lines_of session) session.plan) its_bo
 form : HasForm one 2
 form = record { numbered = (refl, tt); ends = (omega arith, omega arith, (λ e. omega arith), tt); subjects = tt; apart = tt; few_roles = omega arith; few_points = omega arith }
 
-lawful : IsProper net 2
+pub lawful : IsProper net 2
 lawful = proper one 2 form
 
-net_one : HasOneLane net
+pub net_one : HasOneLane net
 net_one = one_lane one tt
 
 -- A has saved what it sent, so nothing is taken back, and both clocks are raised
 abbrev back : Entry
 back = recover 0 3 (1 ∷ replicate 7 0) 0
 
-abbrev journal : List Entry
+abbrev pub journal : List Entry
 journal = Send (says 0 1 0 1) ∷ Crash 0 ∷ back ∷ Recv (hears 1 1 0 3 1) ∷ []
 
 abbrev s0 : State
@@ -86,10 +87,10 @@ done (suc (suc r)) lt z n = omega arith
 final : IsFinal rules (reading rules journal)
 final = final_by rules s4 (lawful.two_ends, net_one) refl
 
-text : (bytes : List ℕ) × IsWritten false session journal bytes
+pub text : (bytes : List ℕ) × IsWritten false session journal bytes
 text = has_text false session journal (subst (λ (x : Rules). IsProper x.net x.roles) (sym same_rules) lawful)
 
-is_journal : IsJournalOf false session journal Completed text.0
+pub is_journal : IsJournalOf false session journal Completed text.0
 is_journal = record {
   legal = subst (λ (x : Rules). IsLegal x journal) (sym same_rules) legal;
   final = subst (λ (x : Rules). IsFinal x (reading x journal)) (sym same_rules) final;
@@ -98,7 +99,7 @@ is_journal = record {
 }
 
 -- there are no scripts
-blind : ReadsNoAttempt session
+pub blind : ReadsNoAttempt session
 blind zero = tt
 blind (suc zero) = tt
 blind (suc (suc r)) = tt

@@ -1,6 +1,8 @@
 pub mod Commands
 pub mod Writing
 pub mod Running
+pub mod Many
+pub mod Sharing
 pub mod Finishing
 pub mod Generating
 pub mod Projection

@@ -8,7 +8,7 @@ use Rattle.rcv_printer.specs.CanonicalText.{canonical}
 use Rattle.rcv_session.specs.Session.{SessionView}
 use Rattle.rcv_top.specs.declared.status.Status.{Status}
 use Rattle.rcv_top.specs.declared.status.Status.TheVariants.{Completed, Usage, Refused, Limited, ReadFault, WriteFault, Memory, TooLong, Wrong}
-use Rattle.rcv_words.specs.Commands.{CommandView, Run, Check, Project, Table, Gen, Replay, Line, IsCommand, IsNoCommand}
+use Rattle.rcv_words.specs.Commands.{CommandView, Run, RunMany, Check, Project, Table, Gen, Replay, Line, IsCommand, IsNoCommand}
 use Rattle.rcv_top.specs.Commands.{AskForSource, TakesWhole, text_for}
 use Rattle.rcv_top.specs.Generating.{IsSummaryRun}
 use Rattle.rcv_top.specs.Projection.{IsProjection}
@@ -16,6 +16,7 @@ use Rattle.rcv_top.specs.Recovering.{IsTableText}
 use Rattle.rcv_top.specs.Replaying.{IsReplayAnswer}
 use Rattle.rcv_top.specs.Lining.{IsLineRun}
 use Rattle.rcv_top.specs.Running.{IsRunOf}
+use Rattle.rcv_top.specs.Many.{IsRunOfMany}
 
 -- The number of a status, with which the process ends.
 abbrev pub number_of : Status → ℕ
@@ -35,18 +36,19 @@ most_bytes = 1048576
 
 -- What is written where the words are no command.
 abbrev pub usage_line : List ℕ
-usage_line = codes "usage: rcv run|check|project|table|gen|replay|line [--workers N] [--json] [--role R] [--number N]\n"
+usage_line = codes "usage: rcv run|check|project|table|gen|replay|line [--workers N] [--json] [--sessions K] [--role R] [--number N]\n"
 
 -- The words are this command, and the text that it works on isn't too long.
 pub record IsAsked (words : List (List ℕ)) (command : CommandView) (input : List ℕ) : Type 0 where
   pub words_are : IsCommand words command
   pub short : length (text_for command input) ≤ most_bytes
 
--- What a command makes of a session: the journal that so many workers make with how that ends, the canonical text of
--- its protocol, what the role of a name does, the recovery table, the summary of a generated session, or the stable line
--- behind the journal of one thread. `replay` makes nothing of it alone.
+-- What a command makes of a session: the journal that so many workers make with how that ends, those of several sessions,
+-- whatever the workers, the canonical text of its protocol, what the role of a name does, the recovery table, the summary
+-- of a generated session, or the stable line behind the journal of one thread. `replay` makes nothing of it alone.
 abbrev pub Makes : SessionView → CommandView → Status → List ℕ → Type 0
 Makes session (Run workers json) status bytes = IsRunOf workers json session status bytes
+Makes session (RunMany sessions workers json) status bytes = IsRunOfMany sessions json session status bytes
 Makes session Check status bytes = (status ≡ Completed) × (bytes ≡ canonical session.protocol)
 Makes session (Project name) status bytes = IsProjection session.protocol name status bytes
 Makes session Table status bytes = (status ≡ Completed) × IsTableText session.protocol bytes

@@ -1,11 +1,10 @@
 -- What `run` makes of a session.
-use Rattle.std.specs.Prelude.{◌≡◌, ℕ, Bool, true, false, List}
+use Rattle.std.specs.Prelude.{◌≡◌, ℕ, Bool, List}
 use Rattle.rcv_tree.specs.declared.entry.Entry.{Entry}
 use Rattle.rcv_session.specs.Session.{SessionView, rules_of}
 use Rattle.rcv_model.specs.Journal.{Rules, State, reading, IsLegal}
 use Rattle.rcv_model.specs.Final.{IsFinal, AreDone, HasOneAtLimit, IsOneThread}
-use Rattle.rcv_journal.specs.Lines.{IsTextOf}
-use Rattle.rcv_form.specs.Json.{IsJsonOf}
+use Rattle.rcv_jobs.specs.Texts.{IsWritten}
 use Rattle.rcv_top.specs.declared.status.Status.{Status}
 use Rattle.rcv_top.specs.declared.status.Status.TheVariants.{Completed, Limited}
 
@@ -13,11 +12,6 @@ use Rattle.rcv_top.specs.declared.status.Status.TheVariants.{Completed, Limited}
 pub data EndsAs (rules : Rules) (s : State) : Status → Type 0 where
   all_done : AreDone rules s → EndsAs rules s Completed
   at_limit : HasOneAtLimit rules s → EndsAs rules s Limited
-
--- The bytes are the journal's JSON, or its text.
-abbrev pub IsWritten : Bool → SessionView → List Entry → List ℕ → Type 0
-IsWritten true session journal bytes = IsJsonOf session journal bytes
-IsWritten false session journal bytes = IsTextOf session journal bytes
 
 -- How the journal ends is this status, and these bytes are its JSON or its text.
 pub record EndsSo (json : Bool) (session : SessionView) (journal : List Entry) (status : Status) (bytes : List ℕ) : Type 0 where

@@ -13,18 +13,19 @@ ghost use Rattle.rcv_top.specs.Writing.{Writes};
 
 use crate::generated::run_generated;
 use crate::line::run_line;
+use crate::many::run_many;
 use crate::output::{Output, put};
 use crate::replaying::replay_answer;
 use crate::role::place_of;
 use crate::run::run;
 use crate::status::Status;
 use rcv_accept::accepted::Accepted;
+use rcv_gate::Gate;
 use rcv_input::{InputError, Refused, read_input, refusal_line};
 use rcv_io::Sink;
 use rcv_printer::print_protocol;
 use rcv_project::project;
 use rcv_project::text::print_local;
-use rcv_role::gate::Gate;
 use rcv_tables::making::table;
 use rcv_tables::text::print_table;
 use rcv_tree::protocol::Protocol;
@@ -33,9 +34,11 @@ use rcv_words::command::Command;
 use std::alloc::{AllocError, Global};
 use std::thread::Threads;
 
-/// Writes what a command answers to the text of at most 1,048,576 bytes that it works on, and says how that ended: the
-/// first refusal of the text, or what the command makes of its protocol, its scripts and its plan. `replay` asks first
-/// where the text is cut, and says what of the journal behind the bundle is right or wrong.
+/// Writes what a command answers to the text of at most 1,048,576 bytes that it works on, and says how that ended:
+/// the first refusal of the text, or what the command makes of its protocol, its scripts and its plan. With
+/// `--sessions`, `run` makes the journals of several sessions of them, or refuses these where they may make too many
+/// events in all. `replay` asks first where the text is cut, and says what of the journal behind the bundle is right
+/// or wrong.
 ///
 /// The error comes where no memory was left; then nothing was written.
 pub fn answer<R: Threads + Sync, K: Sink, G: Gate>(
@@ -58,6 +61,13 @@ pub fn answer<R: Threads + Sync, K: Sink, G: Gate>(
     match read_input(alloc, input) {
         Ok(taken) => match command {
             Command::Run { workers, json } => { run(rt, alloc, taken, *workers, *json, sink, gate) }
+            Command::RunMany {
+                sessions,
+                workers,
+                json,
+            } => run_many(
+                rt, alloc, input, taken, *sessions, *workers, *json, sink, gate,
+            ),
             // `taken` is dropped by name: at each exit behind it the prover would free it field by field.
             Command::Check => {
                 let made = check(alloc, taken.accepted.protocol());

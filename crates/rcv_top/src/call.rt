@@ -1,40 +1,42 @@
 // The top call.
 
 ghost use Rattle.std.specs.Prelude.{◌≡◌, ℕ, ◌⊎◌, Bool};
-ghost use Rattle.rcv_words.specs.Commands.{Run, IsCommand, texts_of};
-ghost use Rattle.rcv_top.specs.Calls.{around, Says, TellsFault, WritesLegalJournal};
+ghost use Rattle.rcv_words.specs.Commands.{Run, RunMany, IsCommand, texts_of};
+ghost use Rattle.rcv_top.specs.Calls.{around, Says, TellsFault, WritesLegalJournal, WritesLegalJournals};
 
 use crate::answer::answer;
 use crate::input::input_of;
 use crate::output::write;
 use crate::status::Status;
+use rcv_gate::Gate;
 use rcv_io::{ReadError, Sink, Source};
-use rcv_role::gate::Gate;
 use rcv_words::error::WordsError;
 use rcv_words::read_words;
 use std::alloc::Global;
 use std::thread::Threads;
 
 /// What is written where the words are no command.
-const USAGE: &[u8] =
-    b"usage: rcv run|check|project|table|gen|replay|line [--workers N] [--json] [--role R] [--number N]\n";
+const USAGE: &[u8] = b"usage: rcv run|check|project|table|gen|replay|line \
+    [--workers N] [--json] [--sessions K] [--role R] [--number N]\n";
 
 /// Does what the program does: reads the words, then the whole source unless the command is `gen`, and writes the
 /// answer.
 ///
 /// `words` are those behind the program's name, as `clap` takes them: one of the words `run`, `check`, `project`,
-/// `table`, `gen`, `replay` and `line`, with the options `--workers N` and `--json` of `run`, `--role R` of `project` and
-/// `--number N` of `gen` before or behind it. The answer says how the call ended:
-/// - `Completed`: under `run` the session of the input completed, and its journal was written; under `check` the
-///   input's protocol was written as its canonical text; under `table` its recovery table was written; under `project`
-///   what the role does was written; under `gen` the summary of the generated session was written; under `replay` the
-///   journal behind the bundle is legal and whole, and it was written how many entries it has and how it ended; under
-///   `line` the stable line behind the journal that one thread makes of the session was written, limited or not.
-/// - `Limited`: under `run` the session's journal was written, and at its end some role that isn't done has come to the
-///   limit.
+/// `table`, `gen`, `replay` and `line`, with the options `--workers N`, `--json` and `--sessions K` of `run`,
+/// `--role R` of `project` and `--number N` of `gen` before or behind it. The answer says how the call ended:
+/// - `Completed`: under `run` the session of the input completed, and its journal was written, or all of several
+///   sessions did, and their journals were; under `check` the input's protocol was written as its canonical text;
+///   under `table` its recovery table was written; under `project` what the role does was written; under `gen` the
+///   summary of the generated session was written; under `replay` the journal behind the bundle is legal and whole,
+///   and it was written how many entries it has and how it ended; under `line` the stable line behind the journal
+///   that one thread makes of the session was written, limited or not.
+/// - `Limited`: under `run` the session's journal was written, or those of several sessions, and at its end, or at
+///   that of one of them, some role that isn't done has come to the limit.
 /// - `Usage`: the words are no command; nothing was read, and the usage line was written.
 /// - `Refused`: the input is refused, and the line of its first refusal was written; or under `project` the protocol
-///   doesn't declare the role, and the line for that was written.
+///   doesn't declare the role, and the line for that was written; or under `run` several sessions may make more than
+///   3,200,000 events in all, by roles, limit and sessions, and the line for that was written.
 /// - `ReadFault`: the source's count of faults rose, and nothing was written. It comes always where that count is
 ///   greater than before.
 /// - `WriteFault`: the sink's count of faults rose, and a beginning of what should be written was, not all of it. It
@@ -46,12 +48,19 @@ const USAGE: &[u8] =
 /// `gen` reads nothing from the source, however the call ends.
 ///
 /// `run` without `--workers` asks for one worker. One worker writes the one journal of the session that one thread
-/// makes; several ones run the roles on at most as many threads, and which journal of the session they write may differ
-/// from call to call. Under `run`, `gate` is called before each step that a role attempts, and with a failed role before
-/// its recovery; the other commands don't call it.
+/// makes; several ones run the roles on at most as many threads, and which journal of the session they write may
+/// differ from call to call. Under `run`, `gate` is called before each step that a role attempts, and with a failed
+/// role before its recovery; the other commands don't call it.
 ///
-/// Where the session completed and no script reads the attempt, what each role kept and each channel carried is, but
-/// for stamps, what one thread makes of the session without its crash lines, which completes, too.
+/// `run --sessions K`, with K from 2 to 64, runs K sessions of the input, each by one thread at a time, and shares
+/// them among the workers. In the first one the plan is as it was read, and in each one behind it each crash line has
+/// a count that is one more. Their journals are written in that order, each behind a line `session I`, or with
+/// `--json` each as a line of its own, when the last one has ended. Each is the one that one thread makes of its
+/// session, so neither the workers nor when each of them works decide a byte. K of 1 is `run` without the option.
+///
+/// Where a session completed and no script reads the attempt, what each role kept and each channel carried is, but
+/// for stamps, what one thread makes of the session without its crash lines, which completes, too. So all of several
+/// sessions that complete keep the same.
 pub fn recover<R: Threads + Sync, S: Source, K: Sink, G: Gate>(
     rt: &R,
     alloc: Global,
@@ -65,6 +74,10 @@ pub fn recover<R: Threads + Sync, S: Source, K: Sink, G: Gate>(
     ensures headline { (workers : ℕ) (json : Bool) → IsCommand (texts_of words.now) (Run workers json)
         → (result ≡ Status.Completed) ⊎ (result ≡ Status.Limited)
         → WritesLegalJournal json
+        (around S.rest S.given S.faults source.old source.new K.written K.faults sink.old sink.new) result }
+    ensures many { (sessions workers : ℕ) (json : Bool) → IsCommand (texts_of words.now) (RunMany sessions workers json)
+        → (result ≡ Status.Completed) ⊎ (result ≡ Status.Limited)
+        → WritesLegalJournals sessions json
         (around S.rest S.given S.faults source.old source.new K.written K.faults sink.old sink.new) result }
     ensures source_faults { TellsFault (S.faults source.old) (S.faults source.new) Status.ReadFault result }
     ensures sink_faults { TellsFault (K.faults sink.old) (K.faults sink.new) Status.WriteFault result }

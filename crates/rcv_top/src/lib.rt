@@ -3,12 +3,15 @@
 
 ghost use Rattle.rcv_top.specs.Laws.{ChecksStay, OneOutcome, OutcomesExist};
 ghost use Rattle.rcv_top.specs.Laws.{CalmSessionsComplete, SessionsAreLegal, SessionsEnd, SessionsLeaveNoTrace};
+ghost use Rattle.rcv_top.specs.Laws.{ManySessionsAreLegal, SessionsKeepAlike, WorkersDecideNothing};
 
 mod answer;
 mod call;
 mod generated;
 mod input;
+mod journals;
 mod line;
+mod many;
 mod output;
 mod replaying;
 mod role;
@@ -16,12 +19,18 @@ mod run;
 mod status;
 
 pub use call::recover;
-pub use rcv_role::gate::{Gate, NoGate};
+pub use rcv_gate::{Gate, NoGate};
 pub use status::Status;
 
-/// Status and bytes are a function of the words and the input, where the words don't ask for several workers.
+/// Status and bytes are a function of the words and the input, where the words don't ask for several workers of one
+/// session.
 pub fn one_outcome()
     ensures { OneOutcome }
+{}
+
+/// Several sessions have one outcome, however many workers they are shared among.
+pub fn workers_decide_nothing()
+    ensures { WorkersDecideNothing }
 {}
 
 /// All words and inputs have an outcome.
@@ -37,6 +46,16 @@ pub fn sessions_are_legal()
 /// Where no script reads the attempt and the session completes, its crashes leave no trace in what is kept.
 pub fn sessions_leave_no_trace()
     ensures { SessionsLeaveNoTrace }
+{}
+
+/// The journal of each of several sessions is what the headline says.
+pub fn many_sessions_are_legal()
+    ensures { ManySessionsAreLegal }
+{}
+
+/// Where no script reads the attempt, any two of several sessions that complete keep the same.
+pub fn sessions_keep_alike()
+    ensures { SessionsKeepAlike }
 {}
 
 /// The session without its crash lines completes then, with each number of workers.

@@ -11,16 +11,20 @@ abbrev faults : List Text → Kinds
 faults words = fault_of rcv (line_of words)
 
 -- Options stand before or behind the word, with `=` or without.
-run_4 : given (codes "run" ∷ codes "--workers" ∷ codes "4" ∷ []) ≡ record { command = Some (codes "run"); workers = Some 4; json = false; role = None; number = None }
+run_4 : given (codes "run" ∷ codes "--workers" ∷ codes "4" ∷ []) ≡ record { command = Some (codes "run"); workers = Some 4; json = false; role = None; number = None; sessions = None }
 unfolding clap_on_literals
 run_4 = refl
 
-role_first : given (codes "--role=B" ∷ codes "project" ∷ []) ≡ record { command = Some (codes "project"); workers = None; json = false; role = Some (codes "B"); number = None }
+role_first : given (codes "--role=B" ∷ codes "project" ∷ []) ≡ record { command = Some (codes "project"); workers = None; json = false; role = Some (codes "B"); number = None; sessions = None }
 unfolding clap_on_literals
 role_first = refl
 
+sessions_64 : given (codes "run" ∷ codes "--sessions" ∷ codes "64" ∷ []) ≡ record { command = Some (codes "run"); workers = None; json = false; role = None; number = None; sessions = Some 64 }
+unfolding clap_on_literals
+sessions_64 = refl
+
 -- Behind `--` nothing is an option.
-behind : given (codes "--json" ∷ codes "--" ∷ codes "run" ∷ []) ≡ record { command = Some (codes "run"); workers = None; json = true; role = None; number = None }
+behind : given (codes "--json" ∷ codes "--" ∷ codes "run" ∷ []) ≡ record { command = Some (codes "run"); workers = None; json = true; role = None; number = None; sessions = None }
 unfolding clap_on_literals
 behind = refl
 
@@ -29,16 +33,16 @@ plus : AreTaken (codes "run" ∷ codes "--workers" ∷ codes "+4" ∷ [])
 unfolding clap_on_literals
 plus = refl
 
-zeros : given (codes "gen" ∷ codes "--number" ∷ codes "0012" ∷ []) ≡ record { command = Some (codes "gen"); workers = None; json = false; role = None; number = Some 12 }
+zeros : given (codes "gen" ∷ codes "--number" ∷ codes "0012" ∷ []) ≡ record { command = Some (codes "gen"); workers = None; json = false; role = None; number = Some 12; sessions = None }
 unfolding clap_on_literals
 zeros = refl
 
-minus_zero : given (codes "gen" ∷ codes "--number=-0" ∷ []) ≡ record { command = Some (codes "gen"); workers = None; json = false; role = None; number = Some 0 }
+minus_zero : given (codes "gen" ∷ codes "--number=-0" ∷ []) ≡ record { command = Some (codes "gen"); workers = None; json = false; role = None; number = Some 0; sessions = None }
 unfolding clap_on_literals
 minus_zero = refl
 
 -- The empty role is a role.
-empty_role : given (codes "project" ∷ codes "--role=" ∷ []) ≡ record { command = Some (codes "project"); workers = None; json = false; role = Some []; number = None }
+empty_role : given (codes "project" ∷ codes "--role=" ∷ []) ≡ record { command = Some (codes "project"); workers = None; json = false; role = Some []; number = None; sessions = None }
 unfolding clap_on_literals
 empty_role = refl
 
@@ -50,6 +54,14 @@ nothing = refl
 none_works : faults (codes "run" ∷ codes "--workers" ∷ codes "0" ∷ []) ≡ kind.ValueValidation ∷ []
 unfolding clap_on_literals
 none_works = refl
+
+no_sessions : faults (codes "run" ∷ codes "--sessions" ∷ codes "0" ∷ []) ≡ kind.ValueValidation ∷ []
+unfolding clap_on_literals
+no_sessions = refl
+
+sessions_65 : faults (codes "run" ∷ codes "--sessions" ∷ codes "65" ∷ []) ≡ kind.ValueValidation ∷ []
+unfolding clap_on_literals
+sessions_65 = refl
 
 nine_workers : faults (codes "run" ∷ codes "--workers" ∷ codes "9" ∷ []) ≡ kind.ValueValidation ∷ []
 unfolding clap_on_literals

@@ -1,5 +1,5 @@
 -- The commands, and the words that say them.
-use Rattle.std.specs.Prelude.{◌≡◌, ◌≤◌, ℕ, Bool, false, codes, List, [], ◌∷◌, ⊤, Option, Some, None, option_map, unwrap_or, map}
+use Rattle.std.specs.Prelude.{◌≡◌, ◌≤◌, ◌==◌, if◌then◌else◌, ℕ, Bool, false, codes, List, [], ◌∷◌, ⊤, Option, Some, None, option_map, unwrap_or, map}
 use Rattle.std.specs.Option.{option_map_or}
 use Rattle.std.specs.Str.{bytes_eq}
 use Rattle.std.specs.String.{string_bytes}
@@ -15,6 +15,7 @@ use Rattle.rcv_words.specs.Program.{rcv}
 -- What words may ask for.
 pub data CommandView : Type 0 where
   Run : (workers : ℕ) (json : Bool) → CommandView
+  RunMany : (sessions workers : ℕ) (json : Bool) → CommandView
   Check : CommandView
   Project : (role : Text) → CommandView
   Table : CommandView
@@ -25,12 +26,17 @@ pub data CommandView : Type 0 where
 -- What a command says.
 abbrev pub view_of : Command → CommandView
 view_of (commands.Run workers json) = Run workers json
+view_of (commands.RunMany sessions workers json) = RunMany sessions workers json
 view_of commands.Check = Check
 view_of (commands.Project role) = Project role
 view_of commands.Table = Table
 view_of (commands.Gen number) = Gen number
 view_of commands.Replay = Replay
 view_of commands.Line = Line
+
+-- So many sessions are run.
+abbrev pub run_for : ℕ → ℕ → Bool → CommandView
+run_for sessions workers json = if sessions == 1 then Run workers json else RunMany sessions workers json
 
 -- Words as their bytes.
 abbrev pub texts_of : List (String Global) → List Text
@@ -55,6 +61,7 @@ pub record Given : Type 0 where
   pub json : Bool
   pub role : Option Text
   pub number : Option ℕ
+  pub sessions : Option ℕ
 
 -- The number that is given for the option. `one_of` gives the text without a `-` in front, which only a 0 that passed has.
 abbrev pub number_in : Text → List Row → Option ℕ
@@ -67,6 +74,7 @@ given_in rows = record {
   json = option_map_or (λ text. bytes_eq text (codes "true")) (one_of (codes "json") rows) false;
   role = first_of (codes "role") rows;
   number = number_in (codes "number") rows;
+  sessions = number_in (codes "sessions") rows;
 }
 
 abbrev pub given_of : Found → Given
@@ -76,6 +84,7 @@ given_of found = record {
   json = found.json;
   role = option_map (λ text. text.now) found.role;
   number = found.number;
+  sessions = found.sessions;
 }
 
 abbrev pub given : List Text → Given
@@ -87,8 +96,10 @@ pub record HasOptions (g : Given) (r : Option Text) (n : Option ℕ) : Type 0 wh
   pub json : g.json ≡ false
   pub role : g.role ≡ r
   pub number : g.number ≡ n
+  pub sessions : g.sessions ≡ None
 
--- What is given says the command: its word and its options, and no option of another one.
+-- What is given says the command: its word and its options, and no option of another one. Where no number of sessions is
+-- given it is one.
 abbrev pub Says : Given → CommandView → Type 0
 Says g (Run workers json) =
     (g.command ≡ Some (codes "run"))
@@ -96,6 +107,14 @@ Says g (Run workers json) =
     × (g.json ≡ json)
     × (g.role ≡ None)
     × (g.number ≡ None)
+    × (unwrap_or g.sessions 1 ≡ 1)
+Says g (RunMany sessions workers json) =
+    (g.command ≡ Some (codes "run"))
+    × (unwrap_or g.workers 1 ≡ workers)
+    × (g.json ≡ json)
+    × (g.role ≡ None)
+    × (g.number ≡ None)
+    × (unwrap_or g.sessions 1 ≡ sessions)
 Says g Check = (g.command ≡ Some (codes "check")) × HasOptions g None None
 Says g (Project role) = (g.command ≡ Some (codes "project")) × HasOptions g (Some role) None
 Says g Table = (g.command ≡ Some (codes "table")) × HasOptions g None None
@@ -106,6 +125,7 @@ Says g Line = (g.command ≡ Some (codes "line")) × HasOptions g None None
 -- Its numbers are in range.
 abbrev pub IsWithin : CommandView → Type 0
 IsWithin (Run workers json) = (1 ≤ workers) × (workers ≤ 8)
+IsWithin (RunMany sessions workers json) = (2 ≤ sessions) × (sessions ≤ 64) × (1 ≤ workers) × (workers ≤ 8)
 IsWithin (Gen number) = number ≤ 4000
 IsWithin _ = ⊤
 

@@ -5,9 +5,9 @@ ghost use Rattle.rcv_role.specs.Cell.{IsSettled, Goes};
 ghost use Rattle.rcv_role.specs.Run.{IsFencedBy, Ran, signal_of};
 
 use crate::cell::Cell;
-use crate::gate::Gate;
 use crate::poll::{Poll, Stop};
 use rcv_fence::Watch;
+use rcv_gate::Gate;
 
 impl<'a> Cell<'a> {
     /// Polls a role that isn't crashed until it can't go on, or a look at the watch shows a failure that reaches it, or

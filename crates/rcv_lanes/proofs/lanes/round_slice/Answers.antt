@@ -9,7 +9,7 @@ use Rattle.rcv_checkpoint.proofs.tail.Tail.TheSendSync as tail
 use Rattle.rcv_mailbox.proofs.post.Post.TheSendSync as post
 use Rattle.rcv_mailbox.proofs.inbox.Inbox.TheSendSync as inbox
 use Rattle.rcv_fence.proofs.watch.Watch.TheSendSync as watch
-use Rattle.rcv_lanes.proofs.Crossing.{setup_sync}
+use Rattle.rcv_core.proofs.Crossing.{setup_sync}
 use Rattle.rcv_lanes.proofs.lanes.round_slice.Goals as goal
 
 pub for_each_mut-requires-send-T : goal.for_each_mut-requires-send-T

@@ -1,6 +1,5 @@
 -- The journal that the text spells, or its first wrong line.
 use Rattle.std.proofs.Common.{◌+◌, refl, arith}
-use Rattle.rcv_session.specs.Session.{SessionView}
 use Rattle.rcv_form.specs.Journal.{bare}
 use Rattle.rcv_replay.proofs.Judging.{few_entries, few_wrong}
 use Rattle.rcv_look.proofs.Journals.{formed_said, malformed_said}
@@ -11,8 +10,7 @@ verdict-requires c = let few = few_entries (bare c.accepted.result.now.protocol)
 
 pub returns-in-Ok : goal.returns-in-Ok
 returns-in-Ok c =
-    let session : SessionView = record { protocol = c.args.taken.accepted.protocol; scripts = c.args.taken.scripts.lines; plan = c.args.taken.plan } in
-    formed_said c.verdict.result session c.in_ok-setup.setup c.accepted.result.now.protocol c.args.text.now c.args.feeds c.in-Ok.journal c.in_ok-setup.ensures c.accepted.ensures c.in-Ok.ensures.ok c.verdict.ensures
+    formed_said c.verdict.result c.args.setup.now c.accepted.result.now.protocol c.args.text.now c.args.feeds c.in-Ok.journal c.accepted.ensures c.in-Ok.ensures.ok c.verdict.ensures
 
 pub overflow_add-feeds : goal.overflow_add-feeds
 overflow_add-feeds c =
@@ -21,7 +19,6 @@ overflow_add-feeds c =
 
 pub returns-in-Err-Line : goal.returns-in-Err-Line
 returns-in-Err-Line c =
-    let session : SessionView = record { protocol = c.args.taken.accepted.protocol; scripts = c.args.taken.scripts.lines; plan = c.args.taken.plan } in
-    malformed_said c.malformed.result session c.in_ok-setup.setup c.accepted.result.now.protocol c.args.text.now c.args.feeds c.in-Err-Line.number (c.args.feeds + c.in-Err-Line.number)
-    c.in_ok-setup.ensures c.accepted.ensures (c.in-Err-Line.ensures.line c.in-Err-Line.number c.in-Err-Line.field-0-is)
+    malformed_said c.malformed.result c.args.setup.now c.accepted.result.now.protocol c.args.text.now c.args.feeds c.in-Err-Line.number (c.args.feeds + c.in-Err-Line.number)
+    c.accepted.ensures (c.in-Err-Line.ensures.line c.in-Err-Line.number c.in-Err-Line.field-0-is)
     refl c.malformed.ensures.status c.malformed.ensures.bytes

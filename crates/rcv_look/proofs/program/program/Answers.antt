@@ -5,9 +5,10 @@ use Rattle.clap.specs.Words.{with_rule}
 use Rattle.rcv_look.proofs.program.program.Goals as goal
 
 pub returns : goal.returns
-returns c = IfOk-weaker c.arg-3.result _ _ (λ program added.
-    added.shape c.code.ensures.local
+returns c = IfOk-weaker c.arg-4.result _ _ (λ program added.
+    added.shape c.session.ensures.local
+    ∙ ap₂ with_rule (c.in_ok-arg-3.ensures.shape c.code.ensures.local
     ∙ ap₂ with_rule (c.in_ok-arg-2.ensures.shape c.text.ensures.local
     ∙ ap₂ with_rule (c.in_ok-arg.ensures.shape c.command.ensures.local
     ∙ ap₂ with_rule c.new.ensures.app c.command.ensures.rule)
-    c.text.ensures.rule) c.code.ensures.rule) c.arg-3.ensures
+    c.text.ensures.rule) c.code.ensures.rule) c.session.ensures.rule) c.arg-4.ensures

@@ -1,5 +1,5 @@
 use Rattle.std.proofs.Common.{refl}
-use Rattle.rcv_plan.proofs.Exactly.{one_more, done, fails, planned}
+use Rattle.rcv_plan.proofs.Exactly.{one_more, done, fails, planned, counted}
 use Rattle.std.proofs.lemmas.Result.{err_from_is_err_and}
 use Rattle.rcv_plan.proofs.read.items.Goals as goal
 
@@ -12,6 +12,9 @@ returns-clause-ok c = done c.args.roles.now c.args.reader.now.rest c.loop-alloc.
 
 pub returns-clause-planned : goal.returns-clause-planned
 returns-clause-planned c = planned c.args.roles.now c.args.reader.now.rest c.loop-alloc.reader.rest c.loop-alloc.known c.loop-alloc.invariant
+
+pub returns-clause-counted : goal.returns-clause-counted
+returns-clause-counted c = counted c.args.roles.now c.args.reader.now.rest c.loop-alloc.reader.rest c.loop-alloc.known c.loop-alloc.invariant
 
 pub returns-in_err-item-clause-err : goal.returns-in_err-item-clause-err
 returns-in_err-item-clause-err c =

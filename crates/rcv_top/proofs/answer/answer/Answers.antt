@@ -7,12 +7,13 @@ use Rattle.rcv_session.specs.Session.{SessionView}
 use Rattle.rcv_printer.specs.CanonicalText.{canonical}
 use Rattle.rcv_words.specs.declared.command.Command.{Command}
 use Rattle.rcv_words.specs.declared.command.Command.TheVariants as commands
-use Rattle.rcv_words.specs.Commands.{CommandView, Run, Check, Project, Table, Gen, Replay, Line, view_of, IsWithin}
+use Rattle.rcv_words.specs.Commands.{CommandView, Run, RunMany, Check, Project, Table, Gen, Replay, Line, view_of, IsWithin}
 use Rattle.rcv_top.specs.declared.output.Output.{Output}
 use Rattle.rcv_top.specs.Commands.{TakesWhole}
 use Rattle.rcv_top.specs.Replaying.{IsReplayAnswer}
 use Rattle.rcv_top.specs.declared.status.Status.{Status}
 use Rattle.rcv_top.specs.declared.status.Status.TheVariants as statuses
+use Rattle.rcv_top.specs.Many.{IsRunOfMany}
 use Rattle.rcv_top.specs.Running.{IsRunOf}
 use Rattle.rcv_top.specs.Outcome.{IsAnswer, made, replayed}
 use Rattle.rcv_top.specs.Projection.{IsProjection}
@@ -29,6 +30,7 @@ as_asked d e text before after fb fa result same = subst (λ (x : Command). Writ
 -- one that isn't `replay` takes its whole text
 takes_whole : (d : Command) → (view_of d ≡ Replay → ⊥) → TakesWhole (view_of d)
 takes_whole (commands.Run workers json) other = tt
+takes_whole (commands.RunMany sessions workers json) other = tt
 takes_whole commands.Check other = tt
 takes_whole (commands.Project role) other = tt
 takes_whole commands.Table other = tt
@@ -61,6 +63,23 @@ returns-in-Run-clause-answers g c =
     (widen (g.K.Sink.written c.args.sink.now) (g.K.Sink.written c.run.new.sink) (g.K.Sink.faults c.args.sink.now) (g.K.Sink.faults c.run.new.sink)
     (IsRunOf c.in-Run.workers c.in-Run.json session) (IsAnswer (Run c.in-Run.workers c.in-Run.json) c.args.input.now) c.run.result
     (λ status bytes ran. made session c.in-Ok.ensures.taken ran) c.run.ensures.runs)
+
+pub run_many-requires-clause-few : goal.run_many-requires-clause-few
+run_many-requires-clause-few g c coded lives = (subst (λ (d : Command). IsWithin (view_of d)) c.in-RunMany.is c.requires.within).1
+
+pub run_many-requires-clause-least : goal.run_many-requires-clause-least
+run_many-requires-clause-least g c coded lives = (subst (λ (d : Command). IsWithin (view_of d)) c.in-RunMany.is c.requires.within).2
+
+pub run_many-requires-clause-most : goal.run_many-requires-clause-most
+run_many-requires-clause-most g c coded lives = (subst (λ (d : Command). IsWithin (view_of d)) c.in-RunMany.is c.requires.within).3
+
+pub returns-in-RunMany-clause-answers : goal.returns-in-RunMany-clause-answers
+returns-in-RunMany-clause-answers g c =
+    let session : SessionView = record { protocol = c.in-Ok.taken.accepted.protocol; scripts = c.in-Ok.taken.scripts.lines; plan = c.in-Ok.taken.plan } in
+    as_asked c.args.command.now _ c.args.input.now (g.K.Sink.written c.args.sink.now) (g.K.Sink.written c.run_many.new.sink) (g.K.Sink.faults c.args.sink.now) (g.K.Sink.faults c.run_many.new.sink) c.run_many.result c.in-RunMany.is
+    (widen (g.K.Sink.written c.args.sink.now) (g.K.Sink.written c.run_many.new.sink) (g.K.Sink.faults c.args.sink.now) (g.K.Sink.faults c.run_many.new.sink)
+    (IsRunOfMany c.in-RunMany.sessions c.in-RunMany.json session) (IsAnswer (RunMany c.in-RunMany.sessions c.in-RunMany.workers c.in-RunMany.json) c.args.input.now) c.run_many.result
+    (λ status bytes came. made session c.in-Ok.ensures.taken came) c.run_many.ensures.runs)
 
 pub returns-in-Check-clause-answers : goal.returns-in-Check-clause-answers
 returns-in-Check-clause-answers g c =

@@ -1,0 +1,3 @@
+mod Joining
+pub mod Places
+mod Examples

@@ -1,0 +1,4 @@
+pub mod Lines
+pub mod Sections
+pub mod Scanning
+pub mod Laws

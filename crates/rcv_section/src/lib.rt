@@ -1,0 +1,17 @@
+// The journals of several sessions, one behind another: which bytes are those of one.
+#![tactic(auto)]
+
+ghost use Rattle.rcv_section.specs.Laws.{OneSection, SectionsAreTexts};
+
+pub mod section;
+
+/// A session has one section at most.
+pub fn one_section()
+    ensures { OneSection }
+{}
+
+/// Where texts stand one behind another, each behind the line of its session, section I is text I: of at most 64 texts
+/// of whole lines, none of which begins as the line of a session does.
+pub fn sections_are_texts()
+    ensures { SectionsAreTexts }
+{}

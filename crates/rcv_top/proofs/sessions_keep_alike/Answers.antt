@@ -1,0 +1,5 @@
+use Rattle.rcv_top.proofs.Alike.{sessions_keep_alike}
+use Rattle.rcv_top.proofs.sessions_keep_alike.Goals as goal
+
+pub returns : goal.returns
+returns c = sessions_keep_alike
