@@ -80,7 +80,7 @@ def answer(given, sessions, as_json):
 
 
 def main():
-    words = argparse.ArgumentParser(usage=__doc__.split("\n", 1)[0].split(": ")[1])
+    words = argparse.ArgumentParser(description=__doc__, formatter_class=argparse.RawDescriptionHelpFormatter)
     words.add_argument("input")
     words.add_argument("--sessions", type=int, default=1)
     words.add_argument("--json", action="store_true")

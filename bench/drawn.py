@@ -1,4 +1,7 @@
-"""Protocols, and plans for them that are drawn at random, for the scripts beside this file."""
+"""Protocols, and plans for them that are drawn at random, for the scripts beside this file.
+
+Some protocols have dear scripts, which take most of the time that their sessions take, and some are long enough for many
+turns."""
 import legal
 
 PING = """module ping; global protocol Ping(role A, role B) { ping() from A to B; pong() from B to A; }
@@ -74,6 +77,20 @@ role D { var n = 9; on c set n = n + value; send d = n; on c2 set n = n - value;
 """
 
 
+LONG = LOOP.replace("n < 40", "n < 400")
+
+# What makes an expression dear, and changes no number.
+DEAR = " + 0" * 250
+
+
+def dear(text, *lines):
+    """Returns a protocol in whose scripts the expressions of these lines are dear."""
+    for line in lines:
+        assert text.count(f"{line};") == 1
+        text = text.replace(f"{line};", f"{line}{DEAR};")
+    return text
+
+
 class Shape:
     """A protocol with its roles, and how many events a role of it makes at most without a crash."""
 
@@ -90,6 +107,14 @@ SHAPES = [
     Shape("two pairs", PAIRS, 6),
     Shape("endless", ENDLESS, None),
     Shape("lanes", BESIDE, 11),
+    Shape("two buyers, dear", dear(TWO_BUYER, "send share = q - 30", "send quote = 80"), 8),
+    Shape("a loop with a choice, dear", dear(LOOP, "send more = n * n", "send copy = s"), 82),
+    Shape("a ring, dear", dear(RING, "on lap set v = v + value", "on back set v = value + 1"), 51),
+    Shape("two pairs, dear", dear(PAIRS, "on a set n = n + value", "on b set n = n * value"), 6),
+    Shape("endless, dear", dear(ENDLESS, "on m set n = n + 1", "on o set s = s - value"), None),
+    Shape("lanes, dear", dear(BESIDE, "send sum = s", "send c = n"), 11),
+    Shape("a long loop", LONG, 802),
+    Shape("a long loop, dear", dear(LONG, "send copy = s"), 802),
 ]
 
 
@@ -103,7 +128,8 @@ def plan(shape, chance, small=False):
         if chance.random() < 0.7:
             lines.append(f"every {role} {chance.choice([1, 2, 3, 5, 10, 100])}")
         if crashes:
-            counts = chance.sample(range(2 * events), chance.choice([0, 0, 1, 1, 2, min(5, events)]))
+            many = 12 if events > 100 else min(5, events)
+            counts = chance.sample(range(2 * events), chance.choice([0, 0, 1, 1, 2, many]))
             lines += [f"crash {role} {count}" for count in counts]
     hosts = list(shape.roles)
     chance.shuffle(hosts)
