@@ -1,7 +1,7 @@
 """Protocols, and plans for them that are drawn at random, for the scripts beside this file.
 
-Some protocols have dear scripts, which take most of the time that their sessions take, and some are long enough for many
-turns."""
+With several workers a session of cheap scripts is finished by one of them behind its first few turns. So some protocols
+have dear scripts, whose sessions are made by several workers to their ends, and some are long enough for many turns."""
 import legal
 
 PING = """module ping; global protocol Ping(role A, role B) { ping() from A to B; pong() from B to A; }
@@ -79,7 +79,7 @@ role D { var n = 9; on c set n = n + value; send d = n; on c2 set n = n - value;
 
 LONG = LOOP.replace("n < 40", "n < 400")
 
-# What makes an expression dear, and changes no number.
+# What makes an expression dear, and changes no number: more operators than a cheap script has.
 DEAR = " + 0" * 250
 
 

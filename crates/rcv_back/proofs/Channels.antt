@@ -35,7 +35,8 @@ fewer_left f xs zero = omega arith
 fewer_left f [] (suc k) = omega arith
 fewer_left f (x ∷ xs) (suc k) = go (f x) (fewer_left f xs k)
   where
-    go : (o : _) → length (filter_map f (take k xs)) ≤ length (filter_map f xs) → length (cons_option o (filter_map f (take k xs))) ≤ length (cons_option o (filter_map f xs))
+    go : (o : _) → length (filter_map f (take k xs)) ≤ length (filter_map f xs)
+        → length (cons_option o (filter_map f (take k xs))) ≤ length (cons_option o (filter_map f xs))
     go None le = le
     go (Some y) le = omega (arith, le)
 
@@ -43,26 +44,33 @@ prefix_few : (xs ys : List Message) → IsPrefix xs ys → length xs ≤ length 
 prefix_few xs ys p = let e = ap length p.1 in omega (arith, length-append xs p.0, e)
 
 -- what is said of a pair's ends, said by their roles
-pub by_roles : (P : End → End → Type 0) (a b : CellView) (s t : ℕ) (d : End) → a.part.role ≡ s → b.part.role ≡ t → P (post_to a b d) (inbox_from a b d) → P (end_at a.posts s t d) (end_at b.inboxes t s d)
+pub by_roles : (P : End → End → Type 0) (a b : CellView) (s t : ℕ) (d : End) → a.part.role ≡ s → b.part.role ≡ t
+    → P (post_to a b d) (inbox_from a b d) → P (end_at a.posts s t d) (end_at b.inboxes t s d)
 by_roles P a b s t d f g h = subst (λ (z : ℕ × ℕ). P (end_at a.posts z.0 z.1 d) (end_at b.inboxes z.1 z.0 d)) (λ i. (f i, g i)) h
 
-pub to_pair : (P : End → End → Type 0) (a b : CellView) (s t : ℕ) (d : End) → a.part.role ≡ s → b.part.role ≡ t → P (end_at a.posts s t d) (end_at b.inboxes t s d) → P (post_to a b d) (inbox_from a b d)
+pub to_pair : (P : End → End → Type 0) (a b : CellView) (s t : ℕ) (d : End) → a.part.role ≡ s → b.part.role ≡ t
+    → P (end_at a.posts s t d) (end_at b.inboxes t s d) → P (post_to a b d) (inbox_from a b d)
 to_pair P a b s t d f g h = subst (λ (z : ℕ × ℕ). P (end_at a.posts z.0 z.1 d) (end_at b.inboxes z.1 z.0 d)) (λ i. (sym f i, sym g i)) h
 
-module _ (book : BookView) (s t : ℕ) (half : List (Option CellView)) (going : AreGoing book s t half) (ls : s < roles_of book.setup) (lt : t < roles_of book.setup) (apart : s ≡ t → ⊥) where
+module _ (book : BookView) (s t : ℕ) (half : List (Option CellView)) (going : AreGoing book s t half)
+    (ls : s < roles_of book.setup) (lt : t < roles_of book.setup) (apart : s ≡ t → ⊥) where
   pub kept_first : (r : ℕ) (c : CellView) → IsGoing book r c → kept_of book r ≡ take (kept_in book r) c.part.own.events
   kept_first r c g = ap (λ o. o.events) g.back
 
   pub put_own : (a : CellView) (d : End) → Has half s a → HoldsPut (net_for book.setup) s t a.part.own.events a.part.own.raw (end_at a.posts s t d)
-  put_own a d has = subst (λ p. HoldsPut (net_for book.setup) s t (by_then book p s a) a.part.own.raw (end_at a.posts s t d)) (still s t) (going.posts s t a d has lt (λ e. apart (sym e)))
+  put_own a d has = subst (λ p. HoldsPut (net_for book.setup) s t (by_then book p s a) a.part.own.raw
+      (end_at a.posts s t d)) (still s t) (going.posts s t a d has lt (λ e. apart (sym e)))
 
   pub taken_own : (b : CellView) (d : End) → Has half t b → HoldsTaken (net_for book.setup) s t b.part.own.events (end_at b.inboxes t s d)
-  taken_own b d has = subst (λ p. HoldsTaken (net_for book.setup) s t (by_then book p t b) (end_at b.inboxes t s d)) (still s t) (going.inboxes t s b d has ls apart)
+  taken_own b d has = subst (λ p. HoldsTaken (net_for book.setup) s t (by_then book p t b) (end_at b.inboxes t s d))
+      (still s t) (going.inboxes t s b d has ls apart)
 
-  put_first : (a : CellView) → IsGoing book s a → put (net_for book.setup) s t (state_of book).kept ≡ put (net_for book.setup) s t (take (kept_in book s) a.part.own.events)
+  put_first : (a : CellView) → IsGoing book s a → put (net_for book.setup) s t (state_of book).kept ≡ put
+      (net_for book.setup) s t (take (kept_in book s) a.part.own.events)
   put_first a g = put_through (net_for book.setup) s t (state_of book).kept ∙ ap (put (net_for book.setup) s t) (kept_first s a g)
 
-  taken_first : (b : CellView) → IsGoing book t b → taken (net_for book.setup) s t (state_of book).kept ≡ taken (net_for book.setup) s t (take (kept_in book t) b.part.own.events)
+  taken_first : (b : CellView) → IsGoing book t b → taken (net_for book.setup) s t (state_of book).kept ≡ taken
+      (net_for book.setup) s t (take (kept_in book t) b.part.own.events)
   taken_first b g = taken_through (net_for book.setup) s t (state_of book).kept ∙ ap (taken (net_for book.setup) s t) (kept_first t b g)
 
   few_put : (a : CellView) (d : End) → Has half s a → length (put (net_for book.setup) s t (state_of book).kept) ≤ length (end_at a.posts s t d).list
@@ -79,10 +87,13 @@ module _ (book : BookView) (s t : ℕ) (half : List (Option CellView)) (going : 
       let g = (taken_own b d has).got in
       omega (arith, e, f, g)
 
-  pub in_order : IsRun (net_for book.setup) (state_of book).kept → length (taken (net_for book.setup) s t (state_of book).kept) ≤ length (put (net_for book.setup) s t (state_of book).kept)
+  pub in_order : IsRun (net_for book.setup) (state_of book).kept
+      → length (taken (net_for book.setup) s t (state_of book).kept) ≤ length
+      (put (net_for book.setup) s t (state_of book).kept)
   in_order run = prefix_few _ _ (run.1.queued (state_of book).kept [] (append-nil (state_of book).kept) s t)
 
-  module _ (keep drop_from : ℕ) (keep_is : keep ≡ length (taken (net_for book.setup) s t (state_of book).kept)) (drop_is : drop_from ≡ length (put (net_for book.setup) s t (state_of book).kept)) where
+  module _ (keep drop_from : ℕ) (keep_is : keep ≡ length (taken (net_for book.setup) s t (state_of book).kept))
+      (drop_is : drop_from ≡ length (put (net_for book.setup) s t (state_of book).kept)) where
     -- both ends can go back, or the receiving one alone
     pub can_both : IsRun (net_for book.setup) (state_of book).kept → (a b : CellView) → Has half s a → Has half t b → CanRewind a b keep drop_from
     can_both run a b ha hb =
@@ -117,11 +128,27 @@ module _ (book : BookView) (s t : ℕ) (half : List (Option CellView)) (going : 
       alone_held : (d : End) → HoldsTaken (net_for book.setup) s t (kept_of book t) (end_at b'.inboxes t s d)
       alone_held d =
           let own = taken_own b d hb in
-          let before : IsHeld (net_for book.setup) s t [] b.part.own.events (record d { list = [] }) (end_at b.inboxes t s d) = record { put = refl; count = own.got; taken = own.taken } in
-          let behind = rewinds_alone_hold_first_events (net_for book.setup) s t [] b.part.own.events (record d { list = [] }) (end_at b.inboxes t s d) (kept_in book t) before in
-          let count : length (taken (net_for book.setup) s t (take (kept_in book t) b.part.own.events)) ≡ keep = sym (keep_is ∙ ap length (taken_first b (going.each t b hb))) in
-          let made : HoldsTaken (net_for book.setup) s t (take (kept_in book t) b.part.own.events) (received (end_at b.inboxes t s d) (length (taken (net_for book.setup) s t (take (kept_in book t) b.part.own.events)))) = record { got = behind.count; taken = behind.taken } in
-          subst (HoldsTaken (net_for book.setup) s t (kept_of book t)) (sym (alone_end d)) (subst (λ n. HoldsTaken (net_for book.setup) s t (kept_of book t) (received (end_at b.inboxes t s d) n)) count (subst (λ l. HoldsTaken (net_for book.setup) s t l (received (end_at b.inboxes t s d) (length (taken (net_for book.setup) s t (take (kept_in book t) b.part.own.events))))) (sym (kept_first t b (going.each t b hb))) made))
+          let before : IsHeld (net_for book.setup) s t [] b.part.own.events (record d { list = [] }) (end_at b.inboxes t s d) = record {
+            put = refl;
+            count = own.got;
+            taken = own.taken;
+          } in
+          let behind = rewinds_alone_hold_first_events (net_for book.setup) s t [] b.part.own.events
+          (record d { list = [] }) (end_at b.inboxes t s d) (kept_in book t) before in
+          let count : length (taken (net_for book.setup) s t (take (kept_in book t) b.part.own.events)) ≡ keep =
+          sym (keep_is ∙ ap length (taken_first b (going.each t b hb))) in
+          let made : HoldsTaken (net_for book.setup) s t (take (kept_in book t) b.part.own.events)
+          (received (end_at b.inboxes t s d) (length
+          (taken (net_for book.setup) s t (take (kept_in book t) b.part.own.events)))) = record {
+            got = behind.count;
+            taken = behind.taken;
+          } in
+          subst (HoldsTaken (net_for book.setup) s t (kept_of book t)) (sym (alone_end d))
+          (subst (λ n. HoldsTaken (net_for book.setup) s t (kept_of book t) (received (end_at b.inboxes t s d) n))
+          count (subst (λ l. HoldsTaken (net_for book.setup) s t l
+          (received (end_at b.inboxes t s d) (length
+          (taken (net_for book.setup) s t (take (kept_in book t) b.part.own.events)))))
+          (sym (kept_first t b (going.each t b hb))) made))
 
       pub alone_step : IsStep book half s t keep t b b'
       alone_step = record {
@@ -144,22 +171,33 @@ module _ (book : BookView) (s t : ℕ) (half : List (Option CellView)) (going : 
 
       both_ends : (d : End) → AreRewound (end_at a.posts s t d) (end_at a'.posts s t d) (end_at b.inboxes t s d) (end_at b'.inboxes t s d) keep drop_from
       both_ends d =
-          subst (λ (z : (ℕ × ℕ) × (ℕ × ℕ)). AreRewound (end_at a.posts z.0.0 z.0.1 d) (end_at a'.posts z.1.0 z.1.1 d) (end_at b.inboxes z.0.1 z.0.0 d) (end_at b'.inboxes z.1.1 z.1.0 d) keep drop_from)
+          subst (λ (z : (ℕ × ℕ) × (ℕ × ℕ)). AreRewound (end_at a.posts z.0.0 z.0.1 d) (end_at a'.posts z.1.0 z.1.1 d)
+          (end_at b.inboxes z.0.1 z.0.0 d) (end_at b'.inboxes z.1.1 z.1.0 d) keep drop_from)
           (λ i. (((going.each s a ha).role_is i, (going.each t b hb).role_is i), (now_s i, now_t i)))
           (went.rewound d)
 
       other_posts : OthersStay a.posts a'.posts (slot s t)
-      other_posts = subst (λ (z : ℕ × ℕ). OthersStay a.posts a'.posts (slot z.0 z.1)) (λ i. ((going.each s a ha).role_is i, (going.each t b hb).role_is i)) went.other_posts
+      other_posts = subst (λ (z : ℕ × ℕ). OthersStay a.posts a'.posts (slot z.0 z.1))
+          (λ i. ((going.each s a ha).role_is i, (going.each t b hb).role_is i)) went.other_posts
 
       other_inboxes : OthersStay b.inboxes b'.inboxes (slot t s)
-      other_inboxes = subst (λ (z : ℕ × ℕ). OthersStay b.inboxes b'.inboxes (slot z.1 z.0)) (λ i. ((going.each s a ha).role_is i, (going.each t b hb).role_is i)) went.other_inboxes
+      other_inboxes = subst (λ (z : ℕ × ℕ). OthersStay b.inboxes b'.inboxes (slot z.1 z.0))
+          (λ i. ((going.each s a ha).role_is i, (going.each t b hb).role_is i)) went.other_inboxes
 
-      both_held : IsRun (net_for book.setup) (state_of book).kept → (d : End) → IsHeld (net_for book.setup) s t (kept_of book s) (kept_of book t) (end_at a'.posts s t d) (end_at b'.inboxes t s d)
+      both_held : IsRun (net_for book.setup) (state_of book).kept → (d : End)
+          → IsHeld (net_for book.setup) s t (kept_of book s) (kept_of book t) (end_at a'.posts s t d)
+          (end_at b'.inboxes t s d)
       both_held run d =
           let posted = put_own a d ha in
           let own = taken_own b d hb in
-          let before : IsHeld (net_for book.setup) s t a.part.own.events b.part.own.events (end_at a.posts s t d) (end_at b.inboxes t s d) = record { put = posted.put; count = own.got; taken = own.taken } in
-          let behind = rewinds_hold_first_events (net_for book.setup) s t a.part.own.events b.part.own.events (end_at a.posts s t d) (end_at a'.posts s t d) (end_at b.inboxes t s d) (end_at b'.inboxes t s d) (kept_in book s) (kept_in book t) before (record {
+          let before : IsHeld (net_for book.setup) s t a.part.own.events b.part.own.events (end_at a.posts s t d) (end_at b.inboxes t s d) = record {
+            put = posted.put;
+            count = own.got;
+            taken = own.taken;
+          } in
+          let behind = rewinds_hold_first_events (net_for book.setup) s t a.part.own.events b.part.own.events
+          (end_at a.posts s t d) (end_at a'.posts s t d) (end_at b.inboxes t s d) (end_at b'.inboxes t s d)
+          (kept_in book s) (kept_in book t) before (record {
             keep = keep;
             drop_from = drop_from;
             order = (let f = in_order run in omega (arith, f, keep_is, drop_is));
@@ -167,16 +205,25 @@ module _ (book : BookView) (s t : ℕ) (half : List (Option CellView)) (going : 
             drop_is = drop_is ∙ ap length (put_first a (going.each s a ha));
             rewound = both_ends d;
           }) in
-          subst (λ (z : List Event × List Event). IsHeld (net_for book.setup) s t z.0 z.1 (end_at a'.posts s t d) (end_at b'.inboxes t s d)) (λ i. (sym (kept_first s a (going.each s a ha)) i, sym (kept_first t b (going.each t b hb)) i)) behind
+          subst (λ (z : List Event × List Event). IsHeld (net_for book.setup) s t z.0 z.1 (end_at a'.posts s t d)
+          (end_at b'.inboxes t s d)) (λ i. (
+            sym (kept_first s a (going.each s a ha)) i,
+            sym (kept_first t b (going.each t b hb)) i,
+          )) behind
 
       pub sender_step : IsRun (net_for book.setup) (state_of book).kept → IsStep book half s t keep s a a'
       sender_step run = record {
         part = went.sender_part;
         posts = λ q d n m. other_posts.others (slot s q) d (slot_apart s q t n (λ e. apart (sym e)) (m refl));
         inboxes = λ q d n m. ap (λ l. end_at l s q d) went.sender_inboxes;
-        spared = λ q d l. other_posts.others (slot s q) d (slot_apart s q t (λ e. not_both half s a ha (subst (λ r. Lacks half r) e l)) (λ e. apart (sym e)) (λ e. not_both half t b hb (subst (λ r. Lacks half r) e l)));
+        spared = λ q d l. other_posts.others (slot s q) d
+            (slot_apart s q t (λ e. not_both half s a ha (subst (λ r. Lacks half r) e l)) (λ e. apart (sym e))
+            (λ e. not_both half t b hb (subst (λ r. Lacks half r) e l)));
         alone = λ d e l. absurd (apart e);
-        put = λ d e. record { put = (both_held run d).put; through = (let f = (both_ends d).through in let g = (put_own a d ha).through in omega (arith, f, g)) };
+        put = λ d e. record {
+          put = (both_held run d).put;
+          through = (let f = (both_ends d).through in let g = (put_own a d ha).through in omega (arith, f, g));
+        };
         taken = λ d e. absurd (apart e);
       }
 

@@ -27,12 +27,14 @@ module _ (a b : CellView) (concerned : RoleSet) (second : concerned.0 ≡ 2) whe
   are_split : AreSplit concerned (a ∷ b ∷ []) (None ∷ Some b ∷ []) (Some a ∷ None ∷ [])
   are_split = record { back_count = refl; beside_count = refl; goes = goes; stays = stays }
     where
-      goes : (r : ℕ) (d : CellView) → r < 2 → has_bit concerned.0 r ≡ true → Has (None ∷ Some b ∷ []) r (cell_at (a ∷ b ∷ []) r d) × Lacks (Some a ∷ None ∷ []) r
+      goes : (r : ℕ) (d : CellView) → r < 2 → has_bit concerned.0 r ≡ true
+          → Has (None ∷ Some b ∷ []) r (cell_at (a ∷ b ∷ []) r d) × Lacks (Some a ∷ None ∷ []) r
       goes zero d lt bit = let f : has_bit 2 0 ≡ true = sym (ap (λ w. has_bit w 0) second) ∙ bit in absurd (cc)
       goes (suc zero) d lt bit = (refl, refl)
       goes (suc (suc r)) d lt bit = absurd (omega (arith, lt))
 
-      stays : (r : ℕ) (d : CellView) → r < 2 → has_bit concerned.0 r ≡ false → Lacks (None ∷ Some b ∷ []) r × Has (Some a ∷ None ∷ []) r (cell_at (a ∷ b ∷ []) r d)
+      stays : (r : ℕ) (d : CellView) → r < 2 → has_bit concerned.0 r ≡ false → Lacks (None ∷ Some b ∷ []) r
+          × Has (Some a ∷ None ∷ []) r (cell_at (a ∷ b ∷ []) r d)
       stays zero d lt bit = (refl, refl)
       stays (suc zero) d lt bit = let f : has_bit 2 1 ≡ false = sym (ap (λ w. has_bit w 1) second) ∙ bit in absurd (cc)
       stays (suc (suc r)) d lt bit = absurd (omega (arith, lt))

@@ -1,10 +1,13 @@
 -- What stands at the places of a half.
 use Prim.Native.Nat.{zero, suc}
-use Rattle.std.proofs.Common.{◌≡◌, ℕ, ◌<◌, Option, Some, None, List, [], ◌∷◌, length, refl, sym, ◌∙◌, ap, subst, ◌⊎◌, inl, inr, arith}
-use Rattle.std.specs.Prelude.{slice_get, slice_set}
-use Rattle.rcv_role.specs.Cell.{CellView, HasRewoundAlone}
+use Rattle.std.proofs.Common.{◌≡◌, ℕ, ◌<◌, Option, Some, None, List, [], ◌∷◌, ◌++◌, length, take, drop, refl, sym, ◌∙◌, ap, subst, ◌⊎◌, inl, inr, ⊎_elim, arith}
+use Rattle.std.specs.Prelude.{slice_get, slice_index_or, slice_set}
+use Rattle.std.proofs.lemmas.Bool.{cases_eq, cases_lt}
+use Rattle.std.proofs.lemmas.Option.{slice_get-get_or, slice_get_past}
+use Rattle.std.proofs.lemmas.List.{take_at}
+use Rattle.rcv_role.specs.Cell.{CellView}
 use Rattle.rcv_back.specs.Halves.{Has, Lacks}
-use Rattle.rcv_back.specs.Going.{StayBut, HasSender, HasBoth, HasReceiver, HasRewoundChannel}
+use Rattle.rcv_back.specs.Going.{StayBut, CanRewind, CanRewindAlone, CanRewindAt, HaveRewoundAt, HasSender, HasBoth, HasReceiver, HasRewoundChannel}
 
 pub get_within : {A : Type 0} (xs : List A) (k : ℕ) (x : A) → slice_get xs k ≡ Some x → k < length xs
 get_within [] k x e = absurd (cc)
@@ -53,13 +56,82 @@ set_length (y ∷ xs) (suc k) x = ap suc (set_length xs k x)
 pub stay_set : (xs : List (Option CellView)) (k : ℕ) (x : Option CellView) → StayBut xs (slice_set xs k x) k
 stay_set xs k x = record { count = set_length xs k x; others = λ j n. set_else xs k x j n }
 
--- the receiver was taken out, the sender's channel went back, and the receiver was put in
-pub between : (old out mid new : List (Option CellView)) (s t keep drop_from : ℕ) (b b' : CellView) → (s ≡ t → ⊥) → Has old t b → StayBut old out t → StayBut out mid s → ((a : CellView) → Has out s a → HasSender mid s a b b' keep drop_from) → (Lacks out s → Lacks mid s) → (Lacks out s → HasRewoundAlone b b' s keep) → Has new t b' → StayBut mid new t → HasRewoundChannel old new s t keep drop_from
-between old out mid new s t keep drop_from b b' apart hb first second pair empty alone hb' third = record {
-  count = third.count ∙ second.count ∙ first.count;
-  others = λ k n m. third.others k m ∙ second.others k n ∙ first.others k m;
-  none = λ l. absurd (not_both old t b hb l);
-  empty = λ l. third.others s apart ∙ empty (first.others s apart ∙ l);
-  alone = λ c hc l. subst (λ x. HasReceiver new s t x keep) (one_cell old t b c hb hc) (record { to_now = b'; has = hb'; rewound = alone (first.others s apart ∙ l) });
-  pair = λ a c ha hc. subst (λ x. HasBoth new s t a x keep drop_from) (one_cell old t b c hb hc) (let sent = pair a (first.others s apart ∙ ha) in record { to_now = b'; has = hb'; sender = record { from_now = sent.from_now; has = third.others s apart ∙ sent.has; rewound = sent.rewound } });
+-- a list that is lent as a slice ends as what the slice became
+pub written_back : {A : Type 0} (old new : List A) (n : ℕ) → n ≡ length old → length new ≡ length old
+    → take n (new ++ drop (length new) old) ≡ new
+written_back old new n size count = take_at new (drop (length new) old) n (count ∙ sym size)
+
+-- what is told of two places is told of what stands there
+pub can_at :
+    (half : List (Option CellView)) (s t keep drop_from : ℕ) → s < length half → t < length half
+    → ((a b : CellView) → Has half s a → Has half t b → CanRewind a b keep drop_from)
+    → ((b : CellView) → Has half t b → Lacks half s → CanRewindAlone b s keep)
+    → (d : Option CellView) → CanRewindAt (slice_index_or half t d) (slice_index_or half s d) s keep drop_from
+can_at half s t keep drop_from ls lt pair alone d = record {
+  pair = λ a b is is'. pair a b (slice_get-get_or half s d ls ∙ ap Some is) (slice_get-get_or half t d lt ∙ ap Some is');
+  alone = λ b is is'. alone b (slice_get-get_or half t d lt ∙ ap Some is') (slice_get-get_or half s d ls ∙ ap Some is);
 }
+
+-- the channel between two places went back
+module _ (old new : List (Option CellView)) (s t keep drop_from : ℕ) (ls : s < length old) (lt : t < length old)
+    (count : length new ≡ length old)
+    (apart : (k : ℕ) (d : Option CellView) → (k ≡ t → ⊥) → (k ≡ s → ⊥) → slice_index_or new k d ≡ slice_index_or old k d) where
+  others : (k : ℕ) → (k ≡ s → ⊥) → (k ≡ t → ⊥) → slice_get new k ≡ slice_get old k
+  others k n m = ⊎_elim
+      (λ low.
+      let low' : k < length new = omega (arith, low, count) in
+      slice_get-get_or new k None low' ∙ ap Some (apart k None m n) ∙ sym (slice_get-get_or old k None low))
+      (λ high. slice_get_past new k (omega (arith, high, count)) ∙ sym (slice_get_past old k high))
+      (cases_lt k (length old))
+
+  by_cases :
+      (b b' a a' : Option CellView) → slice_get old t ≡ Some b → slice_get new t ≡ Some b' → slice_get old s ≡ Some a
+      → slice_get new s ≡ Some a' → HaveRewoundAt b b' a a' s keep drop_from → HasRewoundChannel old new s t keep drop_from
+  by_cases None b' a a' at_t now_t at_s now_s went = record {
+    count = count;
+    others = others;
+    none = λ l k. ⊎_elim
+        (λ e. ap (slice_get new) e ∙ now_s ∙ ap Some went.1 ∙ sym at_s ∙ ap (slice_get old) (sym e))
+        (λ n. ⊎_elim
+        (λ e. ap (slice_get new) e ∙ now_t ∙ ap Some went.0 ∙ sym at_t ∙ ap (slice_get old) (sym e))
+        (λ m. others k n m)
+        (cases_eq k t))
+        (cases_eq k s);
+    empty = λ l. now_s ∙ ap Some went.1 ∙ sym at_s ∙ l;
+    alone = λ c hc l. absurd (not_both old t c hc at_t);
+    pair = λ x c hx hc. absurd (not_both old t c hc at_t);
+  }
+  by_cases (Some b) b' None a' at_t now_t at_s now_s went = record {
+    count = count;
+    others = others;
+    none = λ l. absurd (not_both old t b at_t l);
+    empty = λ l. now_s ∙ ap Some went.2;
+    alone = λ c hc l.
+        let received : HasReceiver new s t b keep = record { to_now = went.0; has = now_t ∙ ap Some went.1; rewound = went.3 } in
+        subst (λ x. HasReceiver new s t x keep) (one_cell old t b c at_t hc) received;
+    pair = λ x c hx hc. absurd (not_both old s x hx at_s);
+  }
+  by_cases (Some b) b' (Some a) a' at_t now_t at_s now_s went = record {
+    count = count;
+    others = others;
+    none = λ l. absurd (not_both old t b at_t l);
+    empty = λ l. absurd (not_both old s a at_s l);
+    alone = λ c hc l. absurd (not_both old s a at_s l);
+    pair = λ x c hx hc.
+        let sent : HasSender new s a b went.0 keep drop_from =
+        record { from_now = went.1; has = now_s ∙ ap Some went.3; rewound = went.4 } in
+        let both : HasBoth new s t a b keep drop_from =
+        record { to_now = went.0; has = now_t ∙ ap Some went.2; sender = sent } in
+        subst (λ y. HasBoth new s t x y keep drop_from) (one_cell old t b c at_t hc)
+        (subst (λ y. HasBoth new s t y b keep drop_from) (one_cell old s a x at_s hx) both);
+  }
+
+  pub between :
+      ((d : Option CellView) → HaveRewoundAt (slice_index_or old t d) (slice_index_or new t d) (slice_index_or old s d)
+      (slice_index_or new s d) s keep drop_from)
+      → HasRewoundChannel old new s t keep drop_from
+  between done =
+      let ls' : s < length new = omega (arith, ls, count) in
+      let lt' : t < length new = omega (arith, lt, count) in
+      by_cases _ _ _ _ (slice_get-get_or old t None lt) (slice_get-get_or new t None lt') (slice_get-get_or old s None ls)
+      (slice_get-get_or new s None ls') (done None)

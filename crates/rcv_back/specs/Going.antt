@@ -1,5 +1,5 @@
 -- Cells of a half on their way back: channel after channel, and then part after part.
-use Rattle.std.specs.Prelude.{◌≡◌, ℕ, ◌+◌, ◌^◌, ◌<◌, ◌≤◌, ◌==◌, ◌&&◌, ◌||◌, Bool, false, Option, List, length, take, slice_get, nat_lt, if◌then◌else◌}
+use Rattle.std.specs.Prelude.{◌≡◌, ℕ, ◌+◌, ◌^◌, ◌<◌, ◌≤◌, ◌==◌, ◌&&◌, ◌||◌, Bool, false, Option, Some, None, List, length, take, slice_get, nat_lt, if◌then◌else◌}
 use Rattle.rcv_tree.specs.declared.event.Event.{Event}
 use Rattle.rcv_model.specs.Net.{Net}
 use Rattle.rcv_model.specs.Run.{put, taken}
@@ -32,6 +32,20 @@ pub record CanRewindAlone (to : CellView) (from keep : ℕ) : Type 0 where
   pub declared : from < roles_of to.part.setup
   pub apart : from ≡ to.part.role → ⊥
   pub got : (d : End) → keep ≤ (end_at to.inboxes to.part.role from d).got
+
+-- The channel between what stands at two places can go back: both its ends, or the receiving one alone.
+pub record CanRewindAt (to from : Option CellView) (s keep drop_from : ℕ) : Type 0 where
+  pub pair : (a b : CellView) → from ≡ Some a → to ≡ Some b → CanRewind a b keep drop_from
+  pub alone : (b : CellView) → from ≡ None → to ≡ Some b → CanRewindAlone b s keep
+
+-- The channel between what stands at two places went back, to so many messages of which so many are received: both its
+-- ends, the receiving one alone where no sender stands, and neither where no receiver does.
+abbrev pub HaveRewoundAt : Option CellView → Option CellView → Option CellView → Option CellView → ℕ → ℕ → ℕ → Type 0
+HaveRewoundAt None to_now from from_now s keep drop_from = (to_now ≡ None) × (from_now ≡ from)
+HaveRewoundAt (Some b) to_now None from_now s keep drop_from =
+    (b' : CellView) × (to_now ≡ Some b') × (from_now ≡ None) × HasRewoundAlone b b' s keep
+HaveRewoundAt (Some b) to_now (Some a) from_now s keep drop_from =
+    (b' : CellView) × (a' : CellView) × (to_now ≡ Some b') × (from_now ≡ Some a') × HaveRewound a a' b b' keep drop_from
 
 -- The sender stands at place s behind a rewind of both.
 pub record HasSender (half : List (Option CellView)) (s : ℕ) (from to to_now : CellView) (keep drop_from : ℕ)
@@ -151,6 +165,11 @@ pub record HasGoneInPlace (book : BookView) (r : ℕ) (old new : CellView) : Typ
   pub gone : HasGone book r old new
   pub posts : new.posts ≡ old.posts
   pub inboxes : new.inboxes ≡ old.inboxes
+
+-- The part of the cell at a place went back, if one stands there; and no cell came where none was.
+abbrev pub HasGoneAt : BookView → ℕ → Option CellView → Option CellView → Type 0
+HasGoneAt book r None new = new ≡ None
+HasGoneAt book r (Some c) new = (c' : CellView) × (new ≡ Some c') × HasGoneInPlace book r c c'
 
 -- All channels went back, and so did the parts of the first n cells.
 pub record AreGone (book : BookView) (n : ℕ) (half : List (Option CellView)) : Type 0 where

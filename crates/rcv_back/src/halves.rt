@@ -1,100 +1,112 @@
 // The cells of a session in two halves: those that a recovery concerns, and those that may run beside it.
 
-ghost use Rattle.std.specs.Prelude.{◌≡◌, ◌<◌, ◌≤◌, Some, None, [], ◌∷◌, ◌++◌, length, List, IfOk, OnOk};
+ghost use Rattle.std.specs.Prelude.{◌≡◌, ◌<◌, ◌≤◌, [], ◌∷◌, ◌++◌, length, vec_len, vec_capacity};
+ghost use Rattle.std.specs.Prelude.{List, IfOk, OnOk, OnErr};
 ghost use Rattle.rcv_role.specs.Cell.{CellView};
 ghost use Rattle.rcv_back.specs.Halves.{AreSplit, Has, Lacks};
 ghost use Rattle.rcv_back.specs.Going.{StayBut};
 ghost use Rattle.rcv_back.specs.Parting.{ArePushedApart};
 
-use crate::places::take_out;
-use rcv_lanes::lanes::Lane;
+use rcv_role::cell::Cell;
 use rcv_tree::role::{RoleId, RoleSet};
 use std::alloc::{AllocError, Global};
 
 /// Cells at the places of their roles. The place of a role whose cell stands in the other half is empty.
-pub type Half<'a> = Vec<Option<Lane<'a>>>;
+pub type Half<'a> = Vec<Option<Cell<'a>>>;
 
-// Adds a place to both halves, with the cell in the first one.
-fn push_to<'a>(home: &mut Half<'a>, other: &mut Half<'a>, lane: Lane<'a>) -> Result<(), AllocError>
-    ensures home { OnOk result (home.new.items ≡ home.old.items ++ Some lane.entry ∷ []) }
-    ensures other { OnOk result (other.new.items ≡ other.old.items ++ None ∷ []) }
-{
-    home.push(Some(lane))?;
-    other.push(None)?;
-    Ok(())
-}
-
-// Adds a place to both halves, with the cell in the first one where it is concerned, and else in the second.
-fn push_apart<'a>(
-    back: &mut Half<'a>,
-    beside: &mut Half<'a>,
-    lane: Lane<'a>,
+// Adds a place to both halves, which have room for it, with the cell in the first one where it is concerned, and else
+// in the second.
+fn push_apart<T: Drop>(
+    back: &mut Vec<Option<T>>,
+    beside: &mut Vec<Option<T>>,
+    cell: T,
     is_concerned: bool,
-) -> Result<(), AllocError>
-    ensures { OnOk result (ArePushedApart back.old.items back.new.items beside.old.items beside.new.items
-        lane.entry is_concerned) }
+)
+    requires back { vec_len back.old < vec_capacity back.old }
+    requires beside { vec_len beside.old < vec_capacity beside.old }
+    ensures apart { ArePushedApart back.old.items back.new.items beside.old.items beside.new.items cell is_concerned }
+    ensures back_room { vec_capacity back.new ≡ vec_capacity back.old }
+    ensures beside_room { vec_capacity beside.new ≡ vec_capacity beside.old }
 {
     if is_concerned {
-        push_to(back, beside, lane)
+        back.push_reserved(Some(cell));
+        beside.push_reserved(None);
     } else {
-        push_to(beside, back, lane)
+        back.push_reserved(None);
+        beside.push_reserved(Some(cell));
+    }
+}
+
+// Moves all cells out of their list into two empty halves, which have room for them. The list keeps its room. Of cells
+// of any type, since of those with a lifetime the prover doesn't know what a drain leaves.
+fn part<T: Drop>(
+    cells: &mut Vec<T>,
+    back: &mut Vec<Option<T>>,
+    beside: &mut Vec<Option<T>>,
+    concerned: RoleSet,
+)
+    requires few { length cells.old.items ≤ 8 }
+    requires back_empty { back.old.items ≡ [] }
+    requires beside_empty { beside.old.items ≡ [] }
+    requires back_room { length cells.old.items ≤ vec_capacity back.old }
+    requires beside_room { length cells.old.items ≤ vec_capacity beside.old }
+    ensures split { AreSplit concerned cells.old.items back.new.items beside.new.items }
+    ensures empty { cells.new.items ≡ [] }
+    ensures room { vec_capacity cells.new ≡ vec_capacity cells.old }
+{
+    for cell in cells.drain(..) {
+        let role = RoleId(back.len() as u8);
+        push_apart(back, beside, cell, concerned.has(role));
     }
 }
 
 /// Takes all cells out, of which there are at most eight: the concerned ones into the first half, the others into the
-/// second. Fails where memory runs out; then cells are lost.
+/// second. The list keeps its room, so that they can be put back. Fails where memory runs out, before a cell is moved.
 pub fn split<'a>(
     alloc: Global,
-    lanes: &mut Vec<Lane<'a>>,
+    cells: &mut Vec<Cell<'a>>,
     concerned: RoleSet,
 ) -> Result<(Half<'a>, Half<'a>), AllocError>
-    requires { length lanes.old.items ≤ 8 }
-    ensures split { IfOk result (λ halves. AreSplit concerned lanes.old.items halves.0.items halves.1.items) }
-    ensures empty { OnOk result (lanes.new.items ≡ []) }
+    requires { length cells.old.items ≤ 8 }
+    ensures split { IfOk result (λ halves. AreSplit concerned cells.old.items halves.0.items halves.1.items) }
+    ensures empty { OnOk result (cells.new.items ≡ []) }
+    ensures room { length cells.old.items ≤ vec_capacity cells.new }
+    ensures kept { OnErr result (cells.new.items ≡ cells.old.items) }
 {
-    let count = lanes.len() as u8;
-    let mut back = Vec::new(alloc);
-    let mut beside = Vec::new(alloc);
-    for role in 0..count {
-        let lane = lanes.remove(0);
-        push_apart(&mut back, &mut beside, lane, concerned.has(RoleId(role)))?;
-    }
+    let mut back = Vec::with_capacity(alloc, cells.len())?;
+    let mut beside = Vec::with_capacity(alloc, cells.len())?;
+    part(cells, &mut back, &mut beside, concerned);
     Ok((back, beside))
 }
 
-// Adds the cell at a place, if one stands there.
-fn move_from<'a>(
-    lanes: &mut Vec<Lane<'a>>,
-    half: &mut Half<'a>,
-    place: usize,
-) -> Result<(), AllocError>
-    requires { place < length half.old.items }
+// Adds the cell at a place, if one stands there, to a list that has room for it.
+fn move_from<'a>(cells: &mut Vec<Cell<'a>>, half: &mut Half<'a>, place: usize)
+    requires place { place < length half.old.items }
+    requires room { (c : CellView) → Has half.old.items place c → vec_len cells.old < vec_capacity cells.old }
     ensures others { StayBut half.old.items half.new.items place }
-    ensures moved { OnOk result ((c : CellView) → Has half.old.items place c
-        → lanes.new.items ≡ lanes.old.items ++ c ∷ []) }
-    ensures none { OnOk result (Lacks half.old.items place → lanes.new.items ≡ lanes.old.items) }
+    ensures moved { (c : CellView) → Has half.old.items place c → cells.new.items ≡ cells.old.items ++ c ∷ [] }
+    ensures none { Lacks half.old.items place → cells.new.items ≡ cells.old.items }
+    ensures room { vec_capacity cells.new ≡ vec_capacity cells.old }
 {
-    if let Some(lane) = take_out(half, place) {
-        lanes.push(lane)?;
+    if let Some(cell) = half[place].take() {
+        cells.push_reserved(cell);
     }
-    Ok(())
 }
 
-/// Puts the cells of both halves back in their order, where no cell stands now. Fails where memory runs out; then cells
-/// are lost.
+/// Puts the cells of both halves back in their order, where no cell stands now, and there is room for them.
 pub fn unite<'a>(
-    lanes: &mut Vec<Lane<'a>>,
+    cells: &mut Vec<Cell<'a>>,
     back: &mut Half<'a>,
     beside: &mut Half<'a>,
     concerned: RoleSet,
-) -> Result<(), AllocError>
-    requires empty { lanes.old.items ≡ [] }
-    requires halves { (cells : List CellView) × AreSplit concerned cells back.old.items beside.old.items }
-    ensures { OnOk result (AreSplit concerned lanes.new.items back.old.items beside.old.items) }
+)
+    requires empty { cells.old.items ≡ [] }
+    requires room { length back.old.items ≤ vec_capacity cells.old }
+    requires halves { (all : List CellView) × AreSplit concerned all back.old.items beside.old.items }
+    ensures { AreSplit concerned cells.new.items back.old.items beside.old.items }
 {
     for place in 0..back.len() {
-        move_from(lanes, back, place)?;
-        move_from(lanes, beside, place)?;
+        move_from(cells, back, place);
+        move_from(cells, beside, place);
     }
-    Ok(())
 }

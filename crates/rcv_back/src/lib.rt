@@ -3,7 +3,6 @@
 
 pub mod back;
 pub mod halves;
-mod places;
 mod rewinding;
 mod settling;
 

@@ -2,50 +2,42 @@
 
 ghost use Rattle.std.specs.Prelude.{◌≡◌, ◌+◌, ◌<◌, length};
 ghost use Rattle.rcv_session.specs.Session.{roles_of};
-ghost use Rattle.rcv_role.specs.Cell.{CellView, HaveRewound, HasRewoundAlone};
+ghost use Rattle.rcv_role.specs.Cell.{CellView};
 ghost use Rattle.rcv_back.specs.Halves.{Has, Lacks};
-ghost use Rattle.rcv_back.specs.Going.{StayBut, CanRewind, CanRewindAlone, HasSender, HasRewoundChannel, AreGoing};
-ghost use Rattle.rcv_back.specs.Going.{HaveMoved};
+ghost use Rattle.rcv_back.specs.Going.{CanRewind, CanRewindAlone, HasRewoundChannel, AreGoing, HaveMoved};
 
 use crate::halves::Half;
-use crate::places::{put_in, take_out};
 use rcv_core::book::Book;
-use rcv_lanes::lanes::Lane;
+use rcv_lanes::two::{Together, two_together};
+use rcv_role::cell::Cell;
 use rcv_tree::role::RoleId;
 
-// The channel from one cell to another: so many of its messages stay, of which so many are received.
-fn rewind_lane<'a>(receiver: &mut Lane<'a>, sender: &mut Lane<'a>, keep: u32, drop_from: u32)
-    requires { CanRewind sender.old receiver.old keep drop_from }
-    ensures { HaveRewound sender.old sender.new receiver.old receiver.new keep drop_from }
-{
-    receiver.cell.rewind_from(&mut sender.cell, keep, drop_from);
+// How far the channel from a role goes back: so many of its messages stay, of which so many are received.
+#[derive(Drop)]
+struct Cut {
+    from: RoleId,
+    keep: u32,
+    drop_from: u32,
 }
 
-// The channel from a role whose cell isn't in the half.
-fn rewind_lane_alone<'a>(receiver: &mut Lane<'a>, sender: RoleId, keep: u32)
-    requires { CanRewindAlone receiver.old sender keep }
-    ensures { HasRewoundAlone receiver.old receiver.new sender keep }
-{
-    receiver.cell.rewind_alone_from(sender, keep);
-}
+impl<'a> Together<Cut> for Option<Cell<'a>> {
+    ghost use Rattle.rcv_back.specs.Going.{CanRewindAt, HaveRewoundAt};
 
-// The channel from a place to a cell that was taken out of its own.
-fn rewind_to<'a>(half: &mut Half<'a>, receiver: &mut Lane<'a>, from: u8, keep: u32, drop_from: u32)
-    requires place { from < length half.old.items }
-    requires pair { (a : CellView) → Has half.old.items from a → CanRewind a receiver.old keep drop_from }
-    requires alone { Lacks half.old.items from → CanRewindAlone receiver.old from keep }
-    ensures others { StayBut half.old.items half.new.items from }
-    ensures pair { (a : CellView) → Has half.old.items from a
-        → HasSender half.new.items from a receiver.old receiver.new keep drop_from }
-    ensures empty { Lacks half.old.items from → Lacks half.new.items from }
-    ensures alone { Lacks half.old.items from → HasRewoundAlone receiver.old receiver.new from keep }
-{
-    let Some(mut sender) = take_out(half, from as usize) else {
-        rewind_lane_alone(receiver, RoleId(from), keep);
-        return;
-    };
-    rewind_lane(receiver, &mut sender, keep, drop_from);
-    put_in(half, from as usize, sender);
+    ghost can = { λ cut receiver sender. CanRewindAt receiver sender cut.from cut.keep cut.drop_from };
+
+    ghost done = { λ cut receiver receiver_now sender sender_now.
+        HaveRewoundAt receiver receiver_now sender sender_now cut.from cut.keep cut.drop_from };
+
+    // Where no sender stands, the receiving end goes back alone.
+    fn act(&mut self, other: &mut Option<Cell<'a>>, with: &Cut) {
+        let Some(receiver) = self else {
+            return;
+        };
+        match other {
+            Some(sender) => receiver.rewind_from(sender, with.keep, with.drop_from),
+            None => receiver.rewind_alone_from(with.from, with.keep),
+        }
+    }
 }
 
 // The channel from one place to another.
@@ -58,11 +50,12 @@ fn rewind_between<'a>(half: &mut Half<'a>, from: u8, to: u8, keep: u32, drop_fro
     requires alone { (b : CellView) → Has half.old.items to b → Lacks half.old.items from → CanRewindAlone b from keep }
     ensures { HasRewoundChannel half.old.items half.new.items from to keep drop_from }
 {
-    let Some(mut receiver) = take_out(half, to as usize) else {
-        return;
+    let cut = Cut {
+        from: RoleId(from),
+        keep,
+        drop_from,
     };
-    rewind_to(half, &mut receiver, from, keep, drop_from);
-    put_in(half, to as usize, receiver);
+    two_together(half.as_mut_slice(), to as usize, from as usize, &cut);
 }
 
 // The channel from one role to another goes back to what the book keeps.

@@ -1,69 +1,69 @@
 // The parts of a half's cells go back, whose channels did.
 
-ghost use Rattle.std.specs.Prelude.{◌≡◌, ◌+◌, ◌^◌, ◌<◌, ◌≤◌, true, false, length, take};
+ghost use Rattle.std.specs.Prelude.{◌≡◌, ◌+◌, ◌^◌, ◌<◌, ◌≤◌, true, false, Some, length, take};
 ghost use Rattle.rcv_session.specs.Session.{roles_of};
-ghost use Rattle.rcv_role.specs.Part.{HasNoStrangers};
-ghost use Rattle.rcv_role.specs.Cell.{cell_of, IsSettled, IsSettledAt};
+ghost use Rattle.rcv_role.specs.Cell.{CellView, cell_of, IsSettled, IsSettledAt};
 ghost use Rattle.rcv_back.specs.Back.{kept_of};
-ghost use Rattle.rcv_back.specs.Going.{part_back, IsGoing, HasGoneInPlace, AreGone, HaveMoved};
+ghost use Rattle.rcv_back.specs.Going.{part_back, IsGoing, HasGoneInPlace, HasGoneAt, AreGone, HaveMoved};
 
 use crate::halves::Half;
-use crate::places::{put_in, take_out};
 use rcv_core::book::Book;
-use rcv_lanes::lanes::Lane;
+use rcv_role::cell::Cell;
 use rcv_tree::role::RoleId;
 
 // Goes back to so many first events, and runs on, unless the role stays crashed.
-fn back_or_cut<'a>(lane: &mut Lane<'a>, stays: bool, keep: u32, clock: u64)
-    requires settled { IsSettledAt lane.old (take keep lane.old.part.own.events) }
-    requires base { lane.old.part.base ≤ keep }
-    requires made { keep ≤ length lane.old.part.own.events }
-    requires held { stays ≡ false → keep ≤ lane.old.part.held }
-    requires crashed { stays ≡ true → lane.old.part.own.crashed ≡ true }
-    requires attempt { lane.old.part.own.attempt + 1 < 2 ^ 32 }
-    ensures back { lane.new ≡ cell_of (part_back stays lane.old.part keep clock) lane.old.posts lane.old.inboxes }
-    ensures settled { IsSettled lane.new }
+fn back_or_cut<'a>(cell: &mut Cell<'a>, stays: bool, keep: u32, clock: u64)
+    requires settled { IsSettledAt cell.old (take keep cell.old.part.own.events) }
+    requires base { cell.old.part.base ≤ keep }
+    requires made { keep ≤ length cell.old.part.own.events }
+    requires held { stays ≡ false → keep ≤ cell.old.part.held }
+    requires crashed { stays ≡ true → cell.old.part.own.crashed ≡ true }
+    requires attempt { cell.old.part.own.attempt + 1 < 2 ^ 32 }
+    ensures back { cell.new ≡ cell_of (part_back stays cell.old.part keep clock) cell.old.posts cell.old.inboxes }
+    ensures settled { IsSettled cell.new }
 {
     if stays {
-        lane.cell.cut_to(keep, clock);
+        cell.cut_to(keep, clock);
     } else {
-        lane.cell.back_to(keep, clock);
+        cell.back_to(keep, clock);
     }
 }
 
-// Tells the proof that no event of a cell is a Recv from a stranger.
-fn known<'a>(lane: &Lane<'a>)
-    ensures { HasNoStrangers lane.now.part }
-{
-    lane.cell.known();
-}
-
 // The part of one cell.
-fn settle_lane<'a>(book: &Book<'a>, lane: &mut Lane<'a>, role: RoleId)
+fn settle_cell<'a>(book: &Book<'a>, cell: &mut Cell<'a>, role: RoleId)
     requires role { role < roles_of book.now.setup }
-    requires going { IsGoing book.now role lane.old }
-    requires settled { IsSettledAt lane.old (kept_of book.now role) }
-    ensures { HasGoneInPlace book.now role lane.old lane.new }
+    requires going { IsGoing book.now role cell.old }
+    requires settled { IsSettledAt cell.old (kept_of book.now role) }
+    ensures { HasGoneInPlace book.now role cell.old cell.new }
 {
     // Tells the proof that the book has a number of each kind for each role.
     let _entries = book.entries();
     let stays = book.crashed(role);
-    back_or_cut(lane, stays, book.kept(role), book.clock(role));
-    known(lane);
+    back_or_cut(cell, stays, book.kept(role), book.clock(role));
+    // Tells the proof that no event of a cell is a Recv from a stranger.
+    cell.known();
 }
 
-// The part of the cell at one place, if there is one.
+// The part of the cell at a place, if one stands there.
+fn settle_at<'a>(book: &Book<'a>, place: &mut Option<Cell<'a>>, role: RoleId)
+    requires role { role < roles_of book.now.setup }
+    requires going { (c : CellView) → place.old ≡ Some c → IsGoing book.now role c }
+    requires settled { (c : CellView) → place.old ≡ Some c → IsSettledAt c (kept_of book.now role) }
+    ensures { HasGoneAt book.now role place.old place.new }
+{
+    if let Some(cell) = place {
+        settle_cell(book, cell, role);
+    }
+}
+
+// The part of the cell of one role, if it stands in the half.
 fn settle<'a>(book: &Book<'a>, half: &mut Half<'a>, role: u8)
     requires role { role < roles_of book.now.setup }
     requires gone { AreGone book.now role half.old.items }
     ensures gone { AreGone book.now (role + 1) half.new.items }
     ensures moved { HaveMoved half.old.items half.new.items }
 {
-    let Some(mut lane) = take_out(half, role as usize) else {
-        return;
-    };
-    settle_lane(book, &mut lane, RoleId(role));
-    put_in(half, role as usize, lane);
+    settle_at(book, &mut half[role as usize], RoleId(role));
 }
 
 /// All parts go back.

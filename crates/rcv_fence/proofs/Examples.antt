@@ -1,8 +1,8 @@
 -- Codes of the first and of the last pair, words that are no codes, that a code tells its pair, and what a watch tells of
 -- its looks.
-use Rattle.std.proofs.Common.{◌≡◌, ℕ, List, [], ◌∷◌, get_or, refl, ap, arith}
+use Rattle.std.proofs.Common.{◌≡◌, ℕ, List, [], ◌∷◌, get_or, refl, sym, ◌∙◌, ap, arith}
 use Rattle.rcv_fence.specs.Codes.{code, IsWord, IsPairOf}
-use Rattle.rcv_fence.specs.Shown.{Shown}
+use Rattle.rcv_fence.specs.Shown.{FenceId, Shown, fresh, AreFreshOfOneFence}
 use Rattle.rcv_fence.specs.Fence.{unlooked, shown, after_look, after_write}
 
 first_code : code 0 1 ≡ 1
@@ -36,11 +36,17 @@ pub is_a_code : IsPairOf 300 1 44
 is_a_code = record { role_is = omega arith; point_is = record { first = omega arith; last = omega arith }; code_is = refl }
 
 -- a watch that looked, wrote 300 and looked again tells what each of its looks loaded, and not its last look alone
-abbrev twice : Shown
-twice = shown (after_look (after_write (after_look unlooked 257) 300) 0)
+abbrev twice : FenceId → Shown
+twice id = shown id (after_look (after_write (after_look unlooked 257) 300) 0)
 
-loaded : twice ≡ record { looks = 2; last = 0; seen = 257 ∷ 0 ∷ []; raised = 300 ∷ [] }
-loaded = refl
+loaded : (id : FenceId) → twice id ≡ record { fence = id; looks = 2; last = 0; seen = 257 ∷ 0 ∷ []; raised = 300 ∷ [] }
+loaded id = refl
 
-first_look_stays : twice.seen ≡ 0 ∷ 0 ∷ [] → ⊥
-first_look_stays e = let same : 257 ≡ 0 = ap (λ (l : List ℕ). get_or l 0 0) e in omega (arith, same)
+first_look_stays : (id : FenceId) → (twice id).seen ≡ 0 ∷ 0 ∷ [] → ⊥
+first_look_stays id e = let same : 257 ≡ 0 = ap (λ (l : List ℕ). get_or l 0 0) e in omega (arith, same)
+
+-- watches of two fences aren't watches of one
+two_fences : (a b : FenceId) → (a ≡ b → ⊥) → AreFreshOfOneFence (fresh a ∷ fresh b ∷ []) → ⊥
+two_fences a b apart one =
+    let first : a ≡ one.0 = ap (λ (w : Shown). w.fence) (one.1 0 (fresh a) (omega arith)) in
+    let second : b ≡ one.0 = ap (λ (w : Shown). w.fence) (one.1 1 (fresh a) (omega arith)) in apart (first ∙ sym second)

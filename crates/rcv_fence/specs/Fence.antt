@@ -19,8 +19,9 @@ Mine = Me (Unit {0}) Sight
 abbrev pub unlooked : Sight
 unlooked = record { looks = 0; last = 0; seen = []; raised = [] }
 
-abbrev pub shown : Sight → Shown
-shown sight = record { looks = sight.looks; last = sight.last; seen = sight.seen; raised = sight.raised }
+-- What contracts see of a seat of this table.
+abbrev pub shown : TableId → Sight → Shown
+shown id sight = record { fence = id; looks = sight.looks; last = sight.last; seen = sight.seen; raised = sight.raised }
 
 -- What each seat saw last is 0 or a code.
 abbrev pub AllSawWords : List Sight → Type 0

@@ -1,10 +1,9 @@
 // Watches of a fence: they look at its word and write it.
 
 ghost use Rattle.std.specs.Prelude.{◌≡◌, ◌+◌, ◌<◌, ◌≤◌, [], ◌∷◌, ◌++◌, ◌↔◌, IfOk, IfSome, IsNone, vec_len};
-ghost use Rattle.std.specs.List.{All};
 ghost use Rattle.rcv_tree.specs.Bits.{IsPoint};
 ghost use Rattle.rcv_fence.specs.Codes.{code, IsWord, IsPairOf};
-ghost use Rattle.rcv_fence.specs.Shown.{fresh, with_raised};
+ghost use Rattle.rcv_fence.specs.Shown.{AreFreshOfOneFence, fresh, with_raised};
 
 use crate::rule::{Looks, Shares, Sight, Word, Writes};
 use atomic_table::{Seat, Table};
@@ -14,9 +13,9 @@ use std::alloc::{AllocError, Global};
 use std::marker::Model;
 use std::sync::Arc;
 
-/// A watch of a fence, which lies on any thread. Contracts see how often it looked, the word that its last look loaded
-/// (0 before the first), the words that all its looks loaded, and the words that it wrote, in order. What other watches
-/// write changes none of the four.
+/// A watch of a fence, which lies on any thread. Contracts see which fence it is of, how often it looked, the word that
+/// its last look loaded (0 before the first), the words that all its looks loaded, and the words that it wrote, in
+/// order. What other watches write changes none of these.
 #[derive(Drop)]
 pub struct Watch {
     table: Arc<Word, Global>,
@@ -31,7 +30,7 @@ impl Model for Watch {
     ghost use Rattle.std.specs.Arc.{arc_value};
     ghost use Rattle.rcv_fence.specs.Fence.{shown, IsSeated};
 
-    ghost view = { λ w. shown w.seat.me.0 };
+    ghost view = { λ w. shown w.seat.table_id w.seat.me.0 };
 
     ghost invariant = { λ w. IsSeated (arc_value w.table).shared.table_id w.seat.table_id w.seat.me.0 };
 }
@@ -40,6 +39,7 @@ impl Watch {
     /// What is raised at this moment: the role, below 8, and the point, from 1 to 256; None where nothing is. It is one
     /// load, which never waits and takes no memory.
     pub fn look(&mut self) -> Option<(RoleId, Point)>
+        ensures fence { self.new.fence ≡ self.old.fence }
         ensures looks { self.new.looks ≡ self.old.looks + 1 }
         ensures raised { self.new.raised ≡ self.old.raised }
         ensures word { IsWord self.new.last }
@@ -69,6 +69,7 @@ impl Watch {
     }
 
     fn load(&mut self) -> u64
+        ensures fence { self.new.fence ≡ self.old.fence }
         ensures looks { self.new.looks ≡ self.old.looks + 1 }
         ensures raised { self.new.raised ≡ self.old.raised }
         ensures last { self.new.last ≡ result }
@@ -87,7 +88,7 @@ impl Watch {
 
     // The first watch of a new fence, with nothing raised.
     fn first(alloc: Global) -> Result<Watch, AllocError>
-        ensures { IfOk result (λ watch. watch ≡ fresh) }
+        ensures { IfOk result (λ watch. watch ≡ fresh watch.fence) }
     {
         let (table, seat) = Table::of_words(alloc, &[0], &())?;
         let table = Arc::new(alloc, table)?;
@@ -97,7 +98,7 @@ impl Watch {
     // One more watch of the same fence.
     fn another(&mut self) -> Result<Watch, AllocError>
         ensures same { self.new ≡ self.old }
-        ensures fresh { IfOk result (λ watch. watch ≡ fresh) }
+        ensures fresh { IfOk result (λ watch. watch ≡ fresh self.old.fence) }
     {
         let table = Arc::try_clone(&self.table)?;
         let seat = self.table.shared.split_seat::<Shares>(&mut self.seat);
@@ -123,7 +124,7 @@ fn pair_of(word: u64) -> Option<(RoleId, Point)>
 pub fn fence(alloc: Global, count: u32) -> Result<Vec<Watch>, AllocError>
     requires { (1 ≤ count) × (count ≤ 9) }
     ensures count { IfOk result (λ watches. vec_len watches ≡ count) }
-    ensures fresh { IfOk result (λ watches. All (λ watch. watch ≡ fresh) watches.items) }
+    ensures one { IfOk result (λ watches. AreFreshOfOneFence watches.items) }
 {
     let mut watches = Vec::with_capacity(alloc, count as usize)?;
     let mut first = Watch::first(alloc)?;

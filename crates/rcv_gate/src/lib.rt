@@ -3,13 +3,17 @@
 
 use rcv_tree::role::RoleId;
 
-/// Is told of each step that a role attempts, and of each recovery, and may hold them up.
-pub trait Gate: Sync {
+/// Is told of each step that a role attempts, and of each recovery, and may hold them up. One that several threads pass
+/// is `Sync`, too.
+pub trait Gate {
     /// Comes before each attempted step of this role, which made so many events in all, undone ones included.
     fn enter(&self, role: RoleId, count: u32);
 
     /// Comes before the recovery of this failed role moves anything.
     fn recovering(&self, role: RoleId);
+
+    /// Whether it lets all pass at once, always: then nobody can be held up beside others.
+    fn is_open(&self) -> bool;
 }
 
 /// The gate that lets all pass at once.
@@ -20,4 +24,8 @@ impl Gate for NoGate {
     fn enter(&self, _role: RoleId, _count: u32) {}
 
     fn recovering(&self, _role: RoleId) {}
+
+    fn is_open(&self) -> bool {
+        true
+    }
 }

@@ -7,7 +7,7 @@ use Rattle.rcv_model.proofs.StableLines.{reading_join}
 use Rattle.rcv_session.specs.Session.{roles_of, rules_of}
 use Rattle.rcv_core.specs.Book.{BookView, state_of, with_more}
 
-drop_at : (xs : List Entry) (k : ℕ) (x : Entry) → k < length xs → slice_index_or xs k x ≡ x → drop k xs ≡ x ∷ drop (suc k) xs
+pub drop_at : (xs : List Entry) (k : ℕ) (x : Entry) → k < length xs → slice_index_or xs k x ≡ x → drop k xs ≡ x ∷ drop (suc k) xs
 drop_at [] k x lt e = absurd (omega (arith, lt))
 drop_at (y ∷ xs) zero x lt e = ap (λ z. z ∷ xs) e
 drop_at (y ∷ xs) (suc k) x lt e = drop_at xs k x (omega (arith, lt)) e
@@ -17,7 +17,7 @@ take_at [] k x lt e = absurd (omega (arith, lt))
 take_at (y ∷ xs) zero x lt e = ap (λ z. z ∷ []) e
 take_at (y ∷ xs) (suc k) x lt e = ap (λ l. y ∷ l) (take_at xs k x (omega (arith, lt)) e)
 
-plus : (k : ℕ) → k + 1 ≡ suc k
+pub plus : (k : ℕ) → k + 1 ≡ suc k
 plus k = omega arith
 
 pub pushed : (old now new : BookView) (more : List Entry) (k : ℕ) (e : Entry) → k < length more → slice_index_or more k e ≡ e → (now ≡ with_more old (take k more)) × IsLegalFrom (rules_of now.setup) (state_of now) (drop k more) → new ≡ record { setup = now.setup; entries = now.entries ++ e ∷ [] } → (new ≡ with_more old (take (k + 1) more)) × IsLegalFrom (rules_of new.setup) (state_of new) (drop (k + 1) more)

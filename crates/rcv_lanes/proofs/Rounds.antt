@@ -33,8 +33,11 @@ use Rattle.rcv_role.specs.Ends.{slot, end_at}
 use Rattle.rcv_role.specs.Cell.{CellView, Goes, without_log}
 use Rattle.rcv_role.proofs.Lawful.{cells_follow_the_session}
 use Rattle.rcv_role.proofs.Meeting.{channel_same, settled_met}
-use Rattle.rcv_lanes.specs.Home.{cell_at, AreJoined, AreBegun, IsOutAt, AreOut, AreHome, IsReady, AllGo, AllMet, AllBegun, AllCanMeet, HasBegun, logs_in}
+use Rattle.rcv_lanes.specs.Home.{cell_at, round_steps, AreJoined, AreBegun, IsOutAt, AreOut, AreHome, IsReady, AllGo, AllMet, AllBegun, AllCanMeet, HasBegun, logs_in}
+use Rattle.rcv_fence.specs.Shown.{Shown}
+use Rattle.rcv_lanes.specs.Running.{HaveRun, HasMadeRound}
 use Rattle.rcv_lanes.proofs.Meeting.{begun_on}
+use Rattle.rcv_lanes.proofs.Running.{all_go}
 
 -- a look-up in a list that was mapped
 pub map_at : {A B : Type 0} (f : A → B) (xs : List A) (k : ℕ) (d : A) → slice_index_or (map f xs) k (f d) ≡ f (slice_index_or xs k d)
@@ -47,7 +50,7 @@ map_beyond [] k d le = refl
 map_beyond (x ∷ xs) zero d le = absurd (omega (arith, le))
 map_beyond (x ∷ xs) (suc k) d le = map_beyond xs k d (omega (arith, le))
 
-map_length : {A B : Type 0} (f : A → B) (xs : List A) → length (map f xs) ≡ length xs
+pub map_length : {A B : Type 0} (f : A → B) (xs : List A) → length (map f xs) ≡ length xs
 map_length f [] = refl
 map_length f (x ∷ xs) = let e = map_length f xs in omega (arith, e)
 
@@ -266,7 +269,7 @@ module _ (book : BookView) (old gone met : List CellView) (home : AreHome book o
   some_cell : (r : ℕ) → r < roles_of book.setup → CellView
   some_cell r lt = (item met r (let c = out'.count in omega (arith, c, lt))).0
 
-  round' : IsRound (rules_of book.setup) (state_of book) (λ r. log_at (logs_in met) r)
+  pub round' : IsRound (rules_of book.setup) (state_of book) (λ r. log_at (logs_in met) r)
   round' = is_round book met out' begun' accepted legal (λ t r lt lr n. (here t r (some_cell r lr) lt lr n).there)
 
   pub rise : All NeverFalls (logs_in met)
@@ -281,7 +284,10 @@ module _ (book : BookView) (old gone met : List CellView) (home : AreHome book o
 
 -- cells at home may run
 pub all_ready : (book : BookView) (cells : List CellView) → AreHome book cells → All IsReady cells
-all_ready book cells home r d lt = let c = home.out.count in let l : r < roles_of book.setup = omega (arith, c, lt) in ((home.out.each r d l).settled, home.logs r d l)
+all_ready book cells home r d lt = let c = home.out.count in let l : r < roles_of book.setup = omega (arith, c, lt) in ((home.out.each r d l).settled, few (cell_at cells r d).part.log (home.logs r d l))
+  where
+    few : (log : List Timed) → log ≡ [] → length log ≤ round_steps
+    few log none = let e = ap length none in omega (arith, e)
 
 -- and those that are out can meet
 pub gone_can_meet : (book : BookView) (old gone : List CellView) → IsLegal (rules_of book.setup) book.entries → AreHome book old → AllGo old gone → AllCanMeet gone
@@ -295,3 +301,28 @@ gone_can_meet book old gone legal home go s r d ls lr n =
       apart = λ f. n (sym a.role_is ∙ f ∙ b.role_is);
       channel = λ e. subst (λ (z : ℕ × ℕ). IsChannel (end_at (cell_at gone s d).posts z.0 z.1 e) (end_at (cell_at gone r d).inboxes z.1 z.0 e)) (λ i. (sym a.role_is i, sym b.role_is i)) (out.joined s r d e (omega (arith, c, ls)) (omega (arith, c, lr)) n);
     }
+
+-- the logs of cells that have met are what they were
+pub same_logs : (gone met : List CellView) → AllMet gone met → logs_in met ≡ logs_in gone
+same_logs [] [] all = refl
+same_logs [] (y ∷ ys) all = absurd (let c = all.0 in omega (arith, c))
+same_logs (x ∷ xs) [] all = absurd (let c = all.0 in omega (arith, c))
+same_logs (x ∷ xs) (y ∷ ys) all =
+    ap (λ l. l ∷ logs_in ys) (ap (λ (p : PartView). p.log) (all.1 0 x).part)
+    ∙ ap (λ l. x.part.log ∷ l) (same_logs xs ys (let c = all.0 in omega (arith, c), λ r d. all.1 (suc r) d))
+
+-- there are no more cells than roles
+pub few_cells : (book : BookView) (old gone met : List CellView) → AreHome book old → AllGo old gone → AllMet gone met → roles_of book.setup ≤ 8 → length met ≤ 8
+few_cells book old gone met home go meet few = let a = home.out.count in let b = go.0 in let c = meet.0 in omega (arith, a, b, c, few)
+
+-- what was added came of a round
+module _ (watch : Shown) (book : BookView) (old gone met : List CellView) (home : AreHome book old) (ran : HaveRun watch old gone) (meet : AllMet gone met) (known : AllBegun gone) (accepted : IsAcceptedProtocol book.setup.protocol) (legal : IsLegal (rules_of book.setup) book.entries) where
+  pub made_round : (merged : List Entry) → IsMergeOf (logs_in met) merged → (new : BookView) → new ≡ with_more book merged → HasMadeRound watch book new old
+  made_round merged is new added = record {
+    gone = gone;
+    ran = ran;
+    merged = merged;
+    is = subst (λ l. IsMergeOf l merged) (same_logs gone met meet) is;
+    lawful = λ r. subst (λ l. IsLog (rules_of book.setup) r (state_of book) (log_at l r)) (same_logs gone met meet) ((round' book old gone met home (all_go watch old gone ran) meet known accepted legal).local r);
+    added = added;
+  }

@@ -1,6 +1,6 @@
 -- A book and the cells of its roles: at home, where each cell has what the book tells of its role; and out, with their
 -- logs.
-use Rattle.std.specs.Prelude.{◌≡◌, ℕ, ◌<◌, List, [], length, map, take, slice_index, slice_index_or}
+use Rattle.std.specs.Prelude.{◌≡◌, ℕ, ◌<◌, ◌≤◌, List, [], length, map, slice_index, slice_index_or}
 use Rattle.rcv_tree.specs.declared.entry.Entry.{Entry}
 use Rattle.rcv_tree.specs.declared.entry.Timed.{Timed}
 use Rattle.rcv_model.specs.Journal.{State, reading_from}
@@ -53,9 +53,13 @@ pub record AreHome (book : BookView) (cells : List CellView) : Type 0 where
   pub begun : AreBegun (roles_of book.setup) cells
   pub logs : (r : ℕ) (d : CellView) → r < roles_of book.setup → (cell_at cells r d).part.log ≡ []
 
+-- How many steps a cell makes in one round at most.
+abbrev pub round_steps : ℕ
+round_steps = 1024
+
 -- A cell that may run.
 abbrev pub IsReady : CellView → Type 0
-IsReady c = IsSettled c × (c.part.log ≡ [])
+IsReady c = IsSettled c × (length c.part.log ≤ round_steps)
 
 -- Each of the cells went on, or stayed as it was.
 abbrev pub AllGo : List CellView → List CellView → Type 0
@@ -105,14 +109,14 @@ pub record ArePaired (sender sender_now receiver receiver_now : CellView) : Type
   pub between : ℕ
   pub met : HaveMet sender sender_now receiver receiver_now between
 
+-- And what the receiver took from the channel begins what the sender put on it.
+pub record HaveTold (receiver receiver_now sender sender_now : CellView) : Type 0 where
+  pub paired : ArePaired sender sender_now receiver receiver_now
+  pub begun : HasBegun receiver sender
+
 abbrev pub HavePaired : List CellView → List CellView → ℕ → ℕ → Type 0
 HavePaired old new from to =
     (d : CellView) → ArePaired (cell_at old from d) (cell_at new from d) (cell_at old to d) (cell_at new to d)
-
--- Some of the first of these entries were added.
-pub record HasSome (old new : BookView) (more : List Entry) : Type 0 where
-  pub count : ℕ
-  pub added : new ≡ with_more old (take count more)
 
 -- Entries were added.
 pub record HasGrown (old new : BookView) : Type 0 where

@@ -1,2 +1,4 @@
 pub mod Home
 pub mod Making
+pub mod Running
+pub mod Ahead

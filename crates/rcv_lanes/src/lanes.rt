@@ -1,109 +1,170 @@
 // The cells of a session on threads.
 
-ghost use Rattle.std.specs.Prelude.{◌≡◌, ◌<◌, ℕ, map, length, All, IfOk};
-ghost use Rattle.rcv_role.specs.Cell.{CellView, Goes, without_log};
-ghost use Rattle.rcv_lanes.specs.Home.{cell_at, IsReady, AllGo, logs_in};
+ghost use Rattle.std.specs.Prelude.{◌≡◌, ◌+◌, ◌<◌, ◌≤◌, ℕ, length, All};
+ghost use Rattle.rcv_role.specs.Cell.{CellView, without_log};
+ghost use Rattle.rcv_lanes.specs.Home.{cell_at, IsReady, AllGo};
+ghost use Rattle.rcv_lanes.specs.Running.{MayRun, AreWatched, IsLowered, Runs, HaveRun, HalfHasRun};
 
+use crate::house::Crew;
 use rcv_fence::Watch;
 use rcv_gate::Gate;
-use rcv_merge::TimedLogs;
+use rcv_passes::activity::Activity;
+use rcv_passes::place::{Pace, Place};
+use rcv_passes::run_round;
 use rcv_role::cell::Cell;
-use std::alloc::{AllocError, Global};
-use std::marker::Model;
-use std::thread;
+use rcv_role::poll::Stop;
 use std::thread::Threads;
 
-// How many steps a cell makes in one round at most.
-const TURNS: u32 = 64;
+// How many steps a cell makes in one round at most, so that the fence and the other roles are heard of in between.
+const ROUND_STEPS: usize = 1_024;
 
-/// A cell with the watch that it runs under. Contracts see the cell.
-#[derive(Drop)]
-pub struct Lane<'a> {
-    pub cell: Cell<'a>,
-    pub watch: Watch,
-}
+// How many steps a cell makes in one run at most: the others of its worker wait meanwhile.
+const RUN_STEPS: u32 = 2;
 
-impl<'a> Model for Lane<'a> {
-    ghost use Rattle.rcv_role.specs.Cell.{CellView};
-    ghost use Rattle.rcv_tree.specs.contracts.statement.Stmt as e;
-    ghost use Rattle.rcv_formula.specs.Codes.{expr_code};
-    ghost use Rattle.std.specs.Coded.{codes};
-
-    ghost Value = { CellView };
-
-    ghost coded = { Prim.hlevel (codes, e.the_row.coded, expr_code) };
-
-    ghost view = { λ l. l.cell };
-}
-
-/// Runs a cell, if it isn't crashed.
-pub fn run_lane<'a, G: Gate>(lane: &mut Lane<'a>, gate: &G)
-    requires { IsReady lane.old }
-    ensures { Goes lane.old lane.new }
+/// Runs a cell for a few steps, unless it is crashed or has made as many as it may in one round. It is over, too, where
+/// it has then made at least so many steps in this round.
+pub fn run_cell<'a, G: Gate>(cell: &mut Cell<'a>, watch: &mut Watch, gate: &G, steps: u32) -> Pace
+    requires { IsReady cell.old }
+    ensures ready { IsReady cell.new }
+    ensures ran { Runs watch.old.fence cell.old cell.new }
+    ensures fence { watch.new.fence ≡ watch.old.fence }
 {
-    lane.cell.known();
-    if !lane.cell.crashed() {
-        let _stop = lane.cell.run(&mut lane.watch, gate, TURNS);
+    // Tells the proof that a cell that stays goes on by nothing.
+    cell.known();
+    if cell.crashed() {
+        return Pace::Over;
+    }
+    let logged = cell.log().len();
+    if logged >= ROUND_STEPS {
+        return Pace::Over;
+    }
+    let stop = cell.run(watch, gate, turns_behind(logged));
+    let now = cell.log().len();
+    pace_of(stop, now > logged, now >= steps as usize)
+}
+
+// How many steps the next run of a cell with so many logged makes at most.
+fn turns_behind(logged: usize) -> u32
+    requires { logged < ROUND_STEPS }
+    ensures some { 1 ≤ result }
+    ensures room { logged + result ≤ ROUND_STEPS }
+{
+    RUN_STEPS.min((ROUND_STEPS - logged) as u32)
+}
+
+// What a run came to, by why it ended, whether it made steps, and whether the cell has made enough of them.
+fn pace_of(stop: Stop, moved: bool, enough: bool) -> Pace {
+    match stop {
+        Stop::Done | Stop::Crashed | Stop::Tired | Stop::Fenced => Pace::Over,
+        Stop::Spent | Stop::Waiting if enough => Pace::Over,
+        Stop::Spent => Pace::Moved,
+        Stop::Waiting if moved => Pace::Moved,
+        Stop::Waiting => Pace::Waits,
     }
 }
 
-/// Runs each cell that isn't crashed on one of at most so many threads, and joins these. The clause lets a cell do
-/// nothing.
-pub fn round<'a, G: Gate, R: Threads + Sync>(
-    rt: &R,
-    lanes: &mut Vec<Lane<'a>>,
-    workers: usize,
-    gate: &G,
-)
-    requires workers { 0 < workers }
-    requires ready { All IsReady lanes.old.items }
-    ensures { AllGo lanes.old.items lanes.new.items }
-{
-    round_slice(rt, lanes.as_mut_slice(), workers, gate);
+impl<'a, 'c, R, G: Gate> Place<Watch, Crew<'c, R, G>> for Cell<'a> {
+    ghost use Rattle.std.proofs.Common.{◌≡◌, refl, sym, ◌∙◌, subst};
+    ghost use Rattle.rcv_lanes.specs.Home.{IsReady};
+    ghost use Rattle.rcv_lanes.specs.Running.{Runs, more_runs};
+
+    ghost ready = { IsReady };
+
+    ghost like = { λ watch other. other.fence ≡ watch.fence };
+
+    ghost ran = { λ watch old new. Runs watch.fence old new };
+
+    fn run(&mut self, tool: &mut Watch, with: &Crew<'c, R, G>) -> Pace {
+        run_cell(self, tool, with.gate, with.steps)
+    }
+
+    ghost reflexive = { λ watch. refl };
+
+    ghost symmetric = { λ watch other same. sym same };
+
+    ghost transitive = { λ watch other third same then. then ∙ same };
+
+    ghost joins = { λ watch old now new. more_runs };
+
+    ghost carries = { λ watch other old new same ran. subst (λ f. Runs f old new) same ran };
 }
 
-fn round_slice<'a, G: Gate, R: Threads + Sync>(
-    rt: &R,
-    lanes: &mut [Lane<'a>],
-    workers: usize,
-    gate: &G,
-)
-    requires workers { 0 < workers }
+impl<'a, 'c, R, G: Gate> Place<Watch, Crew<'c, R, G>> for Option<Cell<'a>> {
+    ghost use Rattle.std.proofs.Common.{◌≡◌, refl, sym, ◌∙◌, subst};
+    ghost use Rattle.rcv_lanes.specs.Running.{MayRun, RanAt, more_runs_at};
+
+    ghost ready = { MayRun };
+
+    ghost like = { λ watch other. other.fence ≡ watch.fence };
+
+    ghost ran = { λ watch old new. RanAt watch.fence old new };
+
+    fn run(&mut self, tool: &mut Watch, with: &Crew<'c, R, G>) -> Pace {
+        match self {
+            None => Pace::Over,
+            Some(cell) => run_cell(cell, tool, with.gate, with.steps),
+        }
+    }
+
+    ghost reflexive = { λ watch. refl };
+
+    ghost symmetric = { λ watch other same. sym same };
+
+    ghost transitive = { λ watch other third same then. then ∙ same };
+
+    ghost joins = { λ watch. more_runs_at watch.fence };
+
+    ghost carries = { λ watch other old new same ran. subst (λ f. RanAt f old new) same ran };
+}
+
+/// Behind the lowering of the fence by the session's watch, runs each cell that isn't crashed, again and again, until it
+/// has made as many steps as it shall in one round or nobody can go on, by as many threads as there are watches, from 1 to
+/// 8, and joins these. It takes no memory.
+pub fn round<'a, G: Gate + Sync, R: Threads + Sync>(
+    crew: &Crew<R, G>,
+    lanes: &mut [Cell<'a>],
+    watch: &Watch,
+    watches: &mut [Watch],
+) -> Activity
+    requires least { 1 ≤ length watches.old }
+    requires most { length watches.old ≤ 8 }
+    requires lowered { IsLowered watch.now }
+    requires watched { AreWatched watch.now watches.old }
     requires ready { All IsReady lanes.old }
-    ensures { AllGo lanes.old lanes.new }
+    ensures ran { HaveRun watch.now lanes.old lanes.new }
+    ensures go { AllGo lanes.old lanes.new }
+    ensures watched { AreWatched watch.now watches.new }
+    ensures count { length watches.new ≡ length watches.old }
 {
-    thread::for_each_mut(
-        rt,
-        lanes,
-        workers,
-        &|_: usize, lane: &mut Lane|
-            requires { IsReady lane.old }
-            ensures { Goes lane.old lane.new }
-        { run_lane(lane, gate) },
-    );
+    run_round(crew.rt, crew, lanes, watches)
 }
 
-/// Copies of all logs, in order of the roles. Fails where memory runs out.
-pub fn logs_of(alloc: Global, lanes: &Vec<Lane>) -> Result<TimedLogs, AllocError>
-    ensures { IfOk result (λ logs. map (λ l. l.items) logs.items ≡ logs_in lanes.now.items) }
+/// The same for the cells of a half, at their places.
+pub fn half_round<'a, G: Gate + Sync, R: Threads + Sync>(
+    crew: &Crew<R, G>,
+    half: &mut [Option<Cell<'a>>],
+    watch: &Watch,
+    watches: &mut [Watch],
+) -> Activity
+    requires least { 1 ≤ length watches.old }
+    requires most { length watches.old ≤ 8 }
+    requires lowered { IsLowered watch.now }
+    requires watched { AreWatched watch.now watches.old }
+    requires ready { All MayRun half.old }
+    ensures ran { HalfHasRun watch.now half.old half.new }
+    ensures watched { AreWatched watch.now watches.new }
+    ensures count { length watches.new ≡ length watches.old }
 {
-    let mut logs = Vec::new(alloc);
-    for lane in lanes {
-        let mut log = Vec::new(alloc);
-        log.extend_from_slice(lane.cell.log())?;
-        logs.push(log)?;
-    }
-    Ok(logs)
+    run_round(crew.rt, crew, half, watches)
 }
 
 /// Clears all logs.
-pub fn clear_logs(lanes: &mut Vec<Lane>)
-    ensures count { length lanes.new.items ≡ length lanes.old.items }
-    ensures cleared { (r : ℕ) (d : CellView) → r < length lanes.old.items
-        → cell_at lanes.new.items r d ≡ without_log (cell_at lanes.old.items r d) }
+pub fn clear_logs(lanes: &mut [Cell])
+    ensures count { length lanes.new ≡ length lanes.old }
+    ensures cleared { (r : ℕ) (d : CellView) → r < length lanes.old
+        → cell_at lanes.new r d ≡ without_log (cell_at lanes.old r d) }
 {
     for role in 0..lanes.len() {
-        let lane = &mut lanes[role];
-        lane.cell.clear_log();
+        lanes[role].clear_log();
     }
 }

@@ -6,9 +6,7 @@ ghost use Rattle.rcv_lanes.specs.Home.{AreHome, HaveBases};
 ghost use Rattle.rcv_lanes.specs.Making.{ArePointsBetween, IsSetBetween, IsNewChannel, AreOpen, AreOpenTo, AreFirst};
 ghost use Rattle.rcv_lanes.specs.Making.{with_ends, no_ends};
 
-use crate::lanes::Lane;
 use rcv_core::setup::Setup;
-use rcv_fence::Watch;
 use rcv_mailbox::{Inbox, Post, channel};
 use rcv_role::cell::Cell;
 use rcv_tree::point::{Point, PointSet};
@@ -155,41 +153,30 @@ fn channels(alloc: Global, setup: &Setup) -> Result<Vec<Ends>, AllocError>
     Ok(all)
 }
 
-// The cells at these ends, each with a watch, of which one is left.
-fn cells<'a>(
+// The cells at these ends.
+fn cells_at<'a>(
     alloc: Global,
     setup: &'a Setup,
     all: &mut Vec<Ends>,
-    watches: &mut Vec<Watch>,
-) -> Result<Vec<Lane<'a>>, AllocError>
-    requires open { AreOpen (rules_of setup.now) (roles_of setup.now) all.old.items }
-    requires watches { length watches.old.items ≡ roles_of setup.now + 1 }
-    ensures first { IfOk result (λ lanes. AreFirst setup.now (roles_of setup.now) all.old.items lanes.items) }
-    ensures left { OnOk result (length watches.new.items ≡ 1) }
+) -> Result<Vec<Cell<'a>>, AllocError>
+    requires { AreOpen (rules_of setup.now) (roles_of setup.now) all.old.items }
+    ensures { IfOk result (λ cells. AreFirst setup.now (roles_of setup.now) all.old.items cells.items) }
 {
-    let mut lanes = Vec::new(alloc);
+    let mut cells = Vec::with_capacity(alloc, setup.roles() as usize)?;
     for role in 0..setup.roles() {
         let Ends { posts, inboxes } = all.remove(0);
         let cell = Cell::new(alloc, setup, RoleId(role), posts, inboxes)?;
-        let watch = watches.remove(0);
-        lanes.push(Lane { cell, watch })?;
+        cells.push(cell)?;
     }
-    Ok(lanes)
+    Ok(cells)
 }
 
-/// The cells of all roles before their first events, at home with the empty book, and a watch that is left; so many
-/// watches are of one fence. Fails where memory runs out.
-pub fn lanes<'a>(
-    alloc: Global,
-    setup: &'a Setup,
-    watches: &mut Vec<Watch>,
-) -> Result<Vec<Lane<'a>>, AllocError>
-    requires watches { length watches.old.items ≡ roles_of setup.now + 1 }
-    ensures home { IfOk result (λ lanes. AreHome (record { setup = setup.now; entries = [] }) lanes.items) }
-    ensures bases { IfOk result (λ lanes. HaveBases (roles_of setup.now) [] lanes.items) }
-    ensures left { OnOk result (length watches.new.items ≡ 1) }
+/// The cells of all roles before their first events, at home with the empty book. Fails where memory runs out.
+pub fn cells<'a>(alloc: Global, setup: &'a Setup) -> Result<Vec<Cell<'a>>, AllocError>
+    ensures home { IfOk result (λ cells. AreHome (record { setup = setup.now; entries = [] }) cells.items) }
+    ensures bases { IfOk result (λ cells. HaveBases (roles_of setup.now) [] cells.items) }
 {
     let mut all = channels(alloc, setup)?;
-    let lanes = cells(alloc, setup, &mut all, watches)?;
-    Ok(lanes)
+    let cells = cells_at(alloc, setup, &mut all)?;
+    Ok(cells)
 }

@@ -78,6 +78,7 @@ impl Inbox {
         ensures got { (self.new.got ≡ self.old.got) × (beside.new.got ≡ beside.old.got) }
         ensures through { through beside.new ≡ through beside.old }
         ensures known { Knows self.new (length (put beside.old)) × Knows beside.new (length (taken self.old)) }
+        ensures looks { (self.old.base.looks ≤ self.new.base.looks) × (beside.old.base.looks ≤ beside.new.base.looks) }
         ensures same { IsUncut self.old self.new × IsUncut beside.old beside.new }
         ensures channel { IsChannel beside.new self.new }
     {
@@ -95,6 +96,7 @@ impl Inbox {
         ensures got { self.new.got ≡ keep }
         ensures through { through beside.new ≡ through beside.old }
         ensures known { Knows self.new drop_from × Knows beside.new drop_from }
+        ensures looks { (self.old.base.looks ≤ self.new.base.looks) × (beside.old.base.looks ≤ beside.new.base.looks) }
         ensures dropped { self.new.dropped + drop_from ≡ self.old.dropped + length (put beside.old) }
         ensures rewound { self.new.rewound ≡ drop_from }
         ensures same { IsSamePlace self.old self.new × IsSamePlace beside.old beside.new }
@@ -165,6 +167,7 @@ impl Inbox {
         ensures got { self.new.got ≡ self.old.got }
         ensures through { through beside.new ≡ through beside.old }
         ensures known { Knows self.new (length (put beside.old)) × Knows beside.new (length (put beside.old)) }
+        ensures looks { (self.old.base.looks ≤ self.new.base.looks) × (beside.old.base.looks ≤ beside.new.base.looks) }
         ensures same { IsUncut self.old self.new × IsUncut beside.old beside.new }
         ensures channel { IsChannel beside.new self.new }
     {
@@ -180,7 +183,7 @@ impl Inbox {
         requires more { length (taken self.old) + self.old.dropped < self.old.base.known }
         requires room { length (taken self.old) < self.old.limit }
         ensures one { length (taken self.new) ≡ length (taken self.old) + 1 }
-        ensures known { self.old.base.known ≤ self.new.base.known }
+        ensures looks { HasLooked self.old.base self.new.base }
         ensures got { self.new.got ≡ self.old.got }
         ensures same { IsUncut self.old self.new }
         ensures channel { (post : End) → IsChannel post self.old → IsChannel post self.new }

@@ -1,7 +1,7 @@
 -- A round of two roles: A has entries with the stamps 1 and 4, and B with 2 and 3.
 use Rattle.std.proofs.Common.{◌≡◌, ℕ, zero, suc, ◌<◌, ◌≤◌, ◌⊎◌, List, [], ◌∷◌, refl, inl, inr, ⊎_elim, arith}
 use Rattle.rcv_tree.specs.declared.entry.Timed.{Timed}
-use Rattle.rcv_merge.specs.Merge.{stamp_at, HasLeft, AreDone, IsFirst, ComesBefore}
+use Rattle.rcv_merge.specs.Merge.{stamp_at, HasLeft, AreDone, IsFirst}
 use Rattle.rcv_merge.specs.Shown.{sent}
 
 abbrev at : ℕ → ℕ → Timed
@@ -22,10 +22,6 @@ first_of_all = record { role = omega arith; left = omega arith; first = each }
 never_the_later : IsFirst round (0 ∷ 0 ∷ []) 1 → ⊥
 never_the_later first = ⊎_elim (λ lt. omega (arith, lt)) (λ same. omega (arith, same.0)) (first.first 0 (omega arith) (omega arith))
 
--- behind it B's does
-b_comes_then : ComesBefore round (1 ∷ 0 ∷ []) 1 0
-b_comes_then = omega arith
-
--- and with one left none is done
+-- with one entry left not all are done
 not_done : AreDone round (2 ∷ 1 ∷ []) → ⊥
 not_done done = let e = done 1 (omega arith) in absurd (omega (arith, e))

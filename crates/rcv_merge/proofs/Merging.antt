@@ -1,5 +1,6 @@
 -- One entry after another goes to the end of the merged list.
-use Rattle.std.proofs.Common.{◌≡◌, ℕ, zero, suc, ◌+◌, ◌-◌, ◌<◌, ◌≤◌, Some, List, [], ◌∷◌, ◌++◌, length, map, refl, sym, ◌∙◌, ap, subst, ◌⊎◌, inl, inr, ⊎_elim, arith}
+use Rattle.std.proofs.Common.{◌≡◌, ℕ, zero, suc, ◌+◌, ◌-◌, ◌<◌, ◌≤◌, Option, None, Some, List, [], ◌∷◌, ◌++◌, length, refl, sym, ◌∙◌, ap, subst, ◌⊎◌, inl, inr, ⊎_elim, arith}
+use denote.Ref.{Bor}
 use Rattle.std.specs.Prelude.{slice_get, slice_index, slice_index_or, slice_set, replicate, All}
 use Rattle.std.proofs.lemmas.Bool.{cases_eq, cases_lt}
 use Rattle.std.proofs.lemmas.List.{get_or-set_same, get_or-set_other, length-set}
@@ -10,7 +11,8 @@ use Rattle.rcv_theory.specs.Round.{NeverFalls, entries, Placed, IsBefore, IsBefo
 use Rattle.rcv_theory.proofs.Stamps.{Among, among_at, at_among}
 use Rattle.rcv_model.proofs.Located.{item}
 use Rattle.rcv_model.proofs.Lists.{some_same}
-use Rattle.rcv_merge.specs.Merge.{log_at, IsMergeOf, nobody, stamp_at, AreWithin, IsFirst}
+use Rattle.rcv_merge.specs.declared.round.Front.{Front}
+use Rattle.rcv_merge.specs.Merge.{lists_in, log_at, IsMergeOf, nobody, stamp_at, stamp_of, HasLeft, AreDone, AreWithin, IsFirst, AreStamps, AreStampsOf, AreDry, IsFront}
 
 abbrev placed_at : ℕ → ℕ → Timed → Placed
 placed_at role position timed = record { role = role; position = position; timed = timed }
@@ -68,13 +70,9 @@ zeros_length : (n : ℕ) → length (replicate {A = ℕ} n 0) ≡ n
 zeros_length zero = refl
 zeros_length (suc n) = let e = zeros_length n in omega (arith, e)
 
-lists : {A B : Type 0} (f : A → B) (xs : List A) → length (map f xs) ≡ length xs
-lists f [] = refl
-lists f (x ∷ xs) = let e = lists f xs in omega (arith, e)
-
-pub begun : {A : Type 0} (f : A → List Timed) (all : List A) (heads : List ℕ) (merged : List Entry) → heads ≡ replicate (length all) 0 → merged ≡ [] → IsMerging (map f all) heads merged
-begun f all heads merged e m = record {
-  within = record { count = ap length e ∙ zeros_length (length all) ∙ sym (lists f all); within = λ r. let z = none r in omega (arith, z) };
+pub begun : (logs : List (List Timed)) (heads : List ℕ) (merged : List Entry) (n : ℕ) → heads ≡ replicate n 0 → length logs ≤ n → merged ≡ [] → IsMerging logs heads merged
+begun logs heads merged n e few m = record {
+  within = record { count = let c = ap length e ∙ zeros_length n in omega (arith, c, few); within = λ r. let z = none r in omega (arith, z) };
   placed = [];
   is = m;
   up = tt;
@@ -84,7 +82,7 @@ begun f all heads merged e m = record {
 }
   where
     none : (r : ℕ) → slice_index heads r ≡ 0
-    none r = ap (λ l. slice_index l r) e ∙ zeros_index (length all) r
+    none r = ap (λ l. slice_index l r) e ∙ zeros_index n r
 
 module _ (logs : List (List Timed)) (heads : List ℕ) (merged : List Entry) (falls : (r : ℕ) → NeverFalls (log_at logs r)) (so : IsMerging logs heads merged) (r : ℕ) (first : IsFirst logs heads r) where
   x : (x : Timed) × (slice_get (log_at logs r) (slice_index heads r) ≡ Some x)
@@ -189,7 +187,7 @@ module _ (logs : List (List Timed)) (heads : List ℕ) (merged : List Entry) (fa
 
   pub merged_more : IsMerging logs (slice_set heads r (slice_index heads r + 1)) (merged ++ (slice_index_or (log_at logs r) (slice_index heads r) nobody).step ∷ [])
   merged_more = record {
-    within = record { count = length-set heads r (slice_index heads r + 1) ∙ so.within.count; within = within' };
+    within = record { count = let l = length-set heads r (slice_index heads r + 1) in let c = so.within.count in omega (arith, l, c); within = within' };
     placed = so.placed ++ added ∷ [];
     is = ap (λ l. l ++ (slice_index_or (log_at logs r) (slice_index heads r) nobody).step ∷ []) so.is ∙ ap (λ (t : Timed). entries (in_order so.placed) ++ t.step ∷ []) here ∙ sym (entries_snoc so.placed added);
     up = ascending_snoc so.placed added so.up (λ a i. so.before a i r (slice_index heads r) x.0 (omega arith) x.1);
@@ -253,3 +251,83 @@ merged_next logs heads merged r behind e longer falls so first h f m =
 
 pub less_left : (logs : List (List Timed)) (heads : List ℕ) (merged : List Entry) (r : ℕ) (behind : List ℕ) → IsMerging logs heads merged → IsFirst logs heads r → behind ≡ slice_set heads r (slice_index heads r + 1) → left_of logs behind < left_of logs heads
 less_left logs heads merged r behind so first h = subst (λ z. left_of logs z < left_of logs heads) (sym h) (left_less logs heads r first.role (let c = so.within.count in let l = first.role in omega (arith, c, l)) first.left)
+
+-- what the stamps say of the next entries
+declared_at : (logs : List (List Timed)) (q k : ℕ) (y : Timed) → slice_get (log_at logs q) k ≡ Some y → q < length logs
+declared_at [] q k y e = absurd (cc)
+declared_at (l ∷ ls) zero k y e = omega arith
+declared_at (l ∷ ls) (suc q) k y e = let n = declared_at ls q k y e in omega (arith, n)
+
+module _ (logs : List (List Timed)) (heads : List ℕ) (stamps : List (Option ℕ)) (are : AreStamps logs heads stamps) where
+  -- a role with a stamp has an entry left, which has that stamp
+  entry_of : (r t : ℕ) → slice_index_or stamps r None ≡ Some t → (x : Timed) × (slice_get (log_at logs r) (slice_index heads r) ≡ Some x) × (x.stamp ≡ t)
+  entry_of r t e = go (slice_get (log_at logs r) (slice_index heads r)) refl
+    where
+      go : (o : Option Timed) → slice_get (log_at logs r) (slice_index heads r) ≡ o → (x : Timed) × (slice_get (log_at logs r) (slice_index heads r) ≡ Some x) × (x.stamp ≡ t)
+      go None f = absurd (none (sym (are.1 r ∙ ap stamp_of f) ∙ e))
+        where
+          none : None ≡ Some t → ⊥
+          none g = absurd (cc)
+      go (Some x) f = (x, f, some_same (sym (are.1 r ∙ ap stamp_of f) ∙ e))
+
+  -- and a role with an entry left has its stamp
+  stamp_there : (r : ℕ) (x : Timed) → slice_get (log_at logs r) (slice_index heads r) ≡ Some x → slice_index_or stamps r None ≡ Some x.stamp
+  stamp_there r x f = are.1 r ∙ ap stamp_of f
+
+  stamp_is : (r : ℕ) (x : Timed) → slice_get (log_at logs r) (slice_index heads r) ≡ Some x → stamp_at logs heads r ≡ x.stamp
+  stamp_is r x f = ap (λ (t : Timed). t.stamp) (got_or (log_at logs r) (slice_index heads r) nobody x f)
+
+  pub is_first : length logs ≤ 8 → (front : Front) → IsFront stamps front → IsFirst logs heads front.role
+  is_first few front is = record {
+    role = declared_at logs front.role (slice_index heads front.role) mine.0 mine.1;
+    left = slice_get_within (log_at logs front.role) (slice_index heads front.role) mine.0 mine.1;
+    first = each;
+  }
+    where
+      mine : (x : Timed) × (slice_get (log_at logs front.role) (slice_index heads front.role) ≡ Some x) × (x.stamp ≡ front.stamp)
+      mine = entry_of front.role front.stamp is.stamp
+
+      own : stamp_at logs heads front.role ≡ front.stamp
+      own = stamp_is front.role mine.0 mine.1 ∙ mine.2
+
+      each : (q : ℕ) → q < length logs → HasLeft logs heads q → (stamp_at logs heads front.role < stamp_at logs heads q) ⊎ ((stamp_at logs heads front.role ≡ stamp_at logs heads q) × (front.role ≤ q))
+      each q lt left =
+          let x = item (log_at logs q) (slice_index heads q) left in
+          let f = stamp_is q x.0 x.1 in
+          ⊎_elim
+          (λ l. inl (omega (arith, own, f, l)))
+          (λ m. inr (own ∙ m.0 ∙ sym f, m.1))
+          (is.first q x.0.stamp (omega (arith, lt, few)) (stamp_there q x.0 x.1))
+
+  pub are_done : AreWithin logs heads → length logs ≤ 8 → AreDry stamps 8 → AreDone logs heads
+  are_done within few dry r lt = ⊎_elim
+      (λ left. absurd (none r (item (log_at logs r) (slice_index heads r) left)))
+      (λ done. let w = within.within r in omega (arith, done, w))
+      (cases_lt (slice_index heads r) (length (log_at logs r)))
+    where
+      none : (r : ℕ) → (x : Timed) × (slice_get (log_at logs r) (slice_index heads r) ≡ Some x) → ⊥
+      none r x = no (sym (dry r (let d = declared_at logs r (slice_index heads r) x.0 x.1 in omega (arith, d, few))) ∙ stamp_there r x.0 x.1)
+        where
+          no : None ≡ Some x.0.stamp → ⊥
+          no g = absurd (cc)
+
+-- at the beginning
+pub first_are : (logs : List (List Timed)) (heads : List ℕ) (stamps : List (Option ℕ)) (n : ℕ) → ((r : ℕ) → slice_index heads r ≡ 0) → n ≡ length logs → AreStampsOf logs n stamps → AreStamps logs heads stamps
+first_are logs heads stamps n zeros e are = (are.0, λ r. ⊎_elim (λ lt. are.1 r lt ∙ ap (λ k. stamp_of (slice_get (log_at logs r) k)) (sym (zeros r))) (λ le. are.2 r le ∙ sym (nothing r (slice_index heads r) (omega (arith, e, le)))) (cases_lt r n))
+  where
+    nothing : (r k : ℕ) → length logs ≤ r → stamp_of (slice_get (log_at logs r) k) ≡ None
+    nothing r k le = go (slice_get (log_at logs r) k) refl
+      where
+        go : (o : Option Timed) → slice_get (log_at logs r) k ≡ o → stamp_of (slice_get (log_at logs r) k) ≡ None
+        go None f = ap stamp_of f
+        go (Some x) f = absurd (let d = declared_at logs r k x f in omega (arith, d, le))
+
+pub eight_zeros : (r : ℕ) → slice_index (0 ∷ 0 ∷ 0 ∷ 0 ∷ 0 ∷ 0 ∷ 0 ∷ 0 ∷ []) r ≡ 0
+eight_zeros r = zeros_index 8 r
+
+pub lists_count : (logs : List (Bor (List Timed))) → length logs ≡ length (lists_in logs)
+lists_count [] = refl
+lists_count (x ∷ xs) = let e = lists_count xs in omega (arith, e)
+
+pub lists_few : (logs : List (Bor (List Timed))) → length logs ≤ 8 → length (lists_in logs) ≤ 8
+lists_few logs few = let e = lists_count logs in omega (arith, e, few)

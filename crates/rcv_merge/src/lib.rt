@@ -5,6 +5,6 @@ mod round;
 #[cfg(test)]
 mod tests;
 
-pub use round::{TimedLogs, merge_round};
+pub use round::merge_round;
 /// Want of memory, which is the one error of this crate.
 pub use std::alloc::AllocError as Memory;

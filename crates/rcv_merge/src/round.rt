@@ -1,82 +1,125 @@
 // The order of a round: of all logs, the entry that comes first by its stamp is merged next.
 
-ghost use Rattle.std.specs.Prelude.{◌≡◌, ◌<◌, ◌+◌, ◌↔◌, IsTrue, true, length, slice_index, slice_set, replicate};
-ghost use Rattle.std.specs.Prelude.{All, MatchOption, IfOk, IfSome};
+ghost use Rattle.std.specs.Prelude.{◌≡◌, ◌<◌, ◌≤◌, ◌+◌, ◌^◌, length, slice_index, slice_index_or};
+ghost use Rattle.std.specs.Prelude.{slice_get, slice_set};
+ghost use Rattle.std.specs.Prelude.{All, MatchOption, OnOk, None};
 ghost use Rattle.rcv_theory.specs.Round.{NeverFalls};
-ghost use Rattle.rcv_merge.specs.Merge.{lists_in, next_at, AreWithin, HasLeft, HasNext, AreDone, IsFirst, ComesBefore};
-ghost use Rattle.rcv_merge.specs.Merge.{IsMergeOf};
+ghost use Rattle.rcv_merge.specs.Merge.{lists_in, nobody, next_at, stamp_of, AreStamps, AreStampsOf, IsMergeOf, HasLeft};
+ghost use Rattle.rcv_merge.specs.Merge.{IsFront, IsFrontOf, AreDry, IsFirstOfBoth};
 
 use rcv_tree::entry::{Entry, Timed};
-use std::alloc::{AllocError, Global};
+use std::alloc::AllocError;
 
-/// One log for each role, in order of declaration.
-pub type TimedLogs = Vec<Vec<Timed>>;
+// So many roles have a log at most.
+const ROLES: usize = 8;
 
-/// The entries of all logs, in none of which stamps fall, each once: by stamp, then role, then position in the role's
-/// log. Fails where memory runs out.
-pub fn merge_round(alloc: Global, logs: &TimedLogs) -> Result<Vec<Entry>, AllocError>
-    requires { All NeverFalls (lists_in logs.now.items) }
-    ensures { IfOk result (λ merged. IsMergeOf (lists_in logs.now.items) merged.items) }
-{
-    let mut heads = zeros(alloc, logs.len())?;
-    let mut merged = Vec::new(alloc);
-    while let Some(role) = first(logs, &heads) {
-        let entry = take(logs, &mut heads, role);
-        merged.push(entry)?;
-    }
-    Ok(merged)
+// A role, and the stamp of its next entry.
+#[derive(Clone, Copy)]
+struct Front {
+    role: usize,
+    stamp: u64,
 }
 
-// So many zeros.
-fn zeros(alloc: Global, count: usize) -> Result<Vec<usize>, AllocError>
-    ensures { IfOk result (λ v. v.items ≡ replicate count 0) }
+/// The entries of these logs, one for each of at most eight roles, in none of which stamps fall, each once: by stamp,
+/// then role, then position in the role's log. They come into a list, in place of what is in it. Fails where memory runs
+/// out.
+pub fn merge_round(logs: &[&[Timed]], merged: &mut Vec<Entry>) -> Result<(), AllocError>
+    requires few { length logs.now ≤ 8 }
+    requires rise { All NeverFalls (lists_in logs.now) }
+    ensures { OnOk result (IsMergeOf (lists_in logs.now) merged.new.items) }
 {
-    let mut heads = Vec::new(alloc);
-    for _ in 0..count {
-        heads.push(0)?;
+    merged.clear();
+    merged.reserve(count_of(logs))?;
+    let mut heads = [0; ROLES];
+    let mut stamps = first_stamps(logs);
+    while let Some(front) = first(&stamps) {
+        let entry = take(logs, &mut heads, &mut stamps, front.role);
+        merged.push(entry)?;
     }
-    Ok(heads)
+    Ok(())
+}
+
+// How many entries the logs have, for what is to be reserved.
+fn count_of(logs: &[&[Timed]]) -> usize {
+    let mut count: usize = 0;
+    for log in logs {
+        count = count.saturating_add(log.len());
+    }
+    count
+}
+
+// The stamp of an entry, if the log has so many.
+fn stamp_at(log: &[Timed], place: usize) -> Option<u64>
+    ensures { result ≡ stamp_of (slice_get log.now place) }
+{
+    match log.get(place) {
+        Some(timed) => Some(timed.stamp),
+        None => None,
+    }
+}
+
+// The entry at a place of the log, behind which there is a place, too.
+fn entry_at(log: &[Timed], place: usize) -> Entry
+    requires { place < length log.now }
+    ensures entry { result ≡ (slice_index_or log.now place nobody).step }
+    ensures behind { place + 1 < 2 ^ 64 }
+{
+    log[place].step
+}
+
+// The stamps of the first entries.
+fn first_stamps(logs: &[&[Timed]]) -> [Option<u64>; ROLES]
+    requires { length logs.now ≤ 8 }
+    ensures { AreStampsOf (lists_in logs.now) (length logs.now) result }
+{
+    let mut stamps = [None; ROLES];
+    for role in 0..logs.len() {
+        stamps[role] = stamp_at(logs[role], 0);
+    }
+    stamps
 }
 
 // The next entry of a role, behind which its head stands afterwards.
-fn take(logs: &TimedLogs, heads: &mut Vec<usize>, role: usize) -> Entry
-    requires role { (role < length logs.now.items) × (role < length heads.old.items) }
-    requires left { HasLeft (lists_in logs.now.items) heads.old.items role }
-    ensures heads { heads.new.items ≡ slice_set heads.old.items role (slice_index heads.old.items role + 1) }
-    ensures entry { result ≡ (next_at (lists_in logs.now.items) heads.old.items role).step }
+fn take(
+    logs: &[&[Timed]],
+    heads: &mut [usize; ROLES],
+    stamps: &mut [Option<u64>; ROLES],
+    role: usize,
+) -> Entry
+    requires role { (role < length logs.now) × (role < 8) }
+    requires left { HasLeft (lists_in logs.now) heads.old role }
+    requires stamps { AreStamps (lists_in logs.now) heads.old stamps.old }
+    ensures heads { heads.new ≡ slice_set heads.old role (slice_index heads.old role + 1) }
+    ensures stamps { AreStamps (lists_in logs.now) heads.new stamps.new }
+    ensures entry { result ≡ (next_at (lists_in logs.now) heads.old role).step }
 {
-    let log = &logs[role];
+    let log = logs[role];
     let place = heads[role];
-    let entry = log[place].step;
+    let entry = entry_at(log, place);
     heads[role] = place + 1;
+    stamps[role] = stamp_at(log, place + 1);
     entry
 }
 
-// The role whose next entry is the first of all that are left, each log being done up to its head. None where all are
-// done.
-fn first(logs: &TimedLogs, heads: &Vec<usize>) -> Option<usize>
-    requires { AreWithin (lists_in logs.now.items) heads.now.items }
-    ensures { MatchOption result (AreDone (lists_in logs.now.items) heads.now.items)
-        (IsFirst (lists_in logs.now.items) heads.now.items) }
+// The role whose next entry is the first of all. None where no role has one.
+fn first(stamps: &[Option<u64>; ROLES]) -> Option<Front>
+    ensures { MatchOption result (AreDry stamps.now 8) (IsFront stamps.now) }
 {
-    let mut best: Option<usize> = None;
-    for role in 0..logs.len() {
-        if heads[role] < logs[role].len() && comes_first(logs, heads, role, best) {
-            best = Some(role);
+    let mut best: Option<Front> = None;
+    for role in 0..ROLES {
+        if let Some(stamp) = stamps[role] {
+            best = Some(first_of(best, Front { role, stamp }));
         }
     }
     best
 }
 
-// Whether the next entry of a role comes before that of the role that is the first so far.
-fn comes_first(logs: &TimedLogs, heads: &Vec<usize>, role: usize, best: Option<usize>) -> bool
-    requires role { HasNext (lists_in logs.now.items) heads.now.items role }
-    requires best { IfSome best (HasNext (lists_in logs.now.items) heads.now.items) }
-    ensures { MatchOption best (result ≡ true)
-        (λ b. IsTrue result ↔ ComesBefore (lists_in logs.now.items) heads.now.items role b) }
+// The one of two that comes first: the former, where they have one stamp.
+fn first_of(former: Option<Front>, latter: Front) -> Front
+    ensures { IsFirstOfBoth former latter result }
 {
-    match best {
-        None => true,
-        Some(b) => logs[role][heads[role]].stamp < logs[b][heads[b]].stamp,
+    match former {
+        Some(front) if front.stamp <= latter.stamp => front,
+        _ => latter,
     }
 }

@@ -219,7 +219,7 @@ publishes_at room points n id v old m new is more ok next s r wide at below =
     let here : fill_place v ≡ place room put = λ i. place (p.room_is i) (long i) in
     let sent' = r.sent ++ m ∷ [] in
     let longer : length sent' ≡ put + 1 = length-append r.sent (m ∷ []) in
-    let size : length s.words ≡ 32 = r.size in
+    let size : length s.words ≡ 48 = r.size in
     let all' : v.sent ++ m ∷ [] ≡ sent' = ap (λ l. l ++ m ∷ []) p.all in
     let ok' : CanPass points m = subst (λ (z : List ℕ). CanPass z m) p.points_is ok in
     let ends : Ends = record { pusher = r.ends.pusher; puller = r.ends.puller; filling = 0; lifting = r.ends.lifting } in
@@ -294,7 +294,7 @@ releases_at room points n id v front m new is next s r wide at below =
     let here : read_place v ≡ place room got = λ i. place (p.room_is i) (long i) in
     let taken' = r.taken ++ front ∷ [] in
     let longer : length taken' ≡ got + 1 = length-append r.taken (front ∷ []) in
-    let size : length s.words ≡ 32 = r.size in
+    let size : length s.words ≡ 48 = r.size in
     let within : put ≤ got + room = r.within in
     let all' : v.taken ++ front ∷ [] ≡ taken' = ap (λ l. l ++ front ∷ []) p.all in
     let ends : Ends = record { pusher = r.ends.pusher; puller = r.ends.puller; filling = r.ends.filling; lifting = 0 } in

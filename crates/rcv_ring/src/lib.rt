@@ -5,7 +5,6 @@ mod end;
 mod make;
 mod pull;
 mod push;
-mod rest;
 mod rule;
 #[cfg(test)]
 mod tests;

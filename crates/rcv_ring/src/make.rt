@@ -26,14 +26,12 @@ pub fn ring(alloc: Global, room: u32, points: PointSet) -> Result<(Pusher, Pulle
         put: 0,
         seen: 0,
         room,
-        in_vain: false,
     };
     let puller = Puller {
         end: puller,
         got: 0,
         seen: 0,
         room,
-        in_vain: false,
     };
     Ok((pusher, puller))
 }

@@ -7,7 +7,6 @@ ghost use Rattle.rcv_ring.specs.Shown.{HasLooked, HasMore, IsSameEnd, LooksOnce,
 
 use crate::end::End;
 use crate::push::Pusher;
-use crate::rest::rest;
 use rcv_tree::event::Message;
 use std::marker::Model;
 
@@ -20,8 +19,6 @@ pub struct Puller {
     pub(crate) got: u64,
     pub(crate) seen: u64,
     pub(crate) room: u64,
-    // Whether its last look was in vain, so that it rests behind a further one.
-    pub(crate) in_vain: bool,
 }
 
 impl Model for Puller {
@@ -38,9 +35,9 @@ impl Model for Puller {
 }
 
 impl Puller {
-    /// Takes the front message. Where a look of this call found the ring empty it is None, and nothing is taken; where
-    /// the call before it was in vain, too, it lasts some microseconds longer. It never waits for the other end, and
-    /// takes no memory.
+    /// Takes the front message. Where a look of this call found the ring empty it is None, and nothing is taken. It
+    /// never waits for the other end, and takes no memory. Each look holds the other end up, so a caller that tries
+    /// again and again had better rest in between.
     pub fn pull(&mut self) -> Option<Message>
         ensures some { IfSome result (λ m. self.new.taken ≡ self.old.taken ++ m ∷ []) }
         ensures passes { IfSome result (λ m. CanPass self.old.points m) }
@@ -50,16 +47,13 @@ impl Puller {
         ensures looks { HasLooked self.old self.new }
         ensures same { IsSameEnd self.old self.new }
     {
-        if self.has_more() {
-            return Some(self.take());
+        if !self.has_more() {
+            self.look();
+            if !self.has_more() {
+                return None;
+            }
         }
-        self.look();
-        if self.has_more() {
-            self.in_vain = false;
-            return Some(self.take());
-        }
-        self.give_up();
-        None
+        Some(self.take())
     }
 
     /// Tells both ends what the other did: what was taken begins what was sent. The answer is how many messages lie
@@ -75,8 +69,6 @@ impl Puller {
         ensures looks { (self.new.looks ≡ self.old.looks + 1) × (beside.new.looks ≡ beside.old.looks + 1) }
         ensures same { IsSameEnd self.old self.new × IsSameEnd beside.old beside.new }
     {
-        self.in_vain = false;
-        beside.in_vain = false;
         // An end learns what it heard by its next look, and then hears once more, so that it knows just that.
         self.end.hear_sent(&mut beside.end);
         beside.end.hear_taken(&mut self.end);
@@ -85,22 +77,6 @@ impl Puller {
         self.end.hear_sent(&mut beside.end);
         beside.end.hear_taken(&mut self.end);
         (beside.put - self.got) as u32
-    }
-
-    /// Takes all that the ring holds. It takes no memory.
-    pub fn empty(&mut self, beside: &mut Pusher)
-        requires { beside.old.ring ≡ self.old.ring }
-        ensures all { self.new.taken ≡ beside.old.sent }
-        ensures sent { beside.new.sent ≡ beside.old.sent }
-        ensures known { (self.new.known ≡ length beside.old.sent) × (beside.new.known ≡ length beside.old.sent) }
-        ensures same { IsSameEnd self.old self.new × IsSameEnd beside.old beside.new }
-    {
-        let held = self.meet(beside);
-        for _ in 0..held {
-            // The ends have met: as many messages as are held are there for certain.
-            let Some(_) = self.pull() else { unreachable!() };
-        }
-        self.meet(beside);
     }
 
     // Whether a message is there by what the last look found.
@@ -121,16 +97,6 @@ impl Puller {
         ensures few { self.new.seen ≤ length self.new.taken + self.new.room }
     {
         self.seen = self.end.see_put();
-    }
-
-    // Rests where it was in vain before.
-    fn give_up(&mut self)
-        ensures { self.new ≡ self.old }
-    {
-        if self.in_vain {
-            rest();
-        }
-        self.in_vain = true;
     }
 
     // Reads the front message from its slot, gives the slot free, and counts the message.

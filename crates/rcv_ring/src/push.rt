@@ -6,7 +6,6 @@ ghost use Rattle.rcv_ring.specs.Lists.{Begins};
 ghost use Rattle.rcv_ring.specs.Shown.{HasLooked, HasRoom, IsSameEnd, LooksOnce, WasFull, through, with_sent};
 
 use crate::end::End;
-use crate::rest::rest;
 use rcv_tree::event::Message;
 use std::marker::Model;
 
@@ -19,8 +18,6 @@ pub struct Pusher {
     pub(crate) put: u64,
     pub(crate) seen: u64,
     pub(crate) room: u64,
-    // Whether its last look was in vain, so that it rests behind a further one.
-    pub(crate) in_vain: bool,
 }
 
 impl Model for Pusher {
@@ -38,8 +35,8 @@ impl Model for Pusher {
 
 impl Pusher {
     /// Sends a message of one of the ring's points, with a stamp up to 2^62. Where a look of this call found the ring
-    /// full it comes back, and nothing is sent; where the call before it was in vain, too, it lasts some microseconds
-    /// longer. It never waits for the other end, and takes no memory.
+    /// full it comes back, and nothing is sent. It never waits for the other end, and takes no memory. Each look holds
+    /// the other end up, so a caller that tries again and again had better rest in between.
     pub fn push(&mut self, message: Message) -> Result<(), Message>
         requires passes { CanPass self.old.points message }
         requires through { through self.old < 2 ^ 62 }
@@ -51,18 +48,14 @@ impl Pusher {
         ensures looks { HasLooked self.old self.new }
         ensures same { IsSameEnd self.old self.new }
     {
-        if self.has_room() {
-            self.write(message);
-            return Ok(());
+        if !self.has_room() {
+            self.look();
+            if !self.has_room() {
+                return Err(message);
+            }
         }
-        self.look();
-        if self.has_room() {
-            self.in_vain = false;
-            self.write(message);
-            return Ok(());
-        }
-        self.give_up();
-        Err(message)
+        self.write(message);
+        Ok(())
     }
 
     // Whether a message more fits by what the last look found.
@@ -84,16 +77,6 @@ impl Pusher {
         ensures most { length self.new.sent ≤ self.new.seen + self.new.room }
     {
         self.seen = self.end.see_got();
-    }
-
-    // Rests where it was in vain before.
-    fn give_up(&mut self)
-        ensures { self.new ≡ self.old }
-    {
-        if self.in_vain {
-            rest();
-        }
-        self.in_vain = true;
     }
 
     // Writes the message into its slot, which is free, and counts it.

@@ -30,12 +30,13 @@ pub struct View {
 }
 
 // Where the counts lie in the table, and how many words it has. One thread writes the one count and one the other, so
-// they stand on cache lines of their own.
-pub(crate) const PUT: usize = 0;
+// each has 15 words on either side that nobody writes: wherever the table lies, no other count and no other block of
+// memory shares its cache line, or a pair of lines.
+pub(crate) const PUT: usize = 16;
 
-pub(crate) const GOT: usize = 16;
+pub(crate) const GOT: usize = 32;
 
-pub(crate) const WORDS: usize = 32;
+pub(crate) const WORDS: usize = 48;
 
 /// The rule: what was taken begins what was sent, and what lies between stands in its slots.
 pub struct InOrder;

@@ -121,7 +121,7 @@ fn what_is_taken_makes_room_behind_the_rest(rt: HostRuntime) -> Result<(), Fail>
     assert!(rt; pusher.push(message(3)).is_ok());
     assert_eq!(rt; puller.meet(&mut pusher), 2);
     assert!(rt; puller.pull() == Some(message(2)));
-    puller.empty(&mut pusher);
+    assert!(rt; puller.pull() == Some(message(3)));
     assert_eq!(rt; puller.meet(&mut pusher), 0);
     assert!(rt; puller.pull().is_none());
     Ok(())

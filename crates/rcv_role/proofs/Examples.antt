@@ -19,7 +19,7 @@ use Rattle.rcv_session.specs.Session.{SessionView, net_for}
 use Rattle.rcv_ring.specs.Shown.{RingId}
 use Rattle.rcv_ring.specs.Shown as rings
 use Rattle.rcv_mailbox.specs.Ends.{End, new_end}
-use Rattle.rcv_fence.specs.Shown.{Shown, fresh}
+use Rattle.rcv_fence.specs.Shown.{FenceId, Shown, fresh}
 use Rattle.rcv_role.specs.declared.poll.Poll.{Poll}
 use Rattle.rcv_role.specs.declared.poll.Stop.TheVariants as stops
 use Rattle.rcv_role.specs.Part.{PartView, IsReached, durable_of, first_lost, first_part, with_crash, gone_back, cut_back}
@@ -212,11 +212,11 @@ b_is_not_reached protocol is reached = ⊎_elim (λ f. absurd (cc)) (λ f. not_c
         concerned.1
 
 -- A run that looks once and is fenced, and then polls no more.
-abbrev looked : List ℕ → Shown
-looked words = record { looks = length words; last = get_or words (length words - 1) 0; seen = words; raised = [] }
+abbrev looked : FenceId → List ℕ → Shown
+looked id words = record { fence = id; looks = length words; last = get_or words (length words - 1) 0; seen = words; raised = [] }
 
-stops_at_once : (c : CellView) → IsFencedBy c.part 257 → Ran 1 c c fresh (looked (257 ∷ [])) stops.Fenced
-stops_at_once c fenced = record {
+stops_at_once : (id : FenceId) (c : CellView) → IsFencedBy c.part 257 → Ran 1 c c (fresh id) (looked id (257 ∷ [])) stops.Fenced
+stops_at_once id c fenced = record {
   steps = 0;
   few = omega arith;
   made = unmoved;
@@ -232,8 +232,8 @@ stops_at_once c fenced = record {
 no_pass : (p : PartView) (word : ℕ) (words : List ℕ) (looks : ℕ) → IsFencedBy p word → AllPass p [] (word ∷ words) looks → ⊥
 no_pass p word words looks fenced passed = subst (λ l. All (LetsPass p) l) (sym passed.loaded) passed.pass 0 0 (omega arith) fenced
 
-polls_on : (turns : ℕ) (old new : CellView) (poll : Poll) → IsFencedBy old.part 257 → EndsBy turns old new fresh (looked (257 ∷ 0 ∷ [])) poll → ⊥
-polls_on turns old new poll fenced ends = no_pass old.part 257 (0 ∷ []) (ends.steps + 1) fenced ends.passed
+polls_on : (id : FenceId) (turns : ℕ) (old new : CellView) (poll : Poll) → IsFencedBy old.part 257 → EndsBy turns old new (fresh id) (looked id (257 ∷ 0 ∷ [])) poll → ⊥
+polls_on id turns old new poll fenced ends = no_pass old.part 257 (0 ∷ []) (ends.steps + 1) fenced ends.passed
 
-is_spent : (turns : ℕ) (old new : CellView) → IsFencedBy old.part 257 → Ran turns old new fresh (looked (257 ∷ 0 ∷ [])) stops.Spent → ⊥
-is_spent turns old new fenced ran = no_pass old.part 257 (0 ∷ []) turns fenced ran.passed
+is_spent : (id : FenceId) (turns : ℕ) (old new : CellView) → IsFencedBy old.part 257 → Ran turns old new (fresh id) (looked id (257 ∷ 0 ∷ [])) stops.Spent → ⊥
+is_spent id turns old new fenced ran = no_pass old.part 257 (0 ∷ []) turns fenced ran.passed

@@ -4,6 +4,7 @@ use Rattle.std.proofs.Common.{◌≡◌, ◌≢◌, ℕ, ◌+◌, ◌-◌, ◌*�
 use Rattle.std.specs.Prelude.{ℤ, pos, min, ◌↔◌, IsTrue, IfSome, nat_le, nat_lt, slice_get, slice_index_or}
 use Rattle.std.specs.List.{All, cons_option, count_by}
 use Rattle.std.proofs.lemmas.Nat.{le-div}
+use Rattle.std.proofs.lemmas.Option.{get_or_from_slice_get}
 use Rattle.std.proofs.lemmas.List.{length-take, take-take}
 use Rattle.std.proofs.lemmas.List.Sums.{count_by-le-length}
 use Rattle.rcv_tree.specs.Bits.{IsPoint}
@@ -26,7 +27,10 @@ use Rattle.rcv_theory.specs.Own.{Own, own_place, own_event, own_after, own_back,
 use Rattle.rcv_plan.proofs.Few.{plans_are_short}
 use Rattle.rcv_session.specs.Session.{SessionView, text_of, roles_of, net_for, lines_of, rules_of, IsPointOf}
 use Rattle.rcv_checkpoint.specs.declared.state.State.{State}
-use Rattle.rcv_checkpoint.specs.Tail.{TailView, made, place_of as place_in, Holds, with_held, from_base, IsSaved, AreFrom}
+use Rattle.rcv_checkpoint.specs.declared.changed.Changed.{Changed}
+use Rattle.rcv_checkpoint.specs.Changed.{IsChange}
+use Rattle.rcv_checkpoint.specs.Rows.{nowhere}
+use Rattle.rcv_checkpoint.specs.Tail.{TailView, made, place_of as place_in, Holds, final_vars, with_held, from_base, IsSaved, AreFrom}
 use Rattle.rcv_checkpoint.proofs.TailStates.{top_from, same_from, more_from, fewer_from, forgotten_from}
 use Rattle.rcv_ledger.specs.Ledger.{state_behind}
 use Rattle.rcv_ledger.proofs.Lists.{get_taken, get_more, take_left, take_whole}
@@ -34,7 +38,7 @@ use Rattle.rcv_core.specs.Setup.{vars_by, vars_behind}
 use Rattle.rcv_core.proofs.Books.{two_ends, less_by, low_role}
 use Rattle.rcv_core.proofs.Pushing.{behind_told}
 use Rattle.rcv_core.proofs.Ranges.{ranges}
-use Rattle.rcv_role.specs.Part.{PartView, IsOwn, AreOwn, IsOwnSend, Offers, AllSends, AllRecvs, IsBelow, HasNoStrangers, HoldsStates, IsPart, durable_of, state_at, with_crash, point_in}
+use Rattle.rcv_role.specs.Part.{PartView, IsOwn, AreOwn, IsOwnSend, Offers, AllSends, AllRecvs, IsBelow, HasNoStrangers, HoldsStates, IsPart, IsNextSend, durable_of, state_at, with_crash, point_in}
 
 abbrev pub IsPartOf : PartView → TailView → Type 0
 IsPartOf p tail = IsPart p.setup p.role p.own p.base p.held tail
@@ -125,6 +129,20 @@ module _ (p : PartView) (tail : TailView) (part : IsPartOf p tail) where
 
     pub top_vars : (x : State) → slice_get tail.states (length tail.states - 1) ≡ Some x → x.vars ≡ vars_by p.setup p.role p.own.events
     top_vars x at = ap (λ (y : State). y.vars) (top_is x at)
+
+    -- the variables that a tail compares with are those of the present state
+    pub final_is : final_vars tail ≡ vars_by p.setup p.role p.own.events
+    final_is = ap (λ (y : State). y.vars) (get_or_from_slice_get tail.states (length tail.states - 1) last nowhere at) ∙ top_vars last at
+      where
+        last : State
+        last = state_at p.setup p.role p.own.events p.held
+
+        at : slice_get tail.states (length tail.states - 1) ≡ Some last
+        at =
+            let a = part.states.all in
+            let low = base_held in
+            let place : p.held - tail.base ≡ length tail.states - 1 = omega (arith, a, low) in
+            subst (λ k. slice_get tail.states k ≡ Some last) place (part.states.each p.held low (omega arith))
 
     pub next_state : (e : Event) (x state : State) → IsOwn p.setup p.role e → slice_get tail.states (length tail.states - 1) ≡ Some x → state.k ≡ e.point → state.vars ≡ vars_behind p.setup e x.vars → state ≡ state_behind (vars_by p.setup) p.role (p.own.events ++ e ∷ [])
     next_state e x state own at point vars =
@@ -354,7 +372,7 @@ module _ (p : PartView) (tail : TailView) (zs : List ℕ) (part : IsPartOf p tai
       sent = refl;
     }
 
-    pub own_send : IsBelow p → IsOwnSend p (sent_event p point value)
+    pub own_send : IsBelow p → IsOwnSend p.setup p.role (sent_event p point value)
     own_send below = record {
       own = record { role = refl; first = (text_point point among).0; last = (text_point point among).1; of = inl (sends point among); partner = λ e. absurd (cc) };
       dir = refl;
@@ -383,6 +401,38 @@ module _ (v q : PartView) (tail : TailView) (is : v ≡ q) (part : IsPartOf v ta
   pub seen_state : (e : Event) (x state : State) → q.own.crashed ≡ false → IsOwn q.setup q.role e → slice_get tail.states (length tail.states - 1) ≡ Some x → state.k ≡ e.point → state.vars ≡ vars_behind v.setup e x.vars → state ≡ state_behind (vars_by q.setup) q.role (q.own.events ++ e ∷ [])
   seen_state e x state running own at point vars = next_state q tail seen running e x state own at point (subst (λ (p : PartView). state.vars ≡ vars_behind p.setup e x.vars) is vars)
 
+  -- what an event changed of the variables
+  pub seen_change : (x : State) (change : Changed) (vars : List ℤ) → q.own.crashed ≡ false → slice_get tail.states (length tail.states - 1) ≡ Some x → IsChange change x.vars vars → IsChange change (vars_by q.setup q.role q.own.events) vars
+  seen_change x change vars running at is = subst (λ l. IsChange change l vars) (top_vars q tail seen running x at) is
+
+  pub seen_final : (change : Changed) (vars : List ℤ) → q.own.crashed ≡ false → IsChange change (vars_by q.setup q.role q.own.events) vars → IsChange change (final_vars tail) vars
+  seen_final change vars running is = subst (λ l. IsChange change l vars) (sym (final_is q tail seen running)) is
+
+  -- the states that are held
+  pub seen_holds : (count : ℕ) → tail.base ≤ count → count ≤ v.held → Holds tail count
+  seen_holds count from to = (from, let c = part.count_is in omega (arith, c, to))
+
+  pub seen_vars : (count : ℕ) (x : State) → tail.base ≤ count → count ≤ v.held → slice_get tail.states (place_in tail count) ≡ Some x → x.vars ≡ vars_by q.setup q.role (take count q.own.events)
+  seen_vars count x from to at =
+      let same : Some x ≡ Some (state_at v.setup v.role v.own.events count) = sym at ∙ part.states.each count from to in
+      let state : x ≡ state_at v.setup v.role v.own.events count = cc in
+      ap (λ (y : State). y.vars) state ∙ ap (λ (p : PartView). vars_by p.setup p.role (take count p.own.events)) is
+
+  -- a remembered choice
+  pub remembered : (o : Option Event) (e : Event) → IfSome o (IsNextSend v.setup v.role v.own) → o ≡ Some e → IsNextSend q.setup q.role q.own e
+  remembered o e next some = subst (λ (p : PartView). IsNextSend p.setup p.role p.own e) is (subst (λ x. IfSome x (IsNextSend v.setup v.role v.own)) some next)
+
+  pub remember : (e : Event) → IsNextSend q.setup q.role q.own e → IsNextSend v.setup v.role v.own e
+  remember e next = subst (λ (p : PartView). IsNextSend p.setup p.role p.own e) (sym is) next
+
+  -- a crashed role has chosen nothing
+  pub none_chosen : (own : Own) (o : Option Event) → q.own.crashed ≡ true → IfSome o (IsNextSend v.setup v.role v.own) → IfSome o (IsNextSend v.setup v.role own)
+  none_chosen own None crashed next = tt
+  none_chosen own (Some e) crashed next =
+      let running = next.may.free.running in
+      let same : v.own.crashed ≡ true = subst (λ (p : PartView). p.own.crashed ≡ true) (sym is) crashed in
+      absurd (cc)
+
   module _ (zs : List ℕ) (offers : Offers q zs) where
     pub offered_point : (z : ℕ) → IsIn z zs → IsPointOf v.setup z
     offered_point z i = subst (λ (p : PartView). IsPointOf p.setup z) (sym is) (let t = text_point q tail zs seen offers z i in record { first = t.0; last = t.1 })
@@ -397,13 +447,16 @@ module _ (v q : PartView) (tail : TailView) (is : v ≡ q) (part : IsPartOf v ta
       pub chosen_point : IsPointOf v.setup point
       chosen_point = offered_point point (among q tail zs seen offers x running at point (pos 0) some sends chosen_now)
 
-      pub sent_may : (value : ℤ) → (IsOwnDue (rules_of q.setup) q.role q.own → ⊥) → IsBelow q → value ≡ number_for ((net_for v.setup).label point) (lines_of v.setup v.role) x.vars v.own.attempt → MayOwnSend (rules_of q.setup) q.own (sent_event v point value)
+      sent_may : (value : ℤ) → (IsOwnDue (rules_of q.setup) q.role q.own → ⊥) → IsBelow q → value ≡ number_for ((net_for v.setup).label point) (lines_of v.setup v.role) x.vars v.own.attempt → MayOwnSend (rules_of q.setup) q.own (sent_event v point value)
       sent_may value calm below number =
           subst (λ (p : PartView). MayOwnSend (rules_of q.setup) q.own (sent_event p point value)) (sym is)
           (may_send q tail zs seen offers x running at point value some sends chosen_now calm below (subst (λ (p : PartView). value ≡ number_for ((net_for p.setup).label point) (lines_of p.setup p.role) x.vars p.own.attempt) is number))
 
-      pub sent_own : (value : ℤ) → IsBelow q → IsOwnSend q (sent_event v point value)
-      sent_own value below = subst (λ (p : PartView). IsOwnSend q (sent_event p point value)) (sym is) (own_send q tail zs seen offers x running at point value some sends chosen_now below)
+      sent_own : (value : ℤ) → IsBelow q → IsOwnSend q.setup q.role (sent_event v point value)
+      sent_own value below = subst (λ (p : PartView). IsOwnSend q.setup q.role (sent_event p point value)) (sym is) (own_send q tail zs seen offers x running at point value some sends chosen_now below)
+
+      pub sent_next : (value : ℤ) → (IsOwnDue (rules_of q.setup) q.role q.own → ⊥) → IsBelow q → value ≡ number_for ((net_for v.setup).label point) (lines_of v.setup v.role) x.vars v.own.attempt → IsNextSend q.setup q.role q.own (sent_event v point value)
+      sent_next value calm below number = record { may = sent_may value calm below number; sends = sent_own value below }
 
     pub whose_sends : (x sender : ℕ) → IsIn x zs → sender ≡ (net_for v.setup).sender x → sender ≡ v.role → AllSends q zs
     whose_sends x sender i e g = all_sends q tail zs seen offers x i (subst (λ (p : PartView). (net_for p.setup).sender x ≡ p.role) is (sym e ∙ g))

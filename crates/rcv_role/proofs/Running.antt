@@ -58,6 +58,7 @@ pub record IsRunning (from now : CellView) (watch w : Shown) (n : ℕ) : Type 0 
   pub few : length now.part.log ≤ length from.part.log + n
   pub running : now.part.own.crashed ≡ false
   pub made : Moves from n now
+  pub fence : w.fence ≡ watch.fence
   pub looks : w.looks ≡ watch.looks + n
   pub raised : w.raised ≡ watch.raised
   pub passed : AllPass from.part watch.seen w.seen n
@@ -69,6 +70,7 @@ run_start c watch settled strangers running = record {
   few = omega arith;
   running = running;
   made = unmoved;
+  fence = refl;
   looks = omega arith;
   raised = refl;
   passed = none_yet c.part watch.seen;
@@ -92,7 +94,7 @@ was_fenced a b w g f = record {
   reaches = subst (λ (z : SessionView × ℕ). IsReached z.0 f.role f.point z.1) (λ i. (g.setup i, g.role i)) f.reaches;
 }
 
-module _ (a b : CellView) (watch w w2 : Shown) (k turns : ℕ) (fenced : Bool) (so : IsRunning a b watch w k) (in_turn : k < turns) (looks : w2.looks ≡ w.looks + 1) (raised : w2.raised ≡ w.raised) (seen : w2.seen ≡ w.seen ++ w2.last ∷ []) (tells : IsTrue fenced ↔ IsFencedBy b.part w2.last) where
+module _ (a b : CellView) (watch w w2 : Shown) (k turns : ℕ) (fenced : Bool) (so : IsRunning a b watch w k) (in_turn : k < turns) (fence : w2.fence ≡ w.fence) (looks : w2.looks ≡ w.looks + 1) (raised : w2.raised ≡ w.raised) (seen : w2.seen ≡ w.seen ++ w2.last ∷ []) (tells : IsTrue fenced ↔ IsFencedBy b.part w2.last) where
   pub ends_fenced : fenced ≡ true → EndsFenced turns a b watch w2
   ends_fenced t = record {
     steps = k;
@@ -128,6 +130,7 @@ module _ (a b : CellView) (watch w w2 : Shown) (k turns : ℕ) (fenced : Bool) (
       few = let f = so.few in omega (arith, f, few);
       running = ap (λ (p : PartView). p.own.crashed) polled.1.part ∙ so.running;
       made = step so.made polled;
+      fence = fence ∙ so.fence;
       looks = let l = so.looks in omega (arith, looks, l);
       raised = raised ∙ so.raised;
       passed = all_pass;

@@ -12,14 +12,14 @@ use Rattle.rcv_ring.specs.Points.{HasPoint, CanPass}
 use Rattle.rcv_mailbox.specs.Ends.{End, through, IsChannel, WasFull}
 use Rattle.rcv_session.specs.Session.{roles_of, net_for, rules_of}
 use Rattle.rcv_role.specs.declared.poll.Poll.TheVariants.{Moved, Waiting}
-use Rattle.rcv_role.specs.Part.{PartView, IsOwnSend, Offers, IsBelow, HasNoStrangers, with_event, entry_of}
+use Rattle.rcv_role.specs.Part.{PartView, IsOwn, IsOwnSend, IsNextSend, Offers, IsBelow, HasNoStrangers, with_event, entry_of}
 use Rattle.rcv_role.specs.Ends.{slot, end_at, IsPostTo, AreEnds, IsSettledWith, message_of, HasSent, HasPut, OthersStay}
 use Rattle.rcv_role.specs.Cell.{CellView, cell_of, IsSettled, Goes}
 use Rattle.rcv_role.specs.Poll.{IsDue, OnePost, FoundFull, EndsOfSend, Polled}
 use Rattle.rcv_role.proofs.Slots.{slot_apart, slot_within, fewer, put_some, own_puts, else_puts}
 use Rattle.rcv_role.proofs.Going.{one_send, ready}
 
-module _ (p : PartView) (posts posts' inboxes : List End) (e : Event) (to : ℕ) (ends : AreEnds (rules_of p.setup) p.role posts inboxes) (settled : IsSettled (cell_of p posts inboxes)) (own : IsOwnSend p e) (is : to ≡ (net_for p.setup).receiver e.point) (others : OthersStay posts posts' (slot p.role to)) where
+module _ (p : PartView) (posts posts' inboxes : List End) (e : Event) (to : ℕ) (ends : AreEnds (rules_of p.setup) p.role posts inboxes) (settled : IsSettled (cell_of p posts inboxes)) (own : IsOwnSend p.setup p.role e) (is : to ≡ (net_for p.setup).receiver e.point) (others : OthersStay posts posts' (slot p.role to)) where
   apart : to ≡ p.role → ⊥
   apart f = own.apart (sym is ∙ f)
 
@@ -130,7 +130,23 @@ module _ (p : PartView) (posts posts' inboxes : List End) (e : Event) (to : ℕ)
   no_recv got = let sent = own.dir in cc
 
 -- a poll that sends, as its function has it
-module _ (p : PartView) (posts inboxes : List End) (q : CellView) (e : Event) (to role at : ℕ) (is : cell_of p posts inboxes ≡ q) (ends : AreEnds (rules_of p.setup) p.role posts inboxes) (settled : IsSettled q) (own : IsOwnSend p e) (to_is : to ≡ (net_for p.setup).receiver e.point) (role_is : role ≡ p.role) (at_is : at ≡ slot role to) where
+module _ (was p : PartView) (posts inboxes : List End) (q : CellView) (e : Event) (to role at : ℕ) (was_is : cell_of was posts inboxes ≡ q) (had : AreEnds (rules_of was.setup) was.role posts inboxes) (settled : IsSettled q) (chosen : IsNextSend was.setup was.role was.own e) (same : p ≡ was) (to_is : to ≡ (net_for p.setup).receiver e.point) (role_is : role ≡ p.role) (at_is : at ≡ slot role to) where
+  -- a role that chooses stays where it was
+  is : cell_of p posts inboxes ≡ q
+  is = ap (λ x. cell_of x posts inboxes) same ∙ was_is
+
+  ends : AreEnds (rules_of p.setup) p.role posts inboxes
+  ends = subst (λ (x : PartView). AreEnds (rules_of x.setup) x.role posts inboxes) (sym same) had
+
+  next : IsNextSend p.setup p.role p.own e
+  next = subst (λ (x : PartView). IsNextSend x.setup x.role x.own e) (sym same) chosen
+
+  own : IsOwnSend p.setup p.role e
+  own = next.sends
+
+  pub send_own : IsOwn p.setup p.role e
+  send_own = own.own
+
   inside : IsSettled (cell_of p posts inboxes)
   inside = subst (λ (c : CellView). IsSettled c) (sym is) settled
 
@@ -155,9 +171,9 @@ module _ (p : PartView) (posts inboxes : List End) (q : CellView) (e : Event) (t
   pub send_passes : (d : End) → CanPass (slice_index_or posts at d).base.points (message_of e)
   send_passes d = (subst (λ k. HasPoint (slice_index_or posts k d).base.points e.point) (sym at_slot) ((ends.post to d to_low to_apart).points e.point own.own.first own.own.last own.sender (sym to_is)), own.stamp)
 
-  pub send_room : length p.own.events ≤ p.own.raw → IsBelow q.part → (d : End) → length (slice_index_or posts at d).list < (slice_index_or posts at d).limit
-  send_room few low d = subst (λ k. length (slice_index_or posts k d).list < (slice_index_or posts k d).limit) (sym at_slot)
-      (let s = inside to d to_low to_apart in let l = (ends.post to d to_low to_apart).limit in let n = fewer (put_by (net_for p.setup) p.role to) p.own.events in let m = ap length s.put in let b = (subst (λ (c : CellView). IsBelow c.part) (sym is) low).raw in omega (arith, l, n, m, few, b))
+  pub send_room : length was.own.events ≤ was.own.raw → IsBelow q.part → (d : End) → length (slice_index_or posts at d).list < (slice_index_or posts at d).limit
+  send_room had_few low d = subst (λ k. length (slice_index_or posts k d).list < (slice_index_or posts k d).limit) (sym at_slot)
+      (let s = inside to d to_low to_apart in let l = (ends.post to d to_low to_apart).limit in let n = fewer (put_by (net_for p.setup) p.role to) p.own.events in let m = ap length s.put in let b = (subst (λ (c : CellView). IsBelow c.part) (sym is) low).raw in let few : length p.own.events ≤ p.own.raw = subst (λ (x : PartView). length x.own.events ≤ x.own.raw) (sym same) had_few in omega (arith, l, n, m, few, b))
 
   pub send_through : (rules_of p.setup).limit ≤ 100000 → IsBelow q.part → (d : End) → through (slice_index_or posts at d) < 2 ^ 62
   send_through limit low d = subst (λ k. through (slice_index_or posts k d) < 2 ^ 62) (sym at_slot) (let s = (inside to d to_low to_apart).through in let b = (subst (λ (c : CellView). IsBelow c.part) (sym is) low).raw in omega (arith, s, b, limit))
@@ -175,19 +191,22 @@ module _ (p : PartView) (posts inboxes : List End) (q : CellView) (e : Event) (t
     pub sent_ends_more : (p' : PartView) → p' ≡ with_event p e (entry_of e) → AreEnds (rules_of p'.setup) p'.role posts' inboxes
     sent_ends_more p' f = subst (λ (z : PartView). AreEnds (rules_of z.setup) z.role posts' inboxes) (sym f) sent_ends
 
-    module _ (zs : List ℕ) (calm : IsDue q.part → ⊥) (offers : Offers q.part zs) (some : zs ≢ []) (below : IsBelow q.part) (may : MayOwnSend (rules_of p.setup) p.own e) where
-      pub sent_waits : ok ≡ false → HasNoStrangers p → Goes q (cell_of p posts' inboxes)
-      sent_waits f strangers = subst (λ c. Goes c (cell_of p posts' inboxes)) is (send_waits p posts posts' inboxes e to ends inside own to_is others' strangers (λ d. subst (HasSent (end_at posts p.role to d) (end_at posts' p.role to d) (message_of e)) f (sent' d)))
+    module _ (zs : List ℕ) (calm : IsDue q.part → ⊥) (offers : Offers q.part zs) (some : zs ≢ []) (below : IsBelow q.part) where
+      strangers_none : HasNoStrangers was → HasNoStrangers p
+      strangers_none none = subst HasNoStrangers (sym same) none
+
+      pub sent_waits : ok ≡ false → HasNoStrangers was → Goes q (cell_of p posts' inboxes)
+      sent_waits f strangers = subst (λ c. Goes c (cell_of p posts' inboxes)) is (send_waits p posts posts' inboxes e to ends inside own to_is others' (strangers_none strangers) (λ d. subst (HasSent (end_at posts p.role to d) (end_at posts' p.role to d) (message_of e)) f (sent' d)))
 
       pub sent_waiting : ok ≡ false → Polled q (cell_of p posts' inboxes) Waiting
       sent_waiting f = (
         ready q.part zs calm offers some below,
-        inl (subst (λ c. FoundFull c (cell_of p posts' inboxes)) is (found_full p posts posts' inboxes e to ends inside own to_is others' may (λ d. subst (HasSent (end_at posts p.role to d) (end_at posts' p.role to d) (message_of e)) f (sent' d)))),
+        inl (subst (λ c. FoundFull c (cell_of p posts' inboxes)) is (found_full p posts posts' inboxes e to ends inside own to_is others' next.may (λ d. subst (HasSent (end_at posts p.role to d) (end_at posts' p.role to d) (message_of e)) f (sent' d)))),
         ap (λ (c : CellView). c.part) is,
       )
 
-      pub sent_moves : ok ≡ true → (p' : PartView) → p' ≡ with_event p e (entry_of e) → HasNoStrangers p → Goes q (cell_of p' posts' inboxes)
-      sent_moves f p' g strangers = subst (λ c. Goes c (cell_of p' posts' inboxes)) is (subst (λ z. Goes (cell_of p posts inboxes) (cell_of z posts' inboxes)) (sym g) (send_moves p posts posts' inboxes e to ends inside own to_is others' strangers may (λ d. subst (HasSent (end_at posts p.role to d) (end_at posts' p.role to d) (message_of e)) f (sent' d))))
+      pub sent_moves : ok ≡ true → (p' : PartView) → p' ≡ with_event p e (entry_of e) → HasNoStrangers was → Goes q (cell_of p' posts' inboxes)
+      sent_moves f p' g strangers = subst (λ c. Goes c (cell_of p' posts' inboxes)) is (subst (λ z. Goes (cell_of p posts inboxes) (cell_of z posts' inboxes)) (sym g) (send_moves p posts posts' inboxes e to ends inside own to_is others' (strangers_none strangers) next.may (λ d. subst (HasSent (end_at posts p.role to d) (end_at posts' p.role to d) (message_of e)) f (sent' d))))
 
       pub sent_moved : ok ≡ true → (p' : PartView) → p' ≡ with_event p e (entry_of e) → Polled q (cell_of p' posts' inboxes) Moved
       sent_moved f p' g = (

@@ -1,6 +1,6 @@
 -- Examples of cells: a session of two roles, in which A sends B one message, from its start.
 use Prim.Native.Nat.{zero, suc}
-use Rattle.std.proofs.Common.{◌≡◌, ℕ, ◌<◌, false, List, [], ◌∷◌, length, refl, sym, ◌∙◌, ap, subst, inl, inr, ⊎_elim, arith}
+use Rattle.std.proofs.Common.{◌≡◌, ℕ, ◌+◌, ◌<◌, true, false, List, [], ◌∷◌, length, refl, sym, ◌∙◌, ap, subst, inl, inr, ⊎_elim, arith}
 use Rattle.std.specs.Prelude.{◌-◌, ◌/◌, ◌%◌, ◌==◌, pos, slice_index, slice_index_or}
 use Rattle.std.proofs.lemmas.Nat.Bits.{bit_at-zero}
 use Rattle.rcv_tree.specs.Bits.{has_bit, has_point}
@@ -14,7 +14,7 @@ use Rattle.rcv_model.specs.Text.{Single, End as Ended}
 use Rattle.rcv_model.specs.Places.{net_of}
 use Rattle.rcv_model.proofs.Checked.{next_by}
 use Rattle.rcv_model.proofs.OneLane.{one_lane}
-use Rattle.rcv_theory.specs.Own.{Own, own_through, MayOwnSend}
+use Rattle.rcv_theory.specs.Own.{Own, own_back, own_through, MayOwnSend}
 use Rattle.rcv_tree.specs.declared.entry.Timed.{Timed}
 use Rattle.rcv_session.specs.Session.{SessionView, roles_of, net_for, rules_of}
 use Rattle.rcv_ring.specs.Points.{HasPoint}
@@ -22,7 +22,7 @@ use Rattle.rcv_ring.specs.Shown.{RingId}
 use Rattle.rcv_ring.specs.Shown as rings
 use Rattle.rcv_mailbox.specs.Ends.{End, IsChannel, new_end}
 use Rattle.rcv_role.specs.declared.poll.Poll.TheVariants.{Moved, Waiting}
-use Rattle.rcv_role.specs.Part.{PartView, first_own, first_part, own_by, with_event, entry_of}
+use Rattle.rcv_role.specs.Part.{PartView, IsNextSend, first_own, first_part, own_by, with_event, entry_of}
 use Rattle.rcv_role.specs.Ends.{end_at, IsPostTo, IsInboxFrom, AreEnds, IsSettledWith, HasPut, OthersStay}
 use Rattle.rcv_role.specs.Cell.{CellView, cell_of, Goes}
 use Rattle.rcv_role.specs.Poll.{IsReady, OnePost, FoundEmpty, Polled}
@@ -142,6 +142,32 @@ module _ (protocol : Protocol) (is : net_for (session protocol) ≡ single) (two
     stamp = refl;
     sent = refl;
   }
+
+  -- A makes this Send next; and not behind a recovery, which sets its clock
+  a_chooses : IsNextSend (session protocol) 0 first_own the_event
+  a_chooses = record {
+    may = a_may;
+    sends = record {
+      own = record { role = refl; first = omega arith; last = omega (arith, count); of = inl sender; partner = λ e. absurd (cc) };
+      dir = refl;
+      sender = sender;
+      receiver = omega (arith, receiver, two);
+      apart = λ e. omega (arith, e, receiver);
+      stamp = omega arith;
+    };
+  }
+    where
+      count : (net_for (session protocol)).count ≡ 1
+      count = ap (λ (net : Net). net.count) is
+
+      sender : (net_for (session protocol)).sender 1 ≡ 0
+      sender = ap (λ (net : Net). net.sender 1) is
+
+      receiver : (net_for (session protocol)).receiver 1 ≡ 1
+      receiver = ap (λ (net : Net). net.receiver 1) is
+
+  stale : IsNextSend (session protocol) 0 (own_back first_own 0 true 7) the_event → ⊥
+  stale next = let stamp : 1 ≡ 7 + 1 = next.may.stamp in omega (arith, stamp)
 
   -- A goes on by that Send
   a_goes : Goes (a_before protocol to from) (a_behind protocol to from)

@@ -14,7 +14,7 @@ use Rattle.rcv_model.specs.Run.{taken}
 use Rattle.rcv_model.specs.Next.{AreNext, IsOf}
 use Rattle.rcv_model.specs.Journal.{group_of}
 use Rattle.rcv_model.specs.Table.{IsConcerned}
-use Rattle.rcv_theory.specs.Own.{Own, own_place, own_event, own_after, own_back}
+use Rattle.rcv_theory.specs.Own.{Own, MayOwnSend, own_place, own_event, own_after, own_back}
 use Rattle.rcv_accept.specs.Accepted.{IsAcceptedProtocol}
 use Rattle.rcv_plan.specs.Lines.{IsPlanned}
 use Rattle.rcv_session.specs.Session.{SessionView, roles_of, net_for, rules_of}
@@ -116,13 +116,18 @@ abbrev pub AreOwn : SessionView → ℕ → List Event → Type 0
 AreOwn setup r events = (n : ℕ) (e : Event) → slice_get events n ≡ Some e → IsOwn setup r e
 
 -- A Send to another role of the protocol.
-pub record IsOwnSend (p : PartView) (e : Event) : Type 0 where
-  pub own : IsOwn p.setup p.role e
+pub record IsOwnSend (setup : SessionView) (r : ℕ) (e : Event) : Type 0 where
+  pub own : IsOwn setup r e
   pub dir : e.dir ≡ Sent
-  pub sender : (net_for p.setup).sender e.point ≡ p.role
-  pub receiver : (net_for p.setup).receiver e.point < roles_of p.setup
-  pub apart : (net_for p.setup).receiver e.point ≡ p.role → ⊥
+  pub sender : (net_for setup).sender e.point ≡ r
+  pub receiver : (net_for setup).receiver e.point < roles_of setup
+  pub apart : (net_for setup).receiver e.point ≡ r → ⊥
   pub stamp : e.stamp ≤ 2 ^ 62
+
+-- The Send that the role makes next.
+pub record IsNextSend (setup : SessionView) (r : ℕ) (own : Own) (e : Event) : Type 0 where
+  pub may : MayOwnSend (rules_of setup) own e
+  pub sends : IsOwnSend setup r e
 
 -- A Recv of this message.
 pub record IsRecvOf (p : PartView) (m : Message) (e : Event) : Type 0 where

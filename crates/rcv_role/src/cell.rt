@@ -1,8 +1,9 @@
 // A cell: a role's part with the ends of its channels, which it polls.
 
-ghost use Rattle.std.specs.Prelude.{◌≡◌, ◌≢◌, ◌+◌, ◌<◌, ◌≤◌, [], false, length, IfOk};
+ghost use Rattle.std.specs.Prelude.{◌≡◌, ◌≢◌, ◌+◌, ◌<◌, ◌≤◌, [], false, length, take, IfOk, IfSome, IsSome};
 ghost use Rattle.rcv_theory.specs.Own.{IsOwnDue};
 ghost use Rattle.rcv_session.specs.Session.{roles_of, rules_of};
+ghost use Rattle.rcv_core.specs.Setup.{vars_by};
 ghost use Rattle.rcv_role.specs.Part.{Offers, AllSends, AllRecvs, IsBelow, HasNoStrangers, HoldsStates, first_part};
 ghost use Rattle.rcv_role.specs.Ends.{AreEnds, AreFresh, slot};
 ghost use Rattle.rcv_role.specs.Cell.{CellView, cell_of, IsSettled, Goes, AreJoined, HaveMet, IsThere, without_log};
@@ -19,8 +20,13 @@ use rcv_mailbox::{Inbox, Post};
 use rcv_tree::entry::Timed;
 use rcv_tree::point::Point;
 use rcv_tree::role::RoleId;
+use rcv_tree::variables::Vars;
 use std::alloc::{AllocError, Global};
 use std::marker::Model;
+
+/// How many entries a log can hold: a round may be 1,024 steps of a role, and one step more may come before the log is
+/// cleared.
+pub const LOG: usize = 1_025;
 
 /// A role of a session with a post to each other role and an inbox from each. Contracts see its part, which is its own
 /// events and numbers with its log, and its ends.
@@ -73,10 +79,11 @@ impl<'a> Cell<'a> {
     }
 
     /// Makes one step of the role, which isn't crashed, if it can: a crash where a line of the plan is due, else the
-    /// Send that its script chooses or the Recv of the message that it awaits. The log holds fewer than 65 entries.
+    /// Send that its script chooses or the Recv of the message that it awaits. The log has room for an entry
+    /// ([`LOG`]).
     pub fn poll(&mut self) -> Poll
         requires running { self.old.part.own.crashed ≡ false }
-        requires log { length self.old.part.log < 65 }
+        requires log { length self.old.part.log < LOG }
         requires settled { IsSettled self.old }
         ensures polled { Polled self.old self.new result }
         ensures goes { Goes self.old self.new }
@@ -103,7 +110,7 @@ impl<'a> Cell<'a> {
     // Sends the chosen point's message, if its channel has room.
     fn poll_send(&mut self, offered: &[Point]) -> Poll
         requires running { self.old.part.own.crashed ≡ false }
-        requires log { length self.old.part.log < 65 }
+        requires log { length self.old.part.log < LOG }
         requires settled { IsSettled self.old }
         requires calm { IsOwnDue (rules_of self.old.part.setup) self.old.part.role self.old.part.own → ⊥ }
         requires offers { Offers self.old.part offered.now }
@@ -128,7 +135,7 @@ impl<'a> Cell<'a> {
     // Receives the front message of the channel from a role, if there is one.
     fn poll_recv(&mut self, offered: &[Point], from: RoleId) -> Poll
         requires running { self.old.part.own.crashed ≡ false }
-        requires log { length self.old.part.log < 65 }
+        requires log { length self.old.part.log < LOG }
         requires settled { IsSettled self.old }
         requires calm { IsOwnDue (rules_of self.old.part.setup) self.old.part.role self.old.part.own → ⊥ }
         requires offers { Offers self.old.part offered.now }
@@ -182,6 +189,15 @@ impl<'a> Cell<'a> {
         ensures { self.new ≡ without_log self.old }
     {
         self.part.clear_log();
+    }
+
+    /// The variables behind so many of the role's first events, where that state is held.
+    pub fn vars_behind(&self, count: u32) -> Option<Vars>
+        ensures value { IfSome result (λ vars. vars ≡ vars_by self.now.part.setup self.now.part.role
+            (take count self.now.part.own.events)) }
+        ensures held { self.now.part.base ≤ count → count ≤ self.now.part.held → IsSome result }
+    {
+        self.part.vars_behind(count)
     }
 
     /// What holds of every cell: it has a post to each other role and an inbox from each, its role is declared, no

@@ -9,7 +9,7 @@ pub const TURNS: u32 = 1000;
 
 /// Turns a session to its end with one worker through the gate, and says whether it completes. It fails where a turn
 /// does.
-pub fn completes<R: AllocGlobal + Threads + Sync, G: Gate>(
+pub fn completes<R: AllocGlobal + Threads + Sync, G: Gate + Sync>(
     rt: &R,
     session: &mut Session<'_>,
     gate: &G,

@@ -1,7 +1,7 @@
 // A recovery beside which the roles that it doesn't concern make steps.
 
 use crate::flag::Flag;
-use crate::inputs::setup_of;
+use crate::given::{DEAR, setup_of, with_terms};
 use rcv_core::book::Book;
 use rcv_core::outcome::Outcome;
 use rcv_core::setup::Setup;
@@ -11,19 +11,25 @@ use rcv_top::Gate;
 use rcv_tree::entry::Entry;
 use rcv_tree::role::RoleId;
 use std::alloc::{AllocError, Global};
+use std::sync::atomic::{AtomicU64, Ordering};
 use std::test::Fail;
 use std::thread::Threads;
 
 // How many turns the session may take.
 const TURNS: u32 = 10_000;
 
+// The number that C sends is dear, so that its turns are long.
 const BESIDE: &[u8] = b"module beside;
 global protocol Beside(role A, role B, role C, role D) {
   a() from A to B;
-  rec X { c() from C to D; continue X; }
+  rec X { c(Int) from C to D; continue X; }
 }
+%% scripts
+role C { send c = 7";
+
+const BESIDE_END: &[u8] = b"; }
 %% plan
-every B 100 crash B 1 limit 1000
+every B 100 crash B 1 limit 4000
 ";
 
 // Its one recovery, and its last lines.
@@ -31,8 +37,8 @@ const RECOVERY: &str = "\nrecover B undone 1: B 0\n";
 
 const END: &str = "role A kept 1 raw 1 done
 role B kept 1 raw 2 done
-role C kept 1000 raw 1000 limit
-role D kept 1000 raw 1000 limit
+role C kept 4000 raw 4000 limit
+role D kept 4000 raw 4000 limit
 limited C D
 ";
 
@@ -40,33 +46,47 @@ const B: RoleId = RoleId(1);
 
 const C: RoleId = RoleId(2);
 
-// Behind the crash, holds C at its next step until the recovery of B has begun, and the recovery until C has come to
-// another one.
+// How many steps C makes beside the recovery: nearly all that fit into one turn.
+const STEPS: u64 = 1000;
+
+// Behind the crash, holds C at its next step until the recovery of B has begun, and the recovery until C has made so
+// many more.
 #[derive(Drop)]
 struct Both {
     crashed: Flag,
     begun: Flag,
-    entered: Flag,
+    started: Flag,
+    // How many steps C had made when it came to that step.
+    start: AtomicU64,
+    ahead: Flag,
     missed: Flag,
 }
 
 impl Gate for Both {
-    fn enter(&self, role: RoleId, _count: u32) {
+    fn enter(&self, role: RoleId, count: u32) {
         if role != C || !self.crashed.is_set() {
             return;
         }
-        if self.begun.is_set() {
-            self.entered.set();
-        } else {
+        let made = u64::from(count);
+        if !self.started.is_set() {
+            self.start.store(made, Ordering::SeqCst);
+            self.started.set();
             self.begun.wait(&self.missed);
+        }
+        if made.saturating_sub(self.start.load(Ordering::SeqCst)) >= STEPS {
+            self.ahead.set();
         }
     }
 
     fn recovering(&self, role: RoleId) {
         if role == B {
             self.begun.set();
-            self.entered.wait(&self.missed);
+            self.ahead.wait(&self.missed);
         }
+    }
+
+    fn is_open(&self) -> bool {
+        false
     }
 }
 
@@ -86,7 +106,8 @@ fn journal<R: AllocGlobal + Threads + Sync>(
     rt: &R,
     gate: &Both,
 ) -> Result<Option<String>, AllocError> {
-    match setup_of(rt.alloc(), BESIDE)? {
+    let input = with_terms(rt.alloc(), BESIDE, DEAR, BESIDE_END)?;
+    match setup_of(rt.alloc(), input.as_slice())? {
         Some(setup) => journal_in(rt, &setup, gate),
         None => Ok(None),
     }
@@ -129,11 +150,13 @@ fn roles_go_on_beside_a_recovery_of_others(rt: HostRuntime) -> Result<(), Fail> 
     let gate = Both {
         crashed: Flag::new(),
         begun: Flag::new(),
-        entered: Flag::new(),
+        started: Flag::new(),
+        start: AtomicU64::new(0),
+        ahead: Flag::new(),
         missed: Flag::new(),
     };
     let text = journal(&rt, &gate)?.unwrap_or(String::new(rt.alloc()));
-    assert!(rt; gate.entered.is_set() && !gate.missed.is_set());
+    assert!(rt; gate.ahead.is_set() && !gate.missed.is_set());
     assert!(rt; text.as_str().contains(RECOVERY));
     assert_eq!(rt; text.as_str().split("recover ").count(), 2);
     assert!(rt; text.as_str().ends_with(END));

@@ -6,7 +6,7 @@ use std::alloc::AllocError;
 use std::thread::Threads;
 
 /// The number of the status with which so many workers end the session of an input, and what is written.
-pub fn run<R: AllocGlobal + Threads + Sync, G: Gate>(
+pub fn run<R: AllocGlobal + Threads + Sync, G: Gate + Sync>(
     rt: &R,
     workers: &str,
     input: &[u8],
@@ -16,7 +16,7 @@ pub fn run<R: AllocGlobal + Threads + Sync, G: Gate>(
 }
 
 /// The same of so many sessions of the input.
-pub fn run_sessions<R: AllocGlobal + Threads + Sync, G: Gate>(
+pub fn run_sessions<R: AllocGlobal + Threads + Sync, G: Gate + Sync>(
     rt: &R,
     sessions: &str,
     workers: &str,

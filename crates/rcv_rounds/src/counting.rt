@@ -1,7 +1,8 @@
 // A gate that counts: with one worker it is passed once for each entry.
 
 use crate::alone::completes;
-use crate::inputs::{PING, setup_of};
+use crate::given::{PING, setup_of};
+use crate::kept::is_complete;
 use rcv_core::book::Book;
 use rcv_core::setup::Setup;
 use rcv_super::session::{Session, Turn};
@@ -37,6 +38,10 @@ impl Gate for Counter {
     fn recovering(&self, _role: RoleId) {
         self.recoveries.fetch_add(1, Ordering::SeqCst);
     }
+
+    fn is_open(&self) -> bool {
+        true
+    }
 }
 
 // How many of a book's entries behind the first so many are recoveries, and how many are not.
@@ -51,11 +56,34 @@ fn counts(book: &Book<'_>, before: usize) -> (usize, usize) {
     (recoveries, all.saturating_sub(recoveries))
 }
 
-// Turns a session of Ping to its end with one worker, behind a first turn of several or of none, and says whether it
-// completes with recoveries and each entry passed the gate once.
-fn passes_once<R: AllocGlobal + Threads + Sync>(rt: &R, several: bool) -> Result<bool, AllocError> {
+// How the entries are made that are counted.
+#[derive(Clone, Copy)]
+enum Way {
+    Turns,
+    TurnsBehindSeveral,
+    FinishBehindSeveral,
+}
+
+// Brings a session to its end with one worker, and says whether it completes.
+fn ends<R: AllocGlobal + Threads + Sync>(
+    rt: &R,
+    session: &mut Session<'_>,
+    gate: &Counter,
+    way: Way,
+) -> bool {
+    match way {
+        Way::FinishBehindSeveral => {
+            session.finish(rt, rt.alloc(), 1, gate) == Ok(()) && is_complete(session.book())
+        }
+        _ => completes(rt, session, gate) == Ok(true),
+    }
+}
+
+// Whether a session of Ping completes with one worker, behind a first turn of several or of none, with recoveries, and
+// each of its entries passed the gate once.
+fn passes_once<R: AllocGlobal + Threads + Sync>(rt: &R, way: Way) -> Result<bool, AllocError> {
     match setup_of(rt.alloc(), PING)? {
-        Some(setup) => passes_in(rt, &setup, several),
+        Some(setup) => passes_in(rt, &setup, way),
         None => Ok(false),
     }
 }
@@ -64,23 +92,20 @@ fn passes_once<R: AllocGlobal + Threads + Sync>(rt: &R, several: bool) -> Result
 fn passes_in<R: AllocGlobal + Threads + Sync>(
     rt: &R,
     setup: &Setup,
-    several: bool,
+    way: Way,
 ) -> Result<bool, AllocError> {
     let mut session = Session::new(rt.alloc(), setup)?;
-    Ok(passes(rt, &mut session, several))
+    Ok(passes(rt, &mut session, way))
 }
 
-fn passes<R: AllocGlobal + Threads + Sync>(
-    rt: &R,
-    session: &mut Session<'_>,
-    several: bool,
-) -> bool {
+fn passes<R: AllocGlobal + Threads + Sync>(rt: &R, session: &mut Session<'_>, way: Way) -> bool {
+    let several = !matches!(way, Way::Turns);
     if several && session.turn(rt, rt.alloc(), 2, &NoGate) != Ok(Turn::More) {
         return false;
     }
     let before = session.book().len();
     let gate = Counter::new();
-    let completed = completes(rt, session, &gate) == Ok(true);
+    let completed = ends(rt, session, &gate, way);
     let (recoveries, steps) = counts(session.book(), before);
     completed
         && recoveries > 0
@@ -90,12 +115,13 @@ fn passes<R: AllocGlobal + Threads + Sync>(
 
 #[test]
 fn one_worker_passes_the_gate_once_for_each_entry(rt: HostRuntime) -> Result<(), Fail> {
-    assert!(rt; passes_once(&rt, false)?);
+    assert!(rt; passes_once(&rt, Way::Turns)?);
     Ok(())
 }
 
 #[test]
 fn one_worker_does_behind_several(rt: HostRuntime) -> Result<(), Fail> {
-    assert!(rt; passes_once(&rt, true)?);
+    assert!(rt; passes_once(&rt, Way::TurnsBehindSeveral)?);
+    assert!(rt; passes_once(&rt, Way::FinishBehindSeveral)?);
     Ok(())
 }

@@ -20,9 +20,14 @@ impl Flag {
         }
     }
 
-    /// Sets it, for good.
+    /// Sets it.
     pub fn set(&self) {
         self.word.store(1, Ordering::SeqCst);
+    }
+
+    /// It isn't set from now on.
+    pub fn clear(&self) {
+        self.word.store(0, Ordering::SeqCst);
     }
 
     /// Whether it is set.

@@ -1,13 +1,11 @@
 // Sessions of more than 1,024 turns: they find their stable line behind the 1,024th, the cells forget what is before it,
 // and a role that crashes behind it recovers.
 
-use crate::inputs::setup_of;
-use rcv_core::book::Book;
-use rcv_core::outcome::Outcome;
+use crate::given::setup_of;
+use crate::kept::{is_complete, recoveries};
 use rcv_core::setup::Setup;
 use rcv_super::session::{Session, Turn};
 use rcv_top::NoGate;
-use rcv_tree::entry::Entry;
 use std::alloc::AllocError;
 use std::test::Fail;
 use std::thread::Threads;
@@ -20,9 +18,9 @@ global protocol Stream(role A, role B) {
   }
 }
 %% scripts
-role A { var n = 0; on more set n = n + 1; pick more when n < 640; pick stop; }
+role A { var n = 0; on more set n = n + 1; pick more when n < 1700; pick stop; }
 %% plan
-every A 3 every B 4 crash B 590 room 1
+every A 3 every B 4 crash B 1560 room 1
 ";
 
 const NOTHING: [u32; 8] = [0; 8];
@@ -48,15 +46,8 @@ fn comes_to<R: AllocGlobal + Threads + Sync>(
 // Turns it to its end with two workers, and says whether it completes behind one recovery.
 fn recovers<R: AllocGlobal + Threads + Sync>(rt: &R, session: &mut Session<'_>) -> bool {
     session.finish(rt, rt.alloc(), 2, &NoGate) == Ok(())
-        && matches!(session.book().final_state(), Outcome::Completed)
+        && is_complete(session.book())
         && recoveries(session.book()) == 1
-}
-
-fn recoveries(book: &Book<'_>) -> usize {
-    book.entries()
-        .iter()
-        .filter(|entry| matches!(entry, Entry::Recover { .. }))
-        .count()
 }
 
 // Whether a session forgets, its cells behind a first turn of several, or where a later turn of several brings them home.

@@ -3,6 +3,8 @@
 #![tactic(auto)]
 
 #[cfg(test)]
+mod ahead;
+#[cfg(test)]
 mod alone;
 #[cfg(test)]
 mod beside;
@@ -11,13 +13,21 @@ mod calls;
 #[cfg(test)]
 mod counting;
 #[cfg(test)]
+mod finishing;
+#[cfg(test)]
 mod flag;
 #[cfg(test)]
 mod forgetting;
 #[cfg(test)]
-mod inputs;
+mod gathering;
+#[cfg(test)]
+mod given;
+#[cfg(test)]
+mod kept;
 #[cfg(test)]
 mod meeting;
+#[cfg(test)]
+mod pushing;
 #[cfg(test)]
 mod replay;
 #[cfg(test)]

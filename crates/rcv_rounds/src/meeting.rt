@@ -2,7 +2,7 @@
 
 use crate::calls::run;
 use crate::flag::Flag;
-use crate::inputs::TWO_BUYER;
+use crate::given::TWO_BUYER;
 use rcv_top::Gate;
 use rcv_tree::role::RoleId;
 use std::test::Fail;
@@ -28,6 +28,10 @@ impl Gate for Meeting {
     }
 
     fn recovering(&self, _role: RoleId) {}
+
+    fn is_open(&self) -> bool {
+        false
+    }
 }
 
 #[test]

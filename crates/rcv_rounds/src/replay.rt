@@ -2,7 +2,7 @@
 
 use crate::calls::run;
 use crate::flag::Flag;
-use crate::inputs::PING;
+use crate::given::PING;
 use rcv_top::Gate;
 use rcv_tree::role::RoleId;
 use std::test::Fail;
@@ -47,6 +47,10 @@ impl Gate for Turns {
     }
 
     fn recovering(&self, _role: RoleId) {}
+
+    fn is_open(&self) -> bool {
+        false
+    }
 }
 
 #[test]

@@ -71,6 +71,10 @@ impl Gate for Pair {
     }
 
     fn recovering(&self, _role: RoleId) {}
+
+    fn is_open(&self) -> bool {
+        false
+    }
 }
 
 #[test]

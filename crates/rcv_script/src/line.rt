@@ -83,6 +83,18 @@ impl Line {
             Line::Pick { when: None, .. } | Line::Var { .. } | Line::On { .. } => false,
         }
     }
+
+    /// The most steps that an expression of the line takes. No clause speaks of it.
+    pub fn steps(&self) -> usize {
+        match self {
+            Line::Send { number, .. } | Line::On { number, .. } => number.steps(),
+            Line::Pick {
+                when: Some(condition),
+                ..
+            } => condition.left.steps().max(condition.right.steps()),
+            Line::Pick { when: None, .. } | Line::Var { .. } => 0,
+        }
+    }
 }
 
 /// Whether the condition of a pick line holds. It takes no memory.

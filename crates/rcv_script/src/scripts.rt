@@ -177,6 +177,16 @@ impl Scripts {
             .any(|script| script.reads_attempt())
     }
 
+    /// The most steps that an expression of any role takes: what one event costs, as far as scripts are concerned. It
+    /// decides who computes it, and not what comes of it, so no clause speaks of it.
+    pub fn most_steps(&self) -> usize {
+        let mut most = 0;
+        for script in self.roles.as_slice() {
+            most = script.most_steps().max(most);
+        }
+        most
+    }
+
     // The script of a role; none where no line is known.
     #[inline(always)]
     fn script(&self, role: RoleId) -> Option<&Script>
@@ -216,6 +226,15 @@ impl Script {
             }
         }
         false
+    }
+
+    // The most steps that an expression of a line takes.
+    fn most_steps(&self) -> usize {
+        let mut most = 0;
+        for line in self.lines.as_slice() {
+            most = line.steps().max(most);
+        }
+        most
     }
 
     // The first values of the variables, and 0 at the other places.

@@ -1,7 +1,7 @@
 -- What the cells have forgotten stays before a stable line, whatever comes.
 use Rattle.std.proofs.Common.{◌≡◌, ℕ, ◌+◌, ◌*◌, ◌/◌, ◌<◌, ◌≤◌, ◌^◌, Option, List, [], ◌∷◌, ◌++◌, length, refl, sym, ◌∙◌, ap, subst, ⊎_elim, arith, mul-le-mul}
 use Prim.Native.Nat.{zero, suc}
-use Rattle.std.specs.Prelude.{Result, Ok, Err, OnOk, slice_index, replicate}
+use Rattle.std.specs.Prelude.{Result, Ok, Err, OnOk, OnErr, slice_index, replicate}
 use Rattle.std.proofs.lemmas.Bool.{cases_Bool, cases_eq}
 use Rattle.std.proofs.lemmas.List.{get_or_past}
 use Rattle.rcv_tree.specs.Bits.{has_bit}
@@ -18,11 +18,13 @@ use Rattle.rcv_plan.specs.Lines.{IsPlanned}
 use Rattle.rcv_session.specs.Session.{SessionView, text_of, roles_of, rules_of}
 use Rattle.rcv_core.specs.Book.{BookView, state_of, with_entry, most_entries, IsStableLineOf}
 use Rattle.rcv_core.proofs.Ranges.{ranges, few_crash_lines}
+use Rattle.rcv_fence.specs.Shown.{FenceId}
 use Rattle.rcv_mailbox.specs.Ends.{IsChannel}
 use Rattle.rcv_ring.specs.Lists.{Begins}
 use Rattle.rcv_role.specs.Ends.{end_at}
 use Rattle.rcv_role.specs.Cell.{CellView}
 use Rattle.rcv_lanes.specs.Home.{cell_at, IsOutAt, AreHome, AllMet, HasGrown, HaveBases, SameBases}
+use Rattle.rcv_lanes.proofs.Running.{runs_go}
 use Rattle.rcv_lanes.proofs.Bases.{all_bases, met_bases}
 use Rattle.rcv_back.specs.Halves.{AreSplit}
 use Rattle.rcv_back.specs.Back.{kept_in, HaveGoneBack}
@@ -35,6 +37,16 @@ use Rattle.rcv_super.proofs.Apart.{IsHomeAt, same_cell, home_at}
 pub then_ok : {T E P Q : Type 0} (result : Result T E) → (P → Q) → OnOk result P → OnOk result Q
 then_ok (Ok x) f p = f p
 then_ok (Err e) f p = tt
+
+-- so does what follows of two facts
+pub both_ok : {T E A P Q : Type 0} (result : Result T E) → (A → P → Q) → OnOk result A → OnOk result P → OnOk result Q
+both_ok (Ok x) f a p = f a p
+both_ok (Err e) f a p = tt
+
+-- what follows holds where a call failed
+pub then_err : {T E P Q : Type 0} (result : Result T E) → (P → Q) → OnErr result P → OnErr result Q
+then_err (Ok x) f p = tt
+then_err (Err e) f p = f p
 
 -- ---- stable counts
 
@@ -105,8 +117,8 @@ split_bases book concerned cells cells' back back' beside split gone united = al
         (cases_Bool (has_bit concerned.0 r))
 
 -- one beside which others ran
-pub parted_bases : (book : BookView) (concerned : RoleSet) (cells gone : List CellView) → HaveParted book concerned cells gone → SameBases cells gone
-parted_bases book concerned cells gone parted = all_bases cells gone parted.count (λ r d lt. ⊎_elim (λ t. (parted.back r d lt t).base) (λ f. (parted.on r d lt f).base) (cases_Bool (has_bit concerned.0 r)))
+pub parted_bases : (fence : FenceId) (book : BookView) (concerned : RoleSet) (cells gone : List CellView) → HaveParted fence book concerned cells gone → SameBases cells gone
+parted_bases fence book concerned cells gone parted = all_bases cells gone parted.count (λ r d lt. ⊎_elim (λ t. (parted.back r d lt t).base) (λ f. (runs_go fence (cell_at cells r d) (cell_at gone r d) (parted.ran r d lt f)).base) (cases_Bool (has_bit concerned.0 r)))
 
 -- a poll of one cell
 pub polled_bases : (old gone : List CellView) (r : ℕ) → ((k : ℕ) (d : CellView) → (k ≡ r → ⊥) → cell_at gone k d ≡ cell_at old k d) → ((d : CellView) → WasPolled (cell_at old r d) (cell_at gone r d)) → SameBases old gone

@@ -6,6 +6,7 @@ pub mod Returning
 pub mod Uniting
 pub mod Mixed
 pub mod Parted
+pub mod Besides
 pub mod Behind
 mod Crossing
 mod Ending

@@ -22,6 +22,7 @@ use Rattle.rcv_theory.proofs.BesideRounds.{beside_recovery}
 use Rattle.rcv_theory.proofs.Following.{bystander_follows, concerned_goes_back}
 use Rattle.rcv_theory.proofs.Owning.{own_recovery}
 use Rattle.rcv_theory.proofs.Stamps.{by_stamp_merges}
+use Rattle.rcv_fence.specs.Shown.{FenceId}
 use Rattle.rcv_ring.specs.Lists.{Begins}
 use Rattle.rcv_mailbox.specs.Ends.{End, IsChannel}
 use Rattle.rcv_merge.specs.Merge.{log_at, IsMergeOf}
@@ -34,6 +35,7 @@ use Rattle.rcv_role.specs.Cell.{CellView, IsSettled, Goes, HasMet, without_log}
 use Rattle.rcv_role.proofs.Going.{stays}
 use Rattle.rcv_role.proofs.Meeting.{same_self, channel_same, settled_met}
 use Rattle.rcv_lanes.specs.Home.{cell_at, AreJoined, AreBegun, IsOutAt, AreOut, AreHome, AllGo, AllMet, AllBegun, AllCanMeet, logs_in}
+use Rattle.rcv_lanes.proofs.Running.{runs_go}
 use Rattle.rcv_lanes.proofs.Rounds.{gone_out, met_out, is_round, logs_rise}
 use Rattle.rcv_super.proofs.Returning.{still_channel}
 use Rattle.rcv_super.proofs.Mixed.{mixed, mixed_length, mixed_first, mixed_second, mixed_logs, beyond}
@@ -49,12 +51,12 @@ inbox_on setup s r b b' e x setup_is role_is g ls n h = subst (λ q. IsChannel x
 met_self : (c : CellView) → HasMet c c
 met_self c = record { part = refl; posts = λ k d. same_self (slice_index_or c.posts k d); through = λ k d. refl; inboxes = λ k d. same_self (slice_index_or c.inboxes k d) }
 
-log_of_cell : (cells : List CellView) (r : ℕ) (d : CellView) → r < length cells → log_at (logs_in cells) r ≡ (cell_at cells r d).part.log
+pub log_of_cell : (cells : List CellView) (r : ℕ) (d : CellView) → r < length cells → log_at (logs_in cells) r ≡ (cell_at cells r d).part.log
 log_of_cell [] r d lt = absurd (omega (arith, lt))
 log_of_cell (x ∷ xs) zero d lt = refl
 log_of_cell (x ∷ xs) (suc r) d lt = log_of_cell xs r d (omega (arith, lt))
 
-log_beyond : (cells : List CellView) (r : ℕ) → length cells ≤ r → log_at (logs_in cells) r ≡ []
+pub log_beyond : (cells : List CellView) (r : ℕ) → length cells ≤ r → log_at (logs_in cells) r ≡ []
 log_beyond [] r le = refl
 log_beyond (x ∷ xs) zero le = absurd (omega (arith, le))
 log_beyond (x ∷ xs) (suc r) le = log_beyond xs r (omega (arith, le))
@@ -63,8 +65,12 @@ log_beyond (x ∷ xs) (suc r) le = log_beyond xs r (omega (arith, le))
 abbrev BeginsAt : ℕ → ℕ → End → CellView → CellView → Type 0
 BeginsAt s r e a b = Begins (end_at b.inboxes r s e).list (end_at a.posts s r e).list
 
+-- who ran went on
+pub went_on_at : (fence : FenceId) (book : BookView) (concerned : RoleSet) (cells gone : List CellView) → HaveParted fence book concerned cells gone → (r : ℕ) (d : CellView) → r < length cells → has_bit concerned.0 r ≡ false → Goes (cell_at cells r d) (cell_at gone r d)
+went_on_at fence book concerned cells gone parted r d lt f = runs_go fence (cell_at cells r d) (cell_at gone r d) (parted.ran r d lt f)
+
 -- the cells that went back and those that went on
-module _ (book : BookView) (recover : Entry) (concerned : RoleSet) (cells gone : List CellView) (home : AreHome book cells) (parted : HaveParted (with_entry book recover) concerned cells gone) where
+module _ (fence : FenceId) (book : BookView) (recover : Entry) (concerned : RoleSet) (cells gone : List CellView) (home : AreHome book cells) (parted : HaveParted fence (with_entry book recover) concerned cells gone) where
   within : (r : ℕ) → r < roles_of book.setup → r < length cells
   within r lt = let c = home.out.count in omega (arith, c, lt)
 
@@ -74,25 +80,25 @@ module _ (book : BookView) (recover : Entry) (concerned : RoleSet) (cells gone :
   gone_setup : (r : ℕ) (d : CellView) → r < roles_of book.setup → (cell_at gone r d).part.setup ≡ book.setup
   gone_setup r d lt = ⊎_elim
       (λ t. (parted.back r d (within r lt) t).setup_is)
-      (λ f. (parted.on r d (within r lt) f).setup ∙ (home.out.each r d lt).setup_is)
+      (λ f. (went_on_at fence (with_entry book recover) concerned cells gone parted r d (within r lt) f).setup ∙ (home.out.each r d lt).setup_is)
       (cases_Bool (has_bit concerned.0 r))
 
   gone_role : (r : ℕ) (d : CellView) → r < roles_of book.setup → (cell_at gone r d).part.role ≡ r
   gone_role r d lt = ⊎_elim
       (λ t. (parted.back r d (within r lt) t).role_is)
-      (λ f. (parted.on r d (within r lt) f).role ∙ (home.out.each r d lt).role_is)
+      (λ f. (went_on_at fence (with_entry book recover) concerned cells gone parted r d (within r lt) f).role ∙ (home.out.each r d lt).role_is)
       (cases_Bool (has_bit concerned.0 r))
 
   gone_settled : (r : ℕ) (d : CellView) → r < roles_of book.setup → IsSettled (cell_at gone r d)
   gone_settled r d lt = ⊎_elim
       (λ t. (parted.back r d (within r lt) t).settled)
-      (λ f. (parted.on r d (within r lt) f).settled)
+      (λ f. (went_on_at fence (with_entry book recover) concerned cells gone parted r d (within r lt) f).settled)
       (cases_Bool (has_bit concerned.0 r))
 
   gone_strangers : (r : ℕ) (d : CellView) → r < roles_of book.setup → HasNoStrangers (cell_at gone r d).part
   gone_strangers r d lt = ⊎_elim
       (λ t. (parted.back r d (within r lt) t).strangers)
-      (λ f. (parted.on r d (within r lt) f).strangers)
+      (λ f. (went_on_at fence (with_entry book recover) concerned cells gone parted r d (within r lt) f).strangers)
       (cases_Bool (has_bit concerned.0 r))
 
   gone_joined : AreJoined (roles_of book.setup) gone
@@ -103,18 +109,18 @@ module _ (book : BookView) (recover : Entry) (concerned : RoleSet) (cells gone :
       joined true false f g =
           let old = home.out.each r d lr in
           subst (λ x. IsChannel x (end_at (cell_at gone r d).inboxes r s e)) (sym ((parted.alone s r d (within s ls) (within r lr) f g).post e))
-          (inbox_on book.setup s r (cell_at cells r d) (cell_at gone r d) e (end_at (cell_at cells s d).posts s r e) old.setup_is old.role_is (parted.on r d (within r lr) g) ls n (home.out.joined s r d e ls lr n))
+          (inbox_on book.setup s r (cell_at cells r d) (cell_at gone r d) e (end_at (cell_at cells s d).posts s r e) old.setup_is old.role_is (went_on_at fence (with_entry book recover) concerned cells gone parted r d (within r lr) g) ls n (home.out.joined s r d e ls lr n))
       joined false true f g =
           let old = home.out.each s d ls in
           let a = parted.alone r s d (within r lr) (within s ls) g f in
           subst (IsChannel (end_at (cell_at gone s d).posts s r e)) (sym (a.inbox e))
           (still_channel (end_at (cell_at gone s d).posts s r e) (end_at (cell_at cells r d).inboxes r s e) a.count
-          (post_on book.setup s r (cell_at cells s d) (cell_at gone s d) e (end_at (cell_at cells r d).inboxes r s e) old.setup_is old.role_is (parted.on s d (within s ls) f) lr n (home.out.joined s r d e ls lr n)))
+          (post_on book.setup s r (cell_at cells s d) (cell_at gone s d) e (end_at (cell_at cells r d).inboxes r s e) old.setup_is old.role_is (went_on_at fence (with_entry book recover) concerned cells gone parted s d (within s ls) f) lr n (home.out.joined s r d e ls lr n)))
       joined false false f g =
           let a = home.out.each s d ls in
           let b = home.out.each r d lr in
-          inbox_on book.setup s r (cell_at cells r d) (cell_at gone r d) e (end_at (cell_at gone s d).posts s r e) b.setup_is b.role_is (parted.on r d (within r lr) g) ls n
-          (post_on book.setup s r (cell_at cells s d) (cell_at gone s d) e (end_at (cell_at cells r d).inboxes r s e) a.setup_is a.role_is (parted.on s d (within s ls) f) lr n (home.out.joined s r d e ls lr n))
+          inbox_on book.setup s r (cell_at cells r d) (cell_at gone r d) e (end_at (cell_at gone s d).posts s r e) b.setup_is b.role_is (went_on_at fence (with_entry book recover) concerned cells gone parted r d (within r lr) g) ls n
+          (post_on book.setup s r (cell_at cells s d) (cell_at gone s d) e (end_at (cell_at cells r d).inboxes r s e) a.setup_is a.role_is (went_on_at fence (with_entry book recover) concerned cells gone parted s d (within s ls) f) lr n (home.out.joined s r d e ls lr n))
 
   -- they can meet
   pub can_meet : AllCanMeet gone
@@ -130,7 +136,7 @@ module _ (book : BookView) (recover : Entry) (concerned : RoleSet) (cells gone :
       }
 
 -- the cells as if no recovery had come: the concerned ones as they were, the others as they are
-module _ (book : BookView) (p : ℕ) (concerned : RoleSet) (kept : List ℕ) (undone : ℕ) (cells gone met : List CellView) (home : AreHome book cells) (parted : HaveParted (with_entry book (Recover p concerned kept undone)) concerned cells gone) (meet : AllMet gone met) (known : AllBegun gone) (accepted : IsAcceptedProtocol book.setup.protocol) (legal : IsLegal (rules_of book.setup) book.entries) (may : May (rules_of book.setup) (state_of book) (Recover p concerned kept undone)) where
+module _ (fence : FenceId) (book : BookView) (p : ℕ) (concerned : RoleSet) (kept : List ℕ) (undone : ℕ) (cells gone met : List CellView) (home : AreHome book cells) (parted : HaveParted fence (with_entry book (Recover p concerned kept undone)) concerned cells gone) (meet : AllMet gone met) (known : AllBegun gone) (accepted : IsAcceptedProtocol book.setup.protocol) (legal : IsLegal (rules_of book.setup) book.entries) (may : May (rules_of book.setup) (state_of book) (Recover p concerned kept undone)) where
   abbrev bits : ℕ → Bool
   bits r = has_bit concerned.0 r
 
@@ -141,7 +147,7 @@ module _ (book : BookView) (p : ℕ) (concerned : RoleSet) (kept : List ℕ) (un
   behind = with_entry book recover
 
   low : (r : ℕ) → r < roles_of book.setup → r < length cells
-  low r lt = within book recover concerned cells gone home parted r lt
+  low r lt = within fence book recover concerned cells gone home parted r lt
 
   met_count : length met ≡ length cells
   met_count = meet.0 ∙ parted.count
@@ -164,7 +170,7 @@ module _ (book : BookView) (p : ℕ) (concerned : RoleSet) (kept : List ℕ) (un
       go : (r : ℕ) (d : CellView) → r < length cells → Goes (cell_at cells r d) (cell_at as_gone r d)
       go r d lt = ⊎_elim
           (λ t. let o = home.out.each r d (let c = home.out.count in omega (arith, c, lt)) in subst (Goes (cell_at cells r d)) (sym (stayed r d lt t)) (stays (cell_at cells r d) o.settled o.strangers))
-          (λ f. subst (Goes (cell_at cells r d)) (sym (went r d lt f)) (parted.on r d lt f))
+          (λ f. subst (Goes (cell_at cells r d)) (sym (went r d lt f)) (went_on_at fence behind concerned cells gone parted r d lt f))
           (cases_Bool (bits r))
 
   all_meet : AllMet as_gone as_met
@@ -184,7 +190,7 @@ module _ (book : BookView) (p : ℕ) (concerned : RoleSet) (kept : List ℕ) (un
 
   -- what each took begins what was put, among the cells that are
   gone_begun : (s r : ℕ) (d : CellView) (e : End) → s < roles_of book.setup → r < roles_of book.setup → (s ≡ r → ⊥) → BeginsAt s r e (cell_at gone s d) (cell_at gone r d)
-  gone_begun s r d e ls lr n = subst (λ (z : ℕ × ℕ). BeginsAt z.0 z.1 e (cell_at gone s d) (cell_at gone r d)) (λ i. (gone_role book recover concerned cells gone home parted s d ls i, gone_role book recover concerned cells gone home parted r d lr i)) ((known s r d (there book recover concerned cells gone home parted s ls) (there book recover concerned cells gone home parted r lr) n).begins e)
+  gone_begun s r d e ls lr n = subst (λ (z : ℕ × ℕ). BeginsAt z.0 z.1 e (cell_at gone s d) (cell_at gone r d)) (λ i. (gone_role fence book recover concerned cells gone home parted s d ls i, gone_role fence book recover concerned cells gone home parted r d lr i)) ((known s r d (there fence book recover concerned cells gone home parted s ls) (there fence book recover concerned cells gone home parted r lr) n).begins e)
 
   -- and so among those as if no recovery had come
   as_begun : (s r : ℕ) (d : CellView) (e : End) → s < roles_of book.setup → r < roles_of book.setup → (s ≡ r → ⊥) → BeginsAt s r e (cell_at as_gone s d) (cell_at as_gone r d)
@@ -229,7 +235,7 @@ module _ (book : BookView) (p : ℕ) (concerned : RoleSet) (kept : List ℕ) (un
   a_cell r lt = (item cells r (low r lt)).0
 
   round : IsRound (rules_of book.setup) (state_of book) (λ r. log_at (logs_in as_met) r)
-  round = is_round book as_met out begun accepted legal (λ t r lt lr n. (known t r (a_cell r lr) (there book recover concerned cells gone home parted t lt) (there book recover concerned cells gone home parted r lr) n).there)
+  round = is_round book as_met out begun accepted legal (λ t r lt lr n. (known t r (a_cell r lr) (there fence book recover concerned cells gone home parted t lt) (there fence book recover concerned cells gone home parted r lr) n).there)
 
   log_is : (r : ℕ) (d : CellView) → r < length cells → log_at (logs_in as_met) r ≡ (cell_at as_met r d).part.log
   log_is r d lt = log_of_cell as_met r d (let n = mixed_length bits cells met met_count in omega (arith, n, lt))
@@ -309,7 +315,7 @@ module _ (book : BookView) (p : ℕ) (concerned : RoleSet) (kept : List ℕ) (un
         subst (λ l. Begins l (end_at (cell_at met s d).posts s r e).list) (sym b.list) (subst (λ l. Begins (end_at (cell_at gone r d).inboxes r s e).list l) (sym a.list) (gone_begun s r d e ls lr n))
 
     met_joined : AreJoined (roles_of book.setup) met
-    met_joined s r d e ls lr n = channel_same _ _ _ _ ((meet.1 s d).posts (slot s r) e) ((meet.1 r d).inboxes (slot r s) e) (gone_joined book recover concerned cells gone home parted s r d e ls lr n)
+    met_joined s r d e ls lr n = channel_same _ _ _ _ ((meet.1 s d).posts (slot s r) e) ((meet.1 r d).inboxes (slot r s) e) (gone_joined fence book recover concerned cells gone home parted s r d e ls lr n)
 
     -- all come home with cleared logs
     module _ (cells' : List CellView) (count : length cells' ≡ length met) (cleared : (r : ℕ) (d : CellView) → r < length met → cell_at cells' r d ≡ without_log (cell_at met r d)) where
@@ -318,12 +324,12 @@ module _ (book : BookView) (p : ℕ) (concerned : RoleSet) (kept : List ℕ) (un
 
       home_out : (r : ℕ) (d : CellView) → r < roles_of book.setup → IsOutAt book.setup (state_of full) r (without_log (cell_at met r d))
       home_out r d lt = record {
-        setup_is = ap (λ (x : PartView). x.setup) (meet.1 r d).part ∙ gone_setup book recover concerned cells gone home parted r d lt;
-        role_is = ap (λ (x : PartView). x.role) (meet.1 r d).part ∙ gone_role book recover concerned cells gone home parted r d lt;
+        setup_is = ap (λ (x : PartView). x.setup) (meet.1 r d).part ∙ gone_setup fence book recover concerned cells gone home parted r d lt;
+        role_is = ap (λ (x : PartView). x.role) (meet.1 r d).part ∙ gone_role fence book recover concerned cells gone home parted r d lt;
         lawful = tt;
         own = own_then r d lt;
-        settled = settled_met (cell_at gone r d) (cell_at met r d) (meet.1 r d) (gone_settled book recover concerned cells gone home parted r d lt);
-        strangers = subst HasNoStrangers (sym (meet.1 r d).part) (gone_strangers book recover concerned cells gone home parted r d lt);
+        settled = settled_met (cell_at gone r d) (cell_at met r d) (meet.1 r d) (gone_settled fence book recover concerned cells gone home parted r d lt);
+        strangers = subst HasNoStrangers (sym (meet.1 r d).part) (gone_strangers fence book recover concerned cells gone home parted r d lt);
       }
 
       pub all_home : AreHome full cells'

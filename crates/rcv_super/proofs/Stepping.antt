@@ -36,7 +36,7 @@ use Rattle.rcv_role.specs.Cell.{CellView, Goes, cell_of}
 use Rattle.rcv_role.specs.Poll.{IsDue, OnePost, OneInbox, Polled}
 use Rattle.rcv_role.proofs.Going.{stays}
 use Rattle.rcv_role.proofs.Slots.{slot_apart}
-use Rattle.rcv_lanes.specs.Home.{cell_at, AreBegun, AreOut, AreHome, AllGo, AllMet, AllCanMeet, ArePaired, logs_in}
+use Rattle.rcv_lanes.specs.Home.{cell_at, AreBegun, AreOut, AreHome, AllGo, AllMet, AllCanMeet, ArePaired, logs_in, round_steps}
 use Rattle.rcv_lanes.proofs.Rounds.{gone_out, met_out, log_is, no_log, is_round, merged_legal}
 use Rattle.rcv_super.specs.OneStep.{IsNextEvent, CanPoll, WasPolled, AreOutWith}
 use Rattle.rcv_super.proofs.Polling.{CanSend, CanRecv, HasMade, send_made, recv_made}
@@ -74,7 +74,7 @@ module _ (book : BookView) (cells : List CellView) (home : AreHome book cells) w
   pub can_poll : (r : ℕ) (d : CellView) → r < roles_of book.setup → slice_get (state_of book).crashed r ≡ Some false → CanPoll (cell_at cells r d)
   can_poll r d lt free = record {
     running = subst (λ (o : Own). o.crashed ≡ false) (own_at_home r d lt) (running_is (state_of book).crashed r free);
-    ready = ((home.out.each r d lt).settled, home.logs r d lt);
+    ready = ((home.out.each r d lt).settled, subst (λ (l : List Timed). length l ≤ round_steps) (sym (home.logs r d lt)) (omega arith));
   }
 
   -- one of them is polled

@@ -1,23 +1,23 @@
 -- The turns of a session so far, in front of what comes later.
 use Rattle.std.proofs.Common.{◌≡◌, Bool, true, false, ℕ, ◌<◌, ◌≤◌, ◌-◌, suc, List, [], ◌∷◌, ◌++◌, length, length-append, refl, sym, ◌∙◌, ap, subst, append_assoc, append-nil, arith}
 use Rattle.rcv_tree.specs.declared.entry.Entry.{Entry}
-use Rattle.rcv_session.specs.Session.{rules_of}
-use Rattle.rcv_core.specs.Book.{BookView, most_entries, with_more, IsAtEnd}
+use Rattle.rcv_model.specs.Final.{IsOneThreadFrom}
+use Rattle.rcv_session.specs.Session.{SessionView, rules_of}
+use Rattle.rcv_core.specs.Book.{BookView, state_of, most_entries, with_more, IsAtEnd, EndsAlone}
 use Rattle.rcv_core.proofs.Alone.{SoFar, one_more, ends}
-use Rattle.std.specs.Prelude.{Ok, Err, Option, Some}
+use Rattle.std.specs.Prelude.{Result, Ok, Err, Option, Some}
 use Rattle.rcv_core.specs.declared.skip.Skip.{Skip}
 use Rattle.rcv_core.specs.Skips.{IsSkip}
-use Rattle.rcv_role.specs.Cell.{CellView}
 use Rattle.rcv_super.specs.declared.session.Turn.{Turn}
 use Rattle.rcv_super.specs.declared.session.Turn.TheVariants as turns
 use Rattle.rcv_super.specs.declared.session.SessionError.{SessionError}
 use Rattle.rcv_super.specs.declared.session.SessionError.TheVariants.{Closed, Memory}
-use Rattle.rcv_super.specs.Super.{SuperView, IsAlone}
+use Rattle.rcv_super.specs.Super.{SuperView}
 use Rattle.rcv_super.specs.Turn.{HasCounted, HasNotCounted, Turned}
 use Rattle.rcv_alone.specs.Steps.{HasStepped}
 use Rattle.rcv_super.specs.Steps.{HasGoneOn}
-use Rattle.rcv_super.specs.Finish.{HasFinished, HasTurned, Finished}
-use Rattle.rcv_super.proofs.Ending.{Came, came_some, step_on, alone_on}
+use Rattle.rcv_super.specs.Finish.{HasFinished, HasTurned, FinishedAlone, Finished}
+use Rattle.rcv_super.proofs.Ending.{Came, came_some, step_on, grown_at_most}
 
 -- entries were added; one worker added the first ones of one thread
 pub record Goes (workers : ℕ) (old now : BookView) : Type 0 where
@@ -40,6 +40,26 @@ goes_on workers old now new so on step = record {
 
 pub finishes : (workers : ℕ) (old now : BookView) → Goes workers old now → IsAtEnd now → HasFinished workers old now
 finishes workers old now so end = record { more = so.more; added = so.added; end = end; alone = λ one. ends old now (so.alone one) end }
+
+-- behind what was added so far one thread added the rest
+all_alone : (old now new : BookView) → SoFar old now → EndsAlone now new → EndsAlone old new
+all_alone old now new so done = record {
+  more = so.more ++ done.more;
+  added = done.added
+      ∙ ap (λ (b : BookView). with_more b done.more) so.added
+      ∙ ap (λ (j : List Entry). record { setup = old.setup; entries = j }) (append_assoc old.entries so.more done.more);
+  alone = so.behind done.more (subst (λ (x : SessionView). IsOneThreadFrom (rules_of x) (state_of now) done.more) (ap (λ (b : BookView). b.setup) so.added) done.alone);
+}
+
+pub finishes_on : (workers : ℕ) (old now new : BookView) → Goes workers old now → HasFinished 1 now new → HasFinished workers old new
+finishes_on workers old now new so done = record {
+  more = so.more ++ done.more;
+  added = done.added
+      ∙ ap (λ (b : BookView). with_more b done.more) so.added
+      ∙ ap (λ (j : List Entry). record { setup = old.setup; entries = j }) (append_assoc old.entries so.more done.more);
+  end = done.end;
+  alone = λ one. all_alone old now new (so.alone one) (done.alone refl);
+}
 
 -- each turn leaves less to add
 pub grows : (now new : BookView) → HasGoneOn now new → length now.entries ≤ most_entries (rules_of now.setup) → suc (most_entries (rules_of new.setup)) - length new.entries < suc (most_entries (rules_of now.setup)) - length now.entries
@@ -127,39 +147,48 @@ module _ (workers : ℕ) (first old new : SuperView) (so : Turns workers first o
   turn_fails Closed turned =
       let same = so.still turned.0 in
       (subst (λ (v : SuperView). v.closed ≡ true) same turned.0, turned.1 ∙ same)
-  turn_fails Memory turned = (
-    sym so.as_open ∙ turned.0.not_closed,
-    turned.1,
-    record {
-      more = so.goes.more ++ turned.2.more;
-      added = turned.2.added
-          ∙ ap (λ (b : BookView). with_more b turned.2.more) so.goes.added
-          ∙ ap (λ (j : List Entry). record { setup = first.book.setup; entries = j }) (append_assoc first.book.entries so.goes.more turned.2.more);
-    },
-    still_counted first old new so.turned turned.4,
+  turn_fails Memory turned =
+      let grown = grown_at_most old.book new.book turned.2 in (
+        sym so.as_open ∙ turned.0.not_closed,
+        turned.1,
+        record {
+          more = so.goes.more ++ grown.more;
+          added = grown.added
+              ∙ ap (λ (b : BookView). with_more b grown.more) so.goes.added
+              ∙ ap (λ (j : List Entry). record { setup = first.book.setup; entries = j }) (append_assoc first.book.entries so.goes.more grown.more);
+        },
+        still_counted first old new so.turned turned.4,
+      )
+
+  -- and behind them one thread made the rest
+  pub finished_on : (result : Result (Unit {0}) SessionError) → FinishedAlone old new result → Finished workers first new result
+  finished_on (Ok done) finished = (
+    sym so.as_open ∙ finished.0,
+    finished.1,
+    finishes_on workers first.book old.book new.book so.goes finished.2,
+    still_counted first old new so.turned finished.3,
   )
+  finished_on (Err Closed) closed =
+      let same = so.still closed.0 in
+      (subst (λ (v : SuperView). v.closed ≡ true) same closed.0, closed.1 ∙ same)
+  finished_on (Err Memory) never = absurd never
 
 -- ---- one thread alone
 
 -- the steps of one thread so far, and what is known of the next one
-pub record StepsAlone (old now : BookView) (skip skip' : Skip) : Type 0 where
+pub record StepsAlone (old now : BookView) (skip : Skip) : Type 0 where
   pub goes : Goes 1 old now
-  pub skip_is : IsSkip now skip'
-  pub alone : (cells : List CellView) → IsAlone old skip cells → IsAlone now skip' cells
+  pub skip_is : IsSkip now skip
 
-pub no_step : (book : BookView) (skip : Skip) → IsSkip book skip → StepsAlone book book skip skip
-no_step book skip is = record { goes = begins 1 book; skip_is = is; alone = λ cells here. here }
+pub no_step : (book : BookView) (skip : Skip) → IsSkip book skip → StepsAlone book book skip
+no_step book skip is = record { goes = begins 1 book; skip_is = is }
 
-module _ (first old new : BookView) (skip skip' skip'' : Skip) (so : StepsAlone first old skip skip') (result : Option Skip) (came : Came old new result) where
-  pub step_shrinks : result ≡ Some skip'' → length old.entries ≤ most_entries (rules_of old.setup)
+module _ (first old new : BookView) (skip skip' : Skip) (so : StepsAlone first old skip) (result : Option Skip) (came : Came old new result) where
+  pub step_shrinks : result ≡ Some skip' → length old.entries ≤ most_entries (rules_of old.setup)
       → suc (most_entries (rules_of new.setup)) - length new.entries < suc (most_entries (rules_of old.setup)) - length old.entries
-  step_shrinks is few = grows old new (step_on old new (came_some old new result skip'' is came).1) few
+  step_shrinks is few = grows old new (step_on old new (came_some old new result skip' is came).1) few
 
-  pub step_goes_on : result ≡ Some skip'' → StepsAlone first new skip skip''
+  pub step_goes_on : result ≡ Some skip' → StepsAlone first new skip'
   step_goes_on is =
-      let made = came_some old new result skip'' is came in
-      record {
-        goes = goes_on 1 first old new so.goes (step_on old new made.1) (λ one. made.1);
-        skip_is = made.2;
-        alone = λ cells here. alone_on true old new skip' skip'' [] [] cells refl (so.alone cells here) made;
-      }
+      let made = came_some old new result skip' is came in
+      record { goes = goes_on 1 first old new so.goes (step_on old new made.1) (λ one. made.1); skip_is = made.2 }

@@ -5,13 +5,15 @@ use Rattle.std.proofs.lemmas.Bool.{cases_Bool}
 use Rattle.std.proofs.lemmas.Option.{slice_get-get_or, get_or_from_slice_get}
 use Rattle.rcv_tree.specs.Bits.{has_bit}
 use Rattle.rcv_tree.specs.declared.role.RoleSet.{RoleSet}
-use Rattle.rcv_role.specs.Cell.{CellView, Goes, AreJoined}
+use Rattle.rcv_fence.specs.Shown.{Shown}
+use Rattle.rcv_role.specs.Cell.{CellView, AreJoined}
 use Rattle.rcv_core.specs.Book.{BookView}
 use Rattle.rcv_lanes.specs.Home.{cell_at}
+use Rattle.rcv_lanes.specs.Running.{Runs, RanAt, HalfHasRun}
 use Rattle.rcv_back.specs.Halves.{Has, Lacks, AreSplit}
 use Rattle.rcv_back.specs.Back.{HasGone, HasGoneAlone, HaveGoneBack}
 use Rattle.rcv_super.proofs.Apart.{same_cell}
-use Rattle.rcv_super.specs.Beside.{RanAt, HaveRun, HaveParted}
+use Rattle.rcv_super.specs.Beside.{HaveParted}
 
 -- what holds at the front, and behind it
 at_either : {A : Type 0} (n : ℕ) (P : ℕ → A → Type 0) (x : A) (xs : List A) → P 0 x → ((r : ℕ) (d : A) → r < n → P (suc r) (slice_index_or xs r d)) → (r : ℕ) (d : A) → r < suc n → P r (slice_index_or (x ∷ xs) r d)
@@ -27,17 +29,17 @@ collected (suc n) P each =
     (first.0 ∷ rest.0, (let l = rest.1 in omega (arith, l)), at_either n P first.0 rest.0 first.1 rest.2)
 
 -- the cell at a place went on, if it ran
-pub ran_on : (old new : List (Option CellView)) (r : ℕ) (c : CellView) → HaveRun old new → r < length old → Has old r c → (c' : CellView) × Has new r c' × Goes c c'
-ran_on old new r c ran lt has =
-    let at : RanAt (Some c) (slice_index_or new r (Some c)) = subst (λ o. RanAt o (slice_index_or new r (Some c))) (get_or_from_slice_get old r (Some c) (Some c) has) (ran.1 r (Some c) lt) in
-    (at.0, slice_get-get_or new r (Some c) (let n = ran.0 in omega (arith, n, lt)) ∙ ap Some at.1, at.2)
+pub ran_on : (watch : Shown) (old new : List (Option CellView)) (r : ℕ) (c : CellView) → HalfHasRun watch old new → r < length old → Has old r c → (c' : CellView) × Has new r c' × Runs watch.fence c c'
+ran_on watch old new r c ran lt has =
+    let at : RanAt watch.fence (Some c) (slice_index_or new r (Some c)) = subst (λ o. RanAt watch.fence o (slice_index_or new r (Some c))) (get_or_from_slice_get old r (Some c) (Some c) has) (ran.each r (Some c) lt) in
+    (at.0, slice_get-get_or new r (Some c) (let n = ran.count in omega (arith, n, lt)) ∙ ap Some at.1, at.2)
 
-pub empty_still : (old new : List (Option CellView)) (r : ℕ) → HaveRun old new → r < length old → Lacks old r → Lacks new r
-empty_still old new r ran lt lacks =
-    let at : RanAt None (slice_index_or new r None) = subst (λ o. RanAt o (slice_index_or new r None)) (get_or_from_slice_get old r None None lacks) (ran.1 r None lt) in
-    slice_get-get_or new r None (let n = ran.0 in omega (arith, n, lt)) ∙ ap Some at
+pub empty_still : (watch : Shown) (old new : List (Option CellView)) (r : ℕ) → HalfHasRun watch old new → r < length old → Lacks old r → Lacks new r
+empty_still watch old new r ran lt lacks =
+    let at : RanAt watch.fence None (slice_index_or new r None) = subst (λ o. RanAt watch.fence o (slice_index_or new r None)) (get_or_from_slice_get old r None None lacks) (ran.each r None lt) in
+    slice_get-get_or new r None (let n = ran.count in omega (arith, n, lt)) ∙ ap Some at
 
-module _ (book : BookView) (concerned : RoleSet) (cells : List CellView) (back beside back' beside' : List (Option CellView)) (split : AreSplit concerned cells back beside) (returned : HaveGoneBack book back back') (ran : HaveRun beside beside') where
+module _ (watch : Shown) (book : BookView) (concerned : RoleSet) (cells : List CellView) (back beside back' beside' : List (Option CellView)) (split : AreSplit concerned cells back beside) (returned : HaveGoneBack book back back') (ran : HalfHasRun watch beside beside') where
   -- the cell of each role stands in one of the halves now
   abbrev Stands : ℕ → CellView → Type 0
   Stands r c = (has_bit concerned.0 r ≡ true → Has back' r c × Lacks beside' r) × (has_bit concerned.0 r ≡ false → Lacks back' r × Has beside' r c)
@@ -62,12 +64,12 @@ module _ (book : BookView) (concerned : RoleSet) (cells : List CellView) (back b
       went t =
           let was = split.goes r d lt t in
           let is = returned.each r (cell_at cells r d) was.0 in
-          (is.cell, ((λ u. (is.has, empty_still beside beside' r ran (low r lt) was.1)), (λ f. absurd (let g = sym t ∙ f in cc))))
+          (is.cell, ((λ u. (is.has, empty_still watch beside beside' r ran (low r lt) was.1)), (λ f. absurd (let g = sym t ∙ f in cc))))
 
       stayed : has_bit concerned.0 r ≡ false → (c : CellView) × Stands r c
       stayed f =
           let was = split.stays r d lt f in
-          let is = ran_on beside beside' r (cell_at cells r d) ran (low r lt) was.1 in
+          let is = ran_on watch beside beside' r (cell_at cells r d) ran (low r lt) was.1 in
           (is.0, ((λ t. absurd (let g = sym t ∙ f in cc)), (λ g. (returned.empty r was.0, is.1))))
 
   -- so they can be put together
@@ -77,7 +79,7 @@ module _ (book : BookView) (concerned : RoleSet) (cells : List CellView) (back b
       let n = all.1 in
       let m = returned.count in
       let k = split.back_count in
-      let i = ran.0 in
+      let i = ran.count in
       let j = split.beside_count in (
         all.0,
         record {
@@ -108,10 +110,10 @@ module _ (book : BookView) (concerned : RoleSet) (cells : List CellView) (back b
     parted_joined : (s r : ℕ) (d : CellView) → s < length cells → r < length cells → has_bit concerned.0 s ≡ true → has_bit concerned.0 r ≡ true → (s ≡ r → ⊥) → AreJoined (cell_at gone s d) (cell_at gone r d)
     parted_joined s r d ls lr t u n = returned.joined s r (cell_at gone s d) (cell_at gone r d) (united.goes s d (within s ls) t).0 (united.goes r d (within r lr) u).0 n
 
-    parted_on : (r : ℕ) (d : CellView) → r < length cells → has_bit concerned.0 r ≡ false → Goes (cell_at cells r d) (cell_at gone r d)
-    parted_on r d lt f =
-        let is = ran_on beside beside' r (cell_at cells r d) ran (low r lt) (split.stays r d lt f).1 in
-        subst (Goes (cell_at cells r d)) (same_cell beside' r is.0 (cell_at gone r d) is.1 (united.stays r d (within r lt) f).1) is.2
+    parted_ran : (r : ℕ) (d : CellView) → r < length cells → has_bit concerned.0 r ≡ false → Runs watch.fence (cell_at cells r d) (cell_at gone r d)
+    parted_ran r d lt f =
+        let is = ran_on watch beside beside' r (cell_at cells r d) ran (low r lt) (split.stays r d lt f).1 in
+        subst (Runs watch.fence (cell_at cells r d)) (same_cell beside' r is.0 (cell_at gone r d) is.1 (united.stays r d (within r lt) f).1) is.2
 
-    pub parted : HaveParted book concerned cells gone
-    parted = record { count = same_count; back = parted_back; alone = parted_alone; joined = parted_joined; on = parted_on }
+    pub parted : HaveParted watch.fence book concerned cells gone
+    parted = record { count = same_count; back = parted_back; alone = parted_alone; joined = parted_joined; ran = parted_ran }

@@ -3,30 +3,27 @@ use Rattle.std.specs.Prelude.{◌≡◌, ℕ, ◌<◌, true, false, Option, Some
 use Rattle.rcv_tree.specs.Bits.{has_bit}
 use Rattle.rcv_tree.specs.declared.entry.Entry.{Entry}
 use Rattle.rcv_tree.specs.declared.role.RoleSet.{RoleSet}
-use Rattle.rcv_core.specs.Book.{BookView, IsRecoveryOf, with_entry}
-use Rattle.rcv_role.specs.Cell.{CellView, Goes, AreJoined}
-use Rattle.rcv_lanes.specs.Home.{cell_at, IsReady, AreHome}
+use Rattle.rcv_fence.specs.Shown.{FenceId, Shown}
+use Rattle.rcv_merge.specs.Merge.{IsMergeOf}
+use Rattle.rcv_core.specs.Book.{BookView, IsRecoveryOf, with_entry, with_more}
+use Rattle.rcv_role.specs.Part.{HasNoStrangers}
+use Rattle.rcv_role.specs.Cell.{CellView, AreJoined}
+use Rattle.rcv_lanes.specs.Home.{cell_at, AreHome, logs_in}
+use Rattle.rcv_lanes.specs.Running.{IsLowered, Runs}
 use Rattle.rcv_back.specs.Back.{HasGone, HasGoneAlone}
 use Rattle.rcv_super.specs.Steps.{concerned_of}
 
--- The cell at a place may run, if there is one.
-abbrev pub MayRun : Option CellView → Type 0
-MayRun None = Unit {0}
-MayRun (Some c) = IsReady c
+-- No cell at a place may make a step: there is none, or it is crashed.
+abbrev pub IsIdle : Option CellView → Type 0
+IsIdle None = Unit {0}
+IsIdle (Some c) = (c.part.own.crashed ≡ true) × HasNoStrangers c.part
 
--- It went on, or stayed as it was; and no cell came where none was.
-abbrev pub RanAt : Option CellView → Option CellView → Type 0
-RanAt None new = new ≡ None
-RanAt (Some c) new = (c' : CellView) × (new ≡ Some c') × Goes c c'
+abbrev pub AreIdle : List (Option CellView) → Type 0
+AreIdle half = (r : ℕ) (d : Option CellView) → r < length half → IsIdle (slice_index_or half r d)
 
--- The cells of a half ran.
-abbrev pub HaveRun : List (Option CellView) → List (Option CellView) → Type 0
-HaveRun old new =
-    (length new ≡ length old)
-    × ((r : ℕ) (d : Option CellView) → r < length old → RanAt (slice_index_or old r d) (slice_index_or new r d))
-
--- The concerned cells went back to what the book keeps, and the others went on.
-pub record HaveParted (book : BookView) (concerned : RoleSet) (cells gone : List CellView) : Type 0 where
+-- The concerned cells went back to what the book keeps, and the others ran under watches of this fence.
+pub record HaveParted (fence : FenceId) (book : BookView) (concerned : RoleSet) (cells gone : List CellView)
+    : Type 0 where
   pub count : length gone ≡ length cells
   pub back : (r : ℕ) (d : CellView) → r < length cells → has_bit concerned.0 r ≡ true
       → HasGone book r (cell_at cells r d) (cell_at gone r d)
@@ -36,16 +33,24 @@ pub record HaveParted (book : BookView) (concerned : RoleSet) (cells gone : List
   pub joined : (s r : ℕ) (d : CellView) → s < length cells → r < length cells
       → has_bit concerned.0 s ≡ true → has_bit concerned.0 r ≡ true → (s ≡ r → ⊥)
       → AreJoined (cell_at gone s d) (cell_at gone r d)
-  pub on : (r : ℕ) (d : CellView) → r < length cells → has_bit concerned.0 r ≡ false
-      → Goes (cell_at cells r d) (cell_at gone r d)
+  pub ran : (r : ℕ) (d : CellView) → r < length cells → has_bit concerned.0 r ≡ false
+      → Runs fence (cell_at cells r d) (cell_at gone r d)
 
--- The book's last entry is a recovery, at which the cells parted. Before it they were at home.
-pub record ArePartedBehind (book : BookView) (gone : List CellView) : Type 0 where
+-- The book's last entry is a recovery, at which the cells parted, behind the lowering of the fence by this watch.
+-- Before it they were at home.
+pub record ArePartedBehind (watch : Shown) (book : BookView) (gone : List CellView) : Type 0 where
   pub before : BookView
   pub role : ℕ
   pub entry : Entry
   pub recovers : IsRecoveryOf before role entry
   pub added : book ≡ with_entry before entry
+  pub lowered : IsLowered watch
   pub cells : List CellView
   pub home : AreHome before cells
-  pub parted : HaveParted (with_entry before entry) (concerned_of entry) cells gone
+  pub parted : HaveParted watch.fence (with_entry before entry) (concerned_of entry) cells gone
+
+-- The logs of these cells were merged by stamp, and what came of it was added.
+pub record HaveMerged (old new : BookView) (gone : List CellView) : Type 0 where
+  pub merged : List Entry
+  pub is : IsMergeOf (logs_in gone) merged
+  pub added : new ≡ with_more old merged

@@ -3,8 +3,7 @@ use Rattle.std.specs.Prelude.{◌≡◌, ℕ, List, ◌∷◌}
 use Rattle.rcv_tree.specs.declared.entry.Entry.{Entry}
 use Rattle.rcv_tree.specs.declared.entry.Entry.TheVariants.{Send, Recv, Crash, Recover}
 use Rattle.rcv_tree.specs.declared.role.RoleSet.{RoleSet}
-use Rattle.rcv_model.specs.Final.{IsCrashed, IsLeastOf}
-use Rattle.rcv_core.specs.Book.{BookView, state_of, with_entry, with_more, IsRecoveryOf}
+use Rattle.rcv_core.specs.Book.{BookView, with_entry, with_more, IsRecoveryOf}
 
 -- At least one entry was added.
 pub record HasGoneOn (old new : BookView) : Type 0 where
@@ -17,17 +16,6 @@ pub record HasRecovered (old new : BookView) (role : ℕ) : Type 0 where
   pub entry : Entry
   pub recovers : IsRecoveryOf old role entry
   pub added : new ≡ with_entry old entry
-
--- The Recover of this role was added, and perhaps what others did beside it.
-pub record HasRecoveredBeside (old new : BookView) (role : ℕ) : Type 0 where
-  pub entry : Entry
-  pub more : List Entry
-  pub recovers : IsRecoveryOf old role entry
-  pub added : new ≡ with_more old (entry ∷ more)
-
--- Where a role was crashed, the least such one recovered, and what else was added stands behind its Recover.
-abbrev pub HasRecoveredLeast : BookView → BookView → Type 0
-HasRecoveredLeast old new = (p : ℕ) → IsLeastOf (IsCrashed (state_of old)) p → HasRecoveredBeside old new p
 
 -- Whom an entry concerns: a Recover the roles that it names, any other nobody.
 abbrev pub concerned_of : Entry → RoleSet

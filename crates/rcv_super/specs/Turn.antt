@@ -1,12 +1,12 @@
 -- What a turn of a session and a recovery do, by what they answer.
-use Rattle.std.specs.Prelude.{◌≡◌, ◌⊎◌, ◌+◌, ◌%◌, ◌≤◌, ℕ, true, false, Result, Ok, Err}
+use Rattle.std.specs.Prelude.{◌≡◌, ◌+◌, ◌%◌, ◌≤◌, ℕ, true, false, Result, Ok, Err}
 use Rattle.rcv_model.specs.Final.{IsCompleted, IsLimited}
 use Rattle.rcv_session.specs.Session.{rules_of}
 use Rattle.rcv_core.specs.Book.{BookView, state_of, HasMore, IsStableLineOf}
-use Rattle.rcv_lanes.specs.Home.{HasGrown}
 use Rattle.rcv_super.specs.Super.{SuperView}
 use Rattle.rcv_alone.specs.Steps.{HasStepped}
-use Rattle.rcv_super.specs.Steps.{HasGoneOn, HasRecovered, HasRecoveredLeast}
+use Rattle.rcv_super.specs.Steps.{HasGoneOn, HasRecovered}
+use Rattle.rcv_super.specs.Rounds.{HasGoneTogether, HasRecoveredAtMost}
 use Rattle.rcv_super.specs.declared.session.Turn.{Turn}
 use Rattle.rcv_super.specs.declared.session.Turn.TheVariants.{More, Completed, Limited}
 use Rattle.rcv_super.specs.declared.session.SessionError.{SessionError}
@@ -43,19 +43,20 @@ pub record HasNotCounted (old new : SuperView) : Type 0 where
   pub turns : new.turns ≡ old.turns
   pub stable : new.stable ≡ old.stable
 
--- What a turn of so many workers did. An open session with something left to do goes on by at least one entry, or wants
--- memory and is closed from then on; with one worker it goes on by the entry that one thread makes. With several, where a
--- role is crashed, the least such one recovers, and what else is added stands behind its Recover.
+-- What a turn of so many workers did. An open session with something left to do goes on by at least one entry: with one
+-- worker by the entry that one thread makes, and with several by a round, or by a recovery with what runs beside it. Or
+-- it wants memory and is closed from then on: its book is as it was, but for the Recover of a crashed role, which may
+-- stand there with several workers.
 abbrev pub Turned : ℕ → SuperView → SuperView → Result Turn SessionError → Type 0
 Turned workers old new (Ok Completed) = IsAtCompletion old × (new ≡ old)
 Turned workers old new (Ok Limited) = IsAtLimit old × (new ≡ old)
 Turned workers old new (Ok More) =
     GoesOn old × (new.closed ≡ false) × HasGoneOn old.book new.book × (workers ≡ 1 → HasStepped old.book new.book)
-    × (2 ≤ workers → HasRecoveredLeast old.book new.book) × HasCounted old new
+    × (2 ≤ workers → HasGoneTogether old.book new.book) × HasCounted old new
 Turned workers old new (Err Closed) = (old.closed ≡ true) × (new ≡ old)
 Turned workers old new (Err Memory) =
-    GoesOn old × (new.closed ≡ true) × HasGrown old.book new.book
-    × (workers ≡ 1 → (new.book ≡ old.book) ⊎ HasStepped old.book new.book) × HasNotCounted old new
+    GoesOn old × (new.closed ≡ true) × HasRecoveredAtMost old.book new.book
+    × (workers ≡ 1 → new.book ≡ old.book) × HasNotCounted old new
 
 -- What a recovery of a crashed role did.
 abbrev pub Recovered : ℕ → SuperView → SuperView → Result (Unit {0}) SessionError → Type 0
@@ -63,5 +64,4 @@ Recovered role old new (Ok done) =
     (old.closed ≡ false) × (new.closed ≡ false) × HasRecovered old.book new.book role × HasNotCounted old new
 Recovered role old new (Err Closed) = (old.closed ≡ true) × (new ≡ old)
 Recovered role old new (Err Memory) =
-    (old.closed ≡ false) × (new.closed ≡ true) × ((new.book ≡ old.book) ⊎ HasRecovered old.book new.book role)
-    × HasNotCounted old new
+    (old.closed ≡ false) × (new.closed ≡ true) × (new.book ≡ old.book) × HasNotCounted old new

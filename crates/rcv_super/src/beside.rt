@@ -1,14 +1,17 @@
 // The recovery of a crashed role, beside which the cells that it doesn't concern run.
 
-ghost use Rattle.std.specs.Prelude.{◌≡◌, ◌≤◌, ◌<◌, All, OnOk};
+ghost use Rattle.std.specs.Prelude.{◌≡◌, ◌⊎◌, ◌≤◌, ◌<◌, false, length, All, OnOk, OnErr};
 ghost use Rattle.rcv_model.specs.Final.{IsCrashed};
 ghost use Rattle.rcv_core.specs.Book.{state_of};
 ghost use Rattle.rcv_fence.specs.Shown.{with_raised};
-ghost use Rattle.rcv_lanes.specs.Home.{AreHome, HasGrown, SameBases};
+ghost use Rattle.rcv_lanes.specs.Home.{AreHome, SameBases};
+ghost use Rattle.rcv_lanes.specs.Running.{AreWatched, IsLowered, MayRun, HalfHasRun};
 ghost use Rattle.rcv_back.specs.Back.{CanGoBack, HaveGoneBack};
+ghost use Rattle.rcv_super.specs.Super.{HasWatches};
 ghost use Rattle.rcv_super.specs.Bases.{AreBased};
-ghost use Rattle.rcv_super.specs.Beside.{MayRun, RanAt, HaveRun, ArePartedBehind};
-ghost use Rattle.rcv_super.specs.Steps.{HasRecoveredBeside};
+ghost use Rattle.rcv_super.specs.Beside.{IsIdle, AreIdle, ArePartedBehind, HaveMerged};
+ghost use Rattle.rcv_super.specs.Steps.{HasRecovered};
+ghost use Rattle.rcv_super.specs.Rounds.{HasRecoveredBeside};
 
 use crate::known::{concerned_by, know_all};
 use rcv_back::back::go_back;
@@ -16,137 +19,207 @@ use rcv_back::halves::{Half, split, unite};
 use rcv_core::book::Book;
 use rcv_fence::Watch;
 use rcv_gate::Gate;
-use rcv_lanes::lanes::{Lane, clear_logs, logs_of, run_lane};
+use rcv_lanes::house::{Crew, House};
+use rcv_lanes::lanes::{clear_logs, half_round};
 use rcv_lanes::meet::meet_all;
+use rcv_lanes::merging::merge_logs;
 use rcv_lanes::push::push_all;
-use rcv_merge::merge_round;
+use rcv_role::cell::Cell;
+use rcv_tree::entry::Entry;
 use rcv_tree::role::RoleId;
-use std::alloc::{AllocError, Global};
-use std::thread;
+use std::alloc::AllocError;
 use std::thread::{Threads, join_mut};
 
-// The cell at a place runs, if there is one.
-fn run_place<'a, G: Gate>(place: &mut Option<Lane<'a>>, gate: &G)
-    requires { MayRun place.old }
-    ensures { RanAt place.old place.new }
+// Whether there is a cell at the place that isn't crashed.
+fn may_run<'a>(place: &Option<Cell<'a>>) -> bool
+    ensures { result ≡ false → IsIdle place.now }
 {
-    if let Some(lane) = place {
-        run_lane(lane, gate);
+    let Some(cell) = place else {
+        return false;
+    };
+    // Tells the proof that a cell that stays goes on by nothing.
+    cell.known();
+    !cell.crashed()
+}
+
+// Whether there is one in the half.
+fn some_may_run<'a>(half: &Half<'a>) -> bool
+    ensures { result ≡ false → AreIdle half.now.items }
+{
+    for role in 0..half.len() {
+        if may_run(&half[role]) {
+            return true;
+        }
     }
+    false
 }
 
-// The cells of a half run on at most so many threads.
-fn run_half<'a, G: Gate, R: Threads + Sync>(
-    rt: &R,
-    half: &mut [Option<Lane<'a>>],
-    workers: usize,
-    gate: &G,
+// The cells of a half run. A watch can't be shared between threads, so the session's own is lent.
+fn run_half<'a, G: Gate + Sync, R: Threads + Sync>(
+    crew: &Crew<R, G>,
+    half: &mut [Option<Cell<'a>>],
+    watch: &mut Watch,
+    watches: &mut [Watch],
 )
-    requires workers { 0 < workers }
+    requires least { 1 ≤ length watches.old }
+    requires most { length watches.old ≤ 8 }
+    requires lowered { IsLowered watch.old }
+    requires watched { AreWatched watch.old watches.old }
     requires ready { All MayRun half.old }
-    ensures { HaveRun half.old half.new }
+    ensures ran { HalfHasRun watch.old half.old half.new }
+    ensures watch { watch.new ≡ watch.old }
+    ensures watched { AreWatched watch.old watches.new }
+    ensures count { length watches.new ≡ length watches.old }
 {
-    thread::for_each_mut(
-        rt,
-        half,
-        workers,
-        &|_: usize, place: &mut Option<Lane>|
-            requires { MayRun place.old }
-            ensures { RanAt place.old place.new }
-        { run_place(place, gate) },
-    );
+    let _activity = half_round(crew, half, watch, watches);
 }
 
-// The cells of one half go back on this thread, while those of the other run on the others.
-fn go_back_beside<'a, G: Gate, R: Threads + Sync>(
-    rt: &R,
+// The cells of one half go back on this thread, while those of the other run on the others, each under one of the
+// watches.
+fn go_back_beside<'a, 'b, G: Gate + Sync, R: Threads + Sync>(
+    crew: &Crew<R, G>,
     book: &Book<'a>,
     back: &mut Half<'a>,
-    beside: &mut Half<'a>,
-    workers: usize,
-    gate: &G,
+    beside: &mut Half<'b>,
+    watch: &mut Watch,
+    watches: &mut [Watch],
     role: RoleId,
 )
-    requires workers { 2 ≤ workers }
+    requires least { 2 ≤ crew.now.workers }
+    requires most { crew.now.workers ≤ 8 }
+    requires enough { crew.now.workers ≤ length watches.old }
+    requires lowered { IsLowered watch.old }
+    requires watched { AreWatched watch.old watches.old }
     requires back { CanGoBack book.now back.old.items }
     requires ready { All MayRun beside.old.items }
     ensures back { HaveGoneBack book.now back.old.items back.new.items }
-    ensures beside { HaveRun beside.old.items beside.new.items }
+    ensures beside { HalfHasRun watch.old beside.old.items beside.new.items }
+    ensures watch { watch.new ≡ watch.old }
+    ensures watched { AreWatched watch.old watches.new }
+    ensures count { length watches.new ≡ length watches.old }
 {
-    let runners = workers - 1;
+    let (others, _) = watches.split_at_mut(crew.workers - 1);
     join_mut(
-        rt,
+        crew.rt,
         &mut ||
-            requires { (0 < runners) × All MayRun beside.now.items }
-            ensures { HaveRun beside.entry.now.items beside.exit.now.items }
-        { run_half(rt, beside.as_mut_slice(), runners, gate) },
+            requires { (1 ≤ length others.now) × (length others.now ≤ 8) × IsLowered watch.now
+                × AreWatched watch.now others.now × All MayRun beside.now.items }
+            ensures { HalfHasRun watch.entry.now beside.entry.now.items beside.exit.now.items
+                × (watch.exit.now ≡ watch.entry.now) × AreWatched watch.entry.now others.exit.now
+                × (length others.exit.now ≡ length others.entry.now) }
+        { run_half(crew, beside.as_mut_slice(), watch, others) },
         &mut ||
             requires { CanGoBack book.now back.now.items }
             ensures { HaveGoneBack book.entry.now back.entry.now.items back.exit.now.items }
         {
-            gate.recovering(role);
+            crew.gate.recovering(role);
             go_back(book, back)
         },
     );
 }
 
 // Behind a recovery the cells meet, and come home with the merged entries of those that ran in the book. Fails where
-// memory runs out; then some of the first of these entries may stand in the book.
+// memory runs out; then none of these entries stands there.
 fn hand_in<'a>(
-    alloc: Global,
     book: &mut Book<'a>,
-    lanes: &mut Vec<Lane<'a>>,
+    lanes: &mut [Cell<'a>],
+    merged: &mut Vec<Entry>,
+    watch: &Watch,
+    dear: bool,
 ) -> Result<(), AllocError>
-    requires { ArePartedBehind book.old lanes.old.items }
-    ensures home { OnOk result (AreHome book.new lanes.new.items) }
-    ensures bases { OnOk result (SameBases lanes.old.items lanes.new.items) }
-    ensures grown { HasGrown book.old book.new }
+    requires { ArePartedBehind watch.now book.old lanes.old }
+    ensures count { length lanes.new ≡ length lanes.old }
+    ensures home { OnOk result (AreHome book.new lanes.new) }
+    ensures bases { OnOk result (SameBases lanes.old lanes.new) }
+    ensures merged { OnOk result (HaveMerged book.old book.new lanes.old) }
+    ensures same { OnErr result (book.new ≡ book.old) }
 {
     // Tells the proof that the journal is legal, and the protocol accepted.
     let _entries = book.entries();
     let _protocol = book.setup().protocol();
-    meet_all(lanes)?;
-    let logs = logs_of(alloc, lanes)?;
-    let merged = merge_round(alloc, &logs)?;
-    push_all(book, merged.as_slice())?;
+    meet_all(lanes);
+    merge_logs(lanes, merged)?;
+    push_all(book, merged.as_slice(), lanes, dear);
     clear_logs(lanes);
     Ok(())
 }
 
 /// With the fence lowered, recovers a crashed role on one thread, while the cells that aren't concerned and aren't
-/// crashed run on the others. The Recover goes into the book, and behind it the merged entries of those that ran. Fails
-/// where memory runs out; then the Recover and some of the first of those entries may stand in the book, and the cells
-/// aren't at home.
-pub fn recover_beside<'a, G: Gate, R: Threads + Sync>(
-    rt: &R,
-    alloc: Global,
-    book: &mut Book<'a>,
-    lanes: &mut Vec<Lane<'a>>,
-    watch: &mut Watch,
-    workers: usize,
-    gate: &G,
+/// crashed run on the others; where there are none such, no thread is started. The Recover goes into the book, and
+/// behind it the merged entries of those that ran. Fails where memory runs out; then the book is as it was or has the
+/// Recover alone, and the cells aren't at home.
+pub fn recover_beside<'a, G: Gate + Sync, R: Threads + Sync>(
+    crew: &Crew<R, G>,
+    house: &mut House<'a>,
     role: RoleId,
 ) -> Result<(), AllocError>
-    requires workers { 2 ≤ workers }
-    requires home { AreHome book.old lanes.old.items }
-    requires based { AreBased book.old lanes.old.items }
-    requires crashed { IsCrashed (state_of book.old) role }
-    ensures home { OnOk result (AreHome book.new lanes.new.items) }
-    ensures bases { OnOk result (SameBases lanes.old.items lanes.new.items) }
-    ensures recovered { OnOk result (HasRecoveredBeside book.old book.new role) }
-    ensures grown { HasGrown book.old book.new }
-    ensures lowered { watch.new ≡ with_raised watch.old 0 }
+    requires least { 2 ≤ crew.now.workers }
+    requires most { crew.now.workers ≤ 8 }
+    requires watched { HasWatches house.old.watch house.old.watches.items }
+    requires home { AreHome house.old.book house.old.lanes.items }
+    requires based { AreBased house.old.book house.old.lanes.items }
+    requires crashed { IsCrashed (state_of house.old.book) role }
+    ensures home { OnOk result (AreHome house.new.book house.new.lanes.items) }
+    ensures bases { OnOk result (SameBases house.old.lanes.items house.new.lanes.items) }
+    ensures recovered { OnOk result (HasRecoveredBeside house.old.book house.new.book role) }
+    ensures failed { OnErr result ((house.new.book ≡ house.old.book)
+        ⊎ HasRecovered house.old.book house.new.book role) }
+    ensures watched { HasWatches house.new.watch house.new.watches.items }
 {
     // Tells the proof that the journal is legal, the protocol accepted and its plan in range, and the states held.
-    let _entries = book.entries();
-    let _roles = book.setup().roles();
-    know_all(lanes);
-    watch.lower();
-    let entry = book.recovery(role)?;
+    let _entries = house.book.entries();
+    let _roles = house.book.setup().roles();
+    know_all(&house.lanes);
+    house.watch.lower();
+    let entry = house.book.recovery(role)?;
     let concerned = concerned_by(&entry);
-    let (mut back, mut beside) = split(alloc, lanes, concerned)?;
-    book.push(entry)?;
-    go_back_beside(rt, book, &mut back, &mut beside, workers, gate, role);
-    unite(lanes, &mut back, &mut beside, concerned)?;
-    hand_in(alloc, book, lanes)
+    let (mut back, mut beside) = split(crew.alloc, &mut house.lanes, concerned)?;
+    // The room is there, so it succeeds.
+    let _reserved = house.book.push(entry);
+    part(crew, house, &mut back, &mut beside, role);
+    unite(&mut house.lanes, &mut back, &mut beside, concerned);
+    hand_in(
+        &mut house.book,
+        house.lanes.as_mut_slice(),
+        &mut house.merged,
+        &house.watch,
+        house.dear,
+    )
+}
+
+// The concerned cells go back, and the others run beside them, if they may.
+fn part<'a, G: Gate + Sync, R: Threads + Sync>(
+    crew: &Crew<R, G>,
+    house: &mut House<'a>,
+    back: &mut Half<'a>,
+    beside: &mut Half<'a>,
+    role: RoleId,
+)
+    requires least { 2 ≤ crew.now.workers }
+    requires most { crew.now.workers ≤ 8 }
+    requires lowered { IsLowered house.old.watch }
+    requires watched { HasWatches house.old.watch house.old.watches.items }
+    requires back { CanGoBack house.old.book back.old.items }
+    requires ready { All MayRun beside.old.items }
+    ensures back { HaveGoneBack house.old.book back.old.items back.new.items }
+    ensures beside { HalfHasRun house.old.watch beside.old.items beside.new.items }
+    ensures book { house.new.book ≡ house.old.book }
+    ensures lanes { house.new.lanes ≡ house.old.lanes }
+    ensures watch { house.new.watch ≡ house.old.watch }
+    ensures watched { HasWatches house.new.watch house.new.watches.items }
+{
+    if !some_may_run(beside) {
+        crew.gate.recovering(role);
+        go_back(&house.book, back);
+        return;
+    }
+    go_back_beside(
+        crew,
+        &house.book,
+        back,
+        beside,
+        &mut house.watch,
+        house.watches.as_mut_slice(),
+        role,
+    );
 }

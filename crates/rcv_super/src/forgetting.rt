@@ -5,24 +5,27 @@ ghost use Rattle.rcv_session.specs.Session.{roles_of};
 ghost use Rattle.rcv_core.specs.Book.{IsStableLineOf};
 ghost use Rattle.rcv_role.specs.Cell.{CellView};
 ghost use Rattle.rcv_lanes.specs.Home.{cell_at, AreHome, HaveBases};
+ghost use Rattle.rcv_super.specs.declared.whereabouts.Whereabouts.TheVariants.{Home};
 ghost use Rattle.rcv_super.specs.Bases.{IsStableIn, WasStable, CanForget, without_states};
 
+use crate::whereabouts::Whereabouts;
 use rcv_core::book::Book;
-use rcv_lanes::lanes::Lane;
+use rcv_lanes::house::House;
+use rcv_role::cell::Cell;
 
 // Behind so many turns that added entries the cells forget.
 const OFTEN: u32 = 1024;
 
 // One cell forgets the states before the one behind so many events.
-fn forget_lane<'a>(lane: &mut Lane<'a>, line: u32)
-    requires { CanForget line lane.old }
-    ensures { lane.new ≡ without_states lane.old line }
+fn forget_cell<'a>(cell: &mut Cell<'a>, line: u32)
+    requires { CanForget line cell.old }
+    ensures { cell.new ≡ without_states cell.old line }
 {
-    lane.cell.forget(line);
+    cell.forget(line);
 }
 
 // Each cell does, by its role's count.
-fn forget_all<'a>(lanes: &mut Vec<Lane<'a>>, line: &[u32; 8])
+fn forget_all<'a>(lanes: &mut Vec<Cell<'a>>, line: &[u32; 8])
     requires few { length lanes.old.items ≤ 8 }
     requires can { (r : ℕ) (d : CellView) → r < length lanes.old.items
         → CanForget (slice_index line.now r) (cell_at lanes.old.items r d) }
@@ -31,13 +34,13 @@ fn forget_all<'a>(lanes: &mut Vec<Lane<'a>>, line: &[u32; 8])
         → cell_at lanes.new.items r d ≡ without_states (cell_at lanes.old.items r d) (slice_index line.now r) }
 {
     for role in 0..lanes.len() {
-        let lane = &mut lanes[role];
-        forget_lane(lane, line[role]);
+        let cell = &mut lanes[role];
+        forget_cell(cell, line[role]);
     }
 }
 
 /// The cells, which are at home, forget the states before these counts. It takes no memory.
-pub fn forget_before<'a>(book: &Book<'a>, lanes: &mut Vec<Lane<'a>>, line: &[u32; 8])
+pub fn forget_before<'a>(book: &Book<'a>, lanes: &mut Vec<Cell<'a>>, line: &[u32; 8])
     requires home { AreHome book.now lanes.old.items }
     requires stable { IsStableIn book.now line.now }
     requires above { (r : ℕ) (d : CellView) → r < roles_of book.now.setup
@@ -70,32 +73,29 @@ pub fn next_turn(book: &Book, turns: u32) -> u32
     turns + 1
 }
 
-/// Behind a turn that added entries, with the number of that turn: behind each 1,024th the line becomes the book's stable
-/// line, before which the cells forget, if they are at home. It takes no memory.
-pub fn keep_line<'a>(
-    book: &Book<'a>,
-    lanes: &mut Vec<Lane<'a>>,
-    alone: bool,
-    turns: u32,
-    line: &mut [u32; 8],
-)
-    requires was { WasStable book.now line.old }
-    requires home { alone ≡ false → AreHome book.now lanes.old.items
-        × HaveBases (roles_of book.now.setup) line.old lanes.old.items }
-    ensures home { alone ≡ false → AreHome book.now lanes.new.items
-        × HaveBases (roles_of book.now.setup) line.new lanes.new.items }
-    ensures same { alone ≡ true → lanes.new.items ≡ lanes.old.items }
-    ensures stable { IsStableIn book.now line.new }
-    ensures line { turns % 1024 ≡ 0 → IsStableLineOf book.now line.new }
+/// Behind a turn that added entries, with the number of that turn: behind each 1,024th the line becomes the book's
+/// stable line, before which the cells forget, if they are at home. It takes no memory.
+pub fn keep_line<'a>(house: &mut House<'a>, at: Whereabouts, turns: u32, line: &mut [u32; 8])
+    requires was { WasStable house.old.book line.old }
+    requires home { at ≡ Home → AreHome house.old.book house.old.lanes.items
+        × HaveBases (roles_of house.old.book.setup) line.old house.old.lanes.items }
+    ensures book { house.new.book ≡ house.old.book }
+    ensures watch { house.new.watch ≡ house.old.watch }
+    ensures watches { house.new.watches.items ≡ house.old.watches.items }
+    ensures home { at ≡ Home → AreHome house.old.book house.new.lanes.items
+        × HaveBases (roles_of house.old.book.setup) line.new house.new.lanes.items }
+    ensures same { (at ≡ Home → ⊥) → house.new.lanes.items ≡ house.old.lanes.items }
+    ensures stable { IsStableIn house.old.book line.new }
+    ensures line { turns % 1024 ≡ 0 → IsStableLineOf house.old.book line.new }
     ensures stays { (turns % 1024 ≡ 0 → ⊥) → line.new ≡ line.old }
 {
-    still_stable(book, line);
+    still_stable(&house.book, line);
     if turns % OFTEN != 0 {
         return;
     }
-    let new = book.stable_line();
-    if !alone {
-        forget_before(book, lanes, &new);
+    let new = house.book.stable_line();
+    if at.is_home() {
+        forget_before(&house.book, &mut house.lanes, &new);
     }
     *line = new;
 }

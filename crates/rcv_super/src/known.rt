@@ -6,7 +6,7 @@ ghost use Rattle.rcv_role.specs.Cell.{CellView};
 ghost use Rattle.rcv_lanes.specs.Home.{cell_at};
 ghost use Rattle.rcv_super.specs.Steps.{concerned_of};
 
-use rcv_lanes::lanes::Lane;
+use rcv_role::cell::Cell;
 use rcv_tree::entry::Entry;
 use rcv_tree::role::RoleSet;
 
@@ -21,10 +21,10 @@ pub fn concerned_by(entry: &Entry) -> RoleSet
 }
 
 /// Each cell holds the states that it may go back to.
-pub fn know_all(lanes: &Vec<Lane>)
+pub fn know_all(lanes: &Vec<Cell>)
     ensures { (r : ℕ) (d : CellView) → r < length lanes.now.items → HoldsStates (cell_at lanes.now.items r d).part }
 {
-    for lane in lanes {
-        lane.cell.known();
+    for cell in lanes {
+        cell.known();
     }
 }

@@ -8,7 +8,9 @@ mod known;
 mod recovery;
 mod rounds;
 pub mod session;
+mod sharing;
 mod step;
+mod whereabouts;
 
 /// Want of memory.
 pub use std::alloc::AllocError as Memory;

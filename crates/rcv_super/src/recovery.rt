@@ -1,6 +1,6 @@
 // The recovery of a crashed role, with nobody running beside it.
 
-ghost use Rattle.std.specs.Prelude.{◌≡◌, ◌⊎◌, OnOk};
+ghost use Rattle.std.specs.Prelude.{◌≡◌, OnOk, OnErr};
 ghost use Rattle.rcv_model.specs.Final.{IsCrashed};
 ghost use Rattle.rcv_core.specs.Book.{state_of};
 ghost use Rattle.rcv_lanes.specs.Home.{AreHome, SameBases};
@@ -11,16 +11,16 @@ use crate::known::{concerned_by, know_all};
 use rcv_back::back::go_back;
 use rcv_back::halves::{split, unite};
 use rcv_core::book::Book;
-use rcv_lanes::lanes::Lane;
+use rcv_role::cell::Cell;
 use rcv_tree::role::RoleId;
 use std::alloc::{AllocError, Global};
 
 /// Recovers a crashed role: its Recover goes into the book, and the concerned cells go back to what the book keeps.
-/// Fails where memory runs out; then the Recover may stand in the book, and the cells aren't at home.
+/// Fails where memory runs out; then the book is as it was.
 pub fn recover_alone<'a>(
     alloc: Global,
     book: &mut Book<'a>,
-    lanes: &mut Vec<Lane<'a>>,
+    lanes: &mut Vec<Cell<'a>>,
     role: RoleId,
 ) -> Result<(), AllocError>
     requires home { AreHome book.old lanes.old.items }
@@ -29,7 +29,7 @@ pub fn recover_alone<'a>(
     ensures home { OnOk result (AreHome book.new lanes.new.items) }
     ensures bases { OnOk result (SameBases lanes.old.items lanes.new.items) }
     ensures recovered { OnOk result (HasRecovered book.old book.new role) }
-    ensures some { (book.new ≡ book.old) ⊎ HasRecovered book.old book.new role }
+    ensures same { OnErr result (book.new ≡ book.old) }
 {
     // Tells the proof that the journal is legal, the protocol accepted and its plan in range, and the states held.
     let _entries = book.entries();
@@ -38,7 +38,9 @@ pub fn recover_alone<'a>(
     let entry = book.recovery(role)?;
     let concerned = concerned_by(&entry);
     let (mut back, mut beside) = split(alloc, lanes, concerned)?;
-    book.push(entry)?;
+    // The room is there, so it succeeds.
+    let _reserved = book.push(entry);
     go_back(book, &mut back);
-    unite(lanes, &mut back, &mut beside, concerned)
+    unite(lanes, &mut back, &mut beside, concerned);
+    Ok(())
 }

@@ -1,185 +1,142 @@
 // A turn of several workers: a round, or a recovery with what runs beside it.
 
-ghost use Rattle.std.specs.Prelude.{◌≡◌, ◌⊎◌, ◌≤◌, ◌<◌, true, false, [], OnOk};
-ghost use Rattle.rcv_model.specs.Journal.{start};
+ghost use Rattle.std.specs.Prelude.{◌≡◌, ◌≤◌, OnOk, OnErr};
 ghost use Rattle.rcv_model.specs.Final.{IsCrashed};
-ghost use Rattle.rcv_session.specs.Session.{roles_of, rules_of};
-ghost use Rattle.rcv_core.specs.Book.{state_of, HasMore};
-ghost use Rattle.rcv_lanes.specs.Home.{AreHome, HasGrown, HaveBases, SameBases};
+ghost use Rattle.rcv_session.specs.Session.{roles_of};
+ghost use Rattle.rcv_core.specs.Book.{state_of, IsAtEnd, HasMore};
+ghost use Rattle.rcv_lanes.specs.Home.{AreHome, HaveBases, SameBases};
+ghost use Rattle.rcv_super.specs.Super.{HasWatches, Stands};
 ghost use Rattle.rcv_super.specs.Bases.{IsStableIn, AreBased};
-ghost use Rattle.rcv_alone.specs.Steps.{AreSteps, HasStepped};
-ghost use Rattle.rcv_super.specs.Steps.{HasGoneOn, HasRecovered, HasRecoveredLeast};
+ghost use Rattle.rcv_alone.specs.Steps.{HasStepped};
+ghost use Rattle.rcv_super.specs.Steps.{HasGoneOn, HasRecovered};
+ghost use Rattle.rcv_super.specs.Rounds.{NoneIsCrashed, HasGoneRound, HasGoneTogether, HasRecoveredAtMost};
 
 use crate::alone::bring_home;
 use crate::beside::recover_beside;
 use crate::recovery::recover_alone;
+use crate::sharing::Sharing;
 use crate::step::make_step;
-use rcv_core::book::Book;
-use rcv_fence::Watch;
+use crate::whereabouts::Whereabouts;
 use rcv_gate::Gate;
-use rcv_lanes::lanes::Lane;
+use rcv_lanes::house::{Crew, House};
 use rcv_lanes::round::make_round;
 use rcv_tree::role::RoleId;
 use std::alloc::{AllocError, Global};
 use std::thread::Threads;
 
-// To make a thread and to join it costs some 50 microseconds, and several times that on a busy machine. If one role at
-// a time has something to do, each round would pay that for a few entries. So after a round on threads that added fewer
-// than FEW entries, REST rounds are made on this thread alone before threads are started again.
-const FEW: usize = 8;
-
-const REST: u32 = 16;
-
-/// A turn of so many workers, behind which the cells are at home, where they were or where the book had gone on alone.
-/// They have forgotten the states before the line, and no others. `resting` is how many rounds are still to be made on
-/// this thread alone. Fails where memory runs out; then the cells aren't at home.
-pub fn go<'a, G: Gate, R: Threads + Sync>(
-    rt: &R,
-    alloc: Global,
-    book: &mut Book<'a>,
-    lanes: &mut Vec<Lane<'a>>,
-    watch: &mut Watch,
-    resting: &mut u32,
-    alone: bool,
+/// A turn of a crew, behind which the cells are at home, from where they stand. They have forgotten the states before
+/// the line, and no others. Fails where memory runs out: then the cells aren't at home.
+pub fn go<'a, G: Gate + Sync, R: Threads + Sync>(
+    crew: &Crew<R, G>,
+    house: &mut House<'a>,
+    sharing: &mut Sharing,
+    at: Whereabouts,
     line: &[u32; 8],
-    workers: u32,
-    gate: &G,
 ) -> Result<(), AllocError>
-    requires workers { 1 ≤ workers }
-    requires ahead { alone ≡ true → AreSteps (rules_of book.old.setup)
-        (start (roles_of book.old.setup)) book.old.entries
-        × AreHome (record { setup = book.old.setup; entries = [] }) lanes.old.items
-        × HaveBases (roles_of book.old.setup) [] lanes.old.items }
-    requires home { alone ≡ false → AreHome book.old lanes.old.items
-        × HaveBases (roles_of book.old.setup) line.now lanes.old.items }
-    requires stable { IsStableIn book.old line.now }
-    requires more { HasMore book.old }
-    ensures home { OnOk result (AreHome book.new lanes.new.items) }
-    ensures bases { OnOk result (HaveBases (roles_of book.new.setup) line.now lanes.new.items) }
-    ensures gone_on { OnOk result (HasGoneOn book.old book.new) }
-    ensures stepped { OnOk result (workers ≡ 1 → HasStepped book.old book.new) }
-    ensures recovered { OnOk result (2 ≤ workers → HasRecoveredLeast book.old book.new) }
-    ensures grown { HasGrown book.old book.new }
-    ensures some { workers ≡ 1 → (book.new ≡ book.old) ⊎ HasStepped book.old book.new }
+    requires least { 1 ≤ crew.now.workers }
+    requires most { crew.now.workers ≤ 8 }
+    requires watched { HasWatches house.old.watch house.old.watches.items }
+    requires stands { Stands at house.old.book line.now house.old.lanes.items }
+    requires stable { IsStableIn house.old.book line.now }
+    requires more { HasMore house.old.book }
+    ensures home { OnOk result (AreHome house.new.book house.new.lanes.items) }
+    ensures bases { OnOk result (HaveBases (roles_of house.new.book.setup) line.now house.new.lanes.items) }
+    ensures watched { OnOk result (HasWatches house.new.watch house.new.watches.items) }
+    ensures gone_on { OnOk result (HasGoneOn house.old.book house.new.book) }
+    ensures alone { OnOk result (crew.now.workers ≡ 1 → HasStepped house.old.book house.new.book) }
+    ensures together { OnOk result (2 ≤ crew.now.workers → HasGoneTogether house.old.book house.new.book) }
+    ensures failed { OnErr result (HasRecoveredAtMost house.old.book house.new.book) }
+    ensures same { OnErr result (crew.now.workers ≡ 1 → house.new.book ≡ house.old.book) }
 {
-    bring_home(alloc, book, lanes, alone, line)?;
-    if workers == 1 {
-        return make_step(alloc, book, lanes, gate);
+    bring_home(crew.alloc, &mut house.book, &mut house.lanes, at, line)?;
+    if crew.workers == 1 {
+        return make_step(crew.alloc, &mut house.book, &mut house.lanes, crew.gate);
     }
-    go_on(
-        rt,
-        alloc,
-        book,
-        lanes,
-        watch,
-        resting,
-        workers as usize,
-        gate,
-    )
+    go_on(crew, house, sharing)
 }
 
 /// The recovery of a crashed role, with nobody running beside it, behind which the cells are at home. Fails where
-/// memory runs out; then the cells aren't at home.
+/// memory runs out: then the book is as it was, and the cells aren't at home.
 pub fn recover_home<'a>(
     alloc: Global,
-    book: &mut Book<'a>,
-    lanes: &mut Vec<Lane<'a>>,
-    alone: bool,
+    house: &mut House<'a>,
+    at: Whereabouts,
     line: &[u32; 8],
     role: RoleId,
 ) -> Result<(), AllocError>
-    requires ahead { alone ≡ true → AreSteps (rules_of book.old.setup)
-        (start (roles_of book.old.setup)) book.old.entries
-        × AreHome (record { setup = book.old.setup; entries = [] }) lanes.old.items
-        × HaveBases (roles_of book.old.setup) [] lanes.old.items }
-    requires home { alone ≡ false → AreHome book.old lanes.old.items
-        × HaveBases (roles_of book.old.setup) line.now lanes.old.items }
-    requires stable { IsStableIn book.old line.now }
-    requires crashed { IsCrashed (state_of book.old) role }
-    ensures home { OnOk result (AreHome book.new lanes.new.items) }
-    ensures bases { OnOk result (HaveBases (roles_of book.new.setup) line.now lanes.new.items) }
-    ensures recovered { OnOk result (HasRecovered book.old book.new role) }
-    ensures some { (book.new ≡ book.old) ⊎ HasRecovered book.old book.new role }
+    requires stands { Stands at house.old.book line.now house.old.lanes.items }
+    requires left { IsAtEnd house.old.book → ⊥ }
+    requires stable { IsStableIn house.old.book line.now }
+    requires crashed { IsCrashed (state_of house.old.book) role }
+    ensures home { OnOk result (AreHome house.new.book house.new.lanes.items) }
+    ensures bases { OnOk result (HaveBases (roles_of house.new.book.setup) line.now house.new.lanes.items) }
+    ensures recovered { OnOk result (HasRecovered house.old.book house.new.book role) }
+    ensures same { OnErr result (house.new.book ≡ house.old.book) }
+    ensures watch { house.new.watch ≡ house.old.watch }
+    ensures watches { house.new.watches.items ≡ house.old.watches.items }
 {
-    bring_home(alloc, book, lanes, alone, line)?;
-    recover_alone(alloc, book, lanes, role)
+    bring_home(alloc, &mut house.book, &mut house.lanes, at, line)?;
+    recover_alone(alloc, &mut house.book, &mut house.lanes, role)
 }
 
 // Where a role is crashed, the least such one recovers, and the cells that aren't concerned run beside it. Where none
 // is, all cells run; and where that added nothing, the next step of the one-thread order is made.
-fn go_on<'a, G: Gate, R: Threads + Sync>(
-    rt: &R,
-    alloc: Global,
-    book: &mut Book<'a>,
-    lanes: &mut Vec<Lane<'a>>,
-    watch: &mut Watch,
-    resting: &mut u32,
-    workers: usize,
-    gate: &G,
+fn go_on<'a, G: Gate + Sync, R: Threads + Sync>(
+    crew: &Crew<R, G>,
+    house: &mut House<'a>,
+    sharing: &mut Sharing,
 ) -> Result<(), AllocError>
-    requires workers { 2 ≤ workers }
-    requires home { AreHome book.old lanes.old.items }
-    requires based { AreBased book.old lanes.old.items }
-    requires more { HasMore book.old }
-    ensures home { OnOk result (AreHome book.new lanes.new.items) }
-    ensures bases { OnOk result (SameBases lanes.old.items lanes.new.items) }
-    ensures gone_on { OnOk result (HasGoneOn book.old book.new) }
-    ensures recovered { OnOk result (HasRecoveredLeast book.old book.new) }
-    ensures grown { HasGrown book.old book.new }
+    requires least { 2 ≤ crew.now.workers }
+    requires most { crew.now.workers ≤ 8 }
+    requires watched { HasWatches house.old.watch house.old.watches.items }
+    requires home { AreHome house.old.book house.old.lanes.items }
+    requires based { AreBased house.old.book house.old.lanes.items }
+    requires more { HasMore house.old.book }
+    ensures home { OnOk result (AreHome house.new.book house.new.lanes.items) }
+    ensures bases { OnOk result (SameBases house.old.lanes.items house.new.lanes.items) }
+    ensures watched { OnOk result (HasWatches house.new.watch house.new.watches.items) }
+    ensures gone_on { OnOk result (HasGoneOn house.old.book house.new.book) }
+    ensures together { OnOk result (HasGoneTogether house.old.book house.new.book) }
+    ensures failed { OnErr result (HasRecoveredAtMost house.old.book house.new.book) }
 {
-    match book.first_crashed() {
-        Some(role) => recover_beside(rt, alloc, book, lanes, watch, workers, gate, role),
-        None => round_or_step(rt, alloc, book, lanes, watch, resting, workers, gate),
+    match house.book.first_crashed() {
+        Some(role) => recover_beside(crew, house, role),
+        None => round_or_step(crew, house, sharing),
     }
 }
 
-fn round_or_step<'a, G: Gate, R: Threads + Sync>(
-    rt: &R,
-    alloc: Global,
-    book: &mut Book<'a>,
-    lanes: &mut Vec<Lane<'a>>,
-    watch: &mut Watch,
-    resting: &mut u32,
-    workers: usize,
-    gate: &G,
+fn round_or_step<'a, G: Gate + Sync, R: Threads + Sync>(
+    crew: &Crew<R, G>,
+    house: &mut House<'a>,
+    sharing: &mut Sharing,
 ) -> Result<(), AllocError>
-    requires workers { 2 ≤ workers }
-    requires home { AreHome book.old lanes.old.items }
-    requires based { AreBased book.old lanes.old.items }
-    requires more { HasMore book.old }
-    ensures home { OnOk result (AreHome book.new lanes.new.items) }
-    ensures bases { OnOk result (SameBases lanes.old.items lanes.new.items) }
-    ensures gone_on { OnOk result (HasGoneOn book.old book.new) }
-    ensures grown { HasGrown book.old book.new }
+    requires least { 2 ≤ crew.now.workers }
+    requires most { crew.now.workers ≤ 8 }
+    requires watched { HasWatches house.old.watch house.old.watches.items }
+    requires home { AreHome house.old.book house.old.lanes.items }
+    requires based { AreBased house.old.book house.old.lanes.items }
+    requires more { HasMore house.old.book }
+    ensures home { OnOk result (AreHome house.new.book house.new.lanes.items) }
+    ensures bases { OnOk result (SameBases house.old.lanes.items house.new.lanes.items) }
+    ensures watched { OnOk result (HasWatches house.new.watch house.new.watches.items) }
+    ensures round { OnOk result (HasGoneRound house.old.book house.new.book) }
+    ensures same { OnErr result (house.new.book ≡ house.old.book) }
 {
-    let before = book.len();
-    let threads = threads_for(workers, *resting);
-    make_round(rt, alloc, book, lanes, watch, threads, gate)?;
+    let before = house.book.len();
+    let here = Crew {
+        rt: crew.rt,
+        alloc: crew.alloc,
+        workers: sharing.workers(crew.workers),
+        gate: crew.gate,
+        steps: crew.steps,
+    };
+    let activity = make_round(&here, house)?;
     // Tells the proof that the journal is legal, and the protocol accepted.
-    let _entries = book.entries();
-    let _protocol = book.setup().protocol();
-    *resting = rest_behind(*resting, book.len().saturating_sub(before));
-    if book.len() > before {
+    let _entries = house.book.entries();
+    let _protocol = house.book.setup().protocol();
+    sharing.count(house.book.len().saturating_sub(before), activity);
+    if house.book.len() > before {
         return Ok(());
     }
-    make_step(alloc, book, lanes, gate)
-}
-
-// On how many threads the cells run in the next round.
-fn threads_for(workers: usize, resting: u32) -> usize
-    requires { 2 ≤ workers }
-    ensures { 0 < result }
-{
-    if resting > 0 { 1 } else { workers }
-}
-
-// How many rounds are to be made on this thread alone, behind a round that added so many entries.
-fn rest_behind(resting: u32, added: usize) -> u32 {
-    if resting > 0 {
-        resting - 1
-    } else if added < FEW {
-        REST
-    } else {
-        0
-    }
+    make_step(crew.alloc, &mut house.book, &mut house.lanes, crew.gate)
 }

@@ -4,41 +4,49 @@ ghost use Rattle.std.specs.Prelude.{◌≡◌, ◌≤◌, true, false, IfOk};
 ghost use Rattle.rcv_model.specs.Final.{IsCrashed};
 ghost use Rattle.rcv_core.specs.Book.{state_of};
 ghost use Rattle.rcv_super.specs.Super.{new_session};
-ghost use Rattle.rcv_super.specs.Finish.{Finished, HasFinishedAlone};
+ghost use Rattle.rcv_super.specs.Finish.{Finished, FinishedAlone};
 ghost use Rattle.rcv_super.specs.Turn.{Turned, Recovered};
 
 use crate::alone::{end_of, finish_alone};
 use crate::forgetting::{keep_line, next_turn, still_stable};
 use crate::rounds::{go, recover_home};
+use crate::sharing::Sharing;
+use crate::whereabouts::Whereabouts;
 use rcv_alone::step_alone;
 use rcv_core::book::Book;
 use rcv_core::outcome::Outcome;
 use rcv_core::setup::Setup;
 use rcv_core::skip::Skip;
-use rcv_fence::{Watch, fence};
 use rcv_gate::Gate;
-use rcv_lanes::lanes::Lane;
-use rcv_lanes::opening::lanes;
+use rcv_lanes::house::{Crew, House};
 use rcv_tree::role::RoleId;
 use std::alloc::{AllocError, Global};
 use std::marker::Model;
 use std::thread::Threads;
 use thiserror::Error;
 
-/// A book, and the cells of its roles. Contracts see the book, whether want of memory closed the session, how many turns
-/// added entries, and the stable line that was found last: the cells, once they follow the book, have forgotten the states
-/// before it.
+// An expression of so many steps is worth to be computed beside others.
+const DEAR: usize = 200;
+
+// About so many steps of a role make a round: threads are worth longer ones where scripts are dear, and where they are
+// cheap, the book makes the rest the sooner.
+const DEAR_STEPS: u32 = 1_024;
+
+const CHEAP_STEPS: u32 = 64;
+
+// So many turns of several workers show whether threads are worth having, before the book may go on alone.
+const TRIED: u32 = 4;
+
+/// A book, and the cells of its roles. Contracts see the book, whether want of memory closed the session, how many
+/// turns added entries, and the stable line that was found last: the cells, once they follow the book, have forgotten
+/// the states before it.
 #[derive(Drop)]
 pub struct Session<'a> {
-    book: Book<'a>,
-    lanes: Vec<Lane<'a>>,
-    watch: Watch,
-    // How many rounds are still to be made on the caller's thread alone.
-    resting: u32,
+    house: House<'a>,
+    at: Whereabouts,
+    sharing: Sharing,
     closed: bool,
-    // Whether one worker has made all entries so far, by the book alone, so that the cells stand before the first.
-    alone: bool,
-    // What is known then of the next one.
+    // What is known of the book's next step.
     skip: Skip,
     turns: u32,
     line: [u32; 8],
@@ -54,9 +62,10 @@ impl<'a> Model for Session<'a> {
 
     ghost coded = { Prim.hlevel (codes, e.the_row.coded, expr_code) };
 
-    ghost view = { λ s. record { book = s.book; closed = s.closed; turns = s.turns; stable = s.line } };
+    ghost view = { λ s. record { book = s.house.book; closed = s.closed; turns = s.turns; stable = s.line } };
 
-    ghost invariant = { λ s. IsSuper s.book s.closed s.alone s.skip s.turns s.line s.lanes.items };
+    ghost invariant = { λ s. IsSuper s.house.book s.house.lanes.items s.house.watch s.house.watches.items s.closed s.at
+        s.skip s.turns s.line };
 }
 
 /// What a turn came to.
@@ -82,24 +91,18 @@ pub enum SessionError {
 }
 
 impl<'a> Session<'a> {
-    /// A session before its first entry: its channels, its cells and its fence are made, and all room that its entries
-    /// may need is reserved. Fails where memory runs out.
+    /// A session before its first entry: its channels and its cells are made, and one fence, with a watch for each of
+    /// eight workers; and all room that its entries may need is reserved. Fails where memory runs out.
     pub fn new(alloc: Global, setup: &'a Setup) -> Result<Session<'a>, AllocError>
         ensures { IfOk result (λ session. session ≡ new_session setup.now) }
     {
-        // Tells the proof that there are at most eight roles.
-        let _protocol = setup.protocol();
-        let book = Book::new(alloc, setup)?;
-        let mut watches = fence(alloc, u32::from(setup.roles()) + 1)?;
-        let lanes = lanes(alloc, setup, &mut watches)?;
-        let watch = watches.remove(0);
+        let dear = setup.scripts().most_steps() >= DEAR;
+        let house = House::new(alloc, setup, dear)?;
         Ok(Session {
-            book,
-            lanes,
-            watch,
-            resting: 0,
+            house,
+            at: Whereabouts::Before,
+            sharing: Sharing::new(),
             closed: false,
-            alone: true,
             skip: Skip::nothing(),
             turns: 0,
             line: [0; 8],
@@ -112,29 +115,32 @@ impl<'a> Session<'a> {
     /// makes it alone; the first turn of several brings the cells to where the book stands, and from then on each entry
     /// is made by the cell of its role.
     ///
-    /// With several, where no role is crashed, each cell runs for up to 64 steps on one of at most as many threads, and
-    /// the merged entries are added; where they made none, the next one of the one-thread order is. Threads are started
-    /// where there is work for them: behind a turn on threads that added fewer than 8 entries, the cells run on the
-    /// caller's thread alone for the next 16 such turns. Where a role is crashed, the least such one recovers on one of
-    /// the threads, while the cells that aren't concerned run on the others, and its Recover is added before what they
-    /// did. Of a turn with several workers the clause says that legal entries were added, at least one, and first the
-    /// Recover of the least crashed role; not that a round was made.
+    /// With several, where no role is crashed, a round is made: the fence is lowered, and the workers, each on a thread
+    /// of its own, go over their cells again and again, until each cell has made 1,024 steps, or some 64 where no
+    /// expression of a script takes 200 steps, or nobody can go on. What
+    /// the cells logged is merged by stamp and added; where that is nothing, the next entry of the one-thread order is.
+    /// There are as many threads as workers and cells allow. Behind a round that added few entries, or in which others
+    /// mostly waited for one worker, some rounds are made on the caller's thread alone.
     ///
-    /// Behind each 1,024th turn that added entries the book's stable line is found, and the cells forget the states before
-    /// it, which no recovery can ask for.
+    /// Where a role is crashed, the least such one recovers, while the cells that aren't concerned and aren't crashed
+    /// run on the other threads; where there are none such, no thread is started. Its Recover is added before what they
+    /// did.
+    ///
+    /// Behind each 1,024th turn that added entries the book's stable line is found, and the cells forget the states
+    /// before it, which no recovery can ask for.
     ///
     /// The gate is called before each step that a role attempts and before a recovery moves anything, on the thread
     /// that does it.
     ///
     /// A session at its end stays as it is, and the answer says at which. Behind `Memory` the session is closed: its
-    /// book has, with several workers, some of the first of the turn's entries, and with one worker its entry or none.
-    /// `Closed` comes exactly where an earlier call on this session answered `Memory`, and changes nothing.
-    pub fn turn<G: Gate, R: Threads + Sync>(
+    /// book is as it was, but that with several workers the Recover of the least crashed role may stand in it. `Closed`
+    /// comes exactly where an earlier call on this session answered `Memory`, and changes nothing.
+    pub fn turn<'c, G: Gate + Sync, R: Threads + Sync>(
         &mut self,
-        rt: &R,
+        rt: &'c R,
         alloc: Global,
         workers: u32,
-        gate: &G,
+        gate: &'c G,
     ) -> Result<Turn, SessionError>
         requires least { 1 ≤ workers }
         requires most { workers ≤ 8 }
@@ -143,75 +149,75 @@ impl<'a> Session<'a> {
         if self.closed {
             return Err(SessionError::Closed);
         }
-        if workers == 1 && self.alone {
-            let Some(skip) = step_alone(&mut self.book, self.skip, gate) else {
-                return Ok(end_of(&self.book));
+        if workers == 1 && self.at.is_before() {
+            let Some(skip) = step_alone(&mut self.house.book, self.skip, gate) else {
+                return Ok(end_of(&self.house.book));
             };
             self.skip = skip;
-            self.turns = next_turn(&self.book, self.turns);
-            keep_line(
-                &self.book,
-                &mut self.lanes,
-                true,
-                self.turns,
-                &mut self.line,
-            );
+            self.turns = next_turn(&self.house.book, self.turns);
+            keep_line(&mut self.house, self.at, self.turns, &mut self.line);
             return Ok(Turn::More);
         }
-        match self.book.final_state() {
+        match self.house.book.final_state() {
             Outcome::Completed => return Ok(Turn::Completed),
             Outcome::Limited => return Ok(Turn::Limited),
             Outcome::More => {}
         }
-        self.closed = true;
-        let made = go(
+        let crew = Crew {
             rt,
             alloc,
-            &mut self.book,
-            &mut self.lanes,
-            &mut self.watch,
-            &mut self.resting,
-            self.alone,
-            &self.line,
-            workers,
+            workers: workers as usize,
             gate,
+            steps: if self.house.dear {
+                DEAR_STEPS
+            } else {
+                CHEAP_STEPS
+            },
+        };
+        self.closed = true;
+        let made = go(
+            &crew,
+            &mut self.house,
+            &mut self.sharing,
+            self.at,
+            &self.line,
         );
         if made.is_err() {
             return Err(SessionError::Memory);
         }
-        self.alone = false;
-        self.turns = next_turn(&self.book, self.turns);
-        keep_line(
-            &self.book,
-            &mut self.lanes,
-            false,
-            self.turns,
-            &mut self.line,
-        );
+        self.at = Whereabouts::Home;
+        self.skip = Skip::nothing();
+        self.turns = next_turn(&self.house.book, self.turns);
+        keep_line(&mut self.house, self.at, self.turns, &mut self.line);
         self.closed = false;
         Ok(Turn::More)
     }
 
-    /// Turns with so many workers, from 1 to 8, until the session is at its end. One worker that has made all entries
-    /// so far makes the others in one go.
+    /// Brings the session to its end with so many workers, from 1 to 8.
     ///
-    /// Behind `Memory` the session is closed, and its book has some of the entries. `Closed` comes exactly where an
-    /// earlier call on this session answered `Memory`, and changes nothing.
-    pub fn finish<G: Gate, R: Threads + Sync>(
+    /// One worker adds the entries of the one-thread order by the book alone, on this thread, whoever made those so
+    /// far.
+    ///
+    /// Several make turns. Behind the first four the book alone makes the rest, on this thread, where that is the
+    /// fastest: where no expression of a script takes 200 steps, or where nearly always one worker at a time had
+    /// something to do and no crash lines are left. The gate has to be open for that: one that may hold a role up wants
+    /// the others to go on beside it. What the book alone makes counts no turns, and finds no stable line.
+    ///
+    /// The gate is called as in turns. Behind `Memory` the session is closed, and its book has some of the entries.
+    /// `Closed` comes exactly where an earlier call on this session answered `Memory`, and changes nothing.
+    pub fn finish<'c, G: Gate + Sync, R: Threads + Sync>(
         &mut self,
-        rt: &R,
+        rt: &'c R,
         alloc: Global,
         workers: u32,
-        gate: &G,
+        gate: &'c G,
     ) -> Result<(), SessionError>
         requires least { 1 ≤ workers }
         requires most { workers ≤ 8 }
         ensures { Finished workers self.old self.new result }
     {
-        if workers == 1 && self.finishes_alone(gate) {
-            return Ok(());
-        }
-        loop {
+        let mut tried = 0;
+        while workers > 1 && !self.goes_best_alone(tried, gate) {
             // Tells the proof that there are few entries.
             let _few = self.book().len();
             match self.turn(rt, alloc, workers, gate) {
@@ -220,24 +226,39 @@ impl<'a> Session<'a> {
                 Ok(Turn::Limited) => return Ok(()),
                 Err(error) => return Err(error),
             }
+            tried = tried.saturating_add(1);
         }
+        self.finish_alone(gate)
     }
 
-    // Makes all entries that are left where one worker made those so far; else it does nothing. Says which.
-    fn finishes_alone<G: Gate>(&mut self, gate: &G) -> bool
-        ensures yes { result ≡ true → HasFinishedAlone self.old self.new }
-        ensures no { result ≡ false → self.new ≡ self.old }
-    {
-        if self.closed || !self.alone {
+    // Whether the book alone, on the caller's thread, is the fastest way to the end, behind so many turns of several
+    // workers: no script is worth a thread, or one role at a time had something to do. A gate that may hold a role up
+    // wants the others beside it, and so do crashes that are still to come, where scripts are dear.
+    fn goes_best_alone<G: Gate>(&self, tried: u32, gate: &G) -> bool {
+        if tried < TRIED || !gate.is_open() {
             return false;
         }
-        self.skip = finish_alone(&mut self.book, self.skip, gate);
-        still_stable(&self.book, &self.line);
-        true
+        !self.house.dear || (self.sharing.is_lonely() && !self.house.book.awaits_crash())
     }
 
-    /// Recovers a crashed role, with nobody running beside it. `Closed` comes exactly where an earlier call on this
-    /// session answered `Memory`, and changes nothing.
+    // Makes all entries that are left by the book alone.
+    fn finish_alone<G: Gate>(&mut self, gate: &G) -> Result<(), SessionError>
+        ensures { FinishedAlone self.old self.new result }
+    {
+        if self.closed {
+            return Err(SessionError::Closed);
+        }
+        // So far the cells may have chosen.
+        self.house.book.start_choosing();
+        finish_alone(&mut self.house.book, self.skip, gate);
+        still_stable(&self.house.book, &self.line);
+        self.at = Whereabouts::Over;
+        self.skip = Skip::nothing();
+        Ok(())
+    }
+
+    /// Recovers a crashed role, with nobody running beside it. Behind `Memory` the session is closed, and its book is
+    /// as it was. `Closed` comes exactly where an earlier call on this session answered `Memory`, and changes nothing.
     pub fn recover(&mut self, alloc: Global, role: RoleId) -> Result<(), SessionError>
         requires { IsCrashed (state_of self.old.book) role }
         ensures { Recovered role self.old self.new result }
@@ -246,19 +267,13 @@ impl<'a> Session<'a> {
             return Err(SessionError::Closed);
         }
         self.closed = true;
-        let recovered = recover_home(
-            alloc,
-            &mut self.book,
-            &mut self.lanes,
-            self.alone,
-            &self.line,
-            role,
-        );
+        let recovered = recover_home(alloc, &mut self.house, self.at, &self.line, role);
         if recovered.is_err() {
             return Err(SessionError::Memory);
         }
-        still_stable(&self.book, &self.line);
-        self.alone = false;
+        still_stable(&self.house.book, &self.line);
+        self.at = Whereabouts::Home;
+        self.skip = Skip::nothing();
         self.closed = false;
         Ok(())
     }
@@ -270,8 +285,8 @@ impl<'a> Session<'a> {
         self.turns
     }
 
-    /// The stable line that was found last, behind a turn whose number is a multiple of 1,024: for each of eight roles how
-    /// many of its events no recovery takes back. 0 of each at first.
+    /// The stable line that was found last, behind a turn whose number is a multiple of 1,024: for each of eight roles
+    /// how many of its events no recovery takes back. 0 of each at first.
     pub fn stable(&self) -> [u32; 8]
         ensures { result ≡ self.now.stable }
     {
@@ -282,6 +297,6 @@ impl<'a> Session<'a> {
     pub fn book(&self) -> &Book<'a>
         ensures { result.now ≡ self.now.book }
     {
-        &self.book
+        &self.house.book
     }
 }

@@ -41,7 +41,7 @@ use std::thread::Threads;
 /// or wrong.
 ///
 /// The error comes where no memory was left; then nothing was written.
-pub fn answer<R: Threads + Sync, K: Sink, G: Gate>(
+pub fn answer<R: Threads + Sync, K: Sink, G: Gate + Sync>(
     rt: &R,
     alloc: Global,
     command: &Command,

@@ -49,8 +49,9 @@ const USAGE: &[u8] = b"usage: rcv run|check|project|table|gen|replay|line \
 ///
 /// `run` without `--workers` asks for one worker. One worker writes the one journal of the session that one thread
 /// makes; several ones run the roles on at most as many threads, and which journal of the session they write may
-/// differ from call to call. Under `run`, `gate` is called before each step that a role attempts, and with a failed
-/// role before its recovery; the other commands don't call it.
+/// differ from call to call. Behind the first turns one thread may make the rest, where it is as fast alone and `gate`
+/// is open. Under `run`, `gate` is called before each step that a role attempts, and with a failed role before its
+/// recovery; the other commands don't call it.
 ///
 /// `run --sessions K`, with K from 2 to 64, runs K sessions of the input, each by one thread at a time, and shares
 /// them among the workers. In the first one the plan is as it was read, and in each one behind it each crash line has
@@ -61,7 +62,7 @@ const USAGE: &[u8] = b"usage: rcv run|check|project|table|gen|replay|line \
 /// Where a session completed and no script reads the attempt, what each role kept and each channel carried is, but
 /// for stamps, what one thread makes of the session without its crash lines, which completes, too. So all of several
 /// sessions that complete keep the same.
-pub fn recover<R: Threads + Sync, S: Source, K: Sink, G: Gate>(
+pub fn recover<R: Threads + Sync, S: Source, K: Sink, G: Gate + Sync>(
     rt: &R,
     alloc: Global,
     words: &[String],

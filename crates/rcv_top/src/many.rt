@@ -33,7 +33,7 @@ const MOST_EVENTS: u32 = 3_200_000;
 /// Refused where the roles times the limit times the sessions are more than 3,200,000.
 ///
 /// The error comes where no memory was left; then nothing was written, however many sessions had ended.
-pub fn run_many<R: Threads + Sync, K: Sink, G: Gate>(
+pub fn run_many<R: Threads + Sync, K: Sink, G: Gate + Sync>(
     rt: &R,
     alloc: Global,
     input: &[u8],
@@ -87,7 +87,7 @@ fn refuse(alloc: Global) -> Result<Output, AllocError>
 
 // Runs the sessions that were prepared, and writes their journals. The setups stay the caller's, who frees them at one
 // place.
-fn run_prepared<R: Threads + Sync, K: Sink, G: Gate>(
+fn run_prepared<R: Threads + Sync, K: Sink, G: Gate + Sync>(
     rt: &R,
     alloc: Global,
     prepared: &[Preparation<'_>],

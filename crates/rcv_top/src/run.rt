@@ -27,7 +27,7 @@ use std::thread::Threads;
 /// the session ended, or that the sink failed.
 ///
 /// The error comes where no memory was left; then nothing was written.
-pub fn run<R: Threads + Sync, K: Sink, G: Gate>(
+pub fn run<R: Threads + Sync, K: Sink, G: Gate + Sync>(
     rt: &R,
     alloc: Global,
     taken: Input,
@@ -51,7 +51,7 @@ pub fn run<R: Threads + Sync, K: Sink, G: Gate>(
 
 // Runs the session of a setup. The setup stays the caller's, who frees it at one place: a large value is freed field by
 // field at each place where its owner may return.
-fn run_setup<R: Threads + Sync, K: Sink, G: Gate>(
+fn run_setup<R: Threads + Sync, K: Sink, G: Gate + Sync>(
     rt: &R,
     alloc: Global,
     setup: &Setup,
@@ -72,7 +72,7 @@ fn run_setup<R: Threads + Sync, K: Sink, G: Gate>(
 
 // Brings a session to its end with so many workers, and writes its journal. The session stays the caller's, as the setup
 // does.
-fn finish<R: Threads + Sync, K: Sink, G: Gate>(
+fn finish<R: Threads + Sync, K: Sink, G: Gate + Sync>(
     rt: &R,
     alloc: Global,
     session: &mut Session<'_>,

@@ -4,7 +4,7 @@ ghost use Rattle.std.specs.Prelude.{◌≡◌, ◌+◌, ◌≤◌, [], ◌∷◌
 ghost use Rattle.rcv_role.specs.Cell.{IsSettled, Goes};
 ghost use Rattle.rcv_role.specs.Run.{IsFencedBy, Ran, signal_of};
 
-use crate::cell::Cell;
+use crate::cell::{Cell, LOG};
 use crate::poll::{Poll, Stop};
 use rcv_fence::Watch;
 use rcv_gate::Gate;
@@ -13,13 +13,14 @@ impl<'a> Cell<'a> {
     /// Polls a role that isn't crashed until it can't go on, or a look at the watch shows a failure that reaches it, or
     /// so many turns, at least one, are made. Before each poll it looks at the watch once and then calls the gate.
     /// Where the role crashes with an event to be undone it raises the watch. The log has room for as many entries as
-    /// turns, of 65 in all. It takes no memory.
+    /// turns. The watch stays one of the same fence. It takes no memory.
     pub fn run<G: Gate>(&mut self, watch: &mut Watch, gate: &G, turns: u32) -> Stop
         requires running { self.old.part.own.crashed ≡ false }
         requires turns { 1 ≤ turns }
-        requires log { length self.old.part.log + turns ≤ 65 }
+        requires log { length self.old.part.log + turns ≤ LOG }
         requires settled { IsSettled self.old }
         ensures ran { Ran turns self.old self.new watch.old watch.new result }
+        ensures fence { watch.new.fence ≡ watch.old.fence }
         ensures goes { Goes self.old self.new }
         ensures few { length self.new.part.log ≤ length self.old.part.log + turns }
     {
@@ -45,6 +46,7 @@ impl<'a> Cell<'a> {
 
     // Looks at the watch once: whether a failure is shown that reaches the role.
     fn is_fenced(&self, watch: &mut Watch) -> bool
+        ensures fence { watch.new.fence ≡ watch.old.fence }
         ensures looks { watch.new.looks ≡ watch.old.looks + 1 }
         ensures raised { watch.new.raised ≡ watch.old.raised }
         ensures seen { watch.new.seen ≡ watch.old.seen ++ watch.new.last ∷ [] }
@@ -58,6 +60,7 @@ impl<'a> Cell<'a> {
 
     // Raises the first event that the role hasn't saved, if there is one.
     fn raise(&self, watch: &mut Watch)
+        ensures fence { watch.new.fence ≡ watch.old.fence }
         ensures looks { watch.new.looks ≡ watch.old.looks }
         ensures last { watch.new.last ≡ watch.old.last }
         ensures seen { watch.new.seen ≡ watch.old.seen }

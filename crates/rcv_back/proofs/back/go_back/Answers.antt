@@ -10,4 +10,6 @@ pub settle_all-requires : goal.settle_all-requires
 settle_all-requires c = to_settle c.args.book.now c.rewind_all.new.half.items c.rewind_all.ensures.going
 
 pub returns : goal.returns
-returns c = gone_back_all c.args.book.now c.args.half.now.items c.settle_all.new.half.items c.requires.count (moved_then c.args.half.now.items c.rewind_all.new.half.items c.settle_all.new.half.items c.rewind_all.ensures.moved c.settle_all.ensures.moved) c.settle_all.ensures.gone
+returns c = gone_back_all c.args.book.now c.args.half.now.items c.settle_all.new.half.items c.requires.count
+    (moved_then c.args.half.now.items c.rewind_all.new.half.items c.settle_all.new.half.items
+    c.rewind_all.ensures.moved c.settle_all.ensures.moved) c.settle_all.ensures.gone

@@ -8,7 +8,11 @@ pub loop-to-init : goal.loop-to-init
 loop-to-init c = (c.requires.going, moved_self c.args.book.now c.args.from 0 c.args.half.now.items c.requires.going)
 
 pub loop-to-preserved : goal.loop-to-preserved
-loop-to-preserved c = (c.rewind_channel.ensures.going, moved_then c.args.half.now.items c.loop-to.half.items c.rewind_channel.new.half.items c.loop-to.invariant.1 c.rewind_channel.ensures.moved)
+loop-to-preserved c = (
+  c.rewind_channel.ensures.going,
+  moved_then c.args.half.now.items c.loop-to.half.items
+      c.rewind_channel.new.half.items c.loop-to.invariant.1 c.rewind_channel.ensures.moved,
+)
 
 pub returns-clause-going : goal.returns-clause-going
 returns-clause-going c =

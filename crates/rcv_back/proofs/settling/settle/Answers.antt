@@ -1,22 +1,37 @@
--- A place without a cell, and one with one.
-use Rattle.std.proofs.Common.{arith}
-use Rattle.rcv_back.proofs.Ending.{none_on, none_moved, one_on, one_moved}
+-- The place has what became of what stood there.
+use Rattle.std.proofs.Common.{Some, refl, ◌∙◌, ap, arith}
+use Rattle.std.proofs.lemmas.Option.{slice_get_read}
+use Rattle.rcv_back.proofs.Ending.{settled_on}
 use Rattle.rcv_back.proofs.settling.settle.Goals as goal
 
-pub returns-in_default-clause-gone : goal.returns-in_default-clause-gone
-returns-in_default-clause-gone c = none_on c.args.book.now c.args.role c.args.half.now.items c.requires.gone c.take_out.new.half.items c.in_default.ensures.found c.in_default.ensures.empty c.in_default.ensures.others
+pub settle_at-requires-clause-going : goal.settle_at-requires-clause-going
+settle_at-requires-clause-going c = λ x is.
+    let count = c.requires.gone.count in
+    let low = c.requires.role in
+    let there = slice_get_read c.args.half.now.items _ c.args.role c.index_mut.result.now refl (omega (arith, count, low))
+    c.index_mut.ensures.value in
+    (c.requires.gone.left c.args.role x (there ∙ ap Some is) (omega arith)).0
 
-pub returns-in_default-clause-moved : goal.returns-in_default-clause-moved
-returns-in_default-clause-moved c = none_moved c.args.book.now c.args.role c.args.half.now.items c.requires.gone c.take_out.new.half.items c.in_default.ensures.found c.in_default.ensures.empty c.in_default.ensures.others
-
-pub settle_lane-requires-clause-going : goal.settle_lane-requires-clause-going
-settle_lane-requires-clause-going c = (c.requires.gone.left c.args.role c.in-Some.lane c.in-Some.ensures.found (omega arith)).0
-
-pub settle_lane-requires-clause-settled : goal.settle_lane-requires-clause-settled
-settle_lane-requires-clause-settled c = (c.requires.gone.left c.args.role c.in-Some.lane c.in-Some.ensures.found (omega arith)).1
+pub settle_at-requires-clause-settled : goal.settle_at-requires-clause-settled
+settle_at-requires-clause-settled c = λ x is.
+    let count = c.requires.gone.count in
+    let low = c.requires.role in
+    let there = slice_get_read c.args.half.now.items _ c.args.role c.index_mut.result.now refl (omega (arith, count, low))
+    c.index_mut.ensures.value in
+    (c.requires.gone.left c.args.role x (there ∙ ap Some is) (omega arith)).1
 
 pub returns-clause-gone : goal.returns-clause-gone
-returns-clause-gone c = one_on c.args.book.now c.args.role c.args.half.now.items c.requires.gone c.take_out.new.half.items c.put_in.new.half.items c.in-Some.lane c.settle_lane.new.lane c.in-Some.ensures.found c.put_in.ensures.has c.in-Some.ensures.others c.put_in.ensures.others c.settle_lane.ensures
+returns-clause-gone c =
+    let count = c.requires.gone.count in
+    let low = c.requires.role in
+    let there = slice_get_read c.args.half.now.items _ c.args.role c.index_mut.result.now refl (omega (arith, count, low))
+    c.index_mut.ensures.value in
+    (settled_on c.args.book.now c.args.role c.args.half.now.items c.requires.gone _ _ there c.settle_at.ensures).0
 
 pub returns-clause-moved : goal.returns-clause-moved
-returns-clause-moved c = one_moved c.args.book.now c.args.role c.args.half.now.items c.requires.gone c.take_out.new.half.items c.put_in.new.half.items c.in-Some.lane c.settle_lane.new.lane c.in-Some.ensures.found c.put_in.ensures.has c.in-Some.ensures.others c.put_in.ensures.others c.settle_lane.ensures
+returns-clause-moved c =
+    let count = c.requires.gone.count in
+    let low = c.requires.role in
+    let there = slice_get_read c.args.half.now.items _ c.args.role c.index_mut.result.now refl (omega (arith, count, low))
+    c.index_mut.ensures.value in
+    (settled_on c.args.book.now c.args.role c.args.half.now.items c.requires.gone _ _ there c.settle_at.ensures).1

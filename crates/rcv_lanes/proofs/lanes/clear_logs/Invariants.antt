@@ -5,6 +5,6 @@ use Rattle.rcv_lanes.proofs.lanes.clear_logs.Given as goal
 
 abbrev pub invariant-loop-role : goal.invariant-loop-role
 invariant-loop-role l =
-    (length l.lanes.items ≡ length l.initial.lanes.items)
-    × ((r : ℕ) (d : CellView) → r < l.role → cell_at l.lanes.items r d ≡ without_log (cell_at l.initial.lanes.items r d))
-    × ((r : ℕ) (d : CellView) → l.role ≤ r → cell_at l.lanes.items r d ≡ cell_at l.initial.lanes.items r d)
+    (length l.lanes ≡ length l.initial.lanes)
+    × ((r : ℕ) (d : CellView) → r < l.role → cell_at l.lanes r d ≡ without_log (cell_at l.initial.lanes r d))
+    × ((r : ℕ) (d : CellView) → l.role ≤ r → cell_at l.lanes r d ≡ cell_at l.initial.lanes r d)

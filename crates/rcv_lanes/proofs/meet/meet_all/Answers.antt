@@ -4,9 +4,11 @@ use Rattle.rcv_lanes.proofs.Meeting.{all_more}
 use Rattle.rcv_lanes.proofs.meet.meet_all.Goals as goal
 
 pub loop-from-preserved : goal.loop-from-preserved
-loop-from-preserved c = all_more c.args.lanes.now.items c.loop-from.lanes.items c.meet_others.new.lanes.items c.loop-from.from c.loop-from.invariant c.in_ok-meet_others.ensures.met c.in_ok-meet_others.ensures.begun
+loop-from-preserved c =
+    all_more c.args.lanes.now c.loop-from.lanes c.meet_from.new.lanes c.loop-from.from c.loop-from.invariant
+    c.meet_from.ensures.met c.meet_from.ensures.begun
 
 pub returns-clause-begun : goal.returns-clause-begun
 returns-clause-begun c =
-    let all : c.loop-from.from ≡ length c.args.lanes.now.items = search rules in
+    let all : c.loop-from.from ≡ length c.args.lanes.now = search rules in
     λ s r d ls lr n. c.loop-from.invariant.1 s r d (subst (λ k. s < k) (sym all) ls) lr n

@@ -4,4 +4,7 @@ use Rattle.rcv_lanes.specs.Home.{cell_at, AllMet, HasBegun}
 use Rattle.rcv_lanes.proofs.meet.meet_all.Given as goal
 
 abbrev pub invariant-loop-from : goal.invariant-loop-from
-invariant-loop-from l = AllMet l.initial.lanes.items l.lanes.items × ((s r : ℕ) (d : CellView) → s < l.from → r < length l.initial.lanes.items → (s ≡ r → ⊥) → HasBegun (cell_at l.initial.lanes.items r d) (cell_at l.initial.lanes.items s d))
+invariant-loop-from l =
+    AllMet l.initial.lanes l.lanes
+    × ((s r : ℕ) (d : CellView) → s < l.from → r < length l.initial.lanes → (s ≡ r → ⊥)
+    → HasBegun (cell_at l.initial.lanes r d) (cell_at l.initial.lanes s d))

@@ -1,23 +1,17 @@
--- The other cell meets the sender's, which then goes back to its place.
-use Rattle.std.proofs.Common.{rules, ◌≡◌, ◌<◌, ◌+◌, length}
-use Rattle.std.specs.List.{insert}
-use Rattle.rcv_lanes.proofs.Meeting.{rest_can, pair_met, pair_met_there}
+-- Two cells have met where they lie.
+use Rattle.rcv_lanes.proofs.Meeting.{pair_met}
 use Rattle.rcv_lanes.proofs.meet.meet_pair.Goals as goal
 
-pub pair_at-requires-clause-pair : goal.pair_at-requires-clause-pair
-pair_at-requires-clause-pair c =
-    let less : length c.remove-sender.new.self.items + 1 ≡ length c.args.lanes.now.items = search rules in
-    let within : c.without.result < length c.remove-sender.new.self.items = search rules in
-    λ d. rest_can c.args.lanes.now.items c.remove-sender.new.self.items c.args.from c.remove-sender.result c.requires.from c.requires.pairs c.remove-sender.ensures.items c.remove-sender.ensures.value less c.without.result d within
+pub two_together-requires-clause-can : goal.two_together-requires-clause-can
+two_together-requires-clause-can c d = c.requires.pairs c.args.from c.args.to d c.requires.from c.requires.to c.requires.apart
 
 pub returns-clause-met : goal.returns-clause-met
 returns-clause-met c =
-    let less : length c.remove-sender.new.self.items + 1 ≡ length c.args.lanes.now.items = search rules in
-    let back : c.insert.new.self.items ≡ insert c.pair_at.new.lanes.items c.args.from c.pair_at.new.sender = search rules in
-    pair_met c.args.lanes.now.items c.remove-sender.new.self.items c.pair_at.new.lanes.items c.insert.new.self.items c.args.from c.args.to c.without.result c.remove-sender.result c.pair_at.new.sender c.requires.from c.remove-sender.ensures.items c.remove-sender.ensures.value less c.without.ensures c.pair_at.ensures.count c.pair_at.ensures.others c.pair_at.ensures.paired back c.remove-sender.result
+    pair_met c.args.lanes.now c.two_together.new.items c.args.from c.args.to c.two_together.ensures.count
+    c.two_together.ensures.others c.two_together.ensures.done
 
 pub returns-clause-paired : goal.returns-clause-paired
-returns-clause-paired c =
-    let less : length c.remove-sender.new.self.items + 1 ≡ length c.args.lanes.now.items = search rules in
-    let back : c.insert.new.self.items ≡ insert c.pair_at.new.lanes.items c.args.from c.pair_at.new.sender = search rules in
-    pair_met_there c.args.lanes.now.items c.remove-sender.new.self.items c.pair_at.new.lanes.items c.insert.new.self.items c.args.from c.args.to c.without.result c.remove-sender.result c.pair_at.new.sender c.requires.from c.remove-sender.ensures.items c.remove-sender.ensures.value less c.without.ensures c.pair_at.ensures.count c.pair_at.ensures.others c.pair_at.ensures.paired back c.requires.apart
+returns-clause-paired c d = (c.two_together.ensures.done d).paired
+
+pub returns-clause-begun : goal.returns-clause-begun
+returns-clause-begun c d = (c.two_together.ensures.done d).begun

@@ -1,26 +1,10 @@
--- The next role's ends go to its cell.
-use Rattle.std.proofs.Common.{rules, ◌≡◌, ◌+◌, ◌<◌, length}
-use Rattle.rcv_session.specs.Session.{roles_of}
-use Rattle.rcv_lanes.proofs.Starting.{front_taken, front_is, ends_there, fresh_there, one_cell_more}
+-- New cells at the ends of new channels are at home.
+use Rattle.rcv_lanes.proofs.Starting.{start_home, start_bases}
 use Rattle.rcv_lanes.proofs.opening.cells.Goals as goal
 
-pub new-requires-clause-ends : goal.new-requires-clause-ends
-new-requires-clause-ends c =
-    let lt : c.loop-role.role < roles_of c.args.setup.now = search rules in
-    let within : c.loop-role.role < length c.args.all.now.items = search rules in
-    ends_there c.args.setup.now c.args.all.now.items c.requires.open c.loop-role.role (record { posts = c.posts.inside.posts.items; inboxes = c.posts.inside.inboxes.items }) lt (front_is c.args.all.now.items c.loop-role.all.items c.loop-role.role _ c.remove.result c.loop-role.invariant.0 within c.posts.view_is c.remove.ensures.value)
+pub returns-clause-home : goal.returns-clause-home
+returns-clause-home c =
+    start_home c.args.setup.now c.in_ok-all.all.items c.in_ok-cells.cells.items c.in_ok-all.ensures c.in_ok-cells.ensures
 
-pub new-requires-clause-fresh : goal.new-requires-clause-fresh
-new-requires-clause-fresh c =
-    let lt : c.loop-role.role < roles_of c.args.setup.now = search rules in
-    let within : c.loop-role.role < length c.args.all.now.items = search rules in
-    fresh_there c.args.setup.now c.args.all.now.items c.requires.open c.loop-role.role (record { posts = c.posts.inside.posts.items; inboxes = c.posts.inside.inboxes.items }) lt (front_is c.args.all.now.items c.loop-role.all.items c.loop-role.role _ c.remove.result c.loop-role.invariant.0 within c.posts.view_is c.remove.ensures.value)
-
-pub loop-role-preserved : goal.loop-role-preserved
-loop-role-preserved c =
-    let within : c.loop-role.role < length c.args.all.now.items = search rules in
-    let left : length c.remove-watch.new.self.items + (c.loop-role.role + 1) ≡ roles_of c.args.setup.now + 1 = search rules in (
-      front_taken c.args.all.now.items c.loop-role.all.items c.remove.new.self.items c.loop-role.role c.loop-role.invariant.0 within c.remove.ensures.items,
-      left,
-      one_cell_more c.args.setup.now c.args.all.now.items c.loop-role.role c.loop-role.lanes.items c.push.new.self.items c.in_ok-cell.cell (record { posts = c.posts.inside.posts.items; inboxes = c.posts.inside.inboxes.items }) c.loop-role.invariant.2 c.in_ok-cell.ensures.cell (front_is c.args.all.now.items c.loop-role.all.items c.loop-role.role _ c.remove.result c.loop-role.invariant.0 within c.posts.view_is c.remove.ensures.value) c.in_ok-cell.ensures.settled c.in_ok-push.ensures.items,
-    )
+pub returns-clause-bases : goal.returns-clause-bases
+returns-clause-bases c = start_bases c.args.setup.now c.in_ok-all.all.items c.in_ok-cells.cells.items c.in_ok-cells.ensures

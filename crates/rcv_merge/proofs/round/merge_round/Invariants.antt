@@ -1,9 +1,9 @@
-use Rattle.std.proofs.Common.{map}
+use Rattle.rcv_merge.specs.Merge.{AreStamps, lists_in}
 use Rattle.rcv_merge.proofs.Merging.{IsMerging, left_of}
 use Rattle.rcv_merge.proofs.round.merge_round.Given as goal
 
-abbrev pub invariant-loop-role : goal.invariant-loop-role
-invariant-loop-role l = IsMerging (map (λ v. v.items) l.logs.items) l.heads.items l.merged.items
+abbrev pub invariant-loop-front : goal.invariant-loop-front
+invariant-loop-front l = IsMerging (lists_in l.logs) l.heads l.merged.items × AreStamps (lists_in l.logs) l.heads l.stamps
 
-abbrev pub decreases-loop-role : goal.decreases-loop-role
-decreases-loop-role l = left_of (map (λ v. v.items) l.logs.items) l.heads.items
+abbrev pub decreases-loop-front : goal.decreases-loop-front
+decreases-loop-front l = left_of (lists_in l.logs) l.heads

@@ -10,7 +10,7 @@ use Rattle.rcv_super.proofs.OneByOne.{left_at, next_copy, copied}
 use Rattle.rcv_super.proofs.alone.catch_up.Goals as goal
 
 pub make_step-requires-clause-more : goal.make_step-requires-clause-more
-make_step-requires-clause-more c κs =
+make_step-requires-clause-more c =
     let lt : c.loop.counter < length c.args.book.now.entries = search rules in
     left_at c.args.book.now c.loop.counter lt c.requires.steps c.loop.copy c.loop.invariant.0 c.entries-entries.ensures.legal
 
@@ -29,7 +29,7 @@ returns-clause-home c =
     subst (λ (b : BookView). AreHome b c.loop.lanes.items) (c.loop.invariant.0 ∙ copied c.args.book.now c.loop.counter all) c.loop.invariant.1
 
 pub make_step-requires-clause-based : goal.make_step-requires-clause-based
-make_step-requires-clause-based c κs = record {
+make_step-requires-clause-based c = record {
   line = [];
   stable = nothing_stable c.loop.copy;
   bases = subst (λ (b : BookView). HaveBases (roles_of b.setup) [] c.loop.lanes.items) (sym c.loop.invariant.0) c.loop.invariant.2;

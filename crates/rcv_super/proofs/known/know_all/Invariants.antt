@@ -5,5 +5,5 @@ use Rattle.rcv_role.specs.Cell.{CellView}
 use Rattle.rcv_lanes.specs.Home.{cell_at}
 use Rattle.rcv_super.proofs.known.know_all.Given as goal
 
-abbrev pub invariant-loop-lane : goal.invariant-loop-lane
-invariant-loop-lane l = (r : ℕ) (d : CellView) → r < l.lane-index → HoldsStates (cell_at l.lanes.items r d).part
+abbrev pub invariant-loop-cell : goal.invariant-loop-cell
+invariant-loop-cell l = (r : ℕ) (d : CellView) → r < l.cell-index → HoldsStates (cell_at l.lanes.items r d).part

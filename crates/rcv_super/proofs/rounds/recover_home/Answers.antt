@@ -2,7 +2,7 @@
 use Rattle.std.proofs.Common.{subst, sym}
 use Rattle.rcv_core.specs.Book.{BookView}
 use Rattle.rcv_super.specs.Bases.{IsStableIn}
-use Rattle.rcv_super.proofs.Bases.{held_on, then_ok}
+use Rattle.rcv_super.proofs.Bases.{held_on, both_ok}
 use Rattle.rcv_super.proofs.Ending.{grown_recovery}
 use Rattle.rcv_super.proofs.rounds.recover_home.Goals as goal
 
@@ -14,6 +14,6 @@ recover_alone-requires-clause-based c = record {
 }
 
 pub returns-clause-bases : goal.returns-clause-bases
-returns-clause-bases c = then_ok c.recover_alone.result
-    (held_on c.bring_home.new.book c.recover_alone.new.book c.args.line.now c.bring_home.new.lanes.items c.recover_alone.new.lanes.items (grown_recovery c.bring_home.new.book c.recover_alone.new.book c.args.role c.recover_alone.ensures.some) c.in_ok-bring_home.ensures.bases)
-    c.recover_alone.ensures.bases
+returns-clause-bases c = both_ok c.recover_alone.result
+    (λ recovered. held_on c.bring_home.new.book c.recover_alone.new.book c.args.line.now c.bring_home.new.lanes.items c.recover_alone.new.lanes.items (grown_recovery c.bring_home.new.book c.recover_alone.new.book c.args.role recovered) c.in_ok-bring_home.ensures.bases)
+    c.recover_alone.ensures.recovered c.recover_alone.ensures.bases

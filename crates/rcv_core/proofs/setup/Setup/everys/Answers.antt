@@ -1,5 +1,5 @@
 -- One role after another is told.
-use Rattle.std.proofs.Common.{◌≡◌, ◌<◌, length-set, subst, sym, ◌∙◌, arith}
+use Rattle.std.proofs.Common.{◌≡◌, ◌<◌, length-set, ◌∙◌, arith}
 use Rattle.rcv_session.specs.Session.{rules_of}
 use Rattle.rcv_core.proofs.Filling.{set_done}
 use Rattle.rcv_core.proofs.setup.Setup.everys.Goals as goal

@@ -10,4 +10,5 @@ invariant-loop l =
     × (length l.beside.list ≤ l.self.limit)
     × (length l.beside.list + l.self.dropped ≤ l.self.base.known)
     × (l.self.got ≡ l.initial.self.got)
+    × (l.initial.self.base.looks ≤ l.self.base.looks)
     × IsUncut l.initial.self l.self

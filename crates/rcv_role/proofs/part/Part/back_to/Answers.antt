@@ -8,6 +8,7 @@ invariant_of-self c = (
   back_is _ c.args.self.now c.self.inside.tail _ c.self.view_is c.self.invariant.0 c.args.keep c.args.clock _ c.requires.base c.requires.held c.rewind.ensures c.truncate.ensures.items refl,
   search rules,
   search rules,
+  tt,
 )
 
 pub rewind-requires : goal.rewind-requires

@@ -13,6 +13,7 @@ invariant_of-self c = (
   crashed_is _ c.args.self.now c.self.inside.tail _ c.self.view_is c.self.invariant.0 c.durable-durable.result _ c.requires.due c.durable-durable.ensures c.lose_to.ensures refl refl refl,
   search rules,
   search rules,
+  tt,
 )
 
 pub returns : goal.returns

@@ -11,4 +11,5 @@ invariant_of-self c = (
   forgot_is _ c.args.self.now c.self.inside.tail c.self.view_is c.self.invariant.0 _ c.args.line c.requires.step c.requires.above c.requires.saved c.forget.ensures,
   search rules,
   search rules,
+  c.self.invariant.3,
 )

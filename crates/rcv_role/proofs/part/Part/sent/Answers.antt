@@ -1,20 +1,6 @@
--- The Send of the chosen point may come.
-use Rattle.std.proofs.Common.{rules}
-use Rattle.rcv_core.proofs.Setups.{joined}
-use Rattle.rcv_role.proofs.Parts.{offered_points, chosen_point, sent_may, sent_own}
+-- What is remembered is what the script would choose.
+use Rattle.rcv_role.proofs.Parts.{remembered}
 use Rattle.rcv_role.proofs.part.Part.sent.Goals as goal
 
-pub choose-point-requires-clause-points : goal.choose-point-requires-clause-points
-choose-point-requires-clause-points c = offered_points _ c.args.self.now c.self.inside.tail c.self.view_is c.self.invariant.0 c.args.offered.now c.requires.offers
-
-pub value-requires-clause-first : goal.value-requires-clause-first
-value-requires-clause-first c = (chosen_point _ c.args.self.now c.self.inside.tail c.self.view_is c.self.invariant.0 c.args.offered.now c.requires.offers c.top-state.result.now c.requires.running c.top-state.ensures c.choose-point.result c.requires.some c.requires.sends c.choose-point.ensures).first
-
-pub value-requires-clause-last : goal.value-requires-clause-last
-value-requires-clause-last c = (chosen_point _ c.args.self.now c.self.inside.tail c.self.view_is c.self.invariant.0 c.args.offered.now c.requires.offers c.top-state.result.now c.requires.running c.top-state.ensures c.choose-point.result c.requires.some c.requires.sends c.choose-point.ensures).last
-
-pub returns-clause-may : goal.returns-clause-may
-returns-clause-may c = sent_may _ c.args.self.now c.self.inside.tail c.self.view_is c.self.invariant.0 c.args.offered.now c.requires.offers c.top-state.result.now c.requires.running c.top-state.ensures c.choose-point.result c.requires.some c.requires.sends c.choose-point.ensures _ c.requires.calm c.requires.below (joined (search rules) c.value.ensures)
-
-pub returns-clause-own : goal.returns-clause-own
-returns-clause-own c = sent_own _ c.args.self.now c.self.inside.tail c.self.view_is c.self.invariant.0 c.args.offered.now c.requires.offers c.top-state.result.now c.requires.running c.top-state.ensures c.choose-point.result c.requires.some c.requires.sends c.choose-point.ensures _ c.requires.below
+pub returns-in-Some-clause-next : goal.returns-in-Some-clause-next
+returns-in-Some-clause-next c = remembered _ c.args.self.now c.self.inside.tail c.self.view_is c.self.invariant.0 c.self.inside.chosen c.in-Some.event c.self.invariant.3 c.in-Some.is

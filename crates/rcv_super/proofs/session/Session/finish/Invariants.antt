@@ -4,8 +4,8 @@ use Rattle.rcv_core.specs.Book.{most_entries}
 use Rattle.rcv_super.proofs.Turning.{Turns}
 use Rattle.rcv_super.proofs.session.Session.finish.Given as goal
 
-abbrev pub invariant-loop-error : goal.invariant-loop-error
-invariant-loop-error g l = Turns l.fn.workers l.fn.self l.self
+abbrev pub invariant-loop-self : goal.invariant-loop-self
+invariant-loop-self g l = Turns l.fn.workers l.fn.self l.self
 
-abbrev pub decreases-loop-error : goal.decreases-loop-error
-decreases-loop-error g l = suc (most_entries (rules_of l.self.book.setup)) - length l.self.book.entries
+abbrev pub decreases-loop-self : goal.decreases-loop-self
+decreases-loop-self g l = suc (most_entries (rules_of l.self.book.setup)) - length l.self.book.entries

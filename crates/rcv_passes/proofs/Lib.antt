@@ -1,0 +1,4 @@
+mod Lists
+mod Passes
+mod Workers
+mod Examples

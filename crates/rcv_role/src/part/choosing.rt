@@ -1,0 +1,139 @@
+// What a role does next: which points are offered to it, and the event of one of them.
+
+ghost use Rattle.std.specs.Prelude.{◌≡◌, ◌≢◌, ◌+◌, ◌^◌, ◌<◌, ◌≤◌, ◌↔◌, [], false, IsTrue, MatchOption};
+ghost use Rattle.rcv_model.specs.Net.{IsIn};
+ghost use Rattle.rcv_theory.specs.Own.{MayOwnRecv, IsOwnDue};
+ghost use Rattle.rcv_session.specs.Session.{net_for, rules_of};
+ghost use Rattle.rcv_role.specs.Part.{IsNextSend, IsRecvOf, Offers, AllSends, AllRecvs, IsBelow};
+
+use crate::part::Part;
+use rcv_tree::event::{Dir, Event, Message};
+use rcv_tree::point::Point;
+use rcv_tree::role::RoleId;
+
+impl<'a> Part<'a> {
+    /// Whether a crash line of the role, which isn't crashed, has come.
+    pub fn due(&self) -> bool
+        requires { self.now.own.crashed ≡ false }
+        ensures { IsTrue result ↔ IsOwnDue (rules_of self.now.setup) self.now.role self.now.own }
+    {
+        self.setup.plan().due(self.role, self.raw, self.crashes)
+    }
+
+    /// Whether the role makes no step more: it has made as many as the limit allows, or its clock has come too far.
+    pub fn is_tired(&self) -> bool
+        ensures { IsTrue result ↔ (IsBelow self.now → ⊥) }
+    {
+        !(self.raw < self.setup.limit() && self.clock < 1 << 62)
+    }
+
+    /// The next points of a role that isn't crashed, ascending.
+    pub fn offered(&self) -> &'a [Point]
+        requires { self.now.own.crashed ≡ false }
+        ensures { Offers self.now result.now }
+    {
+        let setup = self.setup;
+        setup.next(self.role, self.tail.top().k)
+    }
+
+    /// The role that all next points are to be received from, the first of them being this one. None where all are
+    /// sends.
+    pub fn partner(&self, offered: &[Point], first: Point) -> Option<RoleId>
+        requires offers { Offers self.now offered.now }
+        requires among { IsIn first offered.now }
+        ensures { MatchOption result (AllSends self.now offered.now) (λ from. AllRecvs self.now offered.now from) }
+    {
+        let sender = self.setup.sender(first);
+        if sender == self.role {
+            None
+        } else {
+            Some(sender)
+        }
+    }
+
+    /// The role that receives at a point of the text.
+    pub fn receiver(&self, point: Point) -> RoleId
+        requires first { 1 ≤ point }
+        requires last { point ≤ (net_for self.now.setup).count }
+        ensures { result ≡ (net_for self.now.setup).receiver point }
+    {
+        self.setup.receiver(point)
+    }
+
+    /// The Send that the role makes where all its next points are its sends. Its script is asked for it once: until the
+    /// role makes a step or goes back, it is remembered.
+    pub fn sent(&mut self, offered: &[Point]) -> Event
+        requires running { self.old.own.crashed ≡ false }
+        requires calm { IsOwnDue (rules_of self.old.setup) self.old.role self.old.own → ⊥ }
+        requires offers { Offers self.old offered.now }
+        requires some { offered.now ≢ [] }
+        requires sends { AllSends self.old offered.now }
+        requires below { IsBelow self.old }
+        ensures same { self.new ≡ self.old }
+        ensures next { IsNextSend self.old.setup self.old.role self.old.own result }
+    {
+        if let Some(event) = self.chosen {
+            return event;
+        }
+        let event = self.choose(offered);
+        self.remember(&event);
+        event
+    }
+
+    fn remember(&mut self, event: &Event)
+        requires { IsNextSend self.old.setup self.old.role self.old.own event.now }
+        ensures { self.new ≡ self.old }
+    {
+        self.chosen = Some(*event);
+    }
+
+    // The Send that the role's script chooses.
+    fn choose(&self, offered: &[Point]) -> Event
+        requires running { self.now.own.crashed ≡ false }
+        requires calm { IsOwnDue (rules_of self.now.setup) self.now.role self.now.own → ⊥ }
+        requires offers { Offers self.now offered.now }
+        requires some { offered.now ≢ [] }
+        requires sends { AllSends self.now offered.now }
+        requires below { IsBelow self.now }
+        ensures { IsNextSend self.now.setup self.now.role self.now.own result }
+    {
+        let state = self.tail.top();
+        let point = self
+            .setup
+            .choose(self.role, &state.vars, self.attempt, offered);
+        Event {
+            role: self.role,
+            dir: Dir::Sent,
+            point,
+            value: self
+                .setup
+                .value(self.role, &state.vars, self.attempt, point),
+            stamp: self.clock + 1,
+            sent: self.clock + 1,
+        }
+    }
+
+    /// The Recv of a message from the role that all next points are to be received from.
+    pub fn got(&self, offered: &[Point], from: RoleId, message: &Message) -> Event
+        requires running { self.now.own.crashed ≡ false }
+        requires calm { IsOwnDue (rules_of self.now.setup) self.now.role self.now.own → ⊥ }
+        requires offers { Offers self.now offered.now }
+        requires some { offered.now ≢ [] }
+        requires receives { AllRecvs self.now offered.now from }
+        requires below { IsBelow self.now }
+        requires sender { (net_for self.now.setup).sender message.now.point ≡ from }
+        requires stamp { message.now.stamp ≤ 2 ^ 62 }
+        ensures may { MayOwnRecv (rules_of self.now.setup) self.now.own result }
+        ensures of { IsRecvOf self.now message.now result }
+    {
+        let _setup = self.setup;
+        Event {
+            role: self.role,
+            dir: Dir::Got,
+            point: message.point,
+            value: message.value,
+            stamp: self.clock.max(message.stamp) + 1,
+            sent: message.stamp,
+        }
+    }
+}
