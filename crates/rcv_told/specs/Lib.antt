@@ -1,0 +1,4 @@
+pub mod Told
+pub mod Forgetting
+pub mod Hindsight
+pub mod Laws
