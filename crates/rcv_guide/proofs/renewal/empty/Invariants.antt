@@ -1,0 +1,10 @@
+use Rattle.std.proofs.Common.{◌≡◌, replicate}
+use Rattle.std.specs.Prelude.{pos}
+use Rattle.rcv_guide.proofs.renewal.empty.Given as goal
+
+abbrev pub invariant-loop-role : goal.invariant-loop-role
+invariant-loop-role l =
+    record {
+      firsts : l.firsts.items ≡ replicate l._role (replicate 16 (pos 0));
+      everys : l.everys.items ≡ replicate l._role 1;
+    }

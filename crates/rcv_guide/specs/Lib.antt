@@ -1,0 +1,5 @@
+pub mod Numbers
+pub mod Failing
+pub mod Guide
+pub mod Causes
+pub mod Renewal

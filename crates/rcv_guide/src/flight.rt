@@ -1,0 +1,54 @@
+// The messages of a channel, by the log of its sender.
+
+ghost use Rattle.std.specs.Prelude.{◌≡◌, ◌<◌, length, slice_get};
+ghost use Rattle.rcv_model.specs.Run.{put, puts_on};
+ghost use Rattle.rcv_points.specs.Follow.{net_in};
+ghost use Rattle.rcv_ledger.specs.Logs.{log_at};
+ghost use Rattle.rcv_ledger.specs.Ledger.{AreSound, IsSound};
+
+use rcv_ledger::ledger::Ledger;
+use rcv_points::points::Points;
+use rcv_tree::event::{Dir, Event, Message};
+use rcv_tree::role::RoleId;
+
+// Whether an event of a role is a Send from it to another.
+fn puts(points: &Points, from: RoleId, to: RoleId, event: &Event) -> bool
+    requires { IsSound (net_in points.now) from event.now }
+    ensures { result ≡ puts_on (net_in points.now) from to event.now }
+{
+    match event.dir {
+        Dir::Sent => points.receiver(event.point) == to,
+        Dir::Got => false,
+    }
+}
+
+/// The message with this number, from 0, of those that a role with a log put on its channel to another; none where
+/// there are fewer. It goes over the role's kept events.
+pub fn message_at(
+    ledger: &Ledger,
+    points: &Points,
+    from: RoleId,
+    to: RoleId,
+    number: usize,
+) -> Option<Message>
+    requires role { from < length ledger.now.logs }
+    requires sound { AreSound (net_in points.now) ledger.now.logs }
+    ensures { result ≡ slice_get (put (net_in points.now) from to (log_at ledger.now.logs from)) number }
+{
+    let mut left = number;
+    for place in 0..ledger.made(from) {
+        let event = ledger.event(from, place);
+        if !puts(points, from, to, event) {
+            continue;
+        }
+        if left == 0 {
+            return Some(Message {
+                point: event.point,
+                value: event.value,
+                stamp: event.stamp,
+            });
+        }
+        left -= 1;
+    }
+    None
+}

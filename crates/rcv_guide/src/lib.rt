@@ -1,0 +1,14 @@
+// A session whose roles run elsewhere: which of the events that are told of it are legal, and what a failure takes back.
+#![tactic(auto)]
+
+pub mod cause;
+mod failing;
+mod flight;
+pub mod guide;
+pub mod news;
+mod numbers;
+pub mod recovery;
+mod renewal;
+
+/// Want of memory.
+pub use std::alloc::AllocError as Memory;
