@@ -1,5 +1,4 @@
 pub mod Crashing
-pub mod Cutting
 pub mod Filling
 pub mod Flying
 pub mod Foretelling

@@ -32,7 +32,7 @@ use Rattle.rcv_guide.specs.Numbers.{at_start, numbers_at, latest_from, back_from
 use Rattle.rcv_guide.specs.Failing.{all_events}
 use Rattle.rcv_guide.specs.Guide.{GuideView, guide_of, net_for, roles_of, terms_of, no_vars, IsMemory, MayRecover, listed_of, left_in, IsFailureOf, AreLeft, IsSoundMemory, AreStamped, AreFewOf, IsPartOfRun, IsGuide, IsAfter, entry_of}
 use Rattle.rcv_guide.proofs.Starting.{view_with}
-use Rattle.rcv_guide.proofs.Cutting.{same_cut}
+use Rattle.rcv_told.proofs.Cutting.{same_cut}
 use Rattle.rcv_guide.proofs.Sets.{in_set, not_in_set}
 use Rattle.rcv_guide.proofs.Memories.{many_held, seeds_at, attempt_at, clock_at, down_held}
 use Rattle.rcv_guide.proofs.Guides.{low, is_proper, log_is, many_logs, none_beyond, part_of, part_after}
