@@ -2,8 +2,6 @@
 #![tactic(auto)]
 
 mod calls;
-mod case;
-mod piece;
 mod trial;
 
 use std::{fs, io};

@@ -1,6 +1,6 @@
 // A case put through the top call over memory.
 
-use crate::case::{Case, read_case};
+use rcv_case::{Case, read_case};
 use rcv_io::{MemSink, MemSource};
 use rcv_kept::keep_the_same;
 use rcv_top::{NoGate, recover};
@@ -26,7 +26,7 @@ pub fn try_case<R: AllocGlobal + Files + Print + Threads + Sync>(
     name: &str,
 ) -> io::Result<()> {
     let text = fs::read_to_string(rt, name)?;
-    let Some(case) = read_case(rt.alloc(), text.as_str())? else {
+    let Some(case) = read_case(rt.alloc(), "rcv", text.as_str())? else {
         return println!(rt; "{name} is no case");
     };
     try_alone(rt, name, &case)?;

@@ -1,5 +1,5 @@
 -- What a log puts on a channel, one event after another.
-use Rattle.std.proofs.Common.{◌≡◌, ℕ, ℤ, suc, ◌+◌, ◌≤◌, true, false, cond, Some, None, List, [], ◌∷◌, length, drop, refl, ◌∙◌, ap, arith}
+use Rattle.std.proofs.Common.{◌≡◌, ℕ, ℤ, zero, suc, ◌+◌, ◌≤◌, true, false, cond, Some, None, List, [], ◌∷◌, length, drop, refl, ◌∙◌, ap, arith}
 use Rattle.std.specs.Prelude.{slice_get}
 use Rattle.std.specs.List.{cons_option}
 use Rattle.std.proofs.Math.ListN.{drop_of_length-le}
@@ -31,17 +31,15 @@ module _ (net : Net) (a b : ℕ) (log : List Event) (i : ℕ) where
   put_none_at e at f = ap (put net a b) (one_behind e at) ∙ ap (λ t. cons_option (cond t (Some (put_message e)) None) rest) f
 
   -- one that does
-  put_some_at : (e : Event) → slice_get log i ≡ Some e → puts_on net a b e ≡ true → put net a b (drop i log) ≡ put_message e ∷ rest
+  pub put_some_at : (e : Event) → slice_get log i ≡ Some e → puts_on net a b e ≡ true → put net a b (drop i log) ≡ put_message e ∷ rest
   put_some_at e at t = ap (put net a b) (one_behind e at) ∙ ap (λ o. cons_option o rest) (put_by_some net a b e t)
 
-  pub put_first : (e : Event) → slice_get log i ≡ Some e → puts_on net a b e ≡ true → slice_get (put net a b (drop i log)) 0 ≡ Some (put_message e)
-  put_first e at t = ap (λ l. slice_get l 0) (put_some_at e at t)
+  pub put_later : (e : Event) (n k : ℕ) → slice_get log i ≡ Some e → puts_on net a b e ≡ true → n ≡ suc k → drop n (put net a b (drop i log)) ≡ drop k rest
+  put_later e n k at t is = ap (λ l. drop n l) (put_some_at e at t) ∙ ap (λ j. drop j (put_message e ∷ rest)) is
 
-  pub put_later : (e : Event) (n k : ℕ) → slice_get log i ≡ Some e → puts_on net a b e ≡ true → n ≡ suc k → slice_get (put net a b (drop i log)) n ≡ slice_get rest k
-  put_later e n k at t is = ap (λ l. slice_get l n) (put_some_at e at t) ∙ ap (slice_get (put_message e ∷ rest)) is
-
-  pub put_end : (n : ℕ) → length log ≤ i → slice_get (put net a b (drop i log)) n ≡ None
-  put_end n le = ap (λ l. slice_get (put net a b l) n) (drop_of_length-le log le) ∙ nothing n
+  pub put_end : (n : ℕ) → length log ≤ i → drop n (put net a b (drop i log)) ≡ []
+  put_end n le = ap (λ l. drop n (put net a b l)) (drop_of_length-le log le) ∙ nothing n
     where
-      nothing : (n : ℕ) → slice_get (put net a b []) n ≡ None
-      nothing n = refl
+      nothing : (n : ℕ) → drop n (put net a b []) ≡ []
+      nothing zero = refl
+      nothing (suc n) = refl

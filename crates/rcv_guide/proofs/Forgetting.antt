@@ -17,6 +17,7 @@ use Rattle.rcv_ledger.specs.Ledger.{LedgerView}
 use Rattle.rcv_ledger.proofs.Lists.{none_there, take_left, take_whole}
 use Rattle.rcv_told.specs.Told.{Remembered}
 use Rattle.rcv_told.specs.Forgetting.{since, seeds_of, Lacks, lacked, LacksMessages, IsShorter}
+use Rattle.rcv_told.proofs.Memories.{place_join}
 use Rattle.rcv_guide.specs.declared.numbers.Numbers.{Numbers}
 use Rattle.rcv_guide.specs.Numbers.{numbers_at, AreNumbersOf}
 use Rattle.rcv_guide.specs.Failing.{point_or_none}
@@ -24,9 +25,9 @@ use Rattle.rcv_guide.specs.Guide.{GuideView, net_for, roles_of, IsMemory, MayFor
 use Rattle.rcv_guide.specs.Renewal.{AreOrdered, AreEnds, MayEnd, staying, forgotten_from, AreForgotten, IsRenewed}
 use Rattle.rcv_guide.proofs.Memories.{seeds_at, forgotten_at, point_at, no_seeds, no_forgotten}
 use Rattle.rcv_guide.proofs.Passing.{queued_within}
-use Rattle.rcv_guide.proofs.Renewing.{place_last}
 use Rattle.rcv_guide.proofs.Shortening.{get_behind, prefix_rest, closed_all, all_staying}
 use Rattle.rcv_guide.proofs.Staying.{take_more, put_staying, taken_staying}
+use Rattle.rcv_guide.proofs.Tracking.{none_taken}
 
 -- a number of each role, in a list of its own
 got_of : {A : Type 0} (f : Numbers → A) (xs : List Numbers) (r : ℕ) → r < length xs → slice_get (map f xs) r ≡ Some (f (numbers_at xs r))
@@ -40,18 +41,13 @@ at_of f xs r lt = get_or_from_slice_get (map f xs) r (f (numbers_at xs r)) 0 (go
 none_of : (f : Numbers → ℕ) (xs : List Numbers) (r : ℕ) → length xs ≤ r → slice_index (map f xs) r ≡ 0
 none_of f xs r le = none_there (map f xs) r 0 (let n = length-map xs f in omega (arith, n, le))
 
--- a role without a log has no events
-nothing_in : {A : Type 0} (n : ℕ) → take {A = A} n [] ≡ []
-nothing_in zero = refl
-nothing_in (suc n) = refl
-
 -- the place behind some more events of a role, none or the last one's point
 place_more : (k r n : ℕ) (xs : List Event) (e : Event) → slice_get xs n ≡ Some e → e.role ≡ r → place_of k (acts r (take (suc n) xs)) ≡ e.point
 place_more k r n xs e at own =
     subst (λ q. place_of k (acts q (take (suc n) xs)) ≡ e.point) own
     (ap (λ l. place_of k (acts e.role l)) (take_more n xs e at)
     ∙ ap (place_of k) (acts_own (take n xs) e)
-    ∙ place_last k (acts e.role (take n xs)) (record { dir = e.dir; point = e.point }))
+    ∙ place_join k (acts e.role (take n xs)) (record { dir = e.dir; point = e.point } ∷ []))
 
 module _ (g : GuideView) (counts ends : List ℕ) (many : length g.logs ≡ roles_of g) (numbered : length g.numbers ≡ roles_of g) (o : AreOrdered (net_for g) g.logs) (forget : MayForget g counts) (are : AreEnds g.numbers counts ends) where
   end_is : (r : ℕ) → r < roles_of g → slice_index ends r ≡ (numbers_at g.numbers r).seeds + slice_index counts r
@@ -282,7 +278,7 @@ module _ (g : GuideView) (counts ends : List ℕ) (many : length g.logs ≡ role
             ap (λ n. seeds_of m r ++ take n (since m r)) (gone_none r le)
             ∙ append-nil (seeds_of m r)
             ∙ ap (λ n. take n (events_of r m.held)) (no_seeds g m mem r le)
-            ∙ sym (ap (take (slice_index ends r)) (no_log r le) ∙ nothing_in (slice_index ends r))
+            ∙ sym (ap (take (slice_index ends r)) (no_log r le) ∙ none_taken (slice_index ends r))
 
         seeds_other : seeds_of (short m) r ≡ []
         seeds_other = ap (λ n. take n (events_of r is.held)) short_none
@@ -305,7 +301,7 @@ module _ (g : GuideView) (counts ends : List ℕ) (many : length g.logs ≡ role
         put_left = ⊎_elim
             (λ lt. ap (put (net_for g) a b) (seeds_short a lt) ∙ put_staying (net_for g) g.logs ends a b (slice_index ends a))
             (λ le.
-            let none : within_sent ≡ [] = ap (λ l. put (net_for g) a b (take (slice_index ends a) l)) (no_log a le) ∙ ap (put (net_for g) a b) (nothing_in (slice_index ends a)) in
+            let none : within_sent ≡ [] = ap (λ l. put (net_for g) a b (take (slice_index ends a) l)) (no_log a le) ∙ ap (put (net_for g) a b) (none_taken (slice_index ends a)) in
             ap (put (net_for g) a b) (seeds_other a le)
             ∙ sym (ap (drop (length within_taken)) none ∙ drop_of_length-le [] (omega arith)))
             (cases_lt a (roles_of g))
@@ -345,5 +341,6 @@ module _ (g : GuideView) (counts ends : List ℕ) (many : length g.logs ≡ role
       shorter = λ m mem. (short m, memory_short m mem used, shorter m mem);
       gone = λ r lt. ap (λ (x : Numbers). x.forgotten) (number_is r lt);
       used = all ∙ sym is.entries;
+      few = let a = is.few in let b = is.entries in omega (arith, a, b);
       rest = refl;
     }

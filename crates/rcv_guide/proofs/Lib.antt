@@ -5,11 +5,13 @@ pub mod Foretelling
 pub mod Forgetting
 pub mod Growing
 pub mod Guides
+pub mod Histories
 pub mod Hosts
 pub mod Lasting
 pub mod Leaving
 pub mod Lying
 pub mod Memories
+pub mod Moving
 pub mod Ordering
 pub mod Passing
 pub mod Renewing
@@ -22,3 +24,7 @@ pub mod Starting
 pub mod Staying
 pub mod Telling
 pub mod Tracking
+pub mod Lines
+pub mod Unmoved
+mod Crossing
+mod Examples

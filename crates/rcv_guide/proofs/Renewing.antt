@@ -1,5 +1,5 @@
 -- The ledger holds what stays of the events that are gone over.
-use Rattle.std.proofs.Common.{◌≡◌, ℕ, ℤ, zero, suc, ◌+◌, ◌*◌, ◌-◌, ◌<◌, ◌^◌, Bool, true, false, cond, Some, List, [], ◌∷◌, ◌++◌, length, length-append, length-set, take, drop, length-drop, length-take-le, replicate, refl, sym, ◌∙◌, ap, subst, ⊎_elim, append-nil, arith}
+use Rattle.std.proofs.Common.{◌≡◌, ℕ, zero, suc, ◌+◌, ◌*◌, ◌-◌, ◌<◌, ◌^◌, Bool, true, false, cond, Some, List, [], ◌∷◌, ◌++◌, length, length-append, length-set, take, drop, length-drop, length-take-le, replicate, refl, sym, ◌∙◌, ap, subst, ⊎_elim, append-nil, arith}
 use Rattle.std.specs.Prelude.{pos, nat_le, Option, slice_get, slice_index, slice_index_or}
 use Rattle.std.specs.List.{sum_by, range_with_len}
 use Rattle.std.proofs.Math.Seq.{take-length}
@@ -12,13 +12,12 @@ use Rattle.rcv_tree.specs.declared.event.Event.{Event}
 use Rattle.rcv_tree.specs.declared.event.Dir.{Dir}
 use Rattle.rcv_tree.specs.declared.event.Dir.TheVariants.{Sent, Got}
 use Rattle.rcv_model.specs.Net.{Net, IsPrefix}
-use Rattle.rcv_model.specs.Run.{Act, acts, place_of, is_sent, put_by, put, taken, IsQueued}
+use Rattle.rcv_model.specs.Run.{is_sent, put_by, put, taken, IsQueued}
 use Rattle.rcv_model.specs.Journal.{events_of}
 use Rattle.rcv_model.proofs.Explained.{by_role_own}
 use Rattle.rcv_model.proofs.Keeping.{by_role_other, put_through, taken_through, queued_more, queued_nil}
 use Rattle.rcv_model.proofs.Lists.{some_same}
 use Rattle.rcv_model.proofs.Located.{get_below}
-use Rattle.rcv_model.proofs.Parts.{acts_own}
 use Rattle.rcv_checkpoint.specs.declared.state.State as checkpoints
 use Rattle.rcv_checkpoint.specs.Rows.{nowhere}
 use Rattle.rcv_checkpoint.specs.Stack.{StackView, held, last_vars}
@@ -37,19 +36,8 @@ use Rattle.rcv_guide.proofs.Growing.{all_more, rooms_more, sums_alike}
 use Rattle.rcv_guide.proofs.Guides.{one_of_all}
 use Rattle.rcv_guide.proofs.Starting.{get_replicate}
 use Rattle.rcv_guide.proofs.Staying.{prefix_dropped, taken_up, put_staying, taken_staying, recv_stays, le_true}
-use Rattle.rcv_guide.proofs.Telling.{no_longer}
+use Rattle.rcv_guide.proofs.Telling.{no_longer, behind_more}
 use Rattle.rcv_guide.proofs.Passing.{now, low, is_sound, count_own, count_other, even_more, left_less, queued_within}
-
--- the state behind one event more
-abbrev state_with : ℕ → List ℤ → checkpoints.State
-state_with k vars = record { k = k; vars = vars }
-
-pub place_last : (k : ℕ) (done : List Act) (a : Act) → place_of k (done ++ a ∷ []) ≡ a.point
-place_last k [] a = refl
-place_last k (b ∷ done) a = place_last b.point done a
-
-state_more : (events : List Event) (e : Event) → behind_event e (replicate 16 (pos 0)) ≡ state_behind no_vars e.role (events ++ e ∷ [])
-state_more events e = ap (λ k. state_with k (replicate 16 (pos 0))) (sym (ap (place_of 0) (acts_own events e) ∙ place_last 0 (acts e.role events) (record { dir = e.dir; point = e.point })))
 
 -- a ledger with one event more of its role, behind which the role is in this state
 record IsLonger (e : Event) (state : checkpoints.State) (old new : LedgerView) : Type 0 where
@@ -188,7 +176,7 @@ module _ (net : Net) (logs : List (List Event)) (ends : List ℕ) (room : ℕ) (
           record {
             declared = let lt = next.role in omega (arith, lt, own);
             sound = record { role = refl; first = sound.first; last = sound.last; sender = sound.sender; receiver = sound.receiver };
-            behind = state_more (events_of next.event.role is.held) next.event;
+            behind = behind_more (events_of next.event.role is.held) next.event;
           }
 
       grown : (new : LedgerView) → IsLonger next.event (behind_event next.event (replicate 16 (pos 0))) fresh new → Holds net (length logs) no_vars more new → IsRenewing net logs ends room (now net logs o counts r next) new

@@ -1,9 +1,11 @@
 -- Where a role stands, by its log.
-use Rattle.std.proofs.Common.{◌≡◌, ℕ, zero, suc, ◌+◌, ◌-◌, ◌≤◌, Bool, true, false, cond, Some, None, List, [], ◌∷◌, length, length-drop, drop, refl, sym, ◌∙◌, ap, arith}
+use Rattle.std.proofs.Common.{◌≡◌, ℕ, zero, suc, ◌+◌, ◌-◌, ◌≤◌, Bool, true, false, cond, Some, None, List, [], ◌∷◌, length, length-drop, drop, refl, sym, ◌∙◌, ap, inl, arith}
 use Rattle.std.specs.Prelude.{◌==◌, slice_get}
 use Rattle.std.specs.List.{cons_option}
 use Rattle.std.proofs.Math.ListN.{drop_of_length-le}
+use Rattle.std.proofs.lemmas.Bool.Decides.{nat_tests}
 use Rattle.rcv_tree.specs.declared.event.Event.{Event}
+use Rattle.rcv_model.specs.Net.{IsIn}
 use Rattle.rcv_model.specs.Run.{Act, acts, place_of}
 use Rattle.rcv_model.specs.Journal.{events_of}
 use Rattle.rcv_model.proofs.Lists.{some_same}
@@ -13,6 +15,7 @@ use Rattle.rcv_ledger.specs.Ledger.{LedgerView}
 use Rattle.rcv_guide.specs.Numbers.{numbers_at}
 use Rattle.rcv_guide.specs.Guide.{GuideView, stand, IsGuide}
 use Rattle.rcv_guide.proofs.Memories.{acts_held, many_held}
+use Rattle.rcv_guide.proofs.Shortening.{get_behind}
 
 -- the act of an event
 abbrev act_of : Event → Act
@@ -34,11 +37,14 @@ last_place k zero (x ∷ []) a at size = ap (λ (y : Act). y.point) (some_same a
 last_place k zero (x ∷ (y ∷ xs)) a at size = absurd (omega (arith, size))
 last_place k (suc n) (x ∷ xs) a at size = last_place x.point n xs a at (omega (arith, size))
 
--- an item behind so many
-get_dropped : {A : Type 0} (n k : ℕ) (xs : List A) → slice_get (drop n xs) k ≡ slice_get xs (n + k)
-get_dropped zero k xs = ap (slice_get xs) (let e : k ≡ 0 + k = omega arith in e)
-get_dropped (suc n) k [] = refl
-get_dropped (suc n) k (x ∷ xs) = get_dropped n k xs ∙ ap (slice_get (x ∷ xs)) (let e : suc (n + k) ≡ suc n + k = omega arith in e)
+-- a list of no length has no items, and one without items has none
+pub none_in_none : (xs : List ℕ) (p : ℕ) → (length xs == 0) ≡ true → IsIn p xs → ⊥
+none_in_none [] p e i = i
+none_in_none (x ∷ xs) p e i = absurd (grind (arith, nat_tests))
+
+pub some_in : (xs : List ℕ) → ((p : ℕ) → IsIn p xs → ⊥) → (length xs == 0) ≡ true
+some_in [] none = refl
+some_in (x ∷ xs) none = absurd (none x (inl refl))
 
 module _ {g : GuideView} {table : TableView} {ledger : LedgerView} (kept : IsGuide g table ledger) (r : ℕ) where
   -- behind the forgotten events
@@ -57,5 +63,5 @@ module _ {g : GuideView} {table : TableView} {ledger : LedgerView} (kept : IsGui
       let many = ap length (sym (acts_held g m kept.holds.is r)) ∙ many_held g m kept.holds.is r in
       let rest = length-drop (numbers_at g.numbers r).seeds (acts r (log_at g.logs r)) in
       sym (last_place (numbers_at g.numbers r).point (n - (numbers_at g.numbers r).seeds) (drop (numbers_at g.numbers r).seeds (acts r (log_at g.logs r))) (act_of e)
-      (get_dropped (numbers_at g.numbers r).seeds (n - (numbers_at g.numbers r).seeds) (acts r (log_at g.logs r)) ∙ ap (slice_get (acts r (log_at g.logs r))) here ∙ whole)
+      (get_behind (numbers_at g.numbers r).seeds (n - (numbers_at g.numbers r).seeds) (acts r (log_at g.logs r)) ∙ ap (slice_get (acts r (log_at g.logs r))) here ∙ whole)
       (omega (arith, many, rest, size, few)))

@@ -79,7 +79,7 @@ module _ (protocol : Protocol) (plan : List PlanLine) (room : ℕ) where
       nowhere : (n : ℕ) (e : Event) → slice_get [] n ≡ Some e → ⊥
       nowhere n e at = absurd (cc)
 
-  memory_first : IsMemory (opened protocol plan room) (start roles)
+  pub memory_first : IsMemory (opened protocol plan room) (start roles)
   memory_first = record {
     events = λ r. sym (no_log r);
     queued = queued_nil (net_of (body_of protocol.body));

@@ -10,7 +10,7 @@ use Rattle.rcv_tree.specs.declared.event.Dir.TheVariants.{Sent, Got}
 use Rattle.rcv_tree.specs.declared.entry.Entry.TheVariants.{Send, Recv}
 use Rattle.rcv_tree.specs.declared.protocol.Protocol.{Protocol}
 use Rattle.rcv_model.specs.Plan.{PlanLine}
-use Rattle.rcv_model.specs.Run.{Act, acts, place_of, is_sent, put_by, put, taken}
+use Rattle.rcv_model.specs.Run.{acts, place_of, is_sent, put_by, put, taken}
 use Rattle.rcv_model.specs.Journal.{events_of}
 use Rattle.rcv_model.proofs.Located.{get_below}
 use Rattle.rcv_model.proofs.Parts.{acts_own}
@@ -27,6 +27,7 @@ use Rattle.rcv_ledger.specs.Ledger.{LedgerView, stack_at, with_send, with_recv, 
 use Rattle.rcv_ledger.specs.Laws.{IsMore}
 use Rattle.rcv_ledger.proofs.Holding.{sends_hold, recvs_hold}
 use Rattle.rcv_told.specs.Told.{IsSend, IsRecv, message_of}
+use Rattle.rcv_told.proofs.Memories.{place_join}
 use Rattle.rcv_guide.specs.declared.news.News.{News}
 use Rattle.rcv_guide.specs.declared.numbers.Numbers.{Numbers}
 use Rattle.rcv_guide.specs.Numbers.{numbers_at, with_advanced}
@@ -35,10 +36,6 @@ use Rattle.rcv_guide.proofs.Memories.{declared_by, tells_send, tells_recv, lies}
 use Rattle.rcv_guide.proofs.Guides.{low, is_proper, log_is, many_logs, carried, few_logged, next_in, sender_in, receiver_in, part_after}
 use Rattle.rcv_guide.proofs.Growing.{memory_more, rooms_more, IsFitting, guide_more}
 use Rattle.rcv_guide.proofs.Starting.{view_with}
-
-place_snoc : (k : ℕ) (done : List Act) (a : Act) → place_of k (done ++ a ∷ []) ≡ a.point
-place_snoc k [] a = refl
-place_snoc k (b ∷ done) a = place_snoc b.point done a
 
 -- the first of what is dropped to
 head_dropped : {A : Type 0} (n : ℕ) (xs rest : List A) (x : A) → drop n xs ≡ x ∷ rest → slice_get xs n ≡ Some x
@@ -60,8 +57,8 @@ no_longer {A} {B} f (x ∷ xs) = go (f x) (no_longer f xs)
 abbrev state_with : ℕ → List ℤ → checkpoints.State
 state_with k vars = record { k = k; vars = vars }
 
-behind_more : (events : List Event) (e : Event) → behind_event e (replicate 16 (pos 0)) ≡ state_behind no_vars e.role (events ++ e ∷ [])
-behind_more events e = ap (λ k. state_with k (replicate 16 (pos 0))) (sym (ap (place_of 0) (acts_own events e) ∙ place_snoc 0 (acts e.role events) (record { dir = e.dir; point = e.point })))
+pub behind_more : (events : List Event) (e : Event) → behind_event e (replicate 16 (pos 0)) ≡ state_behind no_vars e.role (events ++ e ∷ [])
+behind_more events e = ap (λ k. state_with k (replicate 16 (pos 0))) (sym (ap (place_of 0) (acts_own events e) ∙ place_join 0 (acts e.role events) (record { dir = e.dir; point = e.point } ∷ [])))
 
 -- the same guide with one event more
 pub more_view : (protocol : Protocol) (plan : List PlanLine) (ledger now : LedgerView) (numbers new : List Numbers) (room told : ℕ) (e : Event) → now.logs ≡ ledgers.with_event ledger.logs e → length now.entries ≡ length ledger.entries + 1 → new ≡ with_advanced numbers e → guide_of protocol plan now new room (told + 1) ≡ with_event (guide_of protocol plan ledger numbers room told) e

@@ -17,7 +17,7 @@ use Rattle.rcv_model.proofs.Keeping.{queued_nil}
 use Rattle.rcv_model.proofs.Lists.{some_same}
 use Rattle.rcv_model.proofs.Scanning.{acts_same, among}
 use Rattle.rcv_told.specs.Told.{Terms, Remembered, start, place, held_of, left_at, MayBeTold, told_after}
-use Rattle.rcv_told.specs.Forgetting.{since, seeds_of, Lacks, LacksMessages}
+use Rattle.rcv_told.specs.Forgetting.{since, seeds_of, Lacks, LacksMessages, IsShorter}
 use Rattle.rcv_told.specs.Laws.{AreAccepted}
 use Rattle.rcv_told.proofs.Losing.{concerned_alike, failed_shorter, made_alike, starts_alike}
 use Rattle.rcv_told.proofs.Memories.{same_place, many_old, many_new}
@@ -47,7 +47,7 @@ ends_all net (e ∷ h) each = (
     later r n f at false t = each r n f (ap (λ b. slice_get (cond b (e ∷ events_of r h) (events_of r h)) n) t ∙ at)
 
 -- at the start
-none_taken : {A : Type 0} (n : ℕ) → take {A = A} n [] ≡ []
+pub none_taken : {A : Type 0} (n : ℕ) → take {A = A} n [] ≡ []
 none_taken zero = refl
 none_taken (suc n) = refl
 
@@ -74,22 +74,25 @@ module _ (net : Net) (roles : ℕ) where
     seeds_are = ap (taken net a b) (none_taken (slice_index (replicate roles 0) b));
   }
 
+  pub start_shorter : IsShorter net (start roles) (start roles)
+  start_shorter = record {
+    gone = λ r. 0;
+    lacks = start_lacks;
+    messages = start_messages;
+    old_queued = queued_nil net;
+    new_queued = queued_nil net;
+    raw = refl;
+    attempts = refl;
+    clocks = refl;
+    down = refl;
+  }
+
   pub part_start : IsPartOfRun net (start roles)
   part_start = record {
     full = start roles;
     whole = record { seeds = none_at roles; forgotten = none_at roles; points = none_at roles };
     run = ([], record { walk = tt; parts = λ r. (_, refl); queued = queued_nil net });
-    shorter = record {
-      gone = λ r. 0;
-      lacks = start_lacks;
-      messages = start_messages;
-      old_queued = queued_nil net;
-      new_queued = queued_nil net;
-      raw = refl;
-      attempts = refl;
-      clocks = refl;
-      down = refl;
-    };
+    shorter = start_shorter;
   }
 
 -- another memory of the same events and numbers
@@ -136,6 +139,15 @@ module _ (net : Net) (m n : Remembered) (part : IsPartOfRun net m) (events : (r 
         };
       }
 
+-- what may be told to the shorter memory may be told to the longer one
+pub to_longer : (terms : Terms) (old new : Remembered) → IsShorter terms.net old new → (e : Entry) → MayBeTold terms new e → MayBeTold terms old e
+to_longer terms old new is (Send e) may = (no_answer terms old new (Send e) is).0.0 may
+to_longer terms old new is (Recv e) may = (no_answer terms old new (Recv e) is).0.0 may
+to_longer terms old new is (Crash p) may = (no_answer terms old new (Crash p) is).0.0 may
+to_longer terms old new is (Recover p concerned kept undone) may =
+    let a = (no_answer terms old new (Recover p concerned kept undone) is).0.0 may in
+    (a.0, (a.1.0, a.1.2))
+
 module _ (terms : Terms) (known : AreAccepted terms) (m : Remembered) (part : IsPartOfRun terms.net m) (sized : length m.down ≡ terms.roles) where
   nothing : ForgotNothing terms.roles part.full
   nothing = record {
@@ -145,21 +157,13 @@ module _ (terms : Terms) (known : AreAccepted terms) (m : Remembered) (part : Is
     down = ap length (sym part.shorter.down) ∙ sized;
   }
 
-  to_full : (e : Entry) → MayBeTold terms m e → MayBeTold terms part.full e
-  to_full (Send e) may = (no_answer terms part.full m (Send e) part.shorter).0.0 may
-  to_full (Recv e) may = (no_answer terms part.full m (Recv e) part.shorter).0.0 may
-  to_full (Crash p) may = (no_answer terms part.full m (Crash p) part.shorter).0.0 may
-  to_full (Recover p concerned kept undone) may =
-      let a = (no_answer terms part.full m (Recover p concerned kept undone) part.shorter).0.0 may in
-      (a.0, (a.1.0, a.1.2))
-
   pub part_told : (e : Entry) → MayBeTold terms m e → IsPartOfRun terms.net (told_after terms m e)
   part_told e may =
       let after = nothing_after terms part.full e nothing in
       record {
         full = told_after terms part.full e;
         whole = record { seeds = after.seeds; forgotten = after.forgotten; points = after.points };
-        run = told_keeps terms known part.full e nothing part.run (to_full e may);
+        run = told_keeps terms known part.full e nothing part.run (to_longer terms part.full m part.shorter e may);
         shorter = (no_answer terms part.full m e part.shorter).1 may;
       }
 

@@ -89,6 +89,11 @@ pub record IsMemory (g : GuideView) (m : Remembered) : Type 0 where
   pub queued : IsQueued (net_for g) m.held
   pub numbers_are : AreNumbers (roles_of g) m g.numbers
 
+-- It has one.
+pub record HasMemory (g : GuideView) : Type 0 where
+  pub memory : Remembered
+  pub is : IsMemory g memory
+
 -- The new session is the old one after one thing more: whatever the old one's memory is, that may be told, and the new one's
 -- memory is what is remembered after it.
 pub record IsAfter (old new : GuideView) (e : Entry) : Type 0 where
@@ -116,6 +121,10 @@ down_at numbers r = down_of (slice_get numbers r)
 abbrev pub in_channel : GuideView → ℕ → ℕ → List Message
 in_channel g from to =
     drop (length (taken (net_for g) from to (log_at g.logs to))) (put (net_for g) from to (log_at g.logs from))
+
+-- The point of a message is one of the text's.
+abbrev pub IsOfText : GuideView → Message → Type 0
+IsOfText g m = (1 ≤ m.point) × (m.point ≤ (net_for g).count)
 
 -- A role's standpoint.
 abbrev pub stand : GuideView → ℕ → Standpoint
@@ -241,6 +250,12 @@ pub record HasGoneBack (old new : GuideView) (p : ℕ) (left : List ℕ) (back :
   pub numbers : AreBack old.numbers new.numbers group.0 back.concerned.0 old.logs left
   pub rest : new ≡ record old { logs = new.logs; numbers = new.numbers; told = old.told + 1 }
 
+-- The session recovered: it went back to what is left where each failed role has saved so many of its events.
+pub record HasRecovered (old new : GuideView) (p : ℕ) (saved : List ℕ) (back : Recovery) : Type 0 where
+  pub left : List ℕ
+  pub left_is : AreLeft old p saved left
+  pub gone : HasGoneBack old new p left back
+
 -- These counts can be forgotten: of each role at most what it did since, and nothing is received within them that is sent
 -- outside.
 pub record MayForget (g : GuideView) (counts : List ℕ) : Type 0 where
@@ -251,12 +266,13 @@ pub record MayForget (g : GuideView) (counts : List ℕ) : Type 0 where
       ≤ length (put (net_for g) a b (take ((numbers_at g.numbers a).seeds + slice_index counts a) (log_at g.logs a)))
 
 -- A shorter memory took the place of the old one: it lacks just so many events more of each role. What is remembered uses the
--- places, and no others are used.
+-- places, and no others are used; it isn't more than before.
 pub record HasForgotten (old new : GuideView) (counts : List ℕ) (room : ℕ) : Type 0 where
   pub shorter : (m : Remembered) → IsMemory old m → (short : Remembered) × IsMemory new short × IsShorter (net_for old) m short
   pub gone : (r : ℕ) → r < roles_of old
       → (numbers_at new.numbers r).forgotten ≡ (numbers_at old.numbers r).forgotten + slice_index counts r
   pub used : new.used ≡ all_events new.logs
+  pub few : all_events new.logs ≤ all_events old.logs
   pub rest : new ≡ record old { logs = new.logs; numbers = new.numbers; room = room; used = new.used }
 
 -- A guide's roles have no variables.

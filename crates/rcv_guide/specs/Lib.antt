@@ -3,3 +3,5 @@ pub mod Failing
 pub mod Guide
 pub mod Causes
 pub mod Renewal
+pub mod Line
+pub mod History

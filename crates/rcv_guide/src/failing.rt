@@ -7,13 +7,10 @@ ghost use Rattle.rcv_guide.specs.Numbers.{numbers_at};
 ghost use Rattle.rcv_guide.specs.Failing.{HaveLogs, AreKeeps, logged_of, first_lost, AreStartsOf, point_or_none};
 ghost use Rattle.rcv_guide.specs.Failing.{AreMade, AreCountsOf, all_events, within_counts};
 
-use crate::numbers::Numbers;
+use crate::numbers::{Numbers, ROLES};
 use rcv_depend::keeps::Keeps;
 use rcv_ledger::ledger::Ledger;
 use rcv_tree::role::{RoleId, RoleSet};
-
-// At most so many roles.
-const ROLES: u8 = 8;
 
 /// How many of its logged events each role of a failed group keeps, where it has saved so many of all its events. It
 /// takes no memory.
@@ -24,7 +21,7 @@ pub fn keeps(numbers: &[Numbers], ledger: &Ledger, group: RoleSet, saved: &[u64;
 {
     let mut keep = [0; 8];
     for role in 0..ROLES {
-        keep[role as usize] = keep_by(numbers, ledger, group, saved, RoleId(role));
+        keep[role] = keep_by(numbers, ledger, group, saved, RoleId(role as u8));
     }
     Keeps {
         failed: group,
@@ -75,7 +72,7 @@ pub fn starts(ledger: &Ledger, keeps: &Keeps) -> [u16; 8]
 {
     let mut starts = [0; 8];
     for role in 0..ROLES {
-        starts[role as usize] = start_by(ledger, keeps, RoleId(role));
+        starts[role] = start_by(ledger, keeps, RoleId(role as u8));
     }
     starts
 }

@@ -1,6 +1,6 @@
 // The messages of a channel, by the log of its sender.
 
-ghost use Rattle.std.specs.Prelude.{◌≡◌, ◌<◌, length, slice_get};
+ghost use Rattle.std.specs.Prelude.{◌≡◌, ◌<◌, length, drop, IfOk};
 ghost use Rattle.rcv_model.specs.Run.{put, puts_on};
 ghost use Rattle.rcv_points.specs.Follow.{net_in};
 ghost use Rattle.rcv_ledger.specs.Logs.{log_at};
@@ -10,6 +10,7 @@ use rcv_ledger::ledger::Ledger;
 use rcv_points::points::Points;
 use rcv_tree::event::{Dir, Event, Message};
 use rcv_tree::role::RoleId;
+use std::alloc::{AllocError, Global};
 
 // Whether an event of a role is a Send from it to another.
 fn puts(points: &Points, from: RoleId, to: RoleId, event: &Event) -> bool
@@ -22,33 +23,36 @@ fn puts(points: &Points, from: RoleId, to: RoleId, event: &Event) -> bool
     }
 }
 
-/// The message with this number, from 0, of those that a role with a log put on its channel to another; none where
-/// there are fewer. It goes over the role's kept events.
-pub fn message_at(
+/// The messages that a role with a log put on its channel to another, in order, but for the first so many. It goes once
+/// over the role's kept events. Fails where memory runs out.
+pub fn flying(
+    alloc: Global,
     ledger: &Ledger,
     points: &Points,
     from: RoleId,
     to: RoleId,
-    number: usize,
-) -> Option<Message>
+    taken: usize,
+) -> Result<Vec<Message>, AllocError>
     requires role { from < length ledger.now.logs }
     requires sound { AreSound (net_in points.now) ledger.now.logs }
-    ensures { result ≡ slice_get (put (net_in points.now) from to (log_at ledger.now.logs from)) number }
+    ensures { IfOk result (λ all. all.items ≡ drop taken (put (net_in points.now) from to (log_at ledger.now.logs from))) }
 {
-    let mut left = number;
+    let mut messages = Vec::new(alloc);
+    let mut left = taken;
     for place in 0..ledger.made(from) {
         let event = ledger.event(from, place);
         if !puts(points, from, to, event) {
             continue;
         }
-        if left == 0 {
-            return Some(Message {
-                point: event.point,
-                value: event.value,
-                stamp: event.stamp,
-            });
+        if left > 0 {
+            left -= 1;
+            continue;
         }
-        left -= 1;
+        messages.push(Message {
+            point: event.point,
+            value: event.value,
+            stamp: event.stamp,
+        })?;
     }
-    None
+    Ok(messages)
 }

@@ -1,24 +1,28 @@
-// The guide of a session.
+// The guide of a session: the judge of what is told of roles that run elsewhere. It judges things in the order in which they
+// are told: a Recv that is told before its Send is illegal, though it happened.
 
-ghost use Rattle.std.specs.Prelude.{◌≡◌, ◌<◌, ◌≤◌, ◌↔◌, ◌^◌, Some, length, slice_get, slice_index};
-ghost use Rattle.std.specs.Prelude.{IsTrue, IfOk, IfErr, OnOk, OnErr, MatchOption};
+ghost use Rattle.std.specs.Prelude.{◌≡◌, ℕ, ◌<◌, ◌≤◌, ◌↔◌, ◌^◌, Some, length, slice_get, slice_index};
+ghost use Rattle.std.specs.Prelude.{All, IsTrue, IfOk, IfErr, IfSome, OnOk, OnErr, MatchOption};
 ghost use Rattle.rcv_tree.specs.declared.entry.Entry.TheVariants.{Send, Recv, Crash};
 ghost use Rattle.rcv_model.specs.Next.{AreNext, IsPlaceOf};
 ghost use Rattle.rcv_plan.specs.Lines.{IsPlanned};
+ghost use Rattle.rcv_plan.specs.Plans.{IsGroup};
 ghost use Rattle.rcv_tables.specs.Rows.{IsTable};
 ghost use Rattle.rcv_told.specs.Told.{Remembered, made, IsSend, IsRecv, IsInFront};
 ghost use Rattle.rcv_guide.specs.Numbers.{numbers_at, with_crash};
-ghost use Rattle.rcv_guide.specs.Guide.{net_for, roles_of, opened, with_event, with_numbers, stand, HasRoom, IsMemory, IsAfter};
+ghost use Rattle.rcv_guide.specs.Guide.{net_for, roles_of, opened, with_event, with_numbers, stand, HasRoom, IsMemory, HasMemory, IsAfter};
 ghost use Rattle.rcv_guide.specs.Guide.{IsNextOf, IsAble, IsTurnToSend, IsTurnToReceive, MayBeSent, MayBeReceived};
-ghost use Rattle.rcv_guide.specs.Guide.{message, sent, received, stamp_to_send, stamp_to_receive, in_channel, entry_of};
+ghost use Rattle.rcv_guide.specs.Guide.{message, sent, received, stamp_to_send, stamp_to_receive, in_channel, entry_of, IsOfText};
 ghost use Rattle.rcv_guide.specs.Failing.{all_events};
-ghost use Rattle.rcv_guide.specs.Guide.{HaveSavedEnough, MayRecover, AreLeft, IsFailureOf, HasGoneBack};
+ghost use Rattle.rcv_guide.specs.Guide.{HaveSavedEnough, MayRecover, AreLeft, IsFailureOf, HasGoneBack, HasRecovered};
 ghost use Rattle.rcv_guide.specs.Guide.{MayForget, HasForgotten};
+ghost use Rattle.rcv_guide.specs.Line.{IsLine};
 ghost use Rattle.rcv_guide.specs.Causes.{IsCauseToStop, IsCauseNotToSend, IsCauseNotToReceive, IsCauseNotInFront};
 ghost use Rattle.rcv_guide.specs.Causes.{IsCauseNotToCrash, IsCauseNotToRecover};
 
 use crate::cause::Cause;
-use crate::flight::message_at;
+use crate::flight::flying;
+use crate::line::line;
 use crate::news::News;
 use crate::numbers::{Numbers, advance, fall, go_back};
 use crate::recovery::Recovery;
@@ -28,25 +32,22 @@ use rcv_checkpoint::changed::Changed;
 use rcv_ledger::cut::cut;
 use rcv_ledger::ledger::Ledger;
 use rcv_plan::plan::Plan;
+use rcv_saves::saves::Saves;
 use rcv_tables::making;
 use rcv_tables::table::Table;
 use rcv_tree::event::{Dir, Event, Message};
 use rcv_tree::point::Point;
-use rcv_tree::role::RoleId;
-use rcv_tree::variables::Vars;
+use rcv_tree::role::{RoleId, RoleSet};
 use std::alloc::{AllocError, Global};
 use std::marker::Model;
-
-// A guide's roles have no variables.
-const NO_VARS: Vars = Vars([0; 16]);
 
 // So much can be told at most.
 const MOST_TOLD: u64 = 1 << 62;
 
 /// A session of an accepted protocol whose roles run elsewhere: what is remembered of what was told of them.
 ///
-/// A Send is to be told before its Recv, and each role's events in the order in which it did them; else any order will
-/// do.
+/// A Send is to be told before its Recv: a Recv that is told first is illegal (`Cause::Empty`), though it happened. Each
+/// role's events are to be told in the order in which it did them. Else any order will do.
 #[derive(Drop)]
 pub struct Guide {
     accepted: Accepted,
@@ -92,20 +93,10 @@ impl Guide {
         // Tells the proof that the protocol is accepted.
         let _protocol = accepted.protocol();
         let mut numbers = Vec::new(alloc);
-        let mut firsts = Vec::new(alloc);
-        let mut everys = Vec::new(alloc);
         for _role in 0..accepted.roles() {
             numbers.push(Numbers::new())?;
-            firsts.push(NO_VARS)?;
-            everys.push(1)?;
         }
-        let ledger = Ledger::new(
-            alloc,
-            firsts.as_slice(),
-            everys.as_slice(),
-            room,
-            room as usize,
-        )?;
+        let ledger = renewal::empty(alloc, numbers.len(), room)?;
         Ok(Guide {
             accepted,
             plan,
@@ -117,10 +108,18 @@ impl Guide {
         })
     }
 
+    /// The protocol of the session.
+    pub fn accepted(&self) -> &Accepted
+        ensures { result.now.protocol ≡ self.now.protocol }
+    {
+        &self.accepted
+    }
+
     /// How many roles the protocol declares, which are at most eight.
     pub fn roles(&self) -> u8
         ensures value { result ≡ roles_of self.now }
         ensures few { result ≤ 8 }
+        ensures memory { HasMemory self.now }
     {
         // Tells the proof that the protocol is accepted.
         let _protocol = self.accepted.protocol();
@@ -132,6 +131,39 @@ impl Guide {
         ensures { IsTable (net_for self.now) (roles_of self.now) result.now }
     {
         &self.table
+    }
+
+    /// A role, which is below 8, with the other roles of its host: they fail together.
+    pub fn group(&self, role: RoleId) -> RoleSet
+        requires { role < 8 }
+        ensures { IsGroup self.now.plan role result.0 }
+    {
+        self.plan.group(role)
+    }
+
+    /// For how many events there is room, until what is stable is forgotten.
+    pub fn room(&self) -> u32
+        ensures value { result ≡ self.now.room }
+        ensures few { result < 2 ^ 31 }
+    {
+        self.room
+    }
+
+    /// How many places of that room are used: at least as many as events are remembered. (A failure frees none.)
+    pub fn used(&self) -> u32
+        ensures value { result ≡ self.now.used }
+        ensures within { result ≤ self.now.room }
+        ensures logged { all_events self.now.logs ≤ result }
+    {
+        self.ledger.entries().len() as u32
+    }
+
+    /// How much was told in all, at most 2^62.
+    pub fn told(&self) -> u64
+        ensures value { result ≡ self.now.told }
+        ensures few { result ≤ 2 ^ 62 }
+    {
+        self.told
     }
 
     /// Whether a declared role is down.
@@ -167,6 +199,14 @@ impl Guide {
         self.numbers[role.0 as usize].clock
     }
 
+    /// How many events of a declared role are forgotten.
+    pub fn forgotten(&self, role: RoleId) -> u64
+        requires { role < roles_of self.now }
+        ensures { result ≡ (numbers_at self.now.numbers role).forgotten }
+    {
+        self.numbers[role.0 as usize].forgotten
+    }
+
     /// How many events of a declared role are kept, forgotten ones too.
     pub fn made(&self, role: RoleId) -> u64
         requires { role < roles_of self.now }
@@ -198,6 +238,14 @@ impl Guide {
         self.accepted.next(role, self.place(role))
     }
 
+    /// Whether a declared role's part has ended: no point comes next.
+    pub fn is_over(&self, role: RoleId) -> bool
+        requires { role < roles_of self.now }
+        ensures { IsTrue result ↔ ((p : ℕ) → IsNextOf self.now role p → ⊥) }
+    {
+        self.next(role).is_empty()
+    }
+
     /// How many messages are in flight from one declared role to another.
     pub fn in_flight(&self, from: RoleId, to: RoleId) -> usize
         requires from { from < roles_of self.now }
@@ -208,20 +256,45 @@ impl Guide {
         put - taken
     }
 
-    /// The message with this number, from 0, of those in flight from one declared role to another, the oldest first;
-    /// none where there are fewer. It goes over the sender's remembered events.
-    pub fn flight(&self, from: RoleId, to: RoleId, number: u32) -> Option<Message>
+    /// The oldest message in flight from one declared role to another; none where nothing is. It takes the same time
+    /// whatever is remembered.
+    pub fn front(&self, from: RoleId, to: RoleId) -> Option<Message>
         requires from { from < roles_of self.now }
         requires to { to < roles_of self.now }
-        ensures { result ≡ slice_get (in_channel self.now from to) number }
+        ensures value { result ≡ slice_get (in_channel self.now from to) 0 }
+        ensures declared { IfSome result (IsOfText self.now) }
+    {
+        self.ledger.front(from, to)
+    }
+
+    /// The messages in flight from one declared role to another, the oldest first. It goes once over the sender's
+    /// remembered events. Fails where memory runs out.
+    pub fn messages(
+        &self,
+        alloc: Global,
+        from: RoleId,
+        to: RoleId,
+    ) -> Result<Vec<Message>, AllocError>
+        requires from { from < roles_of self.now }
+        requires to { to < roles_of self.now }
+        ensures value { IfOk result (λ all. all.items ≡ in_channel self.now from to) }
+        ensures declared { IfOk result (λ all. All (IsOfText self.now) all.items) }
     {
         let (_, taken) = self.ledger.counts(from, to);
-        message_at(
+        flying(alloc, &self.ledger, self.accepted.points(), from, to, taken)
+    }
+
+    /// How many of each role's remembered events behind its seeds no failure takes back: the greatest counts behind which
+    /// each role has saved its state, such that nothing is received within them that is sent outside. It takes no memory.
+    pub fn line(&self, saves: &Saves) -> [u32; 8]
+        requires { roles_of self.now ≤ length saves.now.steps }
+        ensures { IsLine self.now saves.now result }
+    {
+        line(
+            self.numbers.as_slice(),
             &self.ledger,
             self.accepted.points(),
-            from,
-            to,
-            taken + number as usize,
+            saves,
         )
     }
 
@@ -344,7 +417,7 @@ impl Guide {
         let receiver = self.accepted.points().receiver(event.point);
         let added = self
             .ledger
-            .add_send(event, receiver, &NO_VARS, Changed::Nothing);
+            .add_send(event, receiver, &renewal::NO_VARS, Changed::Nothing);
         if added.is_err() {
             unreachable!()
         }
@@ -362,7 +435,7 @@ impl Guide {
         let sender = self.accepted.points().sender(event.point);
         let added = self
             .ledger
-            .add_recv(event, sender, &NO_VARS, Changed::Nothing);
+            .add_recv(event, sender, &renewal::NO_VARS, Changed::Nothing);
         if added.is_err() {
             unreachable!()
         }
@@ -501,6 +574,17 @@ impl Guide {
         (left, recovery)
     }
 
+    /// What `tell_recovered` would answer now: what the failure takes back, or why it isn't taken. It changes nothing.
+    pub fn would_recover(&self, role: RoleId, saved: &[u64; 8]) -> Result<Recovery, Cause>
+        ensures legal { OnOk result (MayRecover self.now role saved.now) }
+        ensures back { IfOk result (IsFailureOf self.now role saved.now) }
+        ensures cause { IfErr result (IsCauseNotToRecover self.now role saved.now) }
+    {
+        self.may_recover(role, saved)?;
+        let (_, back) = self.recovery(role, saved);
+        Ok(back)
+    }
+
     // Goes back to what is left.
     fn fall_back(&mut self, role: RoleId, saved: &[u64; 8], left: &[u32; 8], back: &Recovery)
         requires may { MayRecover self.old role saved.now }
@@ -522,6 +606,7 @@ impl Guide {
         ensures legal { OnOk result (MayRecover self.old role saved.now) }
         ensures back { IfOk result (IsFailureOf self.old role saved.now) }
         ensures after { IfOk result (λ back. IsAfter self.old self.new (entry_of role back)) }
+        ensures gone { IfOk result (HasRecovered self.old self.new role saved.now) }
         ensures cause { IfErr result (IsCauseNotToRecover self.old role saved.now) }
         ensures err { OnErr result (self.new ≡ self.old) }
     {

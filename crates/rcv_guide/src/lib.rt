@@ -5,6 +5,8 @@ pub mod cause;
 mod failing;
 mod flight;
 pub mod guide;
+pub mod laws;
+mod line;
 pub mod news;
 mod numbers;
 pub mod recovery;

@@ -8,6 +8,9 @@ use rcv_ledger::ledger::Ledger;
 use rcv_tree::event::Event;
 use rcv_tree::role::{RoleId, RoleSet};
 
+/// At most so many roles.
+pub const ROLES: usize = 8;
+
 /// The numbers of a role.
 #[derive(Clone, Copy)]
 pub struct Numbers {

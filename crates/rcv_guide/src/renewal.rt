@@ -16,7 +16,7 @@ ghost use Rattle.rcv_guide.specs.Renewal.{AreOrdered, AreEnds, MayEnd, AreReceiv
 ghost use Rattle.rcv_guide.specs.Renewal.{ArePassed, AreAllPassed, IsLeast, IsNextEvent, IsRenewing, IsRenewed};
 ghost use Rattle.rcv_guide.specs.Renewal.{forgotten_from, AreForgotten};
 
-use crate::numbers::Numbers;
+use crate::numbers::{Numbers, ROLES};
 use rcv_checkpoint::changed::Changed;
 use rcv_ledger::ledger::Ledger;
 use rcv_points::points::Points;
@@ -25,13 +25,11 @@ use rcv_tree::role::RoleId;
 use rcv_tree::variables::Vars;
 use std::alloc::{AllocError, Global};
 
-// At most so many roles, and channels among them.
-const ROLES: usize = 8;
-
+// Channels among the roles.
 const CHANNELS: usize = ROLES * ROLES;
 
-// A guide's roles have no variables.
-const NO_VARS: Vars = Vars([0; 16]);
+/// A guide's roles have no variables.
+pub const NO_VARS: Vars = Vars([0; 16]);
 
 // So many of the first events of each role are gone over, and so many messages they put on each channel.
 #[derive(Drop)]
@@ -247,8 +245,8 @@ fn go_over(
     Ok(())
 }
 
-// A ledger without events, for so many roles, with room for so many events. Fails where memory runs out.
-fn empty(alloc: Global, roles: usize, room: u32) -> Result<Ledger, AllocError>
+/// A ledger without events, for so many roles, with room for so many events. Fails where memory runs out.
+pub fn empty(alloc: Global, roles: usize, room: u32) -> Result<Ledger, AllocError>
     requires { roles ≤ 8 }
     ensures { IfOk result (λ fresh. IsStart (replicate roles (replicate 16 (pos 0))) (replicate roles 1) room room fresh) }
 {

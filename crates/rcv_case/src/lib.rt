@@ -1,0 +1,7 @@
+//! Cases in files: what a program is called with, and how it has to answer.
+#![tactic(auto)]
+
+mod case;
+mod piece;
+
+pub use case::{Case, read_case};

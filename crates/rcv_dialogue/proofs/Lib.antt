@@ -1,0 +1,14 @@
+pub mod Numerals
+pub mod Steps
+pub mod Naming
+pub mod Parts
+pub mod Telling
+pub mod Failing
+pub mod Cutting
+pub mod Taken
+pub mod Whole
+pub mod Spaces
+pub mod Rereading
+pub mod Lengths
+pub mod Texts
+pub mod Ranges

@@ -1,0 +1,21 @@
+-- Words that name roles and points of an accepted protocol.
+use Rattle.std.specs.Prelude.{ℕ, ◌+◌, ◌&&◌, nat_lt, if◌then◌else◌, List, position, Option, Some, None}
+use Rattle.rcv_accept.specs.Accepted.{AcceptedView, net_for}
+use Rattle.rcv_lines.specs.Named.{name_at}
+use Rattle.rcv_dialogue.specs.Numbers.{is_word, number_in}
+
+-- The name of a role.
+abbrev pub name_of : AcceptedView → ℕ → List ℕ
+name_of a r = name_at a.protocol.roles r
+
+-- The role that has this name.
+abbrev pub role_in : AcceptedView → List ℕ → Option ℕ
+role_in a word = position (λ name. is_word word name) a.protocol.roles
+
+-- The point that has this number.
+abbrev pub point_if : AcceptedView → Option ℕ → Option ℕ
+point_if a None = None
+point_if a (Some p) = if nat_lt 0 p && nat_lt p ((net_for a).count + 1) then Some p else None
+
+abbrev pub point_in : AcceptedView → List ℕ → Option ℕ
+point_in a word = point_if a (number_in word)

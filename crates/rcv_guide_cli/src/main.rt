@@ -1,0 +1,34 @@
+// The program: the top call over the standard streams.
+#![tactic(auto)]
+
+use rcv_io::{StdSink, StdSource};
+use rcv_talk::{Status, talk};
+use std::process::ExitCode;
+use std::{env, io};
+
+fn main(rt: HostRuntime) -> ExitCode {
+    let words = match words(&rt) {
+        Ok(words) => words,
+        Err(error) if error.kind() == io::ErrorKind::OutOfMemory => {
+            return ExitCode::from(Status::Memory.number());
+        }
+        // A word that is no UTF-8 is none of the program's: the empty word stands for it.
+        Err(_) => match vec![in rt.alloc(); String::new(rt.alloc())] {
+            Ok(words) => words,
+            Err(_) => return ExitCode::from(Status::Memory.number()),
+        },
+    };
+    let mut source = StdSource::new(rt.stdin());
+    let mut sink = StdSink::new(rt.stdout());
+    let status = talk(rt.alloc(), words.as_slice(), &mut source, &mut sink);
+    ExitCode::from(status.number())
+}
+
+// The words behind the program's name.
+fn words(rt: &HostRuntime) -> io::Result<Vec<String>> {
+    let mut words = Vec::new(rt.alloc());
+    for word in env::args(rt)?.skip(1) {
+        words.push(word)?;
+    }
+    Ok(words)
+}

@@ -1,0 +1,21 @@
+pub mod Sessions
+pub mod Going
+pub mod Saying
+pub mod Forgotten
+pub mod Refusals
+pub mod Begun
+pub mod Told
+pub mod Asked
+pub mod Listed
+pub mod Listing
+pub mod Falling
+pub mod Backs
+pub mod Enough
+pub mod InTurn
+pub mod Counting
+pub mod Recovered
+pub mod Returned
+pub mod Apart
+pub mod Replies
+pub mod Answered
+mod Examples

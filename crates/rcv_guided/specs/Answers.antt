@@ -1,0 +1,52 @@
+-- What a session answers to a line.
+use Rattle.std.specs.Prelude.{◌≡◌, ℕ, ◌⊎◌, List, ◌++◌}
+use Rattle.rcv_tree.specs.declared.entry.Entry.{Entry}
+use Rattle.rcv_accept.specs.Accepted.{AcceptedView}
+use Rattle.rcv_dialogue.specs.declared.line.Line.{Line}
+use Rattle.rcv_dialogue.specs.declared.line.Line.TheVariants as line
+use Rattle.rcv_dialogue.specs.declared.answer.Answer.{Answer}
+use Rattle.rcv_dialogue.specs.Answers.{answer_text}
+use Rattle.rcv_guided.specs.Session.{SessionView, IsSameSession}
+use Rattle.rcv_guided.specs.Histories.{GoesOnBy}
+use Rattle.rcv_guided.specs.Hearing.{IsUnchanged}
+use Rattle.rcv_guided.specs.Events.{Sends, Receives, HasSaved, Crashes}
+use Rattle.rcv_guided.specs.Failures.{Fails, Recovers}
+use Rattle.rcv_guided.specs.Questions.{Asks}
+
+-- What comes of a line in a session: its answer, what it adds to the history, and the session behind it.
+abbrev pub Comes : SessionView → Line → Answer → List Entry → SessionView → Type 0
+Comes s (line.Send told) said added after = Sends s told said added after
+Comes s (line.Recv told) said added after = Receives s told said added after
+Comes s (line.Save told) said added after = HasSaved s told said added after
+Comes s (line.Fail failed) said added after = Fails s failed said added after
+Comes s (line.Crash r) said added after = Crashes s r said added after
+Comes s (line.Recover told) said added after = Recovers s told said added after
+Comes s (line.Ask asked) said added after = Asks s asked said × IsUnchanged s added after
+
+-- A session in which a line is judged that is told to this one: itself, or the same where some of what is stable is forgotten.
+abbrev pub IsJudging : SessionView → SessionView → Type 0
+IsJudging old s = (s ≡ old) ⊎ IsSameSession old s
+
+-- What a session hears of a line.
+pub record Hears (old : SessionView) (told : Line) (said : Answer) (added : List Entry) (after : SessionView) : Type 0 where
+  pub judging : SessionView
+  pub is : IsJudging old judging
+  pub comes : Comes judging told said added after
+
+-- This comes of a line that is judged in a session, whose history goes on by what the line adds.
+pub record ComesBy (s : SessionView) (told : Line) (after : SessionView) (said : Answer) : Type 0 where
+  pub added : List Entry
+  pub comes : Comes s told said added after
+  pub history : GoesOnBy s added after
+
+-- This is the answer to the line, behind which the session is the new one, and its history goes on by what the line adds.
+pub record IsAnswer (old : SessionView) (told : Line) (after : SessionView) (said : Answer) : Type 0 where
+  pub added : List Entry
+  pub hears : Hears old told said added after
+  pub history : GoesOnBy old added after
+
+-- The text goes on with an answer for which this holds.
+pub record Says (a : AcceptedView) (old new : List ℕ) (P : Answer → Type 0) : Type 0 where
+  pub answer : Answer
+  pub text : new ≡ old ++ answer_text a answer
+  pub is : P answer

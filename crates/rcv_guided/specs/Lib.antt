@@ -1,0 +1,12 @@
+pub mod Session
+pub mod Histories
+pub mod Hearing
+pub mod Turns
+pub mod Counts
+pub mod Room
+pub mod Events
+pub mod Flights
+pub mod Failures
+pub mod Taking
+pub mod Questions
+pub mod Answers

@@ -1,0 +1,24 @@
+// A guided session without an end: told lines, judged and answered.
+#![tactic(auto)]
+
+mod ahead;
+mod back;
+mod counts;
+mod crash;
+mod ends;
+mod failures;
+mod flights;
+mod hear;
+mod hearing;
+mod questions;
+mod receipts;
+mod room;
+mod saves;
+pub mod saving;
+mod sends;
+pub mod session;
+mod states;
+mod taken;
+
+/// Want of memory.
+pub use std::alloc::AllocError as Memory;

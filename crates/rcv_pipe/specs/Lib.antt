@@ -1,0 +1,4 @@
+pub mod Feeds
+pub mod Buffer
+pub mod Pipe
+pub mod Opening

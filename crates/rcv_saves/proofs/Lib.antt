@@ -1,0 +1,4 @@
+pub mod Splits
+pub mod Lasts
+pub mod Roles
+mod Examples

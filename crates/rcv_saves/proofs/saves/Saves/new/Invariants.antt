@@ -1,0 +1,6 @@
+use Rattle.std.proofs.Common.{◌≡◌, replicate, []}
+use Rattle.rcv_saves.specs.Saves.{lists_in}
+use Rattle.rcv_saves.proofs.saves.Saves.new.Given as goal
+
+abbrev pub invariant-loop-role : goal.invariant-loop-role
+invariant-loop-role l = lists_in l.told.items ≡ replicate l._role []

@@ -1,0 +1,10 @@
+// Behind which counts of its events each role of a session has saved its state.
+#![tactic(auto)]
+
+mod counts;
+pub mod saves;
+#[cfg(test)]
+mod tests;
+
+/// Want of memory.
+pub use std::alloc::AllocError as Memory;

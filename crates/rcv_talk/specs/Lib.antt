@@ -1,0 +1,7 @@
+pub mod Around
+pub mod Dialogue
+pub mod Openings
+pub mod Answering
+pub mod Talking
+pub mod Calls
+pub mod Conversing
