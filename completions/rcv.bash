@@ -1,4 +1,4 @@
-# Completions of rcv and rcv-show for bash: source this file.
+# Completions of rcv, rcv-show and rcv-guide for bash: source this file.
 
 # The words that an option of the program may stand with, the option's values, and what may come next.
 _rcv_complete() {
@@ -29,3 +29,4 @@ _rcv_show() { _rcv_complete "journal replay table role protocol points explain";
 
 complete -F _rcv rcv ./rcv
 complete -F _rcv_show rcv-show ./rcv-show
+complete -W "--told" rcv-guide ./rcv-guide

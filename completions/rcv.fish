@@ -1,4 +1,4 @@
-# Completions of rcv and rcv-show for fish: put this file into ~/.config/fish/completions, and source it from there too.
+# Completions of rcv, rcv-show and rcv-guide for fish: put this file into ~/.config/fish/completions, and source it from there too.
 
 complete -c rcv -f
 complete -c rcv -n __fish_use_subcommand -a run -d 'run the session and write its journal'
@@ -25,3 +25,5 @@ complete -c rcv-show -n __fish_use_subcommand -a explain -d 'write the rule of a
 complete -c rcv-show -n '__fish_seen_subcommand_from journal' -l session -x -d 'which of several, from 1 to 64'
 complete -c rcv-show -n '__fish_seen_subcommand_from role' -l role -x -d 'the role'
 complete -c rcv-show -n '__fish_seen_subcommand_from explain' -l code -x -a '(seq 10 36; seq 40 43; seq 50 55)' -d 'the code of a refusal'
+complete -c rcv-guide -f
+complete -c rcv-guide -l told -d 'roles have saved what is told, and nothing by themselves'

@@ -1,4 +1,4 @@
-# What ./rcv and ./rcv-show have in common; they set `root`, `program`, `crate`, `commands` and `bounds`, and source it.
+# What ./rcv, ./rcv-show and ./rcv-guide have in common; they set `root`, `program`, `crate`, `commands` and `bounds`, and source it.
 #
 # The built program answers where it stands and no source that it is built of is newer. Else `rt try` runs the sources
 # without a proof, and standard error says so. Words, standard input, standard output and the status are the program's
@@ -41,6 +41,7 @@ explain() {
     5) say "standard output couldn't be written, or closed before all was written" ;;
     6) say "no memory was left" ;;
     7) say "too long: $bounds" ;;
+    9) say "the input ends within a line, which isn't answered" ;;
     esac
 }
 
