@@ -7,28 +7,16 @@ run each time: they have all that each role sent and received. Prints who died a
 result differs. The guide is `rcv-guide`, or PROGRAM; what is drawn a generator of random numbers says that begins at
 SEED, 1 where none is given."""
 import argparse
+import os
 import random
 import sys
 import time
 
 import rcv_guide
 
-TEXT = """module shop;
-type <py> "str" from "builtins" as String;
-type <py> "int" from "builtins" as Int;
-global protocol TwoBuyer(role A, role B, role S) {
-  title(String) from A to S;
-  quote(Int) from S to A, B;
-  share(Int) from A to B;
-  choice at B {
-    ok() from B to A, S;
-    address(String) from B to S;
-    date(String) from S to B;
-  } or {
-    quit() from B to A, S;
-  }
-}
-"""
+# The text of the example that `rcv run` plays with scripts: here the roles choose for themselves.
+with open(os.path.join(os.path.dirname(os.path.abspath(__file__)), "../../examples/two_buyer.rcv")) as example:
+    TEXT = example.read()
 
 
 class Person(rcv_guide.Role):

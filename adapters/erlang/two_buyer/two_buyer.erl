@@ -11,22 +11,10 @@
 %% For how many milliseconds a run may be silent.
 -define(SILENCE, 60000).
 
+%% The text of the example that `rcv run` plays with scripts: here the roles choose for themselves.
 text() ->
-    "module shop;
-     type <erl> \"binary\" from \"erlang\" as String;
-     type <erl> \"integer\" from \"erlang\" as Int;
-     global protocol TwoBuyer(role A, role B, role S) {
-       title(String) from A to S;
-       quote(Int) from S to A, B;
-       share(Int) from A to B;
-       choice at B {
-         ok() from B to A, S;
-         address(String) from B to S;
-         date(String) from S to B;
-       } or {
-         quit() from B to A, S;
-       }
-     }".
+    {ok, Text} = file:read_file(os:getenv("RCV_EXAMPLE")),
+    Text.
 
 %% Each role begins on a node of its own, and goes to the next one that is left where that dies.
 init({[One, Two, Three], Watch}) ->
