@@ -8,8 +8,12 @@ each fault, and ends with 1 where there is one. `.ci/pictures` runs it on each e
 - In the order of the document its marks and folds are the entries, each once; a mark's title is its entry's line.
 - A mark is undone exactly where its event isn't kept at the end, and a fold's title counts what is in it.
 - The arrows are exactly the messages of which an end has a mark, and undone exactly where the Recv is.
+- A Recover's mark says of each role, from left to right, whether it goes back, stays or goes on, at which event, what comes
+  next for it, and how many events are undone. A Recv's says `again` exactly where its message was received before. The
+  messages that a Recover drops, and those that wait at the end, are drawn as such, and no others.
 - Marks and folds stand below those before them, and nothing stands outside the picture.
-- No two texts stand on each other."""
+- No two texts stand on each other.
+- No upright piece of a message's way lies on one of another message."""
 import re
 import sys
 import xml.etree.ElementTree as tree
@@ -26,19 +30,50 @@ class Journal:
     def __init__(self, text):
         lines = text.decode().split("\n")
         self.lines = [line for line in lines if line.split(" ")[0] in ("send", "recv", "crash", "recover")]
-        stacks, self.messages, sends = {}, {}, {}
+        self.roles = [line.split(" ")[1] for line in lines if line.startswith("role ")]
+        stacks, self.messages, sends = {role: [] for role in self.roles}, {}, {}
+        # The Recvs of messages that were received before; the messages that each Recover drops; and what it says.
+        self.again, self.dropped, self.told = set(), set(), {}
         for place, line in enumerate(self.lines):
             words = line.split(" ")
             if words[0] in ("send", "recv"):
-                stacks.setdefault(words[1], []).append(place)
+                stacks[words[1]].append(place)
             if words[0] == "send":
                 sends[words[2], words[5][1:]] = place
             if words[0] == "recv":
-                self.messages[place] = sends[words[2], words[6][1:]]
+                send = sends[words[2], words[6][1:]]
+                if send in self.messages.values():
+                    self.again.add(place)
+                self.messages[place] = send
             if words[0] == "recover":
-                for role, kept in zip(words[4::2], words[5::2]):
-                    stacks[role] = stacks.get(role, [])[: int(kept)]
+                keeps = {role: int(kept) for role, kept in zip(words[4::2], words[5::2])}
+                received = {self.messages[place] for stack in stacks.values() for place in stack if place in self.messages}
+                lost = {role for role in keeps if keeps[role] < len(stacks[role])}
+                undone = {sent for role in lost for sent in stacks[role][keeps[role] :] if self.lines[sent].startswith("send")}
+                self.dropped |= {(sent, place) for sent in undone - received}
+                self.told[place] = [self.returns(role, keeps, lost) for role in self.roles]
+                for role in lost:
+                    del stacks[role][keeps[role] :]
         self.kept = {place for stack in stacks.values() for place in stack}
+        self.waiting = {place for place in self.kept if self.lines[place].startswith("send")}
+        self.waiting -= {self.messages[place] for place in self.kept if place in self.messages}
+
+    def returns(self, role, keeps, lost):
+        """Returns what a Recover's mark says of a role, in one of these ways."""
+        if role not in keeps:
+            return ["goes on"]
+        verb, count = "back to" if role in lost else "stays at", keeps[role]
+        return [f"{verb} event {count}", f"{verb} {count}"] if count else [f"{verb} start"]
+
+    def point_behind(self, role, place):
+        """Returns the point of a role's next event behind a place, unless it goes back before."""
+        for later in range(place + 1, len(self.lines)):
+            words = self.lines[later].split(" ")
+            if words[0] in ("send", "recv") and words[1] == role:
+                return words[2]
+            if later in self.told and self.told[later][self.roles.index(role)][0].startswith("back to"):
+                return None
+        return None
 
     def is_undone(self, place):
         """Returns whether an entry is an event that isn't kept at the end."""
@@ -90,6 +125,8 @@ def told_faults(root, journal):
                 yield f"the arrow {name}"
                 return
             arrows[name] = (int(ends[1]) - 1, int(ends[2]) - 1, "undone" in kind)
+    yield from recover_faults(root, journal, shown)
+    yield from message_faults(root, journal, shown)
     if place != len(journal.lines):
         yield f"{place} of {len(journal.lines)} entries are drawn"
     wanted = {
@@ -97,6 +134,55 @@ def told_faults(root, journal):
     }
     for send, got, undone in set(arrows.values()) ^ wanted:
         yield f"the arrow from {send + 1} to {got + 1}, undone: {undone}"
+
+
+def marks(root, journal, places):
+    """Yields the marks of these entries: their places, lines, and their texts from left to right and from above to below."""
+    for group in root.iter(SVG + "g"):
+        name = group.get("id") or ""
+        if "mark" in classes(group) and int(name[1:]) - 1 in places:
+            texts = [text for text in group.iter(SVG + "text") if "point" not in classes(text)]
+            texts.sort(key=lambda text: numbers(text, "x", "y"))
+            yield int(name[1:]) - 1, journal.lines[int(name[1:]) - 1], [text.text for text in texts[1:]]
+
+
+def recover_faults(root, journal, shown):
+    """Yields what the marks of recoveries say wrongly."""
+    for place, line, texts in marks(root, journal, shown & set(journal.told)):
+        said = [text for text in texts if text.startswith(("back to", "stays at", "goes on"))]
+        told = journal.told[place]
+        if len(said) != len(told) or any(text not in ways for text, ways in zip(said, told)):
+            yield f"e{place + 1} says {said}, in the place of {told}"
+        count = int(line.split(" ")[3][:-1])
+        wanted = f"{count} event{'' if count == 1 else 's'} undone"
+        if texts[-1] != wanted or not texts[-2].endswith(" recovers"):
+            yield f"e{place + 1} says {texts[-2:]}, in the place of {wanted!r}"
+        concerned = [role for role, ways in zip(journal.roles, told) if ways != ["goes on"]]
+        following = [text for text in texts if text == "nothing left" or text.startswith("next ")]
+        if len(following) != len(concerned):
+            yield f"e{place + 1} says {following} of {concerned}"
+            continue
+        for role, text in zip(concerned, following):
+            point = journal.point_behind(role, place)
+            if point and not text.endswith(" more") and point not in re.findall(r"(?:next|or) (\d+)", text):
+                yield f"e{place + 1} says {text!r} of {role}, and {point} comes"
+
+
+def message_faults(root, journal, shown):
+    """Yields what is said wrongly of messages that are received again, dropped, or wait."""
+    receipts = {place for place in shown if journal.lines[place].startswith("recv")}
+    for place, _, texts in marks(root, journal, receipts):
+        if any(text.endswith(" again") for text in texts) != (place in journal.again):
+            yield f"e{place + 1} says {texts}"
+    titles = [title_of(group) or "" for group in root.iter(SVG + "g") if not group.get("id")]
+    loose = sorted(title for title in titles if title.startswith("sent by entry "))
+    dropped = [f"sent by entry {send + 1}, dropped by entry {recover + 1}" for send, recover in journal.dropped if send in shown]
+    waiting = [f"sent by entry {send + 1}, not received" for send in journal.waiting if send in shown]
+    if loose != sorted(dropped + waiting):
+        yield f"loose messages: {loose} in the place of {sorted(dropped + waiting)}"
+    words = sum(text.text == "dropped" for text in root.iter(SVG + "text"))
+    if words != len({recover for send, recover in journal.dropped if send in shown}):
+        yield f"`dropped` stands there {words} times"
 
 
 def numbers(element, *names):
@@ -130,6 +216,28 @@ def drawn(root):
         for element in group:
             if element.tag[len(SVG) :] in ("line", "rect", "circle", "path", "text"):
                 yield group, element
+
+
+def uprights(root):
+    """Yields the upright pieces of the ways of messages: where, from which height to which, and of which message."""
+    for group, element in drawn(root):
+        if element.tag == SVG + "path":
+            at = [float(number) for number in re.findall(r"[\d.]+", element.get("d"))]
+            turns = list(zip(at[::2], at[1::2]))
+            for (x, y), (x2, y2) in zip(turns, turns[1:]):
+                if x == x2 and y != y2:
+                    yield x, min(y, y2), max(y, y2), group.get("id") or title_of(group)
+
+
+def upright_faults(root):
+    """Yields upright pieces that lie on each other."""
+    pieces = sorted(uprights(root))
+    for number, (x, top, bottom, name) in enumerate(pieces):
+        for x2, top2, bottom2, other in pieces[number + 1 :]:
+            if x2 - x >= 1:
+                break
+            if max(top, top2) + 1 < min(bottom, bottom2):
+                yield f"one way on another: {name} and {other}"
 
 
 def layout_faults(root):
@@ -178,7 +286,7 @@ def chart_faults(picture):
 def journal_faults(picture, text):
     """Returns what is wrong with the picture of a journal."""
     root, found = document(picture)
-    return found if root is None else found + list(told_faults(root, Journal(text))) + list(layout_faults(root))
+    return found if root is None else found + [*told_faults(root, Journal(text)), *layout_faults(root), *upright_faults(root)]
 
 
 def main():

@@ -3,7 +3,8 @@
 
 Answers the dialogue of docs/GUIDE.md over standard input and output, as `rcv-guide` does. It is written from that page
 over bench/legal.py, and shares no code with the program. It takes a text that the program takes: of the refusals it
-knows 57 alone. It keeps every event, so its memory grows. It needs Python 3.8 and nothing else."""
+knows 57 alone. It keeps every event, so its memory grows; it takes no snapshot, and gives none: their lines are illegal
+to it. It needs Python 3.8 and nothing else."""
 import bisect
 import contextlib
 import re
@@ -130,6 +131,65 @@ class Words:
 def is_number(word):
     """Says whether a word is an unsigned number of 64 bits."""
     return bool(UNSIGNED.fullmatch(word)) and int(word) < 2**64
+
+
+def again(words):
+    """Takes what stands behind `again`."""
+    kind = words.take(AGAIN, "again")
+    AGAIN[kind](words)
+    words.end()
+
+
+def again_session(words):
+    for name in ("told", "room"):
+        words.take([name], name)
+        words.number("count")
+
+
+def again_role(words):
+    words.role()
+    for name in ("kept", "raw"):
+        words.take([name], name)
+        words.number("count")
+    words.take(["at"], "at")
+    words.take(list(map(str, range(len(words.setup.points)))), "point")
+    words.take(["clock"], "clock")
+    words.number("stamp")
+    words.take(["attempt"], "attempt")
+    words.number("count")
+    words.take(["up", "down"], "up")
+    words.number("incarnation", "#")
+
+
+def again_flight(words):
+    words.role()
+    again_send(words)
+
+
+def again_send(words):
+    words.role()
+    words.message()
+    words.number("stamp", "@")
+
+
+def again_recv(words):
+    again_send(words)
+    words.number("sent", "<")
+
+
+def again_save(words):
+    words.role()
+    words.number("count")
+
+
+AGAIN = {
+    "session": again_session,
+    "role": again_role,
+    "flight": again_flight,
+    "send": again_send,
+    "recv": again_recv,
+    "save": again_save,
+}
 
 
 class Guide(legal.State):
@@ -325,6 +385,10 @@ class Guide(legal.State):
         names = "".join(f" {self.setup.roles[q]} {keeps[q]}" for q in sorted(concerned))
         return f"undone {sum(before) - sum(keeps)}:{names}"
 
+    def restore(self, words):
+        again(words)
+        raise Illegal("again")
+
     # Questions.
 
     def in_flight(self, receivers):
@@ -402,6 +466,7 @@ ANSWERS = {
     "crash": Guide.crash,
     "recover": Guide.recover_told,
     "fail": Guide.fail,
+    "again": Guide.restore,
     "next": Guide.ask_next,
     "kept": Guide.ask_kept,
     "line": Guide.ask_line,

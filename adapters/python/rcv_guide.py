@@ -10,6 +10,8 @@ import subprocess
 
 # How a guide is started, if nobody says otherwise: one whose roles have saved what they tell.
 COMMAND = ("rcv-guide", "--told")
+# So many lines that were taken are kept at least, before a snapshot takes their place.
+FEW = 1000
 
 # The guide
 
@@ -42,6 +44,7 @@ class Guide:
         """Starts a guide of a text: a protocol, and a plan with `host` lines if you like. Raises `Refused`."""
         self.text, self.command = text.encode(), command
         self.taken = []  # what a new guide is told, should this one die
+        self.most = FEW  # so many lines of that are kept
         self._start()
         words = [line.split(" ") for line in self.tell("points")[1:]]
         self.points = {int(number): Point(int(number), label, s, r) for _, number, label, s, r in words}
@@ -66,7 +69,20 @@ class Guide:
             raise MemoryError(line)
         if kind == "done":
             self.taken.append(line)
+            self._shorten()
         return answer
+
+    def _shorten(self):
+        """Keeps a snapshot in place of lines that were taken, where these are many."""
+        if len(self.taken) < self.most:
+            return
+        try:
+            first, *lines = self._ask("snapshot")
+        except (EOFError, OSError):
+            return  # it has died: what was taken is told to the next one
+        if first.startswith("snapshot "):
+            self.taken = lines
+        self.most = FEW + 2 * len(self.taken)
 
     def _start(self):
         pipe = subprocess.PIPE

@@ -1,7 +1,7 @@
 %% A guide process behind a port: lines are told, and answered one behind the other.
 %%
 %% A guide that dies, or is silent for too long, is followed by a new one, which is told all lines that were taken, and then
-%% the one that was left unanswered. Who tells lines notices nothing.
+%% the one that was left unanswered. Who tells lines notices nothing. Where these lines are many, a snapshot takes their place.
 -module(rcv_guide).
 -behaviour(gen_server).
 -export([start_link/1, tell/2, roles/1, os_pid/1, stop/1]).
@@ -11,13 +11,15 @@
 -define(STARTS, 3).
 %% How long it may take to end.
 -define(ENDING, 5000).
+%% So many lines that were taken are kept at least, before a snapshot takes their place.
+-define(FEW, 1000).
 
 %% The text; the shell's words that start a guide, by default what RCV_GUIDE says, or `rcv-guide --told`; for how many
 %% milliseconds a guide may be silent.
 -type options() :: #{text := iodata(), command => string() | default, silence => pos_integer()}.
 
-%% Of the lines that were taken the last one is first.
--record(guide, {text, command, silence, port = none, os_pid, reader, roles, taken = [], starts = 0}).
+%% Of the lines that were taken the last one is first. There are `kept` of them, and at `most` so many.
+-record(guide, {text, command, silence, port = none, os_pid, reader, roles, taken = [], kept = 0, most = ?FEW, starts = 0}).
 
 %% Ends with `{refused, Line}` where the guide doesn't take the text.
 -spec start_link(options()) -> {ok, pid()} | {error, term()}.
@@ -51,9 +53,8 @@ init(#{text := Text} = Options) ->
     {ok, start(#guide{text = Text, command = Command, silence = maps:get(silence, Options, 30000)})}.
 
 handle_call({tell, Line}, _From, Guide) ->
-    {Answer, #guide{taken = Before} = Next} = tell_at_last(Line, Guide#guide{starts = 0}),
-    Taken = case rcv_dialogue:is_done(Answer) of true -> [Line | Before]; false -> Before end,
-    {reply, Answer, Next#guide{taken = Taken}};
+    {Answer, Next} = tell_at_last(Line, Guide#guide{starts = 0}),
+    {reply, Answer, case rcv_dialogue:is_done(Answer) of true -> keep(Line, Next); false -> Next end};
 handle_call(roles, _From, Guide) ->
     {reply, Guide#guide.roles, Guide};
 handle_call(os_pid, _From, Guide) ->
@@ -78,6 +79,22 @@ terminate(_Reason, Guide) ->
     end.
 
 %% Lines
+
+%% Keeps a line that was taken.
+keep(Line, #guide{taken = Taken, kept = Kept} = Guide) ->
+    shorten(Guide#guide{taken = [Line | Taken], kept = Kept + 1}).
+
+%% Keeps a snapshot in place of many lines. What a guide that has died was told, the next one is told.
+shorten(#guide{kept = Kept, most = Most} = Guide) when Kept < Most ->
+    Guide;
+shorten(Guide) ->
+    case ask("snapshot", Guide) of
+        {died, _} -> Guide;
+        {[<<"snapshot ", _/binary>> | Lines], Asked} ->
+            Kept = length(Lines),
+            Asked#guide{taken = lists:reverse(Lines), kept = Kept, most = ?FEW + 2 * Kept};
+        {_, #guide{most = Most} = Asked} -> Asked#guide{most = 2 * Most}
+    end.
 
 %% Where a guide has no memory left for a line, a new one may have.
 tell_at_last(Line, Guide) ->

@@ -1,8 +1,11 @@
 %% Tests of rcv_guide: a guide that dies, one that is silent, one that refuses the text, and none at all.
 -module(rcv_guide_tests).
--export([told_test/0, dies_test/0, refused_test/0, no_guide_test/0, silent_test/0, no_memory_test/0, ends_test/0, ends_with_owner_test/0]).
+-export([told_test/0, dies_test/0, dies_behind_a_snapshot_test/0, refused_test/0, no_guide_test/0, silent_test/0, no_memory_test/0, ends_test/0, ends_with_owner_test/0]).
 
 -define(PING, "module ping; global protocol Ping(role A, role B) { ping() from A to B; pong() from B to A; }").
+
+-define(LOOP, "module loop; global protocol Loop(role A, role B) { rec X { ping(Int) from A to B; continue X; } }").
+-define(QUESTIONS, [<<"kept">>, <<"line">>, <<"flight">>, <<"role A">>, <<"role B">>]).
 
 told_test() ->
     Guide = guide(#{}),
@@ -29,6 +32,28 @@ dies_test() ->
     [<<"stale incarnation 1">>] = Tell(<<"send B 2 pong 6 #0">>),
     killer:stop(Killer),
     rcv_guide:stop(Guide).
+
+%% A new one is told a snapshot in place of many lines.
+dies_behind_a_snapshot_test() ->
+    {ok, Guide} = rcv_guide:start_link(#{text => ?LOOP}),
+    [ping(Guide, Number) || Number <- lists:seq(1, 3000)],
+    [<<"done @3001">>] = rcv_guide:tell(Guide, <<"send A 1 ping 7">>),
+    Asked = [rcv_guide:tell(Guide, Question) || Question <- ?QUESTIONS],
+    OsPid = rcv_guide:os_pid(Guide),
+    os:cmd("kill -KILL " ++ integer_to_list(OsPid)),
+    os_process:await_end(OsPid),
+    Asked = [rcv_guide:tell(Guide, Question) || Question <- ?QUESTIONS],
+    [<<"illegal front 1 ping 7 @3001">>] = rcv_guide:tell(Guide, <<"recv B 1 ping 8">>),
+    rcv_guide:stop(Guide).
+
+%% A message that is sent, received, and safe.
+ping(Guide, Number) ->
+    [[<<"done", _/binary>>] = rcv_guide:tell(Guide, Line) || Line <- [
+        <<"send A 1 ping 7">>,
+        <<"recv B 1 ping 7">>,
+        ["save A ", integer_to_list(Number)],
+        ["save B ", integer_to_list(Number)]
+    ]].
 
 refused_test() ->
     process_flag(trap_exit, true),

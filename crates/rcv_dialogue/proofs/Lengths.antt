@@ -7,6 +7,9 @@ use Rattle.std.specs.List.{All}
 use Rattle.std.proofs.lemmas.Fmt.{length-decimal-le}
 use Rattle.std.proofs.lemmas.List.Elements.{All-head, All-tail}
 use Rattle.rcv_tree.specs.Words.{IsWord}
+use Rattle.rcv_tree.specs.declared.event.Event.{Event}
+use Rattle.rcv_tree.specs.declared.event.Dir.{Dir}
+use Rattle.rcv_tree.specs.declared.event.Dir.TheVariants.{Sent, Got}
 use Rattle.rcv_model.specs.Places.{SingleMessage, single_at, singles}
 use Rattle.rcv_accept.specs.Accepted.{AcceptedView, IsAcceptedProtocol, text_of}
 use Rattle.rcv_dialogue.specs.declared.few.Failed.{Failed}
@@ -15,9 +18,11 @@ use Rattle.rcv_dialogue.specs.declared.line.Line.{Line}
 use Rattle.rcv_dialogue.specs.declared.line.Line.TheVariants as line
 use Rattle.rcv_dialogue.specs.declared.line.Question.{Question}
 use Rattle.rcv_dialogue.specs.declared.line.Question.TheVariants as question
+use Rattle.rcv_dialogue.specs.declared.line.Again.{Again}
+use Rattle.rcv_dialogue.specs.declared.line.Again.TheVariants as again
 use Rattle.rcv_dialogue.specs.declared.line.Stated.{Stated}
 use Rattle.rcv_lines.specs.Cutting.{joined, spaced}
-use Rattle.rcv_dialogue.specs.Lines.{AreKeptFrom, AreRoles, Fits, IsLine, IsMessage, IsStated, MayFit, count_text, failed_word, kept_words, line_words, marked_word, message_words, question_words, stated_words}
+use Rattle.rcv_dialogue.specs.Lines.{AreKeptFrom, AreRoles, Fits, HasSent, IsAgain, IsLine, IsMessage, IsStated, MayFit, again_words, count_text, down_text, event_words, failed_word, kept_words, line_words, marked_word, message_words, question_words, stated_words}
 use Rattle.rcv_lines.proofs.Parses.{within}
 use Rattle.rcv_dialogue.specs.Names.{name_of}
 use Rattle.rcv_dialogue.specs.Reading.{Words}
@@ -117,7 +122,54 @@ module _ (a : AcceptedView) (accepted : IsAcceptedProtocol a.protocol) where
   question_short (question.Flight (Some r)) = let name = name_short r in omega (arith, name)
   question_short question.Points = omega arith
   question_short question.Table = omega arith
+  question_short question.Snapshot = omega arith
   question_short question.End = omega arith
+
+  down_short : (down : Bool) → length (down_text down) ≤ 4
+  down_short true = omega arith
+  down_short false = omega arith
+
+  event_short : (e : Event) (dir : Dir) → IsMessage a e.point e.value → Fits e.stamp → HasSent dir e → total (event_words a dir e) ≤ 300
+  event_short e Sent message stamp sent =
+      let name = name_short e.role in
+      let mark = number_short e.stamp stamp in
+      let whole = total_both (message_words a e.point e.value) ((64 ∷ decimal e.stamp) ∷ []) in
+      let part = message_short e.point e.value message in
+      omega (arith, name, mark, whole, part)
+  event_short e Got message stamp sent =
+      let name = name_short e.role in
+      let mark = number_short e.stamp stamp in
+      let behind = number_short e.sent sent in
+      let whole = total_both (message_words a e.point e.value) ((64 ∷ decimal e.stamp) ∷ (60 ∷ decimal e.sent) ∷ []) in
+      let part = message_short e.point e.value message in
+      omega (arith, name, mark, behind, whole, part)
+
+  again_short : (l : Again) → IsAgain a l → total (again_words a l) ≤ 400
+  again_short (again.Session x) is =
+      let told = number_short x.told is.0 in
+      let room = number_short x.room is.1 in
+      omega (arith, told, room)
+  again_short (again.Role s) is =
+      let few = accepted.form.few_points in
+      let last = is.place in
+      let name = name_short s.role in
+      let kept = number_short s.kept is.kept in
+      let raw = number_short s.raw is.raw in
+      let place = number_short s.place (omega (arith, last, few)) in
+      let clock = number_short s.clock is.clock in
+      let attempt = number_short s.attempt is.attempt in
+      let down = down_short s.down in
+      let incarnation = number_short s.incarnation is.incarnation in
+      omega (arith, name, kept, raw, place, clock, attempt, down, incarnation)
+  again_short (again.Flight f) is =
+      let from = name_short f.from in
+      let to = name_short f.to in
+      let mark = number_short f.message.stamp is.3 in
+      let whole = total_both (message_words a f.message.point f.message.value) ((64 ∷ decimal f.message.stamp) ∷ []) in
+      let part = message_short f.message.point f.message.value is.2 in
+      omega (arith, from, to, mark, whole, part)
+  again_short (again.Event e) is = let short = event_short e e.dir is.1 is.2 is.3 in omega (arith, short)
+  again_short (again.Save r count) is = let name = name_short r in let number = number_short count is.1 in omega (arith, name, number)
 
   words_short : (l : Line) → IsLine a l → total (line_words a l) ≤ 1413
   words_short (line.Send e) is =
@@ -153,6 +205,7 @@ module _ (a : AcceptedView) (accepted : IsAcceptedProtocol a.protocol) where
       let both = total_both (map (failed_word a) e.failed) (stated_words a e.stated) in
       omega (arith, few, roles, failed, stated, both)
   words_short (line.Ask q) is = let short = question_short q in omega (arith, short)
+  words_short (line.Again l) is = let short = again_short l is in omega (arith, short)
 
   pub line_short : (l : Line) → IsLine a l → length (joined (line_words a l)) ≤ 2048
   line_short l is = let one = joined_short (line_words a l) in let two = words_short l is in omega (arith, one, two)

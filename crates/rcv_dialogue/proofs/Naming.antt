@@ -10,7 +10,7 @@ use Rattle.rcv_model.specs.Names.{AreDifferent}
 use Rattle.rcv_accept.specs.Accepted.{AcceptedView, net_for, roles_of}
 use Rattle.rcv_lines.specs.Named.{name_at}
 use Rattle.rcv_lines.proofs.Naming.{same_role}
-use Rattle.rcv_dialogue.specs.Names.{name_of, role_in, point_if, point_in}
+use Rattle.rcv_dialogue.specs.Names.{name_of, role_in, point_if, point_in, place_if, place_in}
 use Rattle.rcv_dialogue.specs.Numbers.{is_word, number_in}
 use Rattle.rcv_dialogue.proofs.Numerals.{both_so, is_itself, number_again, number_takes, same_word, some_if}
 
@@ -52,6 +52,23 @@ point_again a p first last fits =
     let low : nat_lt 0 p ≡ true = grind (arith, nat_tests) in
     let high : nat_lt p ((net_for a).count + 1) ≡ true = grind (arith, nat_tests) in
     ap (point_if a) (number_again p fits) ∙ rw (low, high) refl
+
+-- Places.
+pub place_takes : (a : AcceptedView) (w : List ℕ) (p : ℕ) → place_in a w ≡ Some p → (p ≤ (net_for a).count) × (w ≡ decimal p)
+place_takes a w p is = go (number_in w) refl is
+  where
+    go : (o : Option ℕ) → number_in w ≡ o → place_if a o ≡ Some p → (p ≤ (net_for a).count) × (w ≡ decimal p)
+    go None read is = absurd cc
+    go (Some n) read is =
+        let s = some_if (nat_lt n ((net_for a).count + 1)) n p is in
+        let high = s.0 in
+        let same = s.1 in
+        (grind (arith, nat_tests), (number_takes w n read).0 ∙ ap decimal same)
+
+pub place_again : (a : AcceptedView) (p : ℕ) → p ≤ (net_for a).count → p < 2 ^ 64 → place_in a (decimal p) ≡ Some p
+place_again a p last fits =
+    let high : nat_lt p ((net_for a).count + 1) ≡ true = grind (arith, nat_tests) in
+    ap (place_if a) (number_again p fits) ∙ rw high refl
 
 -- The role that was found is the one of this name.
 pub is_role : (a : AcceptedView) (w : List ℕ) (o : Option ℕ) → AreDifferent a.protocol.roles → IfSome o (λ r. r < length a.protocol.roles)

@@ -1,5 +1,5 @@
 -- What is read of some words are these words, and what they say is read again.
-use Rattle.std.proofs.Common.{◌≡◌, ◌∙◌, ◌<◌, ◌≤◌, ◌^◌, ◌==◌, ℕ, ℤ, Bool, true, false, cond, List, [], ◌∷◌, ◌++◌, Option, Some, None, Result, Ok, FitsSigned, refl, sym, ap, subst, arith, append-nil, decimal}
+use Rattle.std.proofs.Common.{◌≡◌, ◌∙◌, ◌<◌, ◌≤◌, ◌^◌, ◌==◌, ℕ, ℤ, Bool, true, false, cond, List, [], ◌∷◌, ◌++◌, Option, Some, None, Result, Ok, FitsSigned, refl, sym, ap, subst, arith, append-nil, decimal, codes}
 use Rattle.std.specs.Fmt.{signed_decimal}
 use mir.Syntax.{w64}
 use Rattle.std.proofs.lemmas.Bool.Decides.{nat_tests}
@@ -8,13 +8,13 @@ use Rattle.rcv_accept.specs.Accepted.{AcceptedView, net_for}
 use Rattle.rcv_dialogue.specs.declared.words.Misfit.{Misfit}
 use Rattle.rcv_dialogue.specs.declared.wrong.Expected.{Expected}
 use Rattle.rcv_dialogue.specs.declared.wrong.Expected.TheVariants as expected
-use Rattle.rcv_dialogue.specs.Lines.{Fits, IsMessage, IsRole, MayFit, marked_word, message_words}
+use Rattle.rcv_dialogue.specs.Lines.{Fits, IsMessage, IsRole, MayFit, down_text, marked_word, message_words}
 use Rattle.rcv_lines.proofs.Parses.{within}
-use Rattle.rcv_dialogue.specs.Names.{name_of, point_in, role_in}
-use Rattle.rcv_dialogue.specs.Numbers.{marked_in, number_in, signed_in}
-use Rattle.rcv_dialogue.specs.Reading.{◌>>=◌, Words, begins, literal_at, marked_at, message_at, number_at, optional_at, point_at, role_at, value_at}
-use Rattle.rcv_dialogue.proofs.Naming.{point_again, point_takes, role_again, role_takes}
-use Rattle.rcv_dialogue.proofs.Numerals.{is_within, marked_again, marked_takes, number_again, number_takes, signed_again, signed_takes}
+use Rattle.rcv_dialogue.specs.Names.{name_of, place_in, point_in, role_in}
+use Rattle.rcv_dialogue.specs.Numbers.{is_word, marked_in, number_in, signed_in}
+use Rattle.rcv_dialogue.specs.Reading.{◌>>=◌, Words, begins, down_at, down_in, literal_at, marked_at, message_at, named_at, number_at, optional_at, place_at, point_at, role_at, value_at}
+use Rattle.rcv_dialogue.proofs.Naming.{place_again, place_takes, point_again, point_takes, role_again, role_takes}
+use Rattle.rcv_dialogue.proofs.Numerals.{is_within, marked_again, marked_takes, number_again, number_takes, same_word, signed_again, signed_takes}
 use Rattle.rcv_dialogue.proofs.Steps.{bind_ok, literal_again, literal_takes, ok_is, one_again, one_takes}
 
 -- ---- one word
@@ -52,7 +52,51 @@ pub marked_at_again : (mark : ℕ) (e : Expected) (n : ℕ) (rest : Words) → F
 unfolding marked_at
 marked_at_again mark e n rest fits = one_again (marked_in mark) e (mark ∷ decimal n) rest n (marked_again mark n fits)
 
+pub place_at_takes : (a : AcceptedView) (left : Words) (p : ℕ) (rest : Words) → place_at a left ≡ Ok (p, rest) → (p ≤ (net_for a).count) × (left ≡ decimal p ∷ rest)
+unfolding place_at
+place_at_takes a left p rest is =
+    let o = one_takes (place_in a) expected.Point left p rest is in
+    let t = place_takes a o.0 p o.2 in
+    (t.0, o.1 ∙ ap (λ (w : List ℕ). w ∷ rest) t.1)
+
+pub place_at_again : (a : AcceptedView) (p : ℕ) (rest : Words) → p ≤ (net_for a).count → p < 2 ^ 64 → place_at a (decimal p ∷ rest) ≡ Ok (p, rest)
+unfolding place_at
+place_at_again a p rest last fits = one_again (place_in a) expected.Point (decimal p) rest p (place_again a p last fits)
+
+down_takes : (w : List ℕ) (down : Bool) → down_in w ≡ Some down → w ≡ down_text down
+down_takes w down is = go (is_word w (codes "up")) (is_word w (codes "down")) refl refl down is
+  where
+    go : (u d : Bool) → is_word w (codes "up") ≡ u → is_word w (codes "down") ≡ d → (x : Bool) → cond u (Some false) (cond d (Some true) None) ≡ Some x → w ≡ down_text x
+    go true d up is-d true e = absurd cc
+    go true d up is-d false e = same_word w (codes "up") up
+    go false true up is-d true e = same_word w (codes "down") is-d
+    go false true up is-d false e = absurd cc
+    go false false up is-d x e = absurd cc
+
+pub down_at_takes : (left : Words) (down : Bool) (rest : Words) → down_at left ≡ Ok (down, rest) → left ≡ down_text down ∷ rest
+unfolding down_at
+down_at_takes left down rest is =
+    let o = one_takes down_in expected.Up left down rest is in
+    o.1 ∙ ap (λ (w : List ℕ). w ∷ rest) (down_takes o.0 down o.2)
+
+pub down_at_again : (down : Bool) (rest : Words) → down_at (down_text down ∷ rest) ≡ Ok (down, rest)
+unfolding down_at
+down_at_again true rest = refl
+down_at_again false rest = refl
+
 -- ---- several
+
+pub named_at_takes : (text : List ℕ) (name e : Expected) (left : Words) (n : ℕ) (rest : Words) → named_at text name e left ≡ Ok (n, rest)
+    → Fits n × (left ≡ text ∷ decimal n ∷ rest)
+unfolding named_at
+named_at_takes text name e left n rest is =
+    let b = bind_ok (literal_at text name left) (λ begun. number_at e begun) (n, rest) is in
+    let t = number_at_takes e b.0 n rest b.2 in
+    (t.0, literal_takes text name left b.0 b.1 ∙ ap (λ (ws : Words). text ∷ ws) t.1)
+
+pub named_at_again : (text : List ℕ) (name e : Expected) (n : ℕ) (rest : Words) → Fits n → named_at text name e (text ∷ decimal n ∷ rest) ≡ Ok (n, rest)
+unfolding named_at
+named_at_again text name e n rest fits = ap (λ (r : Result Words Misfit). r >>= λ begun. number_at e begun) (literal_again text name (decimal n ∷ rest)) ∙ number_at_again e n rest fits
 
 abbrev both : Option ℕ → Words → Option ℕ × Words
 both o ws = (o, ws)

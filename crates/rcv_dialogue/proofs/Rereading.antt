@@ -1,6 +1,8 @@
 -- The words of a line of the form are read as this line.
 use Rattle.std.proofs.Common.{◌≡◌, ◌∙◌, ◌<◌, ◌≤◌, ◌^◌, ◌==◌, ℕ, ℤ, Bool, true, false, true≢false, List, [], ◌∷◌, ◌++◌, map, flat_map, Option, Some, None, Ok, inl, inr, refl, sym, ap, arith, append-nil, decimal, codes}
 use Rattle.std.specs.Prelude.{IfSome}
+use Rattle.rcv_tree.specs.declared.event.Dir.{Dir}
+use Rattle.rcv_tree.specs.declared.event.Dir.TheVariants.{Sent, Got}
 use Rattle.rcv_accept.specs.Accepted.{AcceptedView, net_for}
 use Rattle.rcv_dialogue.specs.declared.few.Failed.{Failed}
 use Rattle.rcv_dialogue.specs.declared.few.Kept.{Kept}
@@ -8,18 +10,23 @@ use Rattle.rcv_dialogue.specs.declared.line.Line.{Line}
 use Rattle.rcv_dialogue.specs.declared.line.Line.TheVariants as line
 use Rattle.rcv_dialogue.specs.declared.line.Question.{Question}
 use Rattle.rcv_dialogue.specs.declared.line.Question.TheVariants as question
+use Rattle.rcv_dialogue.specs.declared.line.Again.{Again}
+use Rattle.rcv_dialogue.specs.declared.line.Again.TheVariants as again
+use Rattle.rcv_dialogue.specs.declared.line.Flight.{Flight}
+use Rattle.rcv_dialogue.specs.declared.line.Extent.{Extent}
+use Rattle.rcv_dialogue.specs.declared.line.ToldStanding.{ToldStanding}
 use Rattle.rcv_dialogue.specs.declared.line.Stated.{Stated}
 use Rattle.rcv_dialogue.specs.declared.line.ToldRecv.{ToldRecv}
 use Rattle.rcv_dialogue.specs.declared.line.ToldSave.{ToldSave}
 use Rattle.rcv_dialogue.specs.declared.line.ToldSend.{ToldSend}
 use Rattle.rcv_dialogue.specs.declared.wrong.Expected.TheVariants as expected
-use Rattle.rcv_dialogue.specs.Lines.{AreFailed, IsLine, IsMessage, IsQuestion, IsRole, IsStated, NoneBehindSaysUndone, failed_word, kept_words, line_words, marked_word, message_words, stated_words}
+use Rattle.rcv_dialogue.specs.Lines.{AreFailed, IsAgain, IsLine, IsMessage, IsQuestion, IsRole, IsStated, NoneBehindSaysUndone, down_text, failed_word, kept_words, line_words, marked_word, message_words, stated_words}
 use Rattle.rcv_dialogue.specs.Names.{name_of}
-use Rattle.rcv_dialogue.specs.Reading.{Words, all_failed_at, crash_at, fail_at, flight_at, begins, line_at, message_at, of_role_at, recover_at, recv_at, role_at, save_at, send_at, stated_at}
+use Rattle.rcv_dialogue.specs.Reading.{Words, again_at, again_flight_at, again_recv_at, again_save_at, again_send_at, all_failed_at, crash_at, fail_at, flight_at, begins, line_at, message_at, of_role_at, recover_at, recv_at, role_at, save_at, send_at, extent_at, standing_at, stated_at}
 use Rattle.rcv_dialogue.proofs.Cutting.{cuts_again}
 use Rattle.rcv_dialogue.proofs.Failing.{Known, Stops, failed_again, more_again}
 use Rattle.rcv_dialogue.proofs.Numerals.{colon_again}
-use Rattle.rcv_dialogue.proofs.Parts.{message_at_again, number_at_again, optional_at_again, optional_at_last, other_begins, role_at_again}
+use Rattle.rcv_dialogue.proofs.Parts.{down_at_again, marked_at_again, message_at_again, named_at_again, number_at_again, optional_at_again, optional_at_last, other_begins, place_at_again, role_at_again}
 use Rattle.rcv_dialogue.proofs.Steps.{literal_again}
 
 -- A word with another mark than a stamp's.
@@ -93,7 +100,74 @@ module _ (a : AcceptedView) (known : Known a) (small : (p : ℕ) → p ≤ (net_
   question_again (question.Flight to) is = flight_again to is
   question_again question.Points is = refl
   question_again question.Table is = refl
+  question_again question.Snapshot is = refl
   question_again question.End is = refl
+
+  extent_again : (x : Extent) → IsAgain a (again.Session x)
+      → extent_at (codes "told" ∷ decimal x.told ∷ codes "room" ∷ decimal x.room ∷ []) ≡ Ok (line.Again (again.Session x))
+  unfolding extent_at
+  extent_again x is =
+      rw (
+        named_at_again (codes "told") expected.Told expected.Count x.told (codes "room" ∷ decimal x.room ∷ []) is.0,
+        named_at_again (codes "room") expected.Room expected.Count x.room [] is.1,
+      ) refl
+
+  standing_again : (s : ToldStanding) → IsAgain a (again.Role s)
+      → standing_at a (name_of a s.role ∷ codes "kept" ∷ decimal s.kept ∷ codes "raw" ∷ decimal s.raw ∷ codes "at" ∷ decimal s.place ∷ codes "clock" ∷ decimal s.clock
+      ∷ codes "attempt" ∷ decimal s.attempt ∷ down_text s.down ∷ (35 ∷ decimal s.incarnation) ∷ []) ≡ Ok (line.Again (again.Role s))
+  unfolding standing_at
+  standing_again s is =
+      let r7 : Words = (35 ∷ decimal s.incarnation) ∷ [] in
+      let r6 : Words = down_text s.down ∷ r7 in
+      let r5 : Words = codes "attempt" ∷ decimal s.attempt ∷ r6 in
+      let r4 : Words = codes "clock" ∷ decimal s.clock ∷ r5 in
+      let r3 : Words = decimal s.place ∷ r4 in
+      let r2 : Words = codes "at" ∷ r3 in
+      let r1 : Words = codes "raw" ∷ decimal s.raw ∷ r2 in
+      rw (
+        role_so s.role (codes "kept" ∷ decimal s.kept ∷ r1) is.role,
+        named_at_again (codes "kept") expected.Kept expected.Count s.kept r1 is.kept,
+        named_at_again (codes "raw") expected.Raw expected.Count s.raw r2 is.raw,
+        literal_again (codes "at") expected.At r3,
+        place_at_again a s.place r4 is.place (small s.place is.place),
+        named_at_again (codes "clock") expected.Clock expected.Stamp s.clock r5 is.clock,
+        named_at_again (codes "attempt") expected.Attempt expected.Count s.attempt r6 is.attempt,
+        down_at_again s.down r7,
+        marked_at_again 35 expected.Incarnation s.incarnation [] is.incarnation,
+      ) refl
+
+  again_flight_again : (f : Flight) → IsAgain a (again.Flight f)
+      → again_flight_at a (name_of a f.from ∷ name_of a f.to ∷ message_words a f.message.point f.message.value ++ (64 ∷ decimal f.message.stamp) ∷ []) ≡ Ok (line.Again (again.Flight f))
+  unfolding again_flight_at
+  again_flight_again f is =
+      let r2 : Words = (64 ∷ decimal f.message.stamp) ∷ [] in
+      let r1 = message_words a f.message.point f.message.value ++ r2 in
+      rw (role_so f.from (name_of a f.to ∷ r1) is.0, role_so f.to r1 is.1, message_so f.message.point f.message.value r2 is.2, marked_at_again 64 expected.Stamp f.message.stamp [] is.3) refl
+
+  event_again : (r p : ℕ) (v : ℤ) (t u : ℕ) (dir : Dir) → IsAgain a (again.Event (record { role = r; dir = dir; point = p; value = v; stamp = t; sent = u }))
+      → line_at a (line_words a (line.Again (again.Event (record { role = r; dir = dir; point = p; value = v; stamp = t; sent = u }))))
+      ≡ Ok (line.Again (again.Event (record { role = r; dir = dir; point = p; value = v; stamp = t; sent = u })))
+  unfolding line_at again_at again_send_at again_recv_at
+  event_again r p v t u Sent is =
+      let r2 : Words = (64 ∷ decimal t) ∷ [] in
+      rw (role_so r (message_words a p v ++ r2) is.0, message_so p v r2 is.1, marked_at_again 64 expected.Stamp t [] is.2)
+      (ap (λ s. Ok (line.Again (again.Event (record { role = r; dir = Sent; point = p; value = v; stamp = t; sent = s })))) (sym is.3))
+  event_again r p v t u Got is =
+      let r3 : Words = (60 ∷ decimal u) ∷ [] in
+      let r2 : Words = (64 ∷ decimal t) ∷ r3 in
+      rw (role_so r (message_words a p v ++ r2) is.0, message_so p v r2 is.1, marked_at_again 64 expected.Stamp t r3 is.2, marked_at_again 60 expected.Sent u [] is.3) refl
+
+  again_save_again : (r count : ℕ) → IsAgain a (again.Save r count) → again_save_at a (name_of a r ∷ decimal count ∷ []) ≡ Ok (line.Again (again.Save r count))
+  unfolding again_save_at
+  again_save_again r count is = rw (role_so r (decimal count ∷ []) is.0, number_at_again expected.Count count [] is.1) refl
+
+  again_again : (l : Again) → IsAgain a l → line_at a (line_words a (line.Again l)) ≡ Ok (line.Again l)
+  unfolding line_at again_at
+  again_again (again.Session x) is = extent_again x is
+  again_again (again.Role s) is = standing_again s is
+  again_again (again.Flight f) is = again_flight_again f is
+  again_again (again.Event e) is = event_again e.role e.point e.value e.stamp e.sent e.dir is
+  again_again (again.Save r count) is = again_save_again r count is
 
   all_failed_again : (stops : Bool) (failed : List Failed) (rest : Words) → AreFailed a failed → (stops ≡ true → NoneBehindSaysUndone a failed) → Stops stops rest
       → all_failed_at a stops (map (failed_word a) failed ++ rest) ≡ Ok (failed, rest)
@@ -138,3 +212,4 @@ module _ (a : AcceptedView) (known : Known a) (small : (p : ℕ) → p ≤ (net_
   line_again (line.Crash r) is = crash_again r is
   line_again (line.Recover e) is = recover_again e.failed e.stated is.0 is.1 is.2
   line_again (line.Ask q) is = question_again q is
+  line_again (line.Again l) is = again_again l is

@@ -2,7 +2,9 @@
 use Rattle.std.proofs.Common.{◌≡◌, ℕ, Bool, true, false, cond, List, [], ◌∷◌, Some, refl, subst}
 use Rattle.rcv_dialogue.specs.declared.kind.Kind.{Kind}
 use Rattle.rcv_dialogue.specs.declared.kind.Kind.TheVariants as kind
-use Rattle.rcv_dialogue.specs.Kinds.{kind_in, kind_text, told_in}
+use Rattle.rcv_dialogue.specs.declared.kind.AgainKind.{AgainKind}
+use Rattle.rcv_dialogue.specs.declared.kind.AgainKind.TheVariants as kinds
+use Rattle.rcv_dialogue.specs.Kinds.{again_in, again_text, kind_in, kind_text, told_in}
 use Rattle.rcv_dialogue.specs.Numbers.{is_word}
 use Rattle.rcv_dialogue.proofs.Numerals.{same_word}
 
@@ -32,4 +34,14 @@ kind_again kind.Role = refl
 kind_again kind.Flight = refl
 kind_again kind.Points = refl
 kind_again kind.Table = refl
+kind_again kind.Snapshot = refl
 kind_again kind.End = refl
+kind_again kind.Again = refl
+
+pub again_kind : (k : AgainKind) → again_in (again_text k) ≡ Some k
+again_kind kinds.Session = refl
+again_kind kinds.Role = refl
+again_kind kinds.Flight = refl
+again_kind kinds.Send = refl
+again_kind kinds.Recv = refl
+again_kind kinds.Save = refl

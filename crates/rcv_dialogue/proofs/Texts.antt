@@ -4,6 +4,9 @@ use Rattle.std.specs.Prelude.{IfSome}
 use Rattle.std.specs.List.{All, list_all}
 use Rattle.std.proofs.lemmas.List.Elements.{All-head, All-tail}
 use Rattle.rcv_tree.specs.Words.{IsWord, is_word_byte}
+use Rattle.rcv_tree.specs.declared.event.Event.{Event}
+use Rattle.rcv_tree.specs.declared.event.Dir.{Dir}
+use Rattle.rcv_tree.specs.declared.event.Dir.TheVariants.{Sent, Got}
 use Rattle.rcv_model.specs.Places.{SingleMessage, single_at, singles}
 use Rattle.rcv_accept.specs.Accepted.{AcceptedView, IsAcceptedProtocol, net_for, text_of}
 use Rattle.rcv_dialogue.specs.declared.few.Failed.{Failed}
@@ -12,10 +15,12 @@ use Rattle.rcv_dialogue.specs.declared.line.Line.{Line}
 use Rattle.rcv_dialogue.specs.declared.line.Line.TheVariants as line
 use Rattle.rcv_dialogue.specs.declared.line.Question.{Question}
 use Rattle.rcv_dialogue.specs.declared.line.Question.TheVariants as question
+use Rattle.rcv_dialogue.specs.declared.line.Again.{Again}
+use Rattle.rcv_dialogue.specs.declared.line.Again.TheVariants as again
 use Rattle.rcv_dialogue.specs.declared.line.Stated.{Stated}
 use Rattle.rcv_dialogue.specs.declared.words.Misfit.{Misfit}
 use Rattle.rcv_dialogue.specs.declared.wrong.Wrong.{Wrong}
-use Rattle.rcv_dialogue.specs.Lines.{AreKeptFrom, AreRoles, Fits, IsLine, IsMessage, IsStated, MayFit, SaysLine, count_text, failed_word, kept_words, line_words, marked_word, message_words, question_words, stated_words}
+use Rattle.rcv_dialogue.specs.Lines.{AreKeptFrom, AreRoles, Fits, HasSent, IsAgain, IsLine, IsMessage, IsStated, MayFit, SaysLine, again_words, count_text, down_text, event_words, failed_word, kept_words, line_words, marked_word, message_words, question_words, stated_words}
 use Rattle.rcv_lines.proofs.Parses.{within}
 use Rattle.rcv_dialogue.specs.Names.{name_of}
 use Rattle.rcv_dialogue.specs.Reading.{Words, counted, line_at, reading}
@@ -114,7 +119,60 @@ module _ (a : AcceptedView) (accepted : IsAcceptedProtocol a.protocol) where
   question_so (question.Flight (Some r)) = (word_so (codes "flight") refl, (name_so r, tt))
   question_so question.Points = (word_so (codes "points") refl, tt)
   question_so question.Table = (word_so (codes "table") refl, tt)
+  question_so question.Snapshot = (word_so (codes "snapshot") refl, tt)
   question_so question.End = (word_so (codes "end") refl, tt)
+
+  down_so : (down : Bool) → Lacks 32 (down_text down)
+  down_so true = word_so (codes "down") refl
+  down_so false = word_so (codes "up") refl
+
+  event_so : (e : Event) (dir : Dir) → IsMessage a e.point e.value → Fits e.stamp → (dir ≡ Got → Fits e.sent) → AllLack 32 (event_words a dir e)
+  event_so e Sent message stamp sent =
+      (word_so (codes "send") refl, (name_so e.role, all_both 32 (message_words a e.point e.value) ((64 ∷ decimal e.stamp) ∷ []) (message_so e.point e.value message) ((stamp_mark, number_so e.stamp stamp), tt)))
+  event_so e Got message stamp sent = (
+    word_so (codes "recv") refl,
+    (
+      name_so e.role,
+      all_both 32 (message_words a e.point e.value) ((64 ∷ decimal e.stamp) ∷ (60 ∷ decimal e.sent) ∷ []) (message_so e.point e.value message)
+          ((stamp_mark, number_so e.stamp stamp), ((sent_mark, number_so e.sent (sent refl)), tt)),
+    ),
+  )
+
+  named_so : (text : List ℕ) (n : ℕ) (rest : Words) → list_all is_word_byte text ≡ true → Fits n → AllLack 32 rest → AllLack 32 (text ∷ decimal n ∷ rest)
+  named_so text n rest word fits lack = (word_so text word, (number_so n fits, lack))
+
+  again_so : (l : Again) → IsAgain a l → AllLack 32 (again_words a l)
+  again_so (again.Session x) is =
+      (word_so (codes "session") refl, (word_so (codes "told") refl, (number_so x.told is.0, (word_so (codes "room") refl, (number_so x.room is.1, tt)))))
+  again_so (again.Role s) is =
+      let r5 : Words = down_text s.down ∷ (35 ∷ decimal s.incarnation) ∷ [] in
+      let r4 : Words = codes "attempt" ∷ decimal s.attempt ∷ r5 in
+      let r3 : Words = codes "clock" ∷ decimal s.clock ∷ r4 in
+      let r2 : Words = codes "at" ∷ decimal s.place ∷ r3 in
+      let r1 : Words = codes "raw" ∷ decimal s.raw ∷ r2 in
+      let l5 : AllLack 32 r5 = (down_so s.down, ((incarnation_mark, number_so s.incarnation is.incarnation), tt)) in
+      let l4 = named_so (codes "attempt") s.attempt r5 refl is.attempt l5 in
+      let l3 = named_so (codes "clock") s.clock r4 refl is.clock l4 in
+      let l2 = named_so (codes "at") s.place r3 refl (small s.place is.place) l3 in
+      let l1 = named_so (codes "raw") s.raw r2 refl is.raw l2 in
+      (word_so (codes "role") refl, (name_so s.role, named_so (codes "kept") s.kept r1 refl is.kept l1))
+  again_so (again.Flight f) is = (
+    word_so (codes "flight") refl,
+    (
+      name_so f.from,
+      (
+        name_so f.to,
+        all_both 32 (message_words a f.message.point f.message.value) ((64 ∷ decimal f.message.stamp) ∷ []) (message_so f.message.point f.message.value is.2)
+            ((stamp_mark, number_so f.message.stamp is.3), tt),
+      ),
+    ),
+  )
+  again_so (again.Event e) is = event_so e e.dir is.1 is.2 (λ got. sent_fits e e.dir got is.3)
+    where
+      sent_fits : (e : Event) (dir : Dir) → dir ≡ Got → HasSent dir e → Fits e.sent
+      sent_fits e Sent got has = absurd cc
+      sent_fits e Got got has = has
+  again_so (again.Save r count) is = (word_so (codes "save") refl, (name_so r, (number_so count is.1, tt)))
 
   words_so : (l : Line) → IsLine a l → AllLack 32 (line_words a l)
   words_so (line.Send e) is = (
@@ -140,6 +198,7 @@ module _ (a : AcceptedView) (accepted : IsAcceptedProtocol a.protocol) where
   words_so (line.Recover e) is =
       (word_so (codes "recover") refl, all_both 32 (map (failed_word a) e.failed) (stated_words a e.stated) (all_failed_so e.failed is.0.roles) (stated_so e.stated is.2))
   words_so (line.Ask q) is = question_so q
+  words_so (line.Again l) is = (word_so (codes "again") refl, again_so l is)
 
   -- No line is without words.
   some_words : (l : Line) → line_words a l ≡ [] → ⊥
@@ -157,7 +216,9 @@ module _ (a : AcceptedView) (accepted : IsAcceptedProtocol a.protocol) where
   some_words (line.Ask (question.Flight (Some r))) none = omega (arith, ap length none)
   some_words (line.Ask question.Points) none = omega (arith, ap length none)
   some_words (line.Ask question.Table) none = omega (arith, ap length none)
+  some_words (line.Ask question.Snapshot) none = omega (arith, ap length none)
   some_words (line.Ask question.End) none = omega (arith, ap length none)
+  some_words (line.Again l) none = omega (arith, ap length none)
 
   -- What a text says is read, and what is read is what it says.
   pub said_is_read : (text : List ℕ) (l : Line) → SaysLine a text l → line_at a (fields_of text) ≡ Ok l

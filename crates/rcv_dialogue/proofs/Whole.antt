@@ -5,24 +5,26 @@ use Rattle.rcv_dialogue.specs.declared.few.Failed.{Failed}
 use Rattle.rcv_dialogue.specs.declared.few.Kept.{Kept}
 use Rattle.rcv_dialogue.specs.declared.kind.Kind.{Kind}
 use Rattle.rcv_dialogue.specs.declared.kind.Kind.TheVariants as kind
+use Rattle.rcv_dialogue.specs.declared.kind.AgainKind.{AgainKind}
+use Rattle.rcv_dialogue.specs.declared.kind.AgainKind.TheVariants as kinds
 use Rattle.rcv_dialogue.specs.declared.line.Line.{Line}
 use Rattle.rcv_dialogue.specs.declared.line.Line.TheVariants as line
 use Rattle.rcv_dialogue.specs.declared.line.Question.{Question}
 use Rattle.rcv_dialogue.specs.declared.line.Question.TheVariants as question
 use Rattle.rcv_dialogue.specs.declared.line.Stated.{Stated}
 use Rattle.rcv_dialogue.specs.declared.wrong.Expected.TheVariants as expected
-use Rattle.rcv_dialogue.specs.Kinds.{all_kinds, kind_in, kind_text}
+use Rattle.rcv_dialogue.specs.Kinds.{again_in, again_text, all_again, all_kinds, kind_in, kind_text}
 use Rattle.rcv_dialogue.specs.Lines.{AreFailed, EachOnce, IsLine, IsStated, NoneBehindSaysUndone, failed_word, kept_words, line_words, stated_words}
 use Rattle.rcv_dialogue.specs.Names.{name_of}
 use Rattle.rcv_dialogue.specs.Numbers.{number_before}
-use Rattle.rcv_dialogue.specs.Reading.{◌>>=◌, Words, all_failed_at, ended, fail_at, flight_at, is_over, line_at, line_of, of_role_at, recover_at, recovery_of, stated_at}
+use Rattle.rcv_dialogue.specs.Reading.{◌>>=◌, Words, again_at, again_of, all_failed_at, ended, fail_at, flight_at, is_over, line_at, line_of, of_role_at, recover_at, recovery_of, stated_at}
 use Rattle.rcv_dialogue.specs.Reading as reading
 use Rattle.rcv_dialogue.proofs.Cutting.{cuts_takes}
 use Rattle.rcv_dialogue.proofs.Failing.{Stops, failed_takes, more_takes, or_wrong_ok}
 use Rattle.rcv_dialogue.proofs.Numerals.{colon_takes}
 use Rattle.rcv_dialogue.proofs.Parts.{number_at_takes, role_at_takes}
 use Rattle.rcv_dialogue.proofs.Steps.{bind_ok, ended_takes, literal_takes, ok_is, said_ok, word_takes}
-use Rattle.rcv_dialogue.proofs.Taken.{Took, crash_takes, of_role_takes, recv_takes, save_takes, send_takes}
+use Rattle.rcv_dialogue.proofs.Taken.{Took, TookAgain, again_flight_takes, again_recv_takes, again_save_takes, again_send_takes, crash_takes, of_role_takes, recv_takes, save_takes, send_takes, extent_takes, standing_takes}
 use Rattle.rcv_dialogue.proofs.Telling.{told_takes}
 
 -- ---- failures
@@ -157,6 +159,23 @@ flight_takes a left l is = go left is
 
 -- ---- each kind
 
+of_again : (a : AcceptedView) (k : AgainKind) (left : Words) (l : Line) → again_of a k left ≡ Ok l → TookAgain a (again_text k) left l
+of_again a kinds.Session left l is = extent_takes a left l is
+of_again a kinds.Role left l is = standing_takes a left l is
+of_again a kinds.Flight left l is = again_flight_takes a left l is
+of_again a kinds.Send left l is = again_send_takes a left l is
+of_again a kinds.Recv left l is = again_recv_takes a left l is
+of_again a kinds.Save left l is = again_save_takes a left l is
+
+again_takes : (a : AcceptedView) (left : Words) (l : Line) → again_at a left ≡ Ok l → Took a (codes "again") left l
+unfolding again_at
+again_takes a left l is =
+    let b0 = bind_ok (reading.word_at expected.Again left) _ l is in
+    let b1 = bind_ok (reading.said left expected.Again (again_in b0.0.0)) _ l b0.2 in
+    let word = told_takes again_text all_again b0.0.0 b1.0 (said_ok left expected.Again (again_in b0.0.0) b1.0 b1.1) in
+    let t = of_again a b1.0 b0.0.1 l b1.2 in
+    record { formed = t.formed; words = ap (λ (ws : Words). codes "again" ∷ ws) (word_takes expected.Again left b0.0.0 b0.0.1 b0.1 ∙ ap (λ (w : List ℕ). w ∷ b0.0.1) word) ∙ t.words }
+
 of_kind : (a : AcceptedView) (k : Kind) (left : Words) (l : Line) → line_of a k left ≡ Ok l → Took a (kind_text k) left l
 of_kind a kind.Send left l is = send_takes a left l is
 of_kind a kind.Recv left l is = recv_takes a left l is
@@ -171,7 +190,9 @@ of_kind a kind.Role left l is = role_takes a left l is
 of_kind a kind.Flight left l is = flight_takes a left l is
 of_kind a kind.Points left l is = plain_takes a (codes "points") question.Points left l is tt refl
 of_kind a kind.Table left l is = plain_takes a (codes "table") question.Table left l is tt refl
+of_kind a kind.Snapshot left l is = plain_takes a (codes "snapshot") question.Snapshot left l is tt refl
 of_kind a kind.End left l is = plain_takes a (codes "end") question.End left l is tt refl
+of_kind a kind.Again left l is = again_takes a left l is
 
 -- What is read of some words is a line of the form, and has these words.
 pub line_takes : (a : AcceptedView) (words : Words) (l : Line) → line_at a words ≡ Ok l → IsLine a l × (words ≡ line_words a l)

@@ -1,5 +1,5 @@
 -- The text of an answer: its first line, and so many more as the number behind a plus at its end says.
-use Rattle.std.specs.Prelude.{ℕ, ◌+◌, ◌≤◌, All, Bool, true, false, if◌then◌else◌, List, ◌++◌, length, flat_map, codes, decimal}
+use Rattle.std.specs.Prelude.{ℕ, ◌+◌, ◌≤◌, All, Bool, true, false, if◌then◌else◌, List, ◌∷◌, ◌++◌, length, flat_map, codes, decimal}
 use Rattle.std.specs.Fmt.{signed_decimal}
 use Rattle.std.specs.List.{list_all, range_with_len}
 use Rattle.rcv_tree.specs.declared.event.Message.{Message}
@@ -18,12 +18,16 @@ use Rattle.rcv_dialogue.specs.declared.answer.Turn.{Turn}
 use Rattle.rcv_dialogue.specs.declared.answer.Turn.TheVariants as turn
 use Rattle.rcv_dialogue.specs.declared.answer.Undone.{Undone}
 use Rattle.rcv_dialogue.specs.declared.few.Kept.{Kept}
+use Rattle.rcv_dialogue.specs.declared.line.Again.{Again}
+use Rattle.rcv_dialogue.specs.declared.line.Again.TheVariants as again
 use Rattle.rcv_dialogue.specs.declared.line.Flight.{Flight}
+use Rattle.rcv_dialogue.specs.declared.line.ToldStanding.{ToldStanding}
 use Rattle.rcv_dialogue.specs.declared.wrong.LineError.{LineError}
 use Rattle.rcv_dialogue.specs.declared.wrong.LineError.TheVariants as errors
 use Rattle.rcv_dialogue.specs.declared.wrong.Expected.{Expected}
 use Rattle.rcv_dialogue.specs.declared.wrong.Expected.TheVariants as expected
-use Rattle.rcv_dialogue.specs.Lines.{IsRole}
+use Rattle.rcv_lines.specs.Cutting.{joined}
+use Rattle.rcv_dialogue.specs.Lines.{IsRole, down_text, again_words}
 use Rattle.rcv_dialogue.specs.Names.{name_of}
 
 -- ---- parts of lines, each with a space in front
@@ -54,6 +58,7 @@ message_text a m =
     number_text m.point ++ codes " " ++ (net_for a).label m.point ++ codes " " ++ signed_decimal m.value ++ codes " @" ++ decimal m.stamp
 
 abbrev pub cause_text : AcceptedView → Cause → List ℕ
+cause_text a cause.Again = codes " again"
 cause_text a (cause.Incarnation n) = codes " incarnation " ++ decimal n
 cause_text a cause.Down = codes " down"
 cause_text a cause.Up = codes " up"
@@ -81,6 +86,15 @@ expected_text expected.Sent = codes "sent"
 expected_text expected.Incarnation = codes "incarnation"
 expected_text expected.Count = codes "count"
 expected_text expected.Undone = codes "undone"
+expected_text expected.Again = codes "again"
+expected_text expected.Told = codes "told"
+expected_text expected.Room = codes "room"
+expected_text expected.Kept = codes "kept"
+expected_text expected.Raw = codes "raw"
+expected_text expected.At = codes "at"
+expected_text expected.Clock = codes "clock"
+expected_text expected.Attempt = codes "attempt"
+expected_text expected.Up = codes "up"
 expected_text expected.End = codes "end"
 
 abbrev pub state_text : State → List ℕ
@@ -106,6 +120,24 @@ ends_text a p = named_text a ((net_for a).sender p) ++ named_text a ((net_for a)
 
 abbrev pub point_line : AcceptedView → ℕ → List ℕ
 point_line a p = codes "point" ++ number_text p ++ codes " " ++ (net_for a).label p ++ ends_text a p ++ codes "\n"
+
+-- A line of a snapshot, as it is told.
+abbrev pub again_text : AcceptedView → Again → List ℕ
+again_text a l = joined (codes "again" ∷ again_words a l)
+
+-- That of a role, in two parts.
+abbrev pub standing_text : AcceptedView → ToldStanding → List ℕ
+standing_text a s =
+    codes "again role" ++ named_text a s.role ++ codes " kept" ++ number_text s.kept ++ codes " raw" ++ number_text s.raw
+    ++ codes " at" ++ number_text s.place
+
+abbrev pub numbers_text : ToldStanding → List ℕ
+numbers_text s =
+    codes " clock" ++ number_text s.clock ++ codes " attempt" ++ number_text s.attempt ++ codes " " ++ down_text s.down
+    ++ codes " #" ++ decimal s.incarnation
+
+abbrev pub again_line : AcceptedView → Again → List ℕ
+again_line a l = again_text a l ++ codes "\n"
 
 abbrev pub role_line : AcceptedView → RoleState → List ℕ
 role_line a s = role_text a s ++ codes "\n"
@@ -151,6 +183,7 @@ answer_text a (answer.Flight flight) = codes "flight" ++ more_text (length fligh
 answer_text a answer.Points =
     codes "points" ++ more_text (net_for a).count ++ flat_map (point_line a) (range_with_len 1 (net_for a).count)
 answer_text a (answer.Table lines text) = codes "table" ++ more_text lines ++ text.now
+answer_text a (answer.Snapshot lines) = codes "snapshot" ++ more_text (length lines.now) ++ flat_map (again_line a) lines.now
 answer_text a (answer.End states) =
     codes "end" ++ more_text (length states.now + 1) ++ flat_map (role_line a) states.now ++ end_line states.now
 
@@ -166,6 +199,7 @@ abbrev pub HasEnds : AcceptedView → Flight → Type 0
 HasEnds a f = IsRole a f.from × IsRole a f.to × IsDeclared a f.message.point
 
 abbrev pub NamesInCause : AcceptedView → Cause → Type 0
+NamesInCause a cause.Again = Unit {0}
 NamesInCause a (cause.Incarnation n) = Unit {0}
 NamesInCause a cause.Down = Unit {0}
 NamesInCause a cause.Up = Unit {0}
@@ -177,6 +211,13 @@ NamesInCause a (cause.Count n) = Unit {0}
 NamesInCause a cause.Host = Unit {0}
 NamesInCause a (cause.Line k) = HasRole a k
 NamesInCause a (cause.Recovery u) = All (HasRole a) u.kept.now
+
+abbrev pub NamesInAgain : AcceptedView → Again → Type 0
+NamesInAgain a (again.Session x) = Unit {0}
+NamesInAgain a (again.Role s) = IsRole a s.role
+NamesInAgain a (again.Flight f) = HasEnds a f
+NamesInAgain a (again.Event e) = IsRole a e.role × IsDeclared a e.point
+NamesInAgain a (again.Save r count) = IsRole a r
 
 abbrev pub IsNamed : AcceptedView → Answer → Type 0
 IsNamed a answer.Done = Unit {0}
@@ -197,4 +238,5 @@ IsNamed a (answer.Role s incarnation) = IsRole a s.role
 IsNamed a (answer.Flight flight) = All (HasEnds a) flight.now
 IsNamed a answer.Points = Unit {0}
 IsNamed a (answer.Table lines text) = Unit {0}
+IsNamed a (answer.Snapshot lines) = All (NamesInAgain a) lines.now
 IsNamed a (answer.End states) = All (λ s. IsRole a s.role) states.now

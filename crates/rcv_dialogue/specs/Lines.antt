@@ -1,7 +1,10 @@
 -- The grammar: which lines are of the form, which words each has, and which text says it.
-use Rattle.std.specs.Prelude.{◌≡◌, ◌≢◌, ℕ, ℤ, ◌+◌, ◌<◌, ◌≤◌, ◌^◌, List, [], ◌∷◌, ◌++◌, length, map, flat_map, codes, decimal, Option, Some, None, IfSome, FitsSigned}
+use Rattle.std.specs.Prelude.{◌≡◌, ◌≢◌, ℕ, ℤ, ◌+◌, ◌<◌, ◌≤◌, ◌^◌, Bool, true, false, List, [], ◌∷◌, ◌++◌, length, map, flat_map, codes, decimal, Option, Some, None, IfSome, FitsSigned}
 use Rattle.std.specs.Fmt.{signed_decimal}
 use mir.Syntax.{w64}
+use Rattle.rcv_tree.specs.declared.event.Event.{Event}
+use Rattle.rcv_tree.specs.declared.event.Dir.{Dir}
+use Rattle.rcv_tree.specs.declared.event.Dir.TheVariants.{Sent, Got}
 use Rattle.rcv_accept.specs.Accepted.{AcceptedView, roles_of, net_for}
 use Rattle.rcv_dialogue.specs.declared.few.Failed.{Failed}
 use Rattle.rcv_dialogue.specs.declared.few.Kept.{Kept}
@@ -9,6 +12,10 @@ use Rattle.rcv_dialogue.specs.declared.line.Line.{Line}
 use Rattle.rcv_dialogue.specs.declared.line.Line.TheVariants as line
 use Rattle.rcv_dialogue.specs.declared.line.Question.{Question}
 use Rattle.rcv_dialogue.specs.declared.line.Question.TheVariants as question
+use Rattle.rcv_dialogue.specs.declared.line.Again.{Again}
+use Rattle.rcv_dialogue.specs.declared.line.Again.TheVariants as again
+use Rattle.rcv_dialogue.specs.declared.line.Extent.{Extent}
+use Rattle.rcv_dialogue.specs.declared.line.ToldStanding.{ToldStanding}
 use Rattle.rcv_dialogue.specs.declared.line.Stated.{Stated}
 use Rattle.rcv_lines.specs.Cutting.{joined}
 use Rattle.rcv_dialogue.specs.Names.{name_of}
@@ -48,7 +55,35 @@ question_words a (question.Flight None) = codes "flight" ∷ []
 question_words a (question.Flight (Some r)) = codes "flight" ∷ name_of a r ∷ []
 question_words a question.Points = codes "points" ∷ []
 question_words a question.Table = codes "table" ∷ []
+question_words a question.Snapshot = codes "snapshot" ∷ []
 question_words a question.End = codes "end" ∷ []
+
+-- Whether a role is down.
+abbrev pub down_text : Bool → List ℕ
+down_text true = codes "down"
+down_text false = codes "up"
+
+-- Lines of a snapshot, behind the word `again`.
+abbrev pub extent_words : Extent → List (List ℕ)
+extent_words x = codes "session" ∷ codes "told" ∷ decimal x.told ∷ codes "room" ∷ decimal x.room ∷ []
+
+abbrev pub standing_words : AcceptedView → ToldStanding → List (List ℕ)
+standing_words a s =
+    codes "role" ∷ name_of a s.role ∷ codes "kept" ∷ decimal s.kept ∷ codes "raw" ∷ decimal s.raw
+    ∷ codes "at" ∷ decimal s.place ∷ codes "clock" ∷ decimal s.clock ∷ codes "attempt" ∷ decimal s.attempt
+    ∷ down_text s.down ∷ (35 ∷ decimal s.incarnation) ∷ []
+
+abbrev pub event_words : AcceptedView → Dir → Event → List (List ℕ)
+event_words a Sent e = codes "send" ∷ name_of a e.role ∷ message_words a e.point e.value ++ (64 ∷ decimal e.stamp) ∷ []
+event_words a Got e = codes "recv" ∷ name_of a e.role ∷ message_words a e.point e.value ++ (64 ∷ decimal e.stamp) ∷ (60 ∷ decimal e.sent) ∷ []
+
+abbrev pub again_words : AcceptedView → Again → List (List ℕ)
+again_words a (again.Session x) = extent_words x
+again_words a (again.Role s) = standing_words a s
+again_words a (again.Flight f) =
+    codes "flight" ∷ name_of a f.from ∷ name_of a f.to ∷ message_words a f.message.point f.message.value ++ (64 ∷ decimal f.message.stamp) ∷ []
+again_words a (again.Event e) = event_words a e.dir e
+again_words a (again.Save r count) = codes "save" ∷ name_of a r ∷ decimal count ∷ []
 
 -- The words of a line.
 abbrev pub line_words : AcceptedView → Line → List (List ℕ)
@@ -62,6 +97,7 @@ line_words a (line.Fail failed) = codes "fail" ∷ map (failed_word a) failed
 line_words a (line.Crash r) = codes "crash" ∷ name_of a r ∷ []
 line_words a (line.Recover e) = codes "recover" ∷ map (failed_word a) e.failed ++ stated_words a e.stated
 line_words a (line.Ask q) = question_words a q
+line_words a (line.Again l) = codes "again" ∷ again_words a l
 
 -- ---- what fits
 
@@ -128,7 +164,30 @@ IsQuestion a (question.Role r) = IsRole a r
 IsQuestion a (question.Flight to) = IfSome to (IsRole a)
 IsQuestion a question.Points = Unit {0}
 IsQuestion a question.Table = Unit {0}
+IsQuestion a question.Snapshot = Unit {0}
 IsQuestion a question.End = Unit {0}
+
+-- Where a role may stand: the place is the number of a point, or 0.
+pub record IsStanding (a : AcceptedView) (s : ToldStanding) : Type 0 where
+  pub role : IsRole a s.role
+  pub kept : Fits s.kept
+  pub raw : Fits s.raw
+  pub place : s.place ≤ (net_for a).count
+  pub clock : Fits s.clock
+  pub attempt : Fits s.attempt
+  pub incarnation : Fits s.incarnation
+
+-- The stamp of a Send's own is that of its message.
+abbrev pub HasSent : Dir → Event → Type 0
+HasSent Sent e = e.sent ≡ e.stamp
+HasSent Got e = Fits e.sent
+
+abbrev pub IsAgain : AcceptedView → Again → Type 0
+IsAgain a (again.Session x) = Fits x.told × Fits x.room
+IsAgain a (again.Role s) = IsStanding a s
+IsAgain a (again.Flight f) = IsRole a f.from × IsRole a f.to × IsMessage a f.message.point f.message.value × Fits f.message.stamp
+IsAgain a (again.Event e) = IsRole a e.role × IsMessage a e.point e.value × Fits e.stamp × HasSent e.dir e
+IsAgain a (again.Save r count) = IsRole a r × Fits count
 
 -- The line is of the form.
 abbrev pub IsLine : AcceptedView → Line → Type 0
@@ -139,6 +198,7 @@ IsLine a (line.Fail failed) = AreFailed a failed
 IsLine a (line.Crash r) = IsRole a r
 IsLine a (line.Recover e) = AreFailed a e.failed × NoneBehindSaysUndone a e.failed × IfSome e.stated (IsStated a)
 IsLine a (line.Ask q) = IsQuestion a q
+IsLine a (line.Again l) = IsAgain a l
 
 -- The text says the line: it is its words with a space between each two, and has at most 2,048 bytes.
 pub record SaysLine (a : AcceptedView) (text : List ℕ) (l : Line) : Type 0 where

@@ -19,3 +19,11 @@ point_if a (Some p) = if nat_lt 0 p && nat_lt p ((net_for a).count + 1) then Som
 
 abbrev pub point_in : AcceptedView → List ℕ → Option ℕ
 point_in a word = point_if a (number_in word)
+
+-- The place that has this number: a point, or 0.
+abbrev pub place_if : AcceptedView → Option ℕ → Option ℕ
+place_if a None = None
+place_if a (Some p) = if nat_lt p ((net_for a).count + 1) then Some p else None
+
+abbrev pub place_in : AcceptedView → List ℕ → Option ℕ
+place_in a word = place_if a (number_in word)

@@ -1,6 +1,7 @@
 -- Reading a line's words from left to right: what they say, or the first one that doesn't fit.
 use Rattle.std.specs.Prelude.{◌≡◌, ℕ, ℤ, ◌+◌, ◌-◌, ◌==◌, ◌&&◌, ◌||◌, nat_lt, Bool, true, false, if◌then◌else◌, List, [], ◌∷◌, ◌++◌, length, take, drop, position, codes, Option, Some, None, Result, Ok, Err}
 use Rattle.rcv_accept.specs.Accepted.{AcceptedView, net_for, roles_of}
+use Rattle.rcv_tree.specs.declared.event.Dir.TheVariants.{Sent, Got}
 use Rattle.rcv_dialogue.specs.declared.wrong.Wrong.{Wrong}
 use Rattle.rcv_dialogue.specs.declared.wrong.Expected.{Expected}
 use Rattle.rcv_dialogue.specs.declared.wrong.Expected.TheVariants as expected
@@ -10,15 +11,18 @@ use Rattle.rcv_dialogue.specs.declared.few.Failed.{Failed}
 use Rattle.rcv_dialogue.specs.declared.few.Kept.{Kept}
 use Rattle.rcv_dialogue.specs.declared.kind.Kind.{Kind}
 use Rattle.rcv_dialogue.specs.declared.kind.Kind.TheVariants as kind
+use Rattle.rcv_dialogue.specs.declared.kind.AgainKind.{AgainKind}
+use Rattle.rcv_dialogue.specs.declared.kind.AgainKind.TheVariants as kinds
 use Rattle.rcv_dialogue.specs.declared.line.Line.{Line}
 use Rattle.rcv_dialogue.specs.declared.line.Line.TheVariants as line
 use Rattle.rcv_dialogue.specs.declared.line.Question.TheVariants as question
+use Rattle.rcv_dialogue.specs.declared.line.Again.TheVariants as again
 use Rattle.rcv_dialogue.specs.declared.line.Stated.{Stated}
 use Rattle.rcv_dialogue.specs.declared.words.Misfit.{Misfit}
 use Rattle.rcv_lines.specs.Cutting.{fields_of}
-use Rattle.rcv_dialogue.specs.Names.{role_in, point_in}
+use Rattle.rcv_dialogue.specs.Names.{role_in, point_in, place_in}
 use Rattle.rcv_dialogue.specs.Numbers.{is_word, number_in, signed_in, marked_in, number_before}
-use Rattle.rcv_dialogue.specs.Kinds.{kind_in}
+use Rattle.rcv_dialogue.specs.Kinds.{kind_in, again_in}
 
 abbrev pub Words : Type 0
 Words = List (List ℕ)
@@ -168,7 +172,7 @@ more_at a stops found [] = Ok (found, [])
 more_at a stops found (word ∷ words) =
     if stops && is_word word (codes "undone") then Ok (found, word ∷ words)
     else unless_all a (length found) (word ∷ words)
-      (or_wrong (word ∷ words) (failed_in a word) >>= λ f. one_more (word ∷ words) found f >>= λ more. more_at a stops more words)
+    (or_wrong (word ∷ words) (failed_in a word) >>= λ f. one_more (word ∷ words) found f >>= λ more. more_at a stops more words)
 
 unfoldable pub all_failed_at : AcceptedView → Bool → Words → Result (List Failed × Words) Misfit
 all_failed_at a stops left = do
@@ -202,7 +206,7 @@ cuts_at a found None [] = Ok found
 cuts_at a found (Some r) [] = wrong [] expected.Count
 cuts_at a found None (word ∷ words) =
     unless_all a (length found) (word ∷ words)
-      (next_if (word ∷ words) found (role_in a word) >>= λ r. cuts_at a found (Some r) words)
+    (next_if (word ∷ words) found (role_in a word) >>= λ r. cuts_at a found (Some r) words)
 cuts_at a found (Some r) (word ∷ words) =
     said (word ∷ words) expected.Count (number_in word)
     >>= λ n. cuts_at a (found ++ (record { role = r; count = n }) ∷ []) None words
@@ -239,6 +243,115 @@ unfoldable pub flight_at : AcceptedView → Words → Result (Option ℕ) Misfit
 flight_at a left =
     if is_over left then Ok None else (of_role_at a left >>= λ role. Ok (Some role))
 
+-- The number of a point, or 0.
+unfoldable pub place_at : AcceptedView → Words → Result (ℕ × Words) Misfit
+place_at a left = one_word (place_in a) expected.Point left
+
+-- `up`, or `down`.
+abbrev pub down_in : List ℕ → Option Bool
+down_in word = if is_word word (codes "up") then Some false else if is_word word (codes "down") then Some true else None
+
+unfoldable pub down_at : Words → Result (Bool × Words) Misfit
+down_at left = one_word down_in expected.Up left
+
+-- A count behind the word that says of what.
+unfoldable pub named_at : List ℕ → Expected → Expected → Words → Result (ℕ × Words) Misfit
+named_at text name expected left = do
+  begun ← literal_at text name left
+  number_at expected begun
+
+-- How much was told.
+unfoldable pub extent_at : Words → Result Line Misfit
+extent_at left = do
+  told ← named_at (codes "told") expected.Told expected.Count left
+  room ← named_at (codes "room") expected.Room expected.Count told.1
+  ended room.1 (line.Again (again.Session (record { told = told.0; room = room.0 })))
+
+-- Where a role stands.
+unfoldable pub standing_at : AcceptedView → Words → Result Line Misfit
+standing_at a left = do
+  role ← role_at a left
+  kept ← named_at (codes "kept") expected.Kept expected.Count role.1
+  raw ← named_at (codes "raw") expected.Raw expected.Count kept.1
+  begun ← literal_at (codes "at") expected.At raw.1
+  place ← place_at a begun
+  clock ← named_at (codes "clock") expected.Clock expected.Stamp place.1
+  attempt ← named_at (codes "attempt") expected.Attempt expected.Count clock.1
+  down ← down_at attempt.1
+  incarnation ← marked_at 35 expected.Incarnation down.1
+  ended incarnation.1 (line.Again (again.Role (record {
+    role = role.0;
+    kept = kept.0;
+    raw = raw.0;
+    place = place.0;
+    clock = clock.0;
+    attempt = attempt.0;
+    down = down.0;
+    incarnation = incarnation.0;
+  })))
+
+unfoldable pub again_flight_at : AcceptedView → Words → Result Line Misfit
+again_flight_at a left = do
+  from ← role_at a left
+  to ← role_at a from.1
+  message ← message_at a to.1
+  stamp ← marked_at 64 expected.Stamp message.2
+  ended stamp.1 (line.Again (again.Flight (record {
+    from = from.0;
+    to = to.0;
+    message = record { point = message.0; value = message.1; stamp = stamp.0 };
+  })))
+
+unfoldable pub again_send_at : AcceptedView → Words → Result Line Misfit
+again_send_at a left = do
+  role ← role_at a left
+  message ← message_at a role.1
+  stamp ← marked_at 64 expected.Stamp message.2
+  ended stamp.1 (line.Again (again.Event (record {
+    role = role.0;
+    dir = Sent;
+    point = message.0;
+    value = message.1;
+    stamp = stamp.0;
+    sent = stamp.0;
+  })))
+
+unfoldable pub again_recv_at : AcceptedView → Words → Result Line Misfit
+again_recv_at a left = do
+  role ← role_at a left
+  message ← message_at a role.1
+  stamp ← marked_at 64 expected.Stamp message.2
+  sent ← marked_at 60 expected.Sent stamp.1
+  ended sent.1 (line.Again (again.Event (record {
+    role = role.0;
+    dir = Got;
+    point = message.0;
+    value = message.1;
+    stamp = stamp.0;
+    sent = sent.0;
+  })))
+
+unfoldable pub again_save_at : AcceptedView → Words → Result Line Misfit
+again_save_at a left = do
+  role ← role_at a left
+  count ← number_at expected.Count role.1
+  ended count.1 (line.Again (again.Save role.0 count.0))
+
+-- A line of a snapshot, behind `again` and the word that tells its kind.
+abbrev pub again_of : AcceptedView → AgainKind → Words → Result Line Misfit
+again_of a kinds.Session left = extent_at left
+again_of a kinds.Role left = standing_at a left
+again_of a kinds.Flight left = again_flight_at a left
+again_of a kinds.Send left = again_send_at a left
+again_of a kinds.Recv left = again_recv_at a left
+again_of a kinds.Save left = again_save_at a left
+
+unfoldable pub again_at : AcceptedView → Words → Result Line Misfit
+again_at a left = do
+  next ← word_at expected.Again left
+  kind ← said left expected.Again (again_in next.0)
+  again_of a kind next.1
+
 -- A line behind the word that tells its kind.
 abbrev pub line_of : AcceptedView → Kind → Words → Result Line Misfit
 line_of a kind.Send left = send_at a left
@@ -254,7 +367,9 @@ line_of a kind.Role left = of_role_at a left >>= λ role. Ok (line.Ask (question
 line_of a kind.Flight left = flight_at a left >>= λ role. Ok (line.Ask (question.Flight role))
 line_of a kind.Points left = ended left (line.Ask question.Points)
 line_of a kind.Table left = ended left (line.Ask question.Table)
+line_of a kind.Snapshot left = ended left (line.Ask question.Snapshot)
 line_of a kind.End left = ended left (line.Ask question.End)
+line_of a kind.Again left = again_at a left
 
 unfoldable pub line_at : AcceptedView → Words → Result Line Misfit
 line_at a left = do

@@ -1,7 +1,7 @@
 // What a line is answered.
 
 use crate::few::Kept;
-use crate::line::Flight;
+use crate::line::{Again, Flight};
 use crate::wrong::Wrong;
 use rcv_tree::event::Message;
 use rcv_tree::point::Point;
@@ -50,6 +50,8 @@ pub struct RoleState {
 /// Why a line may not come.
 #[derive(Clone, Copy)]
 pub enum Cause<'a> {
+    /// A line of a snapshot doesn't fit what was told before it.
+    Again,
     /// It is told in an incarnation that isn't there yet.
     Incarnation(u64),
     Down,
@@ -116,6 +118,8 @@ pub enum Answer<'a> {
         lines: u64,
         text: &'a [u8],
     },
+    /// The lines that restore the session.
+    Snapshot(&'a [Again]),
     /// Where the roles are at the end.
     End(&'a [RoleState]),
 }

@@ -1,7 +1,7 @@
 // The words that tell the kind of a line.
 
 ghost use Rattle.std.specs.Prelude.{◌≡◌};
-ghost use Rattle.rcv_dialogue.specs.Kinds.{kind_in};
+ghost use Rattle.rcv_dialogue.specs.Kinds.{kind_in, again_in};
 
 use crate::numbers::is_same;
 
@@ -21,7 +21,20 @@ pub enum Kind {
     Flight,
     Points,
     Table,
+    Snapshot,
     End,
+    Again,
+}
+
+// What a line of a snapshot is about.
+#[derive(Clone, Copy)]
+pub enum AgainKind {
+    Session,
+    Role,
+    Flight,
+    Send,
+    Recv,
+    Save,
 }
 
 // The kind of a line that the word tells.
@@ -67,8 +80,39 @@ pub fn kind_of(word: &[u8]) -> Option<Kind>
     if is_same(word, b"table") {
         return Some(Kind::Table);
     }
+    if is_same(word, b"snapshot") {
+        return Some(Kind::Snapshot);
+    }
     if is_same(word, b"end") {
         return Some(Kind::End);
+    }
+    if is_same(word, b"again") {
+        return Some(Kind::Again);
+    }
+    None
+}
+
+// The kind of a line of a snapshot that the word tells.
+pub fn again_of(word: &[u8]) -> Option<AgainKind>
+    ensures { result ≡ again_in word.now }
+{
+    if is_same(word, b"session") {
+        return Some(AgainKind::Session);
+    }
+    if is_same(word, b"role") {
+        return Some(AgainKind::Role);
+    }
+    if is_same(word, b"flight") {
+        return Some(AgainKind::Flight);
+    }
+    if is_same(word, b"send") {
+        return Some(AgainKind::Send);
+    }
+    if is_same(word, b"recv") {
+        return Some(AgainKind::Recv);
+    }
+    if is_same(word, b"save") {
+        return Some(AgainKind::Save);
     }
     None
 }

@@ -3,6 +3,7 @@
 
 ghost use Rattle.rcv_dialogue.specs.Laws.{LinesSayOneThing, LinesAreReadBack};
 
+mod again;
 pub mod answer;
 mod events;
 mod failures;
@@ -13,6 +14,7 @@ mod numbers;
 mod questions;
 pub mod read;
 mod said;
+mod snapshot;
 mod words;
 pub mod write;
 pub mod wrong;

@@ -1,7 +1,7 @@
 // What a told line says.
 
 use crate::few::{FailedRoles, KeptRoles};
-use rcv_tree::event::Message;
+use rcv_tree::event::{Event, Message};
 use rcv_tree::point::Point;
 use rcv_tree::role::RoleId;
 
@@ -59,7 +59,29 @@ pub enum Question {
     Flight(Option<RoleId>),
     Points,
     Table,
+    Snapshot,
     End,
+}
+
+/// How much was told of a session, and how many events may be remembered: `again session told COUNT room COUNT`.
+#[derive(Clone, Copy, Debug, PartialEq, Eq)]
+pub struct Extent {
+    pub told: u64,
+    pub room: u64,
+}
+
+/// Where a role stands: `again role ROLE kept COUNT raw COUNT at PLACE clock STAMP attempt COUNT up #INC`, or `down` for `up`.
+/// The place is the number of a point, or 0 for none.
+#[derive(Clone, Copy, Debug, PartialEq, Eq)]
+pub struct ToldStanding {
+    pub role: RoleId,
+    pub kept: u64,
+    pub raw: u64,
+    pub place: u16,
+    pub clock: u64,
+    pub attempt: u64,
+    pub down: bool,
+    pub incarnation: u64,
 }
 
 /// A message that is on its way: `FROM TO POINT LABEL VALUE @STAMP`.
@@ -68,6 +90,19 @@ pub struct Flight {
     pub from: RoleId,
     pub to: RoleId,
     pub message: Message,
+}
+
+/// A line of a snapshot.
+#[derive(Clone, Copy, Debug, PartialEq, Eq)]
+pub enum Again {
+    Session(Extent),
+    Role(ToldStanding),
+    /// A message of what is forgotten: `again flight FROM TO POINT LABEL VALUE @STAMP`.
+    Flight(Flight),
+    /// `again send ROLE POINT LABEL VALUE @STAMP`, or `again recv ROLE POINT LABEL VALUE @STAMP <SENT`.
+    Event(Event),
+    /// `again save ROLE COUNT`
+    Save { role: RoleId, count: u64 },
 }
 
 /// What a told line says.
@@ -81,4 +116,5 @@ pub enum Line {
     Crash(RoleId),
     Recover(ToldRecovery),
     Ask(Question),
+    Again(Again),
 }

@@ -8,6 +8,7 @@ ghost use Rattle.rcv_dialogue.specs.Lines.{SaysLine};
 ghost use Rattle.rcv_dialogue.specs.Left.{left};
 ghost use Rattle.rcv_dialogue.specs.Reading.{Gives, line_at, wrong_in, IsReadAs, reading};
 
+use crate::again::again;
 use crate::events::{recv, save, send};
 use crate::failures::{crash, fail, recover};
 use crate::kind::{Kind, kind_of};
@@ -47,7 +48,9 @@ fn line(accepted: &Accepted, text: &[u8]) -> Result<Line, Misfit>
         Kind::Flight => Ok(Line::Ask(Question::Flight(flight(accepted, rest)?))),
         Kind::Points => plain(Question::Points, rest),
         Kind::Table => plain(Question::Table, rest),
+        Kind::Snapshot => plain(Question::Snapshot, rest),
         Kind::End => plain(Question::End, rest),
+        Kind::Again => again(accepted, rest),
     }
 }
 

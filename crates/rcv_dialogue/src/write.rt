@@ -13,6 +13,7 @@ use crate::answer::{Answer, Back, Cause, RoleState, Stale, State, Turn, Undone};
 use crate::few::Kept;
 use crate::line::Flight;
 use crate::said::{count, label};
+use crate::snapshot::write_snapshot;
 use crate::wrong::{Expected, LineError, Wrong};
 use rcv_accept::accepted::Accepted;
 use rcv_text::writer::Writer;
@@ -116,6 +117,7 @@ fn cause(text: &mut Writer, accepted: &Accepted, why: &Cause<'_>) -> Result<(), 
     ensures { OnOk result (text.new ≡ text.old ++ cause_text accepted.now why.now) }
 {
     match why {
+        Cause::Again => text.word(b" again"),
         Cause::Incarnation(incarnation) => {
             text.word(b" incarnation ")?;
             text.large_number(*incarnation)
@@ -179,6 +181,15 @@ fn expected_word(expected: Expected) -> &'static [u8]
         Expected::Incarnation => b"incarnation",
         Expected::Count => b"count",
         Expected::Undone => b"undone",
+        Expected::Again => b"again",
+        Expected::Told => b"told",
+        Expected::Room => b"room",
+        Expected::Kept => b"kept",
+        Expected::Raw => b"raw",
+        Expected::At => b"at",
+        Expected::Clock => b"clock",
+        Expected::Attempt => b"attempt",
+        Expected::Up => b"up",
         Expected::End => b"end",
     }
 }
@@ -480,6 +491,11 @@ pub fn write(text: &mut Writer, accepted: &Accepted, answer: &Answer<'_>) -> Res
             text.word(b"table")?;
             more(text, *lines)?;
             text.word(table)
+        }
+        Answer::Snapshot(lines) => {
+            text.word(b"snapshot")?;
+            more(text, lines.len() as u64)?;
+            write_snapshot(text, accepted, lines)
         }
         Answer::End(states) => {
             text.word(b"end")?;

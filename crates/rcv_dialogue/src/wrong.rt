@@ -19,6 +19,17 @@ pub enum Expected {
     Count,
     /// `undone`, or the number behind it.
     Undone,
+    /// A word that goes on behind `again`.
+    Again,
+    Told,
+    Room,
+    Kept,
+    Raw,
+    At,
+    Clock,
+    Attempt,
+    /// `up`, or `down`.
+    Up,
     /// No word.
     End,
 }

@@ -13,7 +13,7 @@ use Rattle.rcv_model.proofs.Lists.{some_same}
 use Rattle.rcv_fates.specs.Fates.{IsEventAt}
 
 -- a recovery's clock is at least each that it takes the place of
-raised : (qs : List ℕ) (clock r i : ℕ) (cs : List ℕ) → greatest qs r cs ≤ clock → slice_index cs i ≤ slice_index (clocks_after qs clock r cs) i
+pub raised : (qs : List ℕ) (clock r i : ℕ) (cs : List ℕ) → greatest qs r cs ≤ clock → slice_index cs i ≤ slice_index (clocks_after qs clock r cs) i
 raised qs clock r i [] le = omega arith
 raised qs clock r zero (c ∷ cs) le = go (is_listed qs r) le
   where
@@ -25,12 +25,12 @@ raised qs clock r (suc i) (c ∷ cs) le = raised qs clock (r + 1) i cs (go (is_l
     go : (b : Bool) → max (cond b c 0) (greatest qs (r + 1) cs) ≤ clock → greatest qs (r + 1) cs ≤ clock
     go b le = omega (arith, le)
 
-length_clocks : (qs : List ℕ) (clock r : ℕ) (cs : List ℕ) → length (clocks_after qs clock r cs) ≡ length cs
+pub length_clocks : (qs : List ℕ) (clock r : ℕ) (cs : List ℕ) → length (clocks_after qs clock r cs) ≡ length cs
 length_clocks qs clock r [] = refl
 length_clocks qs clock r (c ∷ cs) = ap suc (length_clocks qs clock (r + 1) cs)
 
 -- a clock that is set no lower
-set_low : (xs : List ℕ) (p v r : ℕ) → p < length xs → slice_index xs p ≤ v → slice_index xs r ≤ slice_index (slice_set xs p v) r
+pub set_low : (xs : List ℕ) (p v r : ℕ) → p < length xs → slice_index xs p ≤ v → slice_index xs r ≤ slice_index (slice_set xs p v) r
 set_low xs p v r lt le = ⊎_elim
     (λ e. subst (λ q. slice_index xs q ≤ slice_index (slice_set xs p v) q) (sym e) (omega (arith, get_or-set_same xs p v 0 lt, le)))
     (λ n. omega (arith, get_or-set_other xs p r v 0 n))

@@ -47,7 +47,7 @@ AllAre Q xs = (e : Event) → IsAmong e xs → Q e
 pub all_less : (Q : Event → Type 0) (xs ys : List Event) (d : Event) → AllAre Q (xs ++ d ∷ ys) → AllAre Q (xs ++ ys)
 all_less Q xs ys d all e i = all e (among_less xs ys d e i)
 
-all_more : (Q : Event → Type 0) (xs : List Event) (d : Event) → AllAre Q xs → Q d → AllAre Q (xs ++ d ∷ [])
+pub all_more : (Q : Event → Type 0) (xs : List Event) (d : Event) → AllAre Q xs → Q d → AllAre Q (xs ++ d ∷ [])
 all_more Q xs d all one e i = ⊎_elim (λ a. all e a) (λ b. ⊎_elim (λ f. subst Q (sym f) one) (λ n. absurd n) b) (among_either xs (d ∷ []) e i)
 
 module _ (rules : Rules) (Q : Event → Type 0) where

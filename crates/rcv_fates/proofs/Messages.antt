@@ -29,23 +29,23 @@ pub may_at : (rules : Rules) (journal : List Entry) (t : ℕ) (x : Entry) → Is
 may_at rules journal t x legal at = may_from rules (start rules.roles) journal t x legal at
 
 -- an item of a beginning stands in the whole
-within : (t : ℕ) (xs : List Entry) (i : ℕ) (x : Entry) → slice_get (take t xs) i ≡ Some x → (i < t) × (slice_get xs i ≡ Some x)
+pub within : (t : ℕ) (xs : List Entry) (i : ℕ) (x : Entry) → slice_get (take t xs) i ≡ Some x → (i < t) × (slice_get xs i ≡ Some x)
 within zero xs i x e = absurd (cc)
 within (suc t) [] i x e = absurd (cc)
 within (suc t) (y ∷ xs) zero x e = (omega arith, e)
 within (suc t) (y ∷ xs) (suc i) x e = let r = within t xs i x e in (omega (arith, r.0), r.1)
 
 -- what is in front behind the first n stands at n
-front_at : {A : Type 0} (n : ℕ) (xs rest : List A) (m : A) → drop n xs ≡ m ∷ rest → slice_get xs n ≡ Some m
+pub front_at : {A : Type 0} (n : ℕ) (xs rest : List A) (m : A) → drop n xs ≡ m ∷ rest → slice_get xs n ≡ Some m
 front_at zero [] rest m e = absurd (cc)
 front_at zero (x ∷ xs) rest m e = let f : x ≡ m = cc in ap Some f
 front_at (suc n) [] rest m e = absurd (cc)
 front_at (suc n) (x ∷ xs) rest m e = front_at n xs rest m e
 
-is_send : (net : Net) (s r : ℕ) (e : Event) → puts_on net s r e ≡ true → (is_sent e.dir ≡ true) × (e.role ≡ s)
+pub is_send : (net : Net) (s r : ℕ) (e : Event) → puts_on net s r e ≡ true → (is_sent e.dir ≡ true) × (e.role ≡ s)
 is_send net s r e f = (grind (arith, nat_tests), grind (arith, nat_tests))
 
-not_got : (e : Event) → e.dir ≡ Got → is_sent e.dir ≡ true → ⊥
+pub not_got : (e : Event) → e.dir ≡ Got → is_sent e.dir ≡ true → ⊥
 not_got e k t = let a = ap is_sent k in cc
 
 -- one Recv stands at a place

@@ -2,7 +2,7 @@
 use Rattle.std.specs.Prelude.{◌≡◌, ◌⊎◌, ℕ, ◌<◌, List, [], ◌∷◌, Some, slice_get}
 use Rattle.rcv_tree.specs.declared.event.Event.{Event}
 use Rattle.rcv_tree.specs.declared.entry.Entry.{Entry}
-use Rattle.rcv_tree.specs.declared.entry.Entry.TheVariants.{Send, Recv}
+use Rattle.rcv_tree.specs.declared.entry.Entry.TheVariants.{Send, Recv, Crash, Recover}
 use Rattle.rcv_model.specs.Net.{Net}
 use Rattle.rcv_model.specs.Journal.{Rules, reading}
 use Rattle.rcv_fates.specs.declared.arrow.Arrow.{Arrow}
@@ -15,6 +15,19 @@ IsAmong e (x ∷ xs) = (e ≡ x) ⊎ IsAmong e xs
 -- The event is kept behind these entries: it isn't undone by a Recover among them.
 abbrev pub IsKeptIn : Rules → List Entry → Event → Type 0
 IsKeptIn rules entries e = IsAmong e (reading rules entries).kept
+
+-- The entry is a Send or Recv of an event that isn't among the kept ones.
+abbrev pub IsUndone : List Event → Entry → Type 0
+IsUndone kept (Send event) = IsAmong event kept → ⊥
+IsUndone kept (Recv event) = IsAmong event kept → ⊥
+IsUndone kept (Crash role) = ⊥
+IsUndone kept (Recover role concerned keeps removed) = ⊥
+
+-- So is the entry at this place, from 0.
+pub record IsUndoneAt (kept : List Event) (entries : List Entry) (place : ℕ) : Type 0 where
+  pub entry : Entry
+  pub there : slice_get entries place ≡ Some entry
+  pub undone : IsUndone kept entry
 
 -- At this place, from 0, stands the Send or the Recv with this event.
 abbrev pub IsEventAt : List Entry → ℕ → Event → Type 0

@@ -1,3 +1,4 @@
 pub mod Fates
 pub mod Laws
 pub mod Sends
+pub mod Record

@@ -4,8 +4,8 @@ ghost use Rattle.std.specs.Prelude.{◌≡◌, IfOk};
 ghost use Rattle.rcv_session.specs.Session.{net_for};
 ghost use Rattle.rcv_fates.specs.Fates.{AreArrows};
 
+use crate::record::Record;
 use crate::sends::{Sent, no_sends, note, place_of};
-use rcv_core::book::Book;
 use rcv_tree::entry::Entry;
 use std::alloc::{AllocError, Global};
 
@@ -19,13 +19,13 @@ pub struct Arrow {
 /// The messages that were received, in the order of their Recvs: one for each Recv, so a message that was received
 /// again has one for each time. It takes memory for each Send and each Recv, and for each Recv time that grows with
 /// the logarithm of how many Sends its sender has made. Fails where memory runs out.
-pub fn arrows(alloc: Global, book: &Book<'_>) -> Result<Vec<Arrow>, AllocError>
-    ensures { IfOk result (λ arrows. AreArrows (net_for book.now.setup) book.now.entries arrows.items) }
+pub fn arrows(alloc: Global, record: &Record<'_>) -> Result<Vec<Arrow>, AllocError>
+    ensures { IfOk result (λ arrows. AreArrows (net_for record.now.setup) record.now.entries arrows.items) }
 {
-    let setup = book.setup();
+    let setup = record.setup();
     let mut sends = no_sends(alloc, setup.roles())?;
     let mut arrows = Vec::new(alloc);
-    for (place, entry) in book.entries().iter().enumerate() {
+    for (place, entry) in record.entries().iter().enumerate() {
         match entry {
             Entry::Send(event) => {
                 let stamp = event.stamp;

@@ -4,9 +4,12 @@
 mod arrow;
 mod kept;
 pub mod laws;
+pub mod record;
 mod sends;
+mod undone;
 
 pub use arrow::{Arrow, arrows};
 pub use kept::is_kept;
+pub use record::Record;
 /// Want of memory, which is the one error of this crate.
 pub use std::alloc::AllocError as Memory;

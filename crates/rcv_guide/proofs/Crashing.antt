@@ -13,7 +13,6 @@ use Rattle.rcv_ledger.specs.Ledger.{LedgerView}
 use Rattle.rcv_told.specs.Told.{Remembered}
 use Rattle.rcv_guide.specs.declared.numbers.Numbers.{Numbers}
 use Rattle.rcv_guide.specs.Numbers.{at_start, numbers_at, with_crash, AreNumbersOf}
-use Rattle.rcv_guide.proofs.Guides.{part_after}
 use Rattle.rcv_guide.specs.Guide.{GuideView, net_for, roles_of, stand, most_told, with_numbers, IsMemory, IsAfter, AreFewOf, IsGuide}
 use Rattle.rcv_guide.proofs.Memories.{declared_by, down_held}
 use Rattle.rcv_guide.proofs.Growing.{set_here}
@@ -123,7 +122,6 @@ module _ {g : GuideView} {table : TableView} {ledger : LedgerView} (kept : IsGui
     holds = record {
       memory = record kept.holds.memory { down = slice_set kept.holds.memory.down p true };
       is = memory_crash kept.holds.memory kept.holds.is;
-      part = part_after kept kept.holds.memory kept.holds.is (Crash p) (down_held g kept.holds.memory kept.holds.is p false up);
       holds = kept.holds.holds;
     };
     sound = record {
@@ -137,6 +135,7 @@ module _ {g : GuideView} {table : TableView} {ledger : LedgerView} (kept : IsGui
       grow = kept.stamped.grow;
       within = λ r i d at. let a = kept.stamped.within r i d at in let b = fallen_same g.numbers p there (λ (x : Numbers). x.clock) refl r in omega (arith, a, b);
       after = kept.stamped.after;
+      sent = kept.stamped.sent;
     };
     told = omega (arith, few);
     few = few_now;

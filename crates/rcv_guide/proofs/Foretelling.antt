@@ -1,36 +1,20 @@
--- What the table says of a failure is what a run loses, however many events of each failed role were saved.
+-- What the table says of a failure is what some events lose, however many of each failed role were saved.
 use Rattle.std.proofs.Common.{◌≡◌, ℕ, ◌<◌, Bool, true, false, if◌then◌else◌, Option, Some, None, List, refl, sym, ◌∙◌, ap, subst, inl, inr, ⊎_elim, arith}
-use Rattle.std.specs.Prelude.{◌↔◌, slice_get}
+use Rattle.std.specs.Prelude.{◌↔◌}
 use Rattle.rcv_tree.specs.Bits.{has_bit}
 use Rattle.rcv_tree.specs.declared.event.Event.{Event}
-use Rattle.rcv_model.specs.Net.{Net, IsIn, IsWalk}
-use Rattle.rcv_model.specs.Next.{IsProper}
-use Rattle.rcv_model.specs.Run.{Act, part, acts, IsRun}
-use Rattle.rcv_model.specs.Table.{IsConcerned, point_of, start_of, IsConcernedByAny}
-use Rattle.rcv_model.proofs.Lanes.{walk_in_text}
-use Rattle.rcv_model.proofs.Located.{locate}
-use Rattle.rcv_model.proofs.Queues.{prefix_at}
+use Rattle.rcv_model.specs.Net.{Net, IsIn}
+use Rattle.rcv_model.specs.Table.{IsConcerned, start_of, IsConcernedByAny}
 use Rattle.rcv_tables.specs.Starts.{IsOwnPoint}
 use Rattle.rcv_tables.specs.Told.{start_at, AreStarts, AreConcernedBy}
 use Rattle.rcv_tables.specs.Laws.{number_of}
-
-act_of_start : (a : Option Act) (n : ℕ) → point_of a ≡ Some n → (b : Act) × (a ≡ Some b) × (b.point ≡ n)
-act_of_start None n e = absurd (cc)
-act_of_start (Some b) n e = (b, refl, (let f : Some b.point ≡ Some n = e in cc))
 
 number_some : (o : Option ℕ) (n : ℕ) → number_of o ≡ n → (n ≡ 0 → ⊥) → o ≡ Some n
 number_some None n e some = absurd (some (sym e))
 number_some (Some m) n e some = ap Some e
 
-module _ (net : Net) (roles : ℕ) (h : List Event) (proper : IsProper net roles) (run : IsRun net h) (counts : ℕ → ℕ) where
-  -- the start of a role is a point of the role
-  own_start : (q n : ℕ) → start_of counts h q ≡ Some n → IsOwnPoint net q n
-  own_start q n e =
-      let a = act_of_start (slice_get (acts q h) (counts q)) n e in
-      let w = locate net q run.0 (counts q) a.0 (prefix_at (acts q h) (part net q run.0) (counts q) a.0 (run.1.parts q) a.1) in
-      let t = walk_in_text net roles 0 a.0.point w.before w.after proper (subst (IsWalk net 0) (sym w.whole) run.1.walk) in
-      subst (IsOwnPoint net q) a.2 (t.0, t.1, w.own)
-
+-- where each role's start is one of its points
+module _ (net : Net) (h : List Event) (counts : ℕ → ℕ) (own_start : (q n : ℕ) → start_of counts h q ≡ Some n → IsOwnPoint net q n) where
   -- a group fails, and these are its starts
   module _ (group : List ℕ) (failed : ℕ) (starts : List ℕ) (few : (q : ℕ) → IsIn q group → q < 8) (in_group : (q : ℕ) → q < 8 → (has_bit failed q ≡ true) ↔ IsIn q group) (starts_are : (q : ℕ) → q < 8 → start_at starts q ≡ (if has_bit failed q then number_of (start_of counts h q) else 0)) where
     -- a start that isn't 0

@@ -8,7 +8,7 @@ use Rattle.std.proofs.lemmas.Grind.{get_or-set_at}
 use Rattle.std.proofs.lemmas.List.Sums.{sum_by-cons}
 use Rattle.std.proofs.lemmas.Option.{slice_get-get_or}
 use Rattle.rcv_tree.specs.declared.event.Event.{Event}
-use Rattle.rcv_tree.specs.declared.event.Dir.TheVariants.{Got}
+use Rattle.rcv_tree.specs.declared.event.Dir.TheVariants.{Sent, Got}
 use Rattle.rcv_model.specs.ByPoints.{IsByEnd}
 use Rattle.rcv_model.specs.Run.{taken, IsQueued}
 use Rattle.rcv_model.specs.Next.{IsPlaceOf}
@@ -26,7 +26,7 @@ use Rattle.rcv_told.specs.Told.{Remembered, after_event}
 use Rattle.rcv_guide.specs.declared.numbers.Numbers.{Numbers}
 use Rattle.rcv_guide.specs.Numbers.{at_start, numbers_at, with_advanced, AreNumbersOf}
 use Rattle.rcv_guide.specs.Failing.{all_events}
-use Rattle.rcv_guide.specs.Guide.{GuideView, net_for, roles_of, no_vars, with_event, HasRoom, IsMemory, IsSoundMemory, AreStamped, AreFewOf, IsPartOfRun, IsGuide}
+use Rattle.rcv_guide.specs.Guide.{GuideView, net_for, roles_of, no_vars, with_event, HasRoom, IsMemory, IsSoundMemory, AreStamped, AreFewOf, IsGuide}
 use Rattle.rcv_guide.proofs.Memories.{raw_at}
 
 pub set_here : {A : Type 0} (xs : List A) (i : ℕ) (y : A) → i < length xs → slice_get (slice_set xs i y) i ≡ Some y
@@ -168,6 +168,7 @@ pub record IsFitting (g : GuideView) (e : Event) : Type 0 where
   pub later : (numbers_at g.numbers e.role).clock < e.stamp
   pub within : e.stamp ≤ g.told + 1
   pub behind : e.dir ≡ Got → e.sent < e.stamp
+  pub sent : e.dir ≡ Sent → e.sent ≡ e.stamp
   pub ends : IsByEnd (net_for g) e
 
 -- and of the ledger with it
@@ -266,6 +267,10 @@ module _ {g : GuideView} {table : TableView} {ledger : LedgerView} (kept : IsGui
         (λ old. kept.stamped.after r i d old got)
         (λ new. subst (λ (x : Event). x.sent < x.stamp) new.0 (fits.behind (ap (λ (x : Event). x.dir) new.0 ∙ got)))
         (told_or_new r i d at);
+    sent = λ r i d at is. ⊎_elim
+        (λ old. kept.stamped.sent r i d old is)
+        (λ new. subst (λ (x : Event). x.sent ≡ x.stamp) new.0 (fits.sent (ap (λ (x : Event). x.dir) new.0 ∙ is)))
+        (told_or_new r i d at);
   }
 
   few_own : AreFewOf (g.told + 1) (log_at (with_event g e).logs e.role) (numbers_at (with_event g e).numbers e.role)
@@ -292,8 +297,8 @@ module _ {g : GuideView} {table : TableView} {ledger : LedgerView} (kept : IsGui
         clocks = let a = old.clocks in omega (arith, a);
       }))
 
-  pub guide_more : (now : LedgerView) → HasRoom g → IsQueued (net_for g) (kept.holds.memory.held ++ e ∷ []) → IsPartOfRun (net_for g) (after_event kept.holds.memory e) → Holds (net_for g) (roles_of g) no_vars (kept.holds.memory.held ++ e ∷ []) now → IsGrown ledger now → IsGuide (with_event g e) table now
-  guide_more now room queued part holds grown = record {
+  pub guide_more : (now : LedgerView) → HasRoom g → IsQueued (net_for g) (kept.holds.memory.held ++ e ∷ []) → Holds (net_for g) (roles_of g) no_vars (kept.holds.memory.held ++ e ∷ []) now → IsGrown ledger now → IsGuide (with_event g e) table now
+  guide_more now room queued holds grown = record {
     protocol = kept.protocol;
     planned = kept.planned;
     table_is = kept.table_is;
@@ -302,7 +307,6 @@ module _ {g : GuideView} {table : TableView} {ledger : LedgerView} (kept : IsGui
     holds = record {
       memory = after_event kept.holds.memory e;
       is = memory_more g kept.holds.memory kept.holds.is e fits.declared kept.logs queued;
-      part = part;
       holds = holds;
     };
     sound = sound_more;

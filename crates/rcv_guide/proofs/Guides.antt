@@ -1,30 +1,29 @@
--- What a guide keeps says of its logs, its roles and its memories.
-use Rattle.std.proofs.Common.{◌≡◌, ℕ, zero, suc, ◌+◌, ◌<◌, ◌≤◌, ◌^◌, Some, List, [], length, get_or, drop, sym, ◌∙◌, ap, subst, inl, ⊎_elim, arith}
+-- What a guide keeps says of its logs, its roles and where they stand.
+use Rattle.std.proofs.Common.{◌≡◌, ℕ, zero, suc, ◌+◌, ◌-◌, ◌<◌, ◌≤◌, ◌^◌, Some, List, [], length, get_or, drop, ◌∙◌, ap, subst, inl, ⊎_elim, arith}
 use Rattle.std.specs.Prelude.{slice_get}
 use Rattle.std.specs.List.{sum_by, range_with_len}
 use Rattle.std.proofs.lemmas.Bool.{cases_lt}
 use Rattle.std.proofs.lemmas.List.{get_or_default}
 use Rattle.std.proofs.lemmas.List.Sums.{sum_by-cons}
-use Rattle.rcv_tree.specs.declared.entry.Entry.{Entry}
 use Rattle.rcv_tree.specs.declared.event.Event.{Event}
 use Rattle.rcv_model.specs.Text.{body_of}
 use Rattle.rcv_model.specs.Run.{acts, place_of}
 use Rattle.rcv_model.specs.Next.{IsNext, IsPlaceOf, IsProper}
 use Rattle.rcv_model.proofs.Forms.{proper}
+use Rattle.rcv_model.proofs.Located.{item}
 use Rattle.rcv_model.proofs.Ways.{next_in_text}
 use Rattle.rcv_tables.specs.Rows.{TableView}
+use Rattle.rcv_tables.specs.Starts.{IsOwnPoint}
 use Rattle.rcv_ledger.specs.Logs.{log_at}
 use Rattle.rcv_ledger.specs.Ledger.{LedgerView, AreCarried}
 use Rattle.rcv_ledger.proofs.Holding.{carried_of}
 use Rattle.rcv_ledger.proofs.Lists.{none_there}
-use Rattle.rcv_told.specs.Told.{Remembered, MayBeTold, told_after}
 use Rattle.rcv_told.specs.Laws.{AreAccepted}
 use Rattle.rcv_guide.specs.declared.numbers.Numbers.{Numbers}
 use Rattle.rcv_guide.specs.Numbers.{at_start, numbers_at}
 use Rattle.rcv_guide.specs.Failing.{all_events}
-use Rattle.rcv_guide.specs.Guide.{GuideView, net_for, roles_of, terms_of, stand, no_vars, IsMemory, IsPartOfRun, IsGuide}
-use Rattle.rcv_guide.proofs.Memories.{place_at}
-use Rattle.rcv_guide.proofs.Tracking.{list_same, part_same, part_told, stands_told}
+use Rattle.rcv_guide.specs.Guide.{GuideView, net_for, roles_of, terms_of, stand, no_vars, IsGuide}
+use Rattle.rcv_guide.proofs.Placing.{place_first, place_last}
 
 -- one of some numbers is at most their sum
 one_of_sum : (f : ℕ → ℕ) (a n k : ℕ) → k < n → f (a + k) ≤ sum_by f (range_with_len a n)
@@ -83,36 +82,20 @@ module _ {g : GuideView} {table : TableView} {ledger : LedgerView} (kept : IsGui
   pub own_at : (r : ℕ) → r < roles_of g → (x : Numbers) → x ≡ get_or g.numbers r x → x ≡ numbers_at g.numbers r
   own_at r lt x is = is ∙ get_or_default g.numbers r x at_start (let a = kept.numbers in omega (arith, a, lt))
 
-  -- each memory is part of a run
-  module _ (m : Remembered) (is : IsMemory g m) where
-    pub many_down : length m.down ≡ roles_of g
-    many_down = is.numbers_are.have.down
+  -- each event is at one of its role's points
+  pub own_point : (r n : ℕ) (e : Event) → slice_get (log_at g.logs r) n ≡ Some e → IsOwnPoint (net_for g) r e.point
+  own_point r n e at = let own = kept.sound.events r n e at in ⊎_elim (λ zero. absurd (let a = own.1 in omega (arith, zero, a))) (λ of. of) own.3
 
-    one_list : {A : Type 0} (f : Remembered → List A) (h : Numbers → A) → length (f m) ≡ roles_of g → length (f kept.holds.memory) ≡ roles_of g
-        → ((r : ℕ) → r < roles_of g → slice_get (f m) r ≡ Some (h (numbers_at g.numbers r))) → ((r : ℕ) → r < roles_of g → slice_get (f kept.holds.memory) r ≡ Some (h (numbers_at g.numbers r))) → f m ≡ f kept.holds.memory
-    one_list f h size other each own = list_same (f m) (f kept.holds.memory) (size ∙ sym other) (λ r lt. let low : r < roles_of g = omega (arith, lt, size) in each r low ∙ sym (own r low))
-
-    pub part_of : IsPartOfRun (net_for g) m
-    part_of =
-        let a = is.numbers_are in
-        let b = kept.holds.is.numbers_are in
-        part_same (net_for g) kept.holds.memory m kept.holds.part
-        (λ r. is.events r ∙ sym (kept.holds.is.events r))
-        is.queued
-        (one_list (λ (x : Remembered). x.seeds) (λ (x : Numbers). x.seeds) a.have.seeds b.have.seeds (λ r lt. (a.each r lt).seeds) (λ r lt. (b.each r lt).seeds))
-        (one_list (λ (x : Remembered). x.forgotten) (λ (x : Numbers). x.forgotten) a.have.forgotten b.have.forgotten (λ r lt. (a.each r lt).forgotten) (λ r lt. (b.each r lt).forgotten))
-        (one_list (λ (x : Remembered). x.points) (λ (x : Numbers). x.point) a.have.points b.have.points (λ r lt. (a.each r lt).point) (λ r lt. (b.each r lt).point))
-        (one_list (λ (x : Remembered). x.raw) (λ (x : Numbers). x.raw) a.have.raw b.have.raw (λ r lt. (a.each r lt).raw) (λ r lt. (b.each r lt).raw))
-        (one_list (λ (x : Remembered). x.attempts) (λ (x : Numbers). x.attempt) a.have.attempts b.have.attempts (λ r lt. (a.each r lt).attempt) (λ r lt. (b.each r lt).attempt))
-        (one_list (λ (x : Remembered). x.clocks) (λ (x : Numbers). x.clock) a.have.clocks b.have.clocks (λ r lt. (a.each r lt).clock) (λ r lt. (b.each r lt).clock))
-        (one_list (λ (x : Remembered). x.down) (λ (x : Numbers). x.down) a.have.down b.have.down (λ r lt. (a.each r lt).down) (λ r lt. (b.each r lt).down))
-
-    -- and so it is after one thing more
-    pub part_after : (e : Entry) → MayBeTold (terms_of g) m e → IsPartOfRun (net_for g) (told_after (terms_of g) m e)
-    part_after e may = part_told (terms_of g) known m part_of many_down e may
-
-    stands_declared : (r : ℕ) → r < roles_of g → IsPlaceOf (net_for g) r (stand g r).place
-    stands_declared r lt = subst (IsPlaceOf (net_for g) r) (place_at g m is r lt) (stands_told (terms_of g) known m part_of many_down r)
+  -- so each role stands at one of its own, or at the start
+  stands_declared : (r : ℕ) → r < roles_of g → IsPlaceOf (net_for g) r (stand g r).place
+  stands_declared r lt = ⊎_elim
+      (λ some.
+      let last : length (log_at g.logs r) - 1 < length (log_at g.logs r) = omega (arith, some) in
+      let e = item (log_at g.logs r) (length (log_at g.logs r) - 1) last in
+      subst (IsPlaceOf (net_for g) r) (place_last kept r (length (log_at g.logs r) - 1) e.0 e.1 (omega (arith, some)) (omega (arith, some)))
+      (kept.sound.events r (length (log_at g.logs r) - 1) e.0 e.1).3)
+      (λ none. subst (IsPlaceOf (net_for g) r) (place_first kept r none) (kept.sound.points r lt))
+      (cases_lt (numbers_at g.numbers r).seeds (length (log_at g.logs r)))
 
   none_done : (r : ℕ) → roles_of g ≤ r → (stand g r).place ≡ 0
   none_done r le =
@@ -121,7 +104,7 @@ module _ {g : GuideView} {table : TableView} {ledger : LedgerView} (kept : IsGui
 
   pub stands_at : (r : ℕ) → IsPlaceOf (net_for g) r (stand g r).place
   stands_at r = ⊎_elim
-      (λ lt. stands_declared kept.holds.memory kept.holds.is r lt)
+      (λ lt. stands_declared r lt)
       (λ le. inl (none_done r le))
       (cases_lt r (roles_of g))
 

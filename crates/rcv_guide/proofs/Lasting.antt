@@ -13,13 +13,12 @@ use Rattle.rcv_ledger.specs.Logs.{log_at}
 use Rattle.rcv_ledger.specs.Ledger.{LedgerView, Holds}
 use Rattle.rcv_ledger.proofs.Lists.{get_left, none_there, take_left, take_whole}
 use Rattle.rcv_told.specs.Told.{Remembered}
-use Rattle.rcv_told.proofs.Adding.{adds_up}
 use Rattle.rcv_guide.specs.declared.numbers.Numbers.{Numbers}
 use Rattle.rcv_guide.specs.Numbers.{at_start, numbers_at}
 use Rattle.rcv_guide.specs.Failing.{all_events}
-use Rattle.rcv_guide.specs.Guide.{GuideView, net_for, roles_of, no_vars, IsMemory, IsSoundMemory, AreStamped, AreFewOf, HasRooms, MayForget, IsPartOfRun}
+use Rattle.rcv_guide.specs.Guide.{GuideView, net_for, roles_of, no_vars, IsMemory, IsSoundMemory, AreStamped, AreFewOf, HasRooms, MayForget}
 use Rattle.rcv_guide.specs.Renewal.{AreOrdered, AreEnds, stays_at, one_staying, staying, AreForgotten, IsRenewed}
-use Rattle.rcv_guide.proofs.Forgetting.{forgot, short, shorter, fresh_log, number_is, new_seeds, point_none, point_some}
+use Rattle.rcv_guide.proofs.Forgetting.{forgot, fresh_log, number_is, new_seeds, point_none, point_some}
 use Rattle.rcv_guide.proofs.Passing.{logged}
 use Rattle.rcv_guide.proofs.Shortening.{get_behind}
 use Rattle.rcv_guide.proofs.Staying.{taken_staying}
@@ -147,6 +146,7 @@ module _ (g : GuideView) (counts ends : List ℕ) (many : length g.logs ≡ role
         let same = ap (λ (x : Numbers). x.clock) (number_is g counts ends many numbered o forget are room fresh is new set r (declared r i e at)) in
         omega (arith, b, same);
     after = λ r i e at got. let a = old_event r i e at in stamped.after r a.place e a.there got;
+    sent = λ r i e at d. let a = old_event r i e at in stamped.sent r a.place e a.there d;
   }
 
   pub few_now : ((r : ℕ) → r < roles_of g → AreFewOf g.told (log_at g.logs r) (numbers_at g.numbers r)) → (r : ℕ) → r < roles_of g → AreFewOf g.told (log_at fresh.logs r) (numbers_at new r)
@@ -184,12 +184,3 @@ module _ (g : GuideView) (counts ends : List ℕ) (many : length g.logs ≡ role
 
   pub holds_now : (h : List Event) → h ≡ is.held → Holds (net_for g) (roles_of g) no_vars h fresh
   holds_now h e = subst (λ l. Holds (net_for g) (roles_of g) no_vars l fresh) (sym e) (subst (λ n. Holds (net_for g) n no_vars is.held fresh) many is.holds)
-
-  -- the shorter memory is part of the same run
-  pub part_now : (m : Remembered) → IsMemory g m → IsPartOfRun (net_for g) m → IsPartOfRun (net_for g) (short g counts ends many numbered o forget are room fresh is new set m)
-  part_now m mem part = record {
-    full = part.full;
-    whole = part.whole;
-    run = part.run;
-    shorter = adds_up (net_for g) part.full m (short g counts ends many numbered o forget are room fresh is new set m) part.shorter (shorter g counts ends many numbered o forget are room fresh is new set m mem);
-  }

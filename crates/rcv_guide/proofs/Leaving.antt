@@ -1,5 +1,5 @@
 -- What a failure leaves of each of a guide's memories, by the counts of its logs.
-use Rattle.std.proofs.Common.{◌≡◌, ℕ, zero, suc, ◌+◌, ◌<◌, ◌≤◌, ◌^◌, Bool, true, false, cond, ◌&&◌, Some, None, List, [], ◌∷◌, length, refl, sym, ◌∙◌, ap, subst, inl, inr, ⊎_elim, ◌⊎◌, le_antisymm, eq-eqb, ne_eqb, arith}
+use Rattle.std.proofs.Common.{◌≡◌, ℕ, zero, suc, ◌+◌, ◌<◌, ◌≤◌, ◌^◌, Bool, true, false, cond, ◌&&◌, Some, None, List, [], ◌∷◌, length, take, refl, sym, ◌∙◌, ap, subst, inl, inr, ⊎_elim, ◌⊎◌, le_antisymm, eq-eqb, ne_eqb, arith}
 use Rattle.std.specs.Prelude.{◌==◌, ◌↔◌, min, nat_lt, slice_get, slice_index, map}
 use Rattle.std.specs.List.{sum_by, range_with_len, cons_option}
 use Rattle.std.proofs.lemmas.Bool.{cases_Bool, cases_lt}
@@ -10,13 +10,13 @@ use Rattle.std.proofs.lemmas.Option.{slice_get-get_or}
 use Rattle.rcv_tree.specs.Bits.{has_bit, is_listed}
 use Rattle.rcv_tree.specs.declared.event.Event.{Event}
 use Rattle.rcv_model.specs.Net.{Net, IsIn, IsPrefix}
-use Rattle.rcv_model.specs.Run.{acts, IsQueued}
+use Rattle.rcv_model.specs.Run.{acts, taken, IsQueued}
 use Rattle.rcv_model.specs.Undo.{IsLost}
 use Rattle.rcv_model.specs.Table.{point_of, start_of}
 use Rattle.rcv_model.specs.Journal.{events_of}
 use Rattle.rcv_model.proofs.Bystanders.{as_many}
 use Rattle.rcv_model.proofs.Groups.{keeps_more}
-use Rattle.rcv_model.proofs.Lists.{prefix_length}
+use Rattle.rcv_model.proofs.Lists.{prefix_length, some_same}
 use Rattle.rcv_model.proofs.Scanning.{among, is_member}
 use Rattle.rcv_model.proofs.StableLines.{made_before}
 use Rattle.rcv_theory.specs.Counts.{kept_counts}
@@ -27,6 +27,7 @@ use Rattle.rcv_depend.specs.Cuts.{AreLogsOf}
 use Rattle.rcv_plan.specs.Plans.{IsGroup}
 use Rattle.rcv_tables.specs.Laws.{number_of}
 use Rattle.rcv_tables.specs.Rows.{TableView, rows_at}
+use Rattle.rcv_tables.specs.Starts.{IsOwnPoint}
 use Rattle.rcv_tables.specs.Told.{start_at, HaveRows, AreStarts, TellsFailure}
 use Rattle.rcv_ledger.specs.Logs.{log_at}
 use Rattle.rcv_ledger.specs.Ledger.{LedgerView}
@@ -37,11 +38,11 @@ use Rattle.rcv_guide.specs.declared.numbers.Numbers.{Numbers}
 use Rattle.rcv_guide.specs.declared.recovery.Recovery.{Recovery}
 use Rattle.rcv_guide.specs.Numbers.{numbers_at}
 use Rattle.rcv_guide.specs.Failing.{HaveLogs, AreKeeps, point_or_none, AreStartsOf, AreMade, all_events, within_counts, AreCountsOf}
-use Rattle.rcv_guide.specs.Guide.{GuideView, net_for, roles_of, terms_of, IsMemory, MayRecover, TellsLeft, listed_of, left_in, IsFailureOf, AreLeft, IsPartOfRun, IsGuide}
+use Rattle.rcv_guide.specs.Guide.{GuideView, net_for, roles_of, terms_of, IsMemory, MayRecover, TellsLeft, listed_of, left_in, IsFailureOf, AreLeft, IsGuide}
 use Rattle.rcv_guide.proofs.Hosts.{host_range}
-use Rattle.rcv_guide.proofs.Memories.{many_held, seeds_at, forgotten_at, no_forgotten, declared_by}
-use Rattle.rcv_guide.proofs.Guides.{few_roles, low, is_proper, none_beyond, few_log, part_of}
-use Rattle.rcv_guide.proofs.Tracking.{ends_all, seeds_kept, starts_full, concerned_full, concerned_own}
+use Rattle.rcv_guide.proofs.Memories.{many_held, seeds_at, forgotten_at, no_seeds, no_forgotten, declared_by}
+use Rattle.rcv_guide.proofs.Guides.{few_roles, low, is_proper, none_beyond, few_log, own_point}
+use Rattle.rcv_guide.proofs.Tracking.{none_taken, ends_all, seeds_kept}
 use Rattle.rcv_guide.proofs.Growing.{sums_alike, one_more_in}
 use Rattle.rcv_guide.proofs.Foretelling.{may_ask, foretold}
 
@@ -79,6 +80,16 @@ point_at q (e ∷ h) n = go (e.role == q) n (point_at q h)
     go true zero ih = refl
     go true (suc n) ih = ih n
     go false n ih = ih n
+
+-- the event of an act
+event_of_act : (q : ℕ) (h : List Event) (k n : ℕ) → point_of (slice_get (acts q h) k) ≡ Some n → (e : Event) × (slice_get (events_of q h) k ≡ Some e) × (e.point ≡ n)
+event_of_act q [] k n at = absurd (cc)
+event_of_act q (x ∷ h) k n at = go (x.role == q) k (λ m f. event_of_act q h m n f) at
+  where
+    go : (b : Bool) (k : ℕ) → ((m : ℕ) → point_of (slice_get (acts q h) m) ≡ Some n → (e : Event) × (slice_get (events_of q h) m ≡ Some e) × (e.point ≡ n)) → point_of (slice_get (cons_option (cond b (Some (record { dir = x.dir; point = x.point })) None) (acts q h)) k) ≡ Some n → (e : Event) × (slice_get (cond b (x ∷ events_of q h) (events_of q h)) k ≡ Some e) × (e.point ≡ n)
+    go true zero ih f = (x, refl, some_same f)
+    go true (suc k) ih f = ih k f
+    go false k ih f = ih k f
 
 -- what begins nothing is nothing
 empty_front : {A : Type 0} (xs ys : List A) → IsPrefix xs ys → ys ≡ [] → xs ≡ []
@@ -254,10 +265,6 @@ module _ {g : GuideView} {table : TableView} {ledger : LedgerView} (kept : IsGui
               ap (λ b. cond b (point_or_none (slice_get (log_at g.logs q) (slice_index keeps.keep q))) 0) e
               ∙ sym (ap (λ b. cond b (number_of (start_of (held_of m (slice_index saved)) m.held q)) 0) e)
 
-      -- and so they are those of what a whole memory loses
-      abbrev part : IsPartOfRun (net_for g) m
-      part = part_of kept m is
-
       pub above_forgotten : (q : ℕ) → is_listed (group_of (terms_of g) p) q ≡ true → slice_index m.forgotten q ≤ slice_index saved q
       above_forgotten q t =
           let in_ = member_low q (is_member q (group_of (terms_of g) p) t) in
@@ -265,32 +272,43 @@ module _ {g : GuideView} {table : TableView} {ledger : LedgerView} (kept : IsGui
           let b = forgotten_at g m is q in_ in
           omega (arith, enough, b)
 
-      start_full : (keeps : Keeps) (starts : List ℕ) → AreKeeps g.numbers g.logs group saved keeps → AreStartsOf g.logs keeps starts → (q : ℕ) → q < 8 → start_at starts q ≡ cond (has_bit group q) (number_of (start_of (held_of part.full (slice_index saved)) part.full.held q)) 0
-      start_full keeps starts are starts_are q lt = start_is keeps starts are starts_are q lt ∙ told (has_bit group q) refl
-        where
-          told : (b : Bool) → has_bit group q ≡ b → cond (has_bit group q) (number_of (start_of (held_of m (slice_index saved)) m.held q)) 0 ≡ cond (has_bit group q) (number_of (start_of (held_of part.full (slice_index saved)) part.full.held q)) 0
-          told true e = ap (λ o. cond (has_bit group q) (number_of o) 0) (starts_full (net_for g) m part (group_of (terms_of g) p) (slice_index saved) above_forgotten q (sym (is_group q lt) ∙ e))
-          told false e =
-              ap (λ b. cond b (number_of (start_of (held_of m (slice_index saved)) m.held q)) 0) e
-              ∙ sym (ap (λ b. cond b (number_of (start_of (held_of part.full (slice_index saved)) part.full.held q)) 0) e)
-
       -- the seeds are left
+      abbrev seeds : ℕ → List Event
+      seeds r = take (slice_index m.seeds r) (events_of r m.held)
+
+      many_seeds : (r : ℕ) → slice_index m.seeds r ≤ length (events_of r m.held)
+      many_seeds r = ⊎_elim
+          (λ lt. let a = seeds_at g m is r lt in let b = kept.sound.seeds r lt in let c = ap length (is.events r) in omega (arith, a, b, c))
+          (λ le. let a = no_seeds g m is r le in omega (arith, a))
+          (cases_lt r (roles_of g))
+
+      none_received : (a b : ℕ) → taken (net_for g) a b (seeds b) ≡ []
+      none_received a b = ⊎_elim
+          (λ lt.
+          ap (λ n. taken (net_for g) a b (take n (events_of b m.held))) (seeds_at g m is b lt)
+          ∙ ap (λ l. taken (net_for g) a b (take (numbers_at g.numbers b).seeds l)) (is.events b)
+          ∙ kept.sound.seeds_are a b)
+          (λ le. ap (λ l. taken (net_for g) a b (take (slice_index m.seeds b) l)) (is.events b ∙ none_beyond kept b le) ∙ ap (taken (net_for g) a b) (none_taken (slice_index m.seeds b)))
+          (cases_lt b (roles_of g))
+
       pub seeds_left : (q : ℕ) → slice_index m.seeds q ≤ length (acts q (left_in g m p saved))
-      seeds_left q = seeds_kept (net_for g) m part (group_of (terms_of g) p) (slice_index saved) above_forgotten q
+      seeds_left q = seeds_kept (net_for g) m many_seeds none_received is.queued (group_of (terms_of g) p) (slice_index saved) above_forgotten q
 
       member_few : (q : ℕ) → IsIn q (group_of (terms_of g) p) → q < 8
       member_few q i = low kept q (member_low q i)
 
+      own_start : (q n : ℕ) → start_of (held_of m (slice_index saved)) m.held q ≡ Some n → IsOwnPoint (net_for g) q n
+      own_start q n at =
+          let e = event_of_act q m.held (held_of m (slice_index saved) q) n at in
+          subst (IsOwnPoint (net_for g) q) e.2 (own_point kept q (held_of m (slice_index saved) q) e.0 (ap (λ l. slice_get l (held_of m (slice_index saved) q)) (sym (is.events q)) ∙ e.1))
+
       starts_fit : (keeps : Keeps) (starts : List ℕ) → AreKeeps g.numbers g.logs group saved keeps → AreStartsOf g.logs keeps starts → AreStarts (net_for g) group starts
-      starts_fit keeps starts are starts_are = may_ask (net_for g) (roles_of g) part.full.held (is_proper kept) part.run (held_of part.full (slice_index saved)) (group_of (terms_of g) p) group starts member_few in_group (start_full keeps starts are starts_are)
+      starts_fit keeps starts are starts_are = may_ask (net_for g) m.held (held_of m (slice_index saved)) own_start (group_of (terms_of g) p) group starts member_few in_group (start_is keeps starts are starts_are)
 
       concerned_told : (keeps : Keeps) (starts : List ℕ) (bits : ℕ) → AreKeeps g.numbers g.logs group saved keeps → AreStartsOf g.logs keeps starts → TellsFailure table group starts bits → (q : ℕ) → q < 8 → (has_bit bits q ≡ true) ↔ IsConcernedWhere (terms_of g) m p (slice_index saved) q
       concerned_told keeps starts bits are starts_are told q lt =
-          let full = foretold (net_for g) (roles_of g) part.full.held (is_proper kept) part.run (held_of part.full (slice_index saved)) (group_of (terms_of g) p) group starts member_few in_group (start_full keeps starts are starts_are) bits
-          (told (net_for g) (roles_of g) kept.table_is (starts_fit keeps starts are starts_are)) q lt in (
-            λ t. concerned_own (net_for g) m part (group_of (terms_of g) p) (slice_index saved) above_forgotten q (full.0 t),
-            λ c. full.1 (concerned_full (net_for g) m part (group_of (terms_of g) p) (slice_index saved) above_forgotten q c),
-          )
+          foretold (net_for g) m.held (held_of m (slice_index saved)) own_start (group_of (terms_of g) p) group starts member_few in_group (start_is keeps starts are starts_are) bits
+          (told (net_for g) (roles_of g) kept.table_is (starts_fit keeps starts are starts_are)) q lt
 
       -- and so is the whole answer
       module _ (keeps : Keeps) (left starts : List ℕ) (back : Recovery) (are : AreKeeps g.numbers g.logs group saved keeps) (cut : IsKeptOf (net_for g) g.logs (keeping.bound_of keeps) left) (starts_are : AreStartsOf g.logs keeps starts) (told : TellsFailure table group starts back.concerned.0) (made : AreMade g.numbers left back.kept) (undone : back.undone + within_counts g.logs left ≡ all_events g.logs) where

@@ -36,7 +36,8 @@ use Rattle.rcv_guide.proofs.Growing.{all_more, rooms_more, sums_alike}
 use Rattle.rcv_guide.proofs.Guides.{one_of_all}
 use Rattle.rcv_guide.proofs.Starting.{get_replicate}
 use Rattle.rcv_guide.proofs.Staying.{prefix_dropped, taken_up, put_staying, taken_staying, recv_stays, le_true}
-use Rattle.rcv_guide.proofs.Telling.{no_longer, behind_more}
+use Rattle.rcv_guide.proofs.Reserved.{no_longer}
+use Rattle.rcv_guide.proofs.Telling.{behind_more}
 use Rattle.rcv_guide.proofs.Passing.{now, low, is_sound, count_own, count_other, even_more, left_less, queued_within}
 
 -- a ledger with one event more of its role, behind which the role is in this state

@@ -2,7 +2,7 @@
 use Rattle.std.proofs.Common.{◌≡◌, ℕ, zero, suc, ◌+◌, ◌<◌, ◌≤◌, ◌^◌, Bool, true, false, cond, Some, List, [], ◌∷◌, length, take, refl, sym, ◌∙◌, ap, subst, ◌⊎◌, inl, inr, ⊎_elim, arith}
 use Rattle.std.specs.Prelude.{◌==◌, max, slice_get, slice_index, slice_index_or}
 use Rattle.std.specs.List.{sum_by, range_with_len}
-use Rattle.std.proofs.lemmas.Bool.{cases_lt}
+use Rattle.std.proofs.lemmas.Bool.{cases_Bool, cases_lt}
 use Rattle.std.proofs.lemmas.List.{length-take, take-take}
 use Rattle.std.proofs.lemmas.List.Sums.{sum_by-cons}
 use Rattle.std.proofs.lemmas.Option.{slice_get-get_or, get_or_from_slice_get}
@@ -17,6 +17,7 @@ use Rattle.rcv_model.specs.Journal.{events_of, unmarked, attempts_after, greates
 use Rattle.rcv_model.proofs.Bystanders.{as_many}
 use Rattle.rcv_model.proofs.Keeping.{scan_of}
 use Rattle.rcv_model.proofs.Numbers.{length_unmarked}
+use Rattle.rcv_model.proofs.Scanning.{is_member}
 use Rattle.rcv_theory.specs.Counts.{kept_counts}
 use Rattle.rcv_checkpoint.specs.Stack.{StackView}
 use Rattle.rcv_plan.specs.Plans.{IsGroup}
@@ -25,18 +26,17 @@ use Rattle.rcv_ledger.specs.Logs.{log_at}
 use Rattle.rcv_ledger.specs.Ledger.{LedgerView, stack_at, Holds, MayCut, IsCutTo}
 use Rattle.rcv_ledger.proofs.Holding.{kept_may_be_cut_to, cuts_hold_what_is_kept}
 use Rattle.rcv_ledger.proofs.Lists.{get_taken, take_prefix, none_there}
-use Rattle.rcv_told.specs.Told.{Remembered, made_of, group_of, held_of, bound_at, left_at, roles_in, IsConcernedWhere, after_recovery}
+use Rattle.rcv_told.specs.Told.{Remembered, made_of, group_of, held_of, bound_at, left_at, roles_in, after_recovery}
 use Rattle.rcv_guide.specs.declared.numbers.Numbers.{Numbers}
 use Rattle.rcv_guide.specs.declared.recovery.Recovery.{Recovery}
 use Rattle.rcv_guide.specs.Numbers.{at_start, numbers_at, latest_from, back_from, AreNumbersOf, AreBack}
 use Rattle.rcv_guide.specs.Failing.{all_events}
-use Rattle.rcv_guide.specs.Guide.{GuideView, guide_of, net_for, roles_of, terms_of, no_vars, IsMemory, MayRecover, listed_of, left_in, IsFailureOf, AreLeft, IsSoundMemory, AreStamped, AreFewOf, IsPartOfRun, IsGuide, IsAfter, entry_of}
+use Rattle.rcv_guide.specs.Guide.{GuideView, guide_of, net_for, roles_of, terms_of, no_vars, IsMemory, MayRecover, listed_of, left_in, IsFailureOf, AreLeft, IsSoundMemory, AreStamped, AreFewOf, IsGuide, IsAfter, entry_of}
 use Rattle.rcv_guide.proofs.Starting.{view_with}
-use Rattle.rcv_told.proofs.Cutting.{same_cut}
+use Rattle.rcv_guide.proofs.Recutting.{same_cut}
 use Rattle.rcv_guide.proofs.Sets.{in_set, not_in_set}
 use Rattle.rcv_guide.proofs.Memories.{many_held, seeds_at, attempt_at, clock_at, down_held}
-use Rattle.rcv_guide.proofs.Guides.{low, is_proper, log_is, many_logs, none_beyond, part_of, part_after}
-use Rattle.rcv_guide.proofs.Tracking.{all_left}
+use Rattle.rcv_guide.proofs.Guides.{low, log_is, many_logs, none_beyond}
 use Rattle.rcv_guide.proofs.Leaving.{left_begins, left_within, seeds_left}
 
 length_attempts : (r : ℕ) (old new : List Event) (xs : List ℕ) → length (attempts_after r old new xs) ≡ length xs
@@ -136,12 +136,12 @@ module _ {g : GuideView} {table : TableView} {ledger : LedgerView} (kept : IsGui
         let size = many_held g m is q in
         (none, omega (arith, none, fewer, size))
 
-    -- who isn't concerned has all its events left
-    spared : (q : ℕ) → q < 8 → has_bit back.concerned.0 q ≡ false → length (acts q (left_in g m p saved)) ≡ length (acts q m.held)
-    spared q lt free = all_left (net_for g) m (part_of kept m is) (group_of (terms_of g) p) (slice_index saved) (failure.failed m is).above (roles_of g) (is_proper kept) q apart
-      where
-        apart : IsConcernedWhere (terms_of g) m p (slice_index saved) q → ⊥
-        apart c = false_or_true (sym free ∙ ((failure.failed m is).concerned_is q lt).1 c)
+    -- who isn't concerned isn't one of those that failed
+    outside : (q : ℕ) → q < 8 → has_bit back.concerned.0 q ≡ false → is_listed (group_of (terms_of g) p) q ≡ false
+    outside q lt free = ⊎_elim
+        (λ t. absurd (false_or_true (sym free ∙ ((failure.failed m is).concerned_is q lt).1 (inl (is_member q (group_of (terms_of g) p) t)))))
+        (λ f. f)
+        (cases_Bool (is_listed (group_of (terms_of g) p) q))
 
     -- what the line lists of a concerned role is what it has left
     counted : (q : ℕ) → q < 8 → has_bit back.concerned.0 q ≡ true → held_of m (slice_index (listed_of back)) q ≡ length (acts q (left_in g m p saved))
@@ -150,18 +150,21 @@ module _ {g : GuideView} {table : TableView} {ledger : LedgerView} (kept : IsGui
         let seeds = seeds_left kept p group saved may is_group m is q in
         omega (arith, listed, seeds)
 
-    bound_is : (q : ℕ) → bound_at m (roles_in back.concerned) (slice_index (listed_of back)) q ≡ length (acts q (left_in g m p saved))
+    -- so its bound is what it has left, or the one that it had
+    bound_is : (q : ℕ) → (bound_at m (roles_in back.concerned) (slice_index (listed_of back)) q ≡ length (acts q (left_in g m p saved))) ⊎ (bound_at m (roles_in back.concerned) (slice_index (listed_of back)) q ≡ bound_at m (group_of (terms_of g) p) (slice_index saved) q)
     bound_is q = ⊎_elim
-        (λ lt. ap (λ b. cond b (held_of m (slice_index (listed_of back)) q) (length (acts q m.held))) (in_set back.concerned q lt) ∙ go lt (has_bit back.concerned.0 q) refl)
+        (λ lt. go lt (has_bit back.concerned.0 q) (in_set back.concerned q lt) refl)
         (λ le.
         let high : q < 8 → ⊥ = λ lt. absurd (omega (arith, lt, le)) in
         let n = none_left q high in
-        ap (λ b. cond b (held_of m (slice_index (listed_of back)) q) (length (acts q m.held))) (not_in_set back.concerned q high) ∙ n.0 ∙ sym n.1)
+        inl (ap (λ b. cond b (held_of m (slice_index (listed_of back)) q) (length (acts q m.held))) (not_in_set back.concerned q high) ∙ n.0 ∙ sym n.1))
         (cases_lt q 8)
       where
-        go : q < 8 → (b : Bool) → has_bit back.concerned.0 q ≡ b → cond (has_bit back.concerned.0 q) (held_of m (slice_index (listed_of back)) q) (length (acts q m.held)) ≡ length (acts q (left_in g m p saved))
-        go lt true e = ap (λ b. cond b (held_of m (slice_index (listed_of back)) q) (length (acts q m.held))) e ∙ counted q lt e
-        go lt false e = ap (λ b. cond b (held_of m (slice_index (listed_of back)) q) (length (acts q m.held))) e ∙ sym (spared q lt e)
+        go : q < 8 → (b : Bool) → is_listed (roles_in back.concerned) q ≡ b → has_bit back.concerned.0 q ≡ b → (bound_at m (roles_in back.concerned) (slice_index (listed_of back)) q ≡ length (acts q (left_in g m p saved))) ⊎ (bound_at m (roles_in back.concerned) (slice_index (listed_of back)) q ≡ bound_at m (group_of (terms_of g) p) (slice_index saved) q)
+        go lt true e t = inl (ap (λ b. cond b (held_of m (slice_index (listed_of back)) q) (length (acts q m.held))) e ∙ counted q lt t)
+        go lt false e f = inr
+            (ap (λ b. cond b (held_of m (slice_index (listed_of back)) q) (length (acts q m.held))) e
+            ∙ sym (ap (λ b. cond b (held_of m (slice_index saved) q) (length (acts q m.held))) (outside q lt f)))
 
     -- what the line leaves is what the failure leaves
     left_is : left_at (net_for g) m (roles_in back.concerned) (slice_index (listed_of back)) ≡ left_in g m p saved
@@ -324,6 +327,7 @@ module _ {g : GuideView} {table : TableView} {ledger : LedgerView} (kept : IsGui
       grow = λ r i j d f lt at_i at_j. kept.stamped.grow r i j d f lt (was_there r i d at_i) (was_there r j f at_j);
       within = λ r i d at. let a = kept.stamped.within r i d (was_there r i d at) in let b = clock_up r in omega (arith, a, b);
       after = λ r i d at got. kept.stamped.after r i d (was_there r i d at) got;
+      sent = λ r i d at is. kept.stamped.sent r i d (was_there r i d at) is;
     }
 
     latest_few : latest_from back.concerned.0 0 g.numbers ≤ g.told
@@ -365,8 +369,6 @@ module _ {g : GuideView} {table : TableView} {ledger : LedgerView} (kept : IsGui
       holds = record {
         memory = after_recovery kept.holds.memory (group_of (terms_of g) p) (roles_in back.concerned) (left_in g kept.holds.memory p saved);
         is = memory_left kept.holds.memory kept.holds.is logs numbers log numbers_are;
-        part = subst (λ h. IsPartOfRun (net_for g) (after_recovery kept.holds.memory (group_of (terms_of g) p) (roles_in back.concerned) h)) (left_is kept.holds.memory kept.holds.is)
-            (part_after kept kept.holds.memory kept.holds.is (entry_of p back) (down_held g kept.holds.memory kept.holds.is p true may.down, (slice_index saved, failure.failed kept.holds.memory kept.holds.is)));
         holds = holds;
       };
       sound = sound_back;

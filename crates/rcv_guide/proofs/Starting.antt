@@ -24,7 +24,6 @@ use Rattle.rcv_told.specs.Told.{start}
 use Rattle.rcv_guide.specs.declared.numbers.Numbers.{Numbers}
 use Rattle.rcv_guide.specs.Numbers.{at_start, numbers_at, AreNumbersOf}
 use Rattle.rcv_guide.specs.Guide.{GuideView, guide_of, opened, no_vars, IsMemory, AreFewOf, IsGuide}
-use Rattle.rcv_guide.proofs.Tracking.{part_start}
 
 -- lists of one item
 pub replicate_more : {A : Type 0} (n : ℕ) (x : A) → replicate (suc n) x ≡ replicate n x ++ x ∷ []
@@ -116,7 +115,6 @@ module _ (protocol : Protocol) (plan : List PlanLine) (room : ℕ) where
     holds = record {
       memory = start roles;
       is = memory_first;
-      part = part_start (net_of (body_of protocol.body)) roles;
       holds = subst (λ n. Holds (net_of (body_of protocol.body)) n no_vars [] ledger) size
           (starts_hold_nothing (net_of (body_of protocol.body)) no_vars firsts everys room room ledger (let a = accepted.form.few_roles in omega (arith, a, size))
           (λ r lt. sym (get_or_from_slice_get firsts r (replicate 16 (pos 0)) [] (ap (λ l. slice_get l r) are ∙ get_replicate roles r (replicate 16 (pos 0)) (omega (arith, lt, size)))))
@@ -133,6 +131,7 @@ module _ (protocol : Protocol) (plan : List PlanLine) (room : ℕ) where
       grow = λ r i j d f lt at_i at_j. absurd (no_event r i d at_i);
       within = λ r i d at. absurd (no_event r i d at);
       after = λ r i d at got. absurd (no_event r i d at);
+      sent = λ r i d at is. absurd (no_event r i d at);
     };
     told = omega arith;
     few = λ r lt. subst (λ (x : Numbers). AreFewOf 0 (log_at (replicate roles []) r) x) (sym (number_at r))

@@ -1,9 +1,6 @@
 -- A Send or a Recv that may come, and the guide with it.
 use Rattle.std.proofs.Common.{◌≡◌, ℕ, ℤ, zero, suc, ◌+◌, ◌<◌, ◌≤◌, ◌^◌, false, Some, List, [], ◌∷◌, ◌++◌, length, length-append, drop, replicate, refl, sym, ◌∙◌, ap, subst, inr, arith}
-use Rattle.std.specs.Prelude.{max, pos, slice_get, Option, None}
-use Rattle.std.specs.List.{filter_map, cons_option}
-use Rattle.std.proofs.lemmas.Option.{get_or_from_slice_get}
-use Rattle.std.proofs.Math.Seq.{take-length}
+use Rattle.std.specs.Prelude.{max, pos, slice_get}
 use Rattle.rcv_tree.specs.declared.event.Event.{Event}
 use Rattle.rcv_tree.specs.declared.event.Message.{Message}
 use Rattle.rcv_tree.specs.declared.event.Dir.TheVariants.{Sent, Got}
@@ -17,8 +14,6 @@ use Rattle.rcv_model.proofs.Parts.{acts_own}
 use Rattle.rcv_model.proofs.Queues.{from_of, get_here, put_by_true}
 use Rattle.rcv_model.proofs.Steps.{send_queued, recv_queued}
 use Rattle.rcv_checkpoint.specs.declared.state.State as checkpoints
-use Rattle.rcv_checkpoint.specs.Rows.{nowhere}
-use Rattle.rcv_checkpoint.specs.Stack.{held, last_vars}
 use Rattle.rcv_tables.specs.Rows.{TableView}
 use Rattle.rcv_ledger.specs.Channels.{ChannelView, channel_at, HasFront}
 use Rattle.rcv_ledger.specs.Logs.{log_at}
@@ -33,8 +28,9 @@ use Rattle.rcv_guide.specs.declared.numbers.Numbers.{Numbers}
 use Rattle.rcv_guide.specs.Numbers.{numbers_at, with_advanced}
 use Rattle.rcv_guide.specs.Guide.{GuideView, guide_of, net_for, roles_of, stand, in_channel, no_vars, with_event, HasRoom, IsAfter, IsAble, MayBeSent, MayBeReceived, message, sent, received, stamp_to_send, stamp_to_receive, IsGuide}
 use Rattle.rcv_guide.proofs.Memories.{declared_by, tells_send, tells_recv, lies}
-use Rattle.rcv_guide.proofs.Guides.{low, is_proper, log_is, many_logs, carried, few_logged, next_in, sender_in, receiver_in, part_after}
+use Rattle.rcv_guide.proofs.Guides.{low, log_is, carried, next_in, sender_in, receiver_in}
 use Rattle.rcv_guide.proofs.Growing.{memory_more, rooms_more, IsFitting, guide_more}
+use Rattle.rcv_guide.proofs.Reserved.{send_fits}
 use Rattle.rcv_guide.proofs.Starting.{view_with}
 
 -- the first of what is dropped to
@@ -43,15 +39,6 @@ head_dropped zero [] rest x e = absurd (cc)
 head_dropped zero (y ∷ xs) rest x e = cc
 head_dropped (suc n) [] rest x e = absurd (cc)
 head_dropped (suc n) (y ∷ xs) rest x e = head_dropped n xs rest x e
-
--- a map that may leave out elements makes a list no longer
-pub no_longer : {A B : Type 0} (f : A → Option B) (xs : List A) → length (filter_map f xs) ≤ length xs
-no_longer f [] = omega arith
-no_longer {A} {B} f (x ∷ xs) = go (f x) (no_longer f xs)
-  where
-    go : (o : Option B) → length (filter_map f xs) ≤ length xs → length (cons_option o (filter_map f xs)) ≤ suc (length xs)
-    go None h = omega arith
-    go (Some y) h = omega arith
 
 -- the state behind one event more
 abbrev state_with : ℕ → List ℤ → checkpoints.State
@@ -82,39 +69,6 @@ module _ {g : GuideView} {table : TableView} {ledger : LedgerView} (kept : IsGui
       omega (arith, stamp, a, b)
 
 module _ {g : GuideView} {table : TableView} {ledger : LedgerView} (kept : IsGuide g table ledger) (room : HasRoom g) (e : Event) where
-  -- there is room for it in the ledger
-  entry_fits : length ledger.entries < ledger.most
-  entry_fits = let a = kept.rooms.used in let b = room.0 in let c = kept.rooms.most in omega (arith, a, b, c)
-
-  pub few_entries : length ledger.entries < 2 ^ 32
-  few_entries = let a = kept.rooms.used in let b = kept.rooms.filled in let c = kept.rooms.few in omega (arith, a, b, c)
-
-  log_fits : (r : ℕ) → length (log_at ledger.logs r) < ledger.room
-  log_fits r = let a = ap length (log_is kept r) in let b = few_logged kept r in let c = room.0 in let d = kept.rooms.events in omega (arith, a, b, c, d)
-
-  held_is : (r : ℕ) → r < roles_of g → held (stack_at ledger.stacks r) ≡ length (log_at g.logs r)
-  held_is r lt = let a = (kept.holds.holds.states r lt).all in let b = ap length (kept.holds.is.events r) in omega (arith, a, b)
-
-  pub few_held : (r : ℕ) → r < roles_of g → held (stack_at ledger.stacks r) + 1 < 2 ^ 32
-  few_held r lt = let a = held_is r lt in let b = few_logged kept r in let c = room.0 in let d = kept.rooms.few in omega (arith, a, b, c, d)
-
-  pub event_fits : (r : ℕ) → r < roles_of g → ledgers.HasRoom ledger r
-  event_fits r lt = record {
-    entry = entry_fits;
-    log = log_fits r;
-    stack = let a = held_is r lt in let b = few_logged kept r in let c = room.0 in let d = kept.rooms.states r lt in omega (arith, a, b, c, d);
-  }
-
-  -- the variables are none, before and behind it
-  pub no_change : (r : ℕ) → r < roles_of g → replicate 16 (pos 0) ≡ last_vars (stack_at ledger.stacks r)
-  no_change r lt =
-      let events = events_of r kept.holds.memory.held in
-      let last : held (stack_at ledger.stacks r) ≡ length events = (let a = (kept.holds.holds.states r lt).all in omega (arith, a)) in
-      let at : slice_get (stack_at ledger.stacks r).states (held (stack_at ledger.stacks r)) ≡ Some (state_behind no_vars r events) =
-      subst (λ n. slice_get (stack_at ledger.stacks r).states n ≡ Some (state_behind no_vars r events)) (sym last)
-      ((kept.holds.holds.states r lt).each (length events) (omega arith) ∙ ap (λ l. Some (state_behind no_vars r l)) (take-length events)) in
-      sym (ap (λ (x : checkpoints.State). x.vars) (get_or_from_slice_get (stack_at ledger.stacks r).states (held (stack_at ledger.stacks r)) (state_behind no_vars r events) nowhere at))
-
   is_more : (1 ≤ e.point) × (e.point ≤ (net_for g).count) → e.role < roles_of g → IsMore (net_for g) (roles_of g) no_vars kept.holds.memory.held e (behind_event e (replicate 16 (pos 0)))
   is_more in_text lt = record {
     declared = lt;
@@ -133,8 +87,8 @@ module _ {g : GuideView} {table : TableView} {ledger : LedgerView} (kept : IsGui
     pub receiver_low : (net_for g).receiver e.point < 8
     receiver_low = low kept ((net_for g).receiver e.point) (receiver_in kept e.point sent_in)
 
-    send_fits : IsFitting g e
-    send_fits =
+    sent_fits : IsFitting g e
+    sent_fits =
         let stamp : e.stamp ≡ (numbers_at g.numbers e.role).clock + 1 = may.stamp in
         record {
           declared = sender_declared;
@@ -144,23 +98,12 @@ module _ {g : GuideView} {table : TableView} {ledger : LedgerView} (kept : IsGui
           later = omega (arith, stamp);
           within = let a = (kept.few e.role sender_declared).clocks in omega (arith, stamp, a);
           behind = λ got. absurd (let a = may.is_send in cc);
+          sent = λ d. may.sent;
           ends = record { sends = λ t. sym may.sends; recvs = λ t. absurd (let a = ap is_sent may.is_send in cc) };
         }
 
     pub send_room : (end : ℕ) → end ≡ (net_for g).receiver e.point → HasRoomToSend ledger e.role end
-    send_room end is = subst (HasRoomToSend ledger e.role) (sym is) (record {
-      event = event_fits e.role sender_declared;
-      reserved = record {
-        sender = let a = many_logs kept in let b = sender_declared in omega (arith, a, b);
-        receiver = let a = many_logs kept in let b = receiver_in kept e.point sent_in in omega (arith, a, b);
-        apart = λ same. (is_proper kept).two_ends e.point (may.sends ∙ same);
-      };
-      message =
-          let here = ap (λ (c : ChannelView). length c.put) ((carried kept).each e.role ((net_for g).receiver e.point) (low kept e.role sender_declared) receiver_low) in
-          let shorter = no_longer (put_by (net_for g) e.role ((net_for g).receiver e.point)) (log_at ledger.logs e.role) in
-          let few = log_fits e.role in
-          omega (arith, here, shorter, few);
-    })
+    send_room end is = subst (HasRoomToSend ledger e.role) (sym is) (send_fits kept room.0 e.role e.point sender_declared sent_in may.sends)
 
     pub sent_after : IsAfter g (with_event g e) (Send e)
     sent_after = record {
@@ -170,9 +113,8 @@ module _ {g : GuideView} {table : TableView} {ledger : LedgerView} (kept : IsGui
 
     pub sent_guide : (end : ℕ) (now : LedgerView) → end ≡ (net_for g).receiver e.point → now ≡ with_send ledger e end (behind_event e (replicate 16 (pos 0))) → IsGuide (with_event g e) table now
     sent_guide end now to is = subst (λ (l : LedgerView). IsGuide (with_event g e) table l) (sym (is ∙ ap (λ q. with_send ledger e q (behind_event e (replicate 16 (pos 0)))) to))
-        (guide_more kept e send_fits (with_send ledger e ((net_for g).receiver e.point) (behind_event e (replicate 16 (pos 0)))) room
+        (guide_more kept e sent_fits (with_send ledger e ((net_for g).receiver e.point) (behind_event e (replicate 16 (pos 0)))) room
         (send_queued (net_for g) kept.holds.memory.held e kept.holds.is.queued may.is_send)
-        (part_after kept kept.holds.memory kept.holds.is (Send e) (tells_send g kept.holds.memory kept.holds.is e may))
         (sends_hold (net_for g) (roles_of g) no_vars kept.holds.memory.held e (behind_event e (replicate 16 (pos 0))) ledger kept.holds.holds may.is_send (is_more sent_in sender_declared))
         (record {
           entries = length-append ledger.entries (Send e ∷ []);
@@ -209,6 +151,7 @@ module _ {g : GuideView} {table : TableView} {ledger : LedgerView} (kept : IsGui
           later = omega (arith, stamp);
           within = let a = (kept.few e.role receiver_declared).clocks in let b = sent_few in omega (arith, stamp, a, b);
           behind = λ got. omega (arith, stamp);
+          sent = λ d. absurd (let a = may.is_recv in cc);
           ends = record { sends = λ t. absurd (let a = ap is_sent may.is_recv in cc); recvs = λ t. sym may.receives };
         }
 
@@ -231,7 +174,6 @@ module _ {g : GuideView} {table : TableView} {ledger : LedgerView} (kept : IsGui
     received_guide end now to is = subst (λ (l : LedgerView). IsGuide (with_event g e) table l) (sym (is ∙ ap (λ q. with_recv ledger e q (behind_event e (replicate 16 (pos 0)))) to))
         (guide_more kept e recv_fits (with_recv ledger e from (behind_event e (replicate 16 (pos 0)))) room
         (recv_queued (net_for g) kept.holds.memory.held e from may.front.0 kept.holds.is.queued refl (lies g kept.holds.memory kept.holds.is from e.role ∙ may.front.1))
-        (part_after kept kept.holds.memory kept.holds.is (Recv e) (tells_recv g kept.holds.memory kept.holds.is e may))
         (recvs_hold (net_for g) (roles_of g) no_vars kept.holds.memory.held e (behind_event e (replicate 16 (pos 0))) ledger kept.holds.holds may.is_recv (is_more received_in receiver_declared))
         (record {
           entries = length-append ledger.entries (Recv e ∷ []);

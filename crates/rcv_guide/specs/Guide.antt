@@ -14,7 +14,7 @@ use Rattle.rcv_model.specs.Text.{body_of}
 use Rattle.rcv_model.specs.Net.{Net}
 use Rattle.rcv_model.specs.Places.{net_of}
 use Rattle.rcv_model.specs.Plan.{PlanLine, host_in}
-use Rattle.rcv_model.specs.Run.{acts, place_of, put, taken, IsQueued, IsRun}
+use Rattle.rcv_model.specs.Run.{acts, place_of, put, taken, IsQueued}
 use Rattle.rcv_model.specs.Next.{IsNext, IsPlaceOf}
 use Rattle.rcv_model.specs.Journal.{events_of}
 use Rattle.rcv_accept.specs.Accepted.{IsAcceptedProtocol}
@@ -289,12 +289,14 @@ pub record IsSoundMemory (g : GuideView) : Type 0 where
   pub seeds_are : (a b : ℕ) → taken (net_for g) a b (take (numbers_at g.numbers b).seeds (log_at g.logs b)) ≡ []
   pub ends : (r n : ℕ) (e : Event) → slice_get (log_at g.logs r) n ≡ Some e → IsByEnd (net_for g) e
 
--- Stamps grow along each role's events, up to its clock, and a message's stamp is below that of its Recv.
+-- Stamps grow along each role's events, up to its clock, a message's stamp is below that of its Recv, and a Send's own is its
+-- message's.
 pub record AreStamped (g : GuideView) : Type 0 where
   pub grow : (r i j : ℕ) (e f : Event) → i < j → slice_get (log_at g.logs r) i ≡ Some e → slice_get (log_at g.logs r) j ≡ Some f
       → e.stamp < f.stamp
   pub within : (r i : ℕ) (e : Event) → slice_get (log_at g.logs r) i ≡ Some e → e.stamp ≤ (numbers_at g.numbers r).clock
   pub after : (r i : ℕ) (e : Event) → slice_get (log_at g.logs r) i ≡ Some e → e.dir ≡ Got → e.sent < e.stamp
+  pub sent : (r i : ℕ) (e : Event) → slice_get (log_at g.logs r) i ≡ Some e → e.dir ≡ Sent → e.sent ≡ e.stamp
 
 -- A role's numbers are at most what was told.
 pub record AreFewOf (told : ℕ) (log : List Event) (x : Numbers) : Type 0 where
@@ -313,24 +315,10 @@ pub record HasRooms (g : GuideView) (ledger : LedgerView) : Type 0 where
   pub events : g.room ≤ ledger.room
   pub states : (r : ℕ) → r < roles_of g → g.room ≤ (stack_at ledger.stacks r).room
 
--- Nothing of a memory is forgotten.
-pub record IsWholeMemory (m : Remembered) : Type 0 where
-  pub seeds : (r : ℕ) → slice_index m.seeds r ≡ 0
-  pub forgotten : (r : ℕ) → slice_index m.forgotten r ≡ 0
-  pub points : (r : ℕ) → slice_index m.points r ≡ 0
-
--- A memory is part of a run: it is a whole one whose events are a run, or shorter than that.
-pub record IsPartOfRun (net : Net) (m : Remembered) : Type 0 where
-  pub full : Remembered
-  pub whole : IsWholeMemory full
-  pub run : IsRun net full.held
-  pub shorter : IsShorter net full m
-
 -- The ledger holds some memory of the session.
 pub record HoldsMemory (g : GuideView) (ledger : LedgerView) : Type 0 where
   pub memory : Remembered
   pub is : IsMemory g memory
-  pub part : IsPartOfRun (net_for g) memory
   pub holds : Holds (net_for g) (roles_of g) no_vars memory.held ledger
 
 -- What a guide keeps.

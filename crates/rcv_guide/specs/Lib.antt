@@ -4,4 +4,6 @@ pub mod Guide
 pub mod Causes
 pub mod Renewal
 pub mod Line
+pub mod Restoring
+pub mod Remembered
 pub mod History

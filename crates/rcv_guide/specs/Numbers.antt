@@ -45,7 +45,7 @@ pub record AreNumbers (roles : ℕ) (m : Remembered) (numbers : List Numbers) : 
   pub all : length numbers ≡ roles
   pub each : (r : ℕ) → r < roles → AreNumbersOf m r (numbers_at numbers r)
 
--- The numbers with one event more; and with a role that is down.
+-- The numbers with one event more; with a role that is down; and with one of whose events so many are its seeds.
 abbrev pub with_advanced : List Numbers → Event → List Numbers
 with_advanced numbers e =
     let x = numbers_at numbers e.role in
@@ -53,6 +53,9 @@ with_advanced numbers e =
 
 abbrev pub with_crash : List Numbers → ℕ → List Numbers
 with_crash numbers p = slice_set numbers p (record (numbers_at numbers p) { down = true })
+
+abbrev pub with_seeds : List Numbers → ℕ → ℕ → List Numbers
+with_seeds numbers r seeds = slice_set numbers r (record (numbers_at numbers r) { seeds = seeds })
 
 -- From role r on: the greatest clock of the roles of a set.
 abbrev pub latest_from : ℕ → ℕ → List Numbers → ℕ

@@ -2,13 +2,14 @@
 use Rattle.std.specs.Prelude.{◌≡◌, ℕ, ℤ, ◌+◌, ◌-◌, ◌<◌, ◌≤◌, ◌^◌, zero, suc, Bool, ◌==◌, if◌then◌else◌, nat_le, Option, Some, None, List, [], ◌∷◌, ◌++◌, length, take, slice_get, slice_index}
 use Rattle.std.specs.List.{sum_by, range_with_len}
 use Rattle.rcv_tree.specs.declared.event.Event.{Event}
-use Rattle.rcv_tree.specs.declared.event.Dir.TheVariants.{Got}
+use Rattle.rcv_tree.specs.declared.event.Dir.{Dir}
+use Rattle.rcv_tree.specs.declared.event.Dir.TheVariants.{Sent, Got}
 use Rattle.rcv_model.specs.Net.{Net, IsPrefix}
 use Rattle.rcv_model.specs.Run.{is_sent, put, taken, IsQueued}
 use Rattle.rcv_model.specs.Journal.{events_of}
 use Rattle.rcv_ledger.specs.Channels.{between}
 use Rattle.rcv_ledger.specs.Logs.{log_at}
-use Rattle.rcv_ledger.specs.Ledger.{LedgerView, stack_at, behind_event, with_send, with_recv, AreSound, Holds}
+use Rattle.rcv_ledger.specs.Ledger.{LedgerView, stack_at, behind_event, with_send, with_recv, HasRoom, HasRoomToSend, AreSound, Holds}
 use Rattle.rcv_ledger.specs.Cut.{put_within, taken_within}
 use Rattle.rcv_guide.specs.declared.numbers.Numbers.{Numbers}
 use Rattle.rcv_guide.specs.declared.renewal.Front.{Front}
@@ -101,6 +102,11 @@ abbrev pub with_one : Net → LedgerView → Event → List ℤ → LedgerView
 with_one net ledger e vars =
     if is_sent e.dir then with_send ledger e (net.receiver e.point) (behind_event e vars)
     else with_recv ledger e (net.sender e.point) (behind_event e vars)
+
+-- There is room for it.
+abbrev pub HasRoomToAdd : Net → LedgerView → Event → Dir → Type 0
+HasRoomToAdd net ledger e Sent = HasRoomToSend ledger e.role (net.receiver e.point)
+HasRoomToAdd net ledger e Got = HasRoom ledger e.role
 
 -- A ledger has room for so many events of each role, and in all.
 pub record HasRoomFor (room : ℕ) (ledger : LedgerView) : Type 0 where

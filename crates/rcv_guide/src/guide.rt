@@ -24,7 +24,7 @@ use crate::cause::Cause;
 use crate::flight::flying;
 use crate::line::line;
 use crate::news::News;
-use crate::numbers::{Numbers, advance, fall, go_back};
+use crate::numbers::{Numbers, advance, fall, fresh, go_back};
 use crate::recovery::Recovery;
 use crate::{failing, renewal};
 use rcv_accept::accepted::Accepted;
@@ -50,15 +50,15 @@ const MOST_TOLD: u64 = 1 << 62;
 /// role's events are to be told in the order in which it did them. Else any order will do.
 #[derive(Drop)]
 pub struct Guide {
-    accepted: Accepted,
+    pub(crate) accepted: Accepted,
     plan: Plan,
     table: Table,
     // For each role of the protocol.
-    numbers: Vec<Numbers>,
-    ledger: Ledger,
+    pub(crate) numbers: Vec<Numbers>,
+    pub(crate) ledger: Ledger,
     // For how many events there is room, and how much was told.
-    room: u32,
-    told: u64,
+    pub(crate) room: u32,
+    pub(crate) told: u64,
 }
 
 impl Model for Guide {
@@ -92,11 +92,9 @@ impl Guide {
         let table = making::table(alloc, &accepted)?;
         // Tells the proof that the protocol is accepted.
         let _protocol = accepted.protocol();
-        let mut numbers = Vec::new(alloc);
-        for _role in 0..accepted.roles() {
-            numbers.push(Numbers::new())?;
-        }
-        let ledger = renewal::empty(alloc, numbers.len(), room)?;
+        let roles = accepted.roles();
+        let numbers = fresh(alloc, roles)?;
+        let ledger = renewal::empty(alloc, roles as usize, room)?;
         Ok(Guide {
             accepted,
             plan,
@@ -299,7 +297,7 @@ impl Guide {
     }
 
     // Whether a declared role may come to a point next.
-    fn is_next(&self, role: RoleId, point: Point) -> bool
+    pub(crate) fn is_next(&self, role: RoleId, point: Point) -> bool
         requires { role < roles_of self.now }
         ensures { IsTrue result ↔ IsNextOf self.now role point }
     {

@@ -10,7 +10,10 @@ mod line;
 pub mod news;
 mod numbers;
 pub mod recovery;
+pub mod remembered;
 mod renewal;
+pub mod restoring;
+pub mod standing;
 
 /// Want of memory.
 pub use std::alloc::AllocError as Memory;

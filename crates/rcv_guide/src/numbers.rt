@@ -1,12 +1,13 @@
 // The numbers of each role: what of it is forgotten, how much it did, and whether it is down.
 
-ghost use Rattle.std.specs.Prelude.{◌≡◌, ℕ, ◌+◌, ◌<◌, ◌≤◌, ◌^◌, ◌==◌, if◌then◌else◌, false, length};
+ghost use Rattle.std.specs.Prelude.{◌≡◌, ℕ, ◌+◌, ◌<◌, ◌≤◌, ◌^◌, ◌==◌, if◌then◌else◌, false, length, replicate, IfOk};
 ghost use Rattle.rcv_tree.specs.Bits.{has_bit};
-ghost use Rattle.rcv_guide.specs.Numbers.{at_start, numbers_at, with_advanced, with_crash, latest_from, AreBack};
+ghost use Rattle.rcv_guide.specs.Numbers.{at_start, numbers_at, with_advanced, with_crash, with_seeds, latest_from, AreBack};
 
 use rcv_ledger::ledger::Ledger;
 use rcv_tree::event::Event;
 use rcv_tree::role::{RoleId, RoleSet};
+use std::alloc::{AllocError, Global};
 
 /// At most so many roles.
 pub const ROLES: usize = 8;
@@ -44,6 +45,17 @@ impl Numbers {
     }
 }
 
+/// The numbers of so many roles before their first event. Fails where memory runs out.
+pub fn fresh(alloc: Global, roles: u8) -> Result<Vec<Numbers>, AllocError>
+    ensures { IfOk result (λ numbers. numbers.items ≡ replicate roles at_start) }
+{
+    let mut numbers = Vec::new(alloc);
+    for _role in 0..roles {
+        numbers.push(Numbers::new())?;
+    }
+    Ok(numbers)
+}
+
 /// Records one event more of its role, whose stamp is the role's clock from now on.
 pub fn advance(numbers: &mut Vec<Numbers>, event: &Event)
     requires declared { event.now.role < length numbers.old.items }
@@ -61,6 +73,14 @@ pub fn fall(numbers: &mut Vec<Numbers>, role: RoleId)
     ensures { numbers.new.items ≡ with_crash numbers.old.items role }
 {
     numbers[role.0 as usize].down = true;
+}
+
+/// Records how many of a role's remembered events are its seeds.
+pub fn set_seeds(numbers: &mut Vec<Numbers>, role: RoleId, seeds: u32)
+    requires declared { role < length numbers.old.items }
+    ensures { numbers.new.items ≡ with_seeds numbers.old.items role seeds }
+{
+    numbers[role.0 as usize].seeds = seeds;
 }
 
 // The greatest clock of the roles of a set; 0 of none.

@@ -1,7 +1,7 @@
 // Forgetting: a ledger in place of the old one, which holds what stays.
 
 ghost use Rattle.std.specs.Prelude.{◌≡◌, ℕ, ◌+◌, ◌-◌, ◌<◌, ◌≤◌, ◌^◌, ◌==◌, if◌then◌else◌, pos, replicate, length, take};
-ghost use Rattle.std.specs.Prelude.{nat_le, slice_get, slice_index, slice_set, IfOk, OnOk, MatchOption, Some};
+ghost use Rattle.std.specs.Prelude.{nat_le, slice_get, slice_index, slice_set, IfOk, IsOk, OnOk, MatchOption, Some};
 ghost use Rattle.rcv_tree.specs.declared.event.Dir.TheVariants.{Sent, Got};
 ghost use Rattle.rcv_model.specs.Run.{is_sent, takes_on, put, taken};
 ghost use Rattle.rcv_points.specs.Follow.{net_in};
@@ -13,7 +13,7 @@ ghost use Rattle.rcv_ledger.specs.Cut.{put_within};
 ghost use Rattle.rcv_guide.specs.Numbers.{numbers_at};
 ghost use Rattle.rcv_guide.specs.Failing.{point_or_none};
 ghost use Rattle.rcv_guide.specs.Renewal.{AreOrdered, AreEnds, MayEnd, AreReceived, stays, with_one};
-ghost use Rattle.rcv_guide.specs.Renewal.{ArePassed, AreAllPassed, IsLeast, IsNextEvent, IsRenewing, IsRenewed};
+ghost use Rattle.rcv_guide.specs.Renewal.{ArePassed, AreAllPassed, HasRoomToAdd, IsLeast, IsNextEvent, IsRenewing, IsRenewed};
 ghost use Rattle.rcv_guide.specs.Renewal.{forgotten_from, AreForgotten};
 
 use crate::numbers::{Numbers, ROLES};
@@ -38,10 +38,10 @@ pub struct Passed {
     put: [usize; CHANNELS],
 }
 
-// A role, and the stamp of its next event.
+/// A role, and the stamp of its next event.
 #[derive(Clone, Copy)]
 pub struct Front {
-    role: usize,
+    pub role: usize,
     stamp: u64,
 }
 
@@ -161,17 +161,17 @@ impl Passed {
     }
 }
 
-// The role whose next event has the least stamp. None where no role has one.
-fn least_next(ledger: &Ledger, passed: &Passed) -> Option<Front>
+/// The role whose next event, behind so many of each role, has the least stamp. None where no role has one.
+pub fn least_next(ledger: &Ledger, counts: &[usize; ROLES]) -> Option<Front>
     requires { length ledger.now.logs ≤ 8 }
-    ensures { MatchOption result (AreAllPassed ledger.now.logs passed.now.counts (length ledger.now.logs))
-        (IsLeast ledger.now.logs passed.now.counts (length ledger.now.logs)) }
+    ensures { MatchOption result (AreAllPassed ledger.now.logs counts.now (length ledger.now.logs))
+        (IsLeast ledger.now.logs counts.now (length ledger.now.logs)) }
 {
     let mut best: Option<Front> = None;
     for role in 0..ledger.roles() {
         let own = RoleId(role as u8);
-        if passed.counts[role] < ledger.made(own) {
-            let stamp = ledger.event(own, passed.counts[role]).stamp;
+        if counts[role] < ledger.made(own) {
+            let stamp = ledger.event(own, counts[role]).stamp;
             best = Some(first_of(best, Front { role, stamp }));
         }
     }
@@ -189,8 +189,8 @@ fn first_of(former: Option<Front>, latter: Front) -> Front
     }
 }
 
-// Adds an event of a role with a log. Fails where memory runs out.
-fn add_event(fresh: &mut Ledger, points: &Points, event: &Event) -> Result<(), AllocError>
+/// Adds an event of a role with a log. Within the ledger's room it succeeds. Else it fails where memory runs out.
+pub fn add_event(fresh: &mut Ledger, points: &Points, event: &Event) -> Result<(), AllocError>
     requires role { event.now.role < length fresh.old.logs }
     requires sound { IsSound (net_in points.now) event.now.role event.now }
     requires change { replicate 16 (pos 0) ≡ last_vars (stack_at fresh.old.stacks event.now.role) }
@@ -198,7 +198,8 @@ fn add_event(fresh: &mut Ledger, points: &Points, event: &Event) -> Result<(), A
         → HasFront (channel_at fresh.old.channels ((net_in points.now).sender event.now.point) event.now.role) }
     requires few { held (stack_at fresh.old.stacks event.now.role) + 1 < 2 ^ 32 }
     requires few_entries { length fresh.old.entries < 2 ^ 32 }
-    ensures { OnOk result (fresh.new ≡ with_one (net_in points.now) fresh.old event.now (replicate 16 (pos 0))) }
+    ensures ok { OnOk result (fresh.new ≡ with_one (net_in points.now) fresh.old event.now (replicate 16 (pos 0))) }
+    ensures room { HasRoomToAdd (net_in points.now) fresh.old event.now event.now.dir → IsOk result }
 {
     match event.dir {
         Dir::Sent => fresh.add_send(
@@ -282,7 +283,7 @@ pub fn renewed(
     let received = received(ledger, points, ends);
     let mut fresh = empty(alloc, ledger.roles(), room)?;
     let mut passed = Passed::new();
-    while let Some(front) = least_next(ledger, &passed) {
+    while let Some(front) = least_next(ledger, &passed.counts) {
         go_over(
             &mut fresh,
             &mut passed,

@@ -17,7 +17,7 @@ use Rattle.rcv_guide.specs.declared.recovery.Recovery.{Recovery}
 use Rattle.rcv_guide.specs.Numbers.{numbers_at}
 use Rattle.rcv_guide.specs.Guide.{GuideView, net_for, roles_of, terms_of, IsMemory, left_in, IsFailureOf, HasRecovered}
 use Rattle.rcv_guide.proofs.Memories.{forgotten_at, seeds_at}
-use Rattle.rcv_guided.specs.Counts.{made_in}
+use Rattle.rcv_guided.specs.Session.{made_in}
 use Rattle.rcv_guided.specs.Failures.{goes_back, AreCut, AreRaised}
 
 module _ (old new : GuideView) (p : ℕ) (saved : List ℕ) (back : Recovery) (m : Remembered) (is : IsMemory old m) (failure : IsFailureOf old p saved back) (recovered : HasRecovered old new p saved back) where

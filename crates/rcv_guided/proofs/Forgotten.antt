@@ -37,6 +37,7 @@ module _ (old : SessionView) (g : GuideView) (saves : SavesView) (counts : List 
     steps = have.steps;
     saved = λ r lt. have.saved r (subst (λ n. r < n) (sym roles_same) lt);
     incarnations = refl;
+    restored = refl;
   }
 
 module _ (old mid new : SessionView) (same : IsSameSession old mid) (grown : HasGrown mid new) where
@@ -60,6 +61,7 @@ module _ (old mid new : SessionView) (same : IsSameSession old mid) (grown : Has
     steps = ap (λ (s : SessionView). s.saves.steps) grown.rest ∙ same.steps;
     saved = λ r lt. ap (λ (s : SessionView). told_of s.saves r) grown.rest ∙ same.saved r lt ∙ ap (λ k. above k (told_of old.saves r)) (sym (no_more r lt));
     incarnations = ap (λ (s : SessionView). s.incarnations) grown.rest ∙ same.incarnations;
+    restored = ap (λ (s : SessionView). s.restored) grown.rest ∙ same.restored;
   }
 
 -- Where something was forgotten, it can be forgotten that there is nothing more to forget: of the seeds nothing was received.

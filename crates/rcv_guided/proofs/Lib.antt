@@ -18,4 +18,12 @@ pub mod Returned
 pub mod Apart
 pub mod Replies
 pub mod Answered
+pub mod LawsLists
+pub mod Made
+pub mod LawsRestorable
+pub mod LawsRestored
+pub mod LawsTaken
+pub mod Restored
+pub mod Snapshots
 mod Examples
+mod LawsExample

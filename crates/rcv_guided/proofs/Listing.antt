@@ -102,6 +102,20 @@ mapped_more f xs i x start before after lt is so more =
     more ∙ ap (λ l. l ++ f x ∷ []) so ∙ append_assoc start (map f (take i xs)) (f x ∷ [])
     ∙ ap (λ l. start ++ l) (sym (map_end f (take i xs) x) ∙ ap (map f) (sym one))
 
+-- The same of numbers, which lists of code give by their place.
+pub numbers_more : {X : Type 0} (f : ℕ → X) (xs : List ℕ) (i : ℕ) (start before after : List X) → i < length xs → before ≡ start ++ map f (take i xs) → after ≡ before ++ f (get_or xs i 0) ∷ []
+    → after ≡ start ++ map f (take (i + 1) xs)
+numbers_more f xs i start before after lt so more =
+    more ∙ ap (λ l. l ++ f (get_or xs i 0) ∷ []) so ∙ append_assoc start (map f (take i xs)) (f (get_or xs i 0) ∷ [])
+    ∙ ap (λ l. start ++ l) (sym (map_end f (take i xs) (get_or xs i 0)) ∙ ap (map f) (sym (take_more xs i 0 lt)))
+
+-- And of each role.
+pub ranged_more : {X : Type 0} (f : ℕ → X) (n : ℕ) (start before after : List X) → before ≡ start ++ map f (range_with_len 0 n) → after ≡ before ++ f n ∷ []
+    → after ≡ start ++ map f (range_with_len 0 (n + 1))
+ranged_more f n start before after so more =
+    more ∙ ap (λ l. l ++ f n ∷ []) so ∙ append_assoc start (map f (range_with_len 0 n)) (f n ∷ [])
+    ∙ ap (λ l. start ++ l) (sym (map_end f (range_with_len 0 n) n) ∙ ap (map f) (sym (range_more n)))
+
 -- What holds of each place so far, and of one more.
 pub set_more : (P : ℕ → ℕ → Type 0) (xs : List ℕ) (i v : ℕ) → i < length xs → ((r : ℕ) → r < i → P r (get_or xs r 0)) → P i v → (r : ℕ) → r < i + 1 → P r (get_or (set xs i v) r 0)
 set_more P xs i v lt before here r low = ⊎_elim

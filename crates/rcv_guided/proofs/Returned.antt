@@ -1,6 +1,6 @@
 -- A session in which a role has recovered.
 use Rattle.std.proofs.Common.{◌≡◌, ℕ, ◌+◌, ◌<◌, ◌≤◌, Bool, true, false, cond, List, [], ◌∷◌, length, refl, sym, ◌∙◌, ap, subst, ⊎_elim, arith}
-use Rattle.std.specs.Prelude.{◌||◌, nat_lt, slice_index}
+use Rattle.std.specs.Prelude.{◌||◌, nat_lt, All, slice_index}
 use Rattle.std.proofs.lemmas.Bool.{cases_lt}
 use Rattle.std.proofs.lemmas.List.{get_or_past}
 use Rattle.rcv_tree.specs.Bits.{has_bit}
@@ -8,19 +8,20 @@ use Rattle.rcv_tree.specs.declared.entry.Entry.{Entry}
 use Rattle.rcv_tree.specs.declared.entry.Entry.TheVariants.{Crash}
 use Rattle.rcv_tree.specs.declared.protocol.Protocol.{Protocol}
 use Rattle.rcv_plan.specs.Plans.{IsGroup}
-use Rattle.rcv_saves.specs.Saves.{SavesView}
+use Rattle.rcv_saves.specs.Counts.{up_to}
+use Rattle.rcv_saves.specs.Saves.{SavesView, told_of}
 use Rattle.rcv_guide.specs.declared.recovery.Recovery.{Recovery}
 use Rattle.rcv_guide.specs.Guide.{GuideView, roles_of, terms_of, HasMemory, MayRecover, HaveSavedEnough, IsFailureOf, HasRecovered, IsAfter}
-use Rattle.rcv_guided.specs.Session.{SessionView, roles_in, IsSession}
+use Rattle.rcv_guided.specs.Session.{SessionView, roles_in, made_in, IsSession}
 use Rattle.rcv_guided.specs.Histories.{GoesOnBy}
 use Rattle.rcv_guided.specs.Hearing.{IsDown}
-use Rattle.rcv_guided.specs.Counts.{made_in}
 use Rattle.rcv_guided.specs.Failures.{is_down_in, fallen, fall_of, goes_back, AreCut, AreRaised, GoesBack}
 use Rattle.rcv_guided.specs.Taking.{HasRoomFor, IsStill}
 use Rattle.rcv_guided.proofs.Backs.{kept_is, goes, same_forgotten, cut_by, raised_by}
 use Rattle.rcv_guided.proofs.Falling.{IsAlike, fallen_alike, fallen_enough}
 use Rattle.rcv_guided.proofs.Going.{on_same, on_told}
 use Rattle.rcv_guided.proofs.InTurn.{same_terms}
+use Rattle.rcv_guided.proofs.Made.{within_cut}
 
 at_most : (b : Bool) (n m : ℕ) → n ≤ m → cond b (n + 1) n ≤ m + 1
 at_most true n m le = omega (arith, le)
@@ -28,7 +29,7 @@ at_most false n m le = omega (arith, le)
 
 module _ (s : SessionView) (new : GuideView) (saves : SavesView) (incarnations : List ℕ) (p : ℕ) (saved : List ℕ) (back : Recovery) (has : HasMemory s.guide) (failure : IsFailureOf s.guide p saved back) (recovered : HasRecovered s.guide new p saved back) where
   abbrev after : SessionView
-  after = record { guide = new; saves = saves; incarnations = incarnations }
+  after = record { guide = new; saves = saves; incarnations = incarnations; restored = s.restored }
 
   same_protocol : new.protocol ≡ s.guide.protocol
   same_protocol = ap (λ (g : GuideView). g.protocol) recovered.gone.rest
@@ -59,6 +60,11 @@ module _ (s : SessionView) (new : GuideView) (saves : SavesView) (incarnations :
         omega (arith, none))
         (cases_lt r (length s.incarnations));
     room = let e = ap (λ (g : GuideView). g.room) recovered.gone.rest in let a = is.room in omega (arith, e, a);
+    saved = λ r lt.
+        let old = subst (λ n. r < n) same_roles lt in
+        subst (All (λ count. count ≤ made_in new r)) (sym (cut.cut r old))
+        (subst (λ n. All (λ count. count ≤ n) (up_to (slice_index back.kept r) (told_of s.saves r))) (kept_is s.guide new p saved back has.memory has.is failure recovered r old)
+        (within_cut (slice_index back.kept r) (told_of s.saves r)));
   }
 
   pub has_gone_back : IsSession s → MayRecover s.guide p saved → roles_in s ≤ 8 → (group bits : ℕ) (before : List ℕ) → IsGroup s.guide.plan p group
@@ -70,6 +76,7 @@ module _ (s : SessionView) (new : GuideView) (saves : SavesView) (incarnations :
     failure = failure;
     recovered = recovered;
     saves = cut_by s.saves saves (roles_in s) (slice_index back.kept) (made_in new) (kept_is s.guide new p saved back has.memory has.is failure recovered) cut;
+    restored = refl;
     incarnations = raised_by s.incarnations incarnations (has_bit bits) (goes_back s.guide new p)
         (λ r lt. goes s.guide new p saved back has.memory has.is failure recovered group bits before few is_group made who r (let a = is.incarnations in omega (arith, a, lt))) raised;
   }

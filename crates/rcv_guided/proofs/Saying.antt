@@ -6,12 +6,13 @@ use Rattle.rcv_tree.specs.declared.protocol.Protocol.{Protocol}
 use Rattle.rcv_accept.specs.Accepted.{AcceptedView}
 use Rattle.rcv_guide.proofs.Memories.{on_success}
 use Rattle.rcv_dialogue.specs.declared.line.Line.{Line}
+use Rattle.rcv_dialogue.specs.declared.line.Line.TheVariants as line
 use Rattle.rcv_dialogue.specs.declared.answer.Answer.{Answer}
 use Rattle.rcv_dialogue.specs.Answers.{answer_text}
 use Rattle.rcv_guided.specs.Session.{SessionView}
 use Rattle.rcv_guided.specs.Histories.{GoesOnBy}
 use Rattle.rcv_guided.specs.Hearing.{accepted_of, IsUnchanged}
-use Rattle.rcv_guided.specs.Answers.{Comes, ComesBy, IsJudging, IsAnswer, Says}
+use Rattle.rcv_guided.specs.Answers.{Comes, ComesBy, GoesOnBehind, IsJudging, IsAnswer, Says}
 use Rattle.rcv_guided.proofs.Going.{on_same, on_behind}
 
 pub says_so : (a : AcceptedView) (old new : List ℕ) (P Q : Answer → Type 0) → ((said : Answer) → P said → Q said) → Says a old new P → Says a old new Q
@@ -25,12 +26,23 @@ unchanged_by s told said comes = record {
   history = on_same s s refl;
 }
 
+-- So it goes on behind whatever line.
+pub goes_on_behind : (told : Line) (old : SessionView) (added : List Entry) (new : SessionView) → GoesOnBy old added new → GoesOnBehind told old added new
+goes_on_behind (line.Again told) old added new on = tt
+goes_on_behind (line.Send told) old added new on = on
+goes_on_behind (line.Recv told) old added new on = on
+goes_on_behind (line.Save told) old added new on = on
+goes_on_behind (line.Fail failed) old added new on = on
+goes_on_behind (line.Crash r) old added new on = on
+goes_on_behind (line.Recover told) old added new on = on
+goes_on_behind (line.Ask asked) old added new on = on
+
 -- What comes of the line where it is judged is the answer to it.
 pub answer_by : (old s new : SessionView) (told : Line) (said : Answer) → IsJudging old s → GoesOnBy old [] s → ComesBy s told new said → IsAnswer old told new said
 answer_by old s new told said is before by = record {
   added = by.added;
   hears = record { judging = s; is = is; comes = by.comes };
-  history = on_behind old s new by.added before by.history;
+  history = goes_on_behind told old by.added new (on_behind old s new by.added before by.history);
 }
 
 -- The same where it is judged in the session itself.

@@ -12,6 +12,7 @@ use Rattle.rcv_guided.specs.Hearing.{IsUnchanged}
 use Rattle.rcv_guided.specs.Events.{Sends, Receives, HasSaved, Crashes}
 use Rattle.rcv_guided.specs.Failures.{Fails, Recovers}
 use Rattle.rcv_guided.specs.Questions.{Asks}
+use Rattle.rcv_guided.specs.Restoring.{Restores}
 
 -- What comes of a line in a session: its answer, what it adds to the history, and the session behind it.
 abbrev pub Comes : SessionView → Line → Answer → List Entry → SessionView → Type 0
@@ -22,6 +23,7 @@ Comes s (line.Fail failed) said added after = Fails s failed said added after
 Comes s (line.Crash r) said added after = Crashes s r said added after
 Comes s (line.Recover told) said added after = Recovers s told said added after
 Comes s (line.Ask asked) said added after = Asks s asked said × IsUnchanged s added after
+Comes s (line.Again told) said added after = Restores s told said added after
 
 -- A session in which a line is judged that is told to this one: itself, or the same where some of what is stable is forgotten.
 abbrev pub IsJudging : SessionView → SessionView → Type 0
@@ -33,6 +35,17 @@ pub record Hears (old : SessionView) (told : Line) (said : Answer) (added : List
   pub is : IsJudging old judging
   pub comes : Comes judging told said added after
 
+-- The history goes on by what a line adds. A line of a snapshot is no part of a history: it restores a session that has one.
+abbrev pub GoesOnBehind : Line → SessionView → List Entry → SessionView → Type 0
+GoesOnBehind (line.Again told) old added new = Unit {0}
+GoesOnBehind (line.Send told) old added new = GoesOnBy old added new
+GoesOnBehind (line.Recv told) old added new = GoesOnBy old added new
+GoesOnBehind (line.Save told) old added new = GoesOnBy old added new
+GoesOnBehind (line.Fail failed) old added new = GoesOnBy old added new
+GoesOnBehind (line.Crash r) old added new = GoesOnBy old added new
+GoesOnBehind (line.Recover told) old added new = GoesOnBy old added new
+GoesOnBehind (line.Ask asked) old added new = GoesOnBy old added new
+
 -- This comes of a line that is judged in a session, whose history goes on by what the line adds.
 pub record ComesBy (s : SessionView) (told : Line) (after : SessionView) (said : Answer) : Type 0 where
   pub added : List Entry
@@ -43,7 +56,7 @@ pub record ComesBy (s : SessionView) (told : Line) (after : SessionView) (said :
 pub record IsAnswer (old : SessionView) (told : Line) (after : SessionView) (said : Answer) : Type 0 where
   pub added : List Entry
   pub hears : Hears old told said added after
-  pub history : GoesOnBy old added after
+  pub history : GoesOnBehind told old added after
 
 -- The text goes on with an answer for which this holds.
 pub record Says (a : AcceptedView) (old new : List ℕ) (P : Answer → Type 0) : Type 0 where

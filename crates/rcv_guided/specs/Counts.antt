@@ -1,17 +1,11 @@
 -- How many events each role keeps, and how many of them are stable.
-use Rattle.std.specs.Prelude.{◌≡◌, ℕ, ◌+◌, ◌-◌, ◌<◌, Bool, List, length, map, slice_index}
+use Rattle.std.specs.Prelude.{◌≡◌, ℕ, ◌+◌, ◌<◌, Bool, List, map, slice_index}
 use Rattle.std.specs.List.{filter, range_with_len}
-use Rattle.rcv_ledger.specs.Logs.{log_at}
-use Rattle.rcv_guide.specs.Numbers.{numbers_at}
-use Rattle.rcv_guide.specs.Guide.{GuideView}
 use Rattle.rcv_guide.specs.Line.{IsLine}
 use Rattle.rcv_dialogue.specs.declared.few.Kept.{Kept}
-use Rattle.rcv_guided.specs.Session.{SessionView, roles_in, forgotten_of}
+use Rattle.rcv_guided.specs.Session.{SessionView, roles_in, forgotten_of, made_in}
 
 -- How many events a role keeps, forgotten ones too.
-abbrev pub made_in : GuideView → ℕ → ℕ
-made_in g r = (numbers_at g.numbers r).forgotten + (length (log_at g.logs r) - (numbers_at g.numbers r).seeds)
-
 abbrev pub made_of : SessionView → ℕ → ℕ
 made_of s r = made_in s.guide r
 

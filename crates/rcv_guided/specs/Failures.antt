@@ -20,9 +20,9 @@ use Rattle.rcv_dialogue.specs.declared.few.Kept.{Kept}
 use Rattle.rcv_dialogue.specs.declared.line.Flight.{Flight}
 use Rattle.rcv_dialogue.specs.declared.line.Stated.{Stated}
 use Rattle.rcv_dialogue.specs.declared.line.ToldRecovery.{ToldRecovery}
-use Rattle.rcv_guided.specs.Session.{SessionView, roles_in, forgotten_of, incarnation_of}
+use Rattle.rcv_guided.specs.Session.{SessionView, roles_in, forgotten_of, made_in, incarnation_of}
 use Rattle.rcv_guided.specs.Hearing.{IsUnchanged, IsUp, IsDown}
-use Rattle.rcv_guided.specs.Counts.{made_in, made_of, AreStableCounts, roles_where, with_counts}
+use Rattle.rcv_guided.specs.Counts.{made_of, AreStableCounts, roles_where, with_counts}
 use Rattle.rcv_guided.specs.Flights.{flights_to_all}
 
 -- ---- what the failed roles have saved
@@ -96,6 +96,7 @@ pub record GoesBack (p : ℕ) (saved : List ℕ) (old : SessionView) (back : Rec
   pub recovered : HasRecovered old.guide new.guide p saved back
   pub saves : AreCut old.saves new.saves (roles_in old) (made_of new)
   pub incarnations : AreRaised old.incarnations new.incarnations (goes_back old.guide new.guide p)
+  pub restored : new.restored ≡ old.restored
 
 -- A role fails: it crashes, unless it is down, and recovers, by what is told, or known, of saves.
 pub record FailsOnce (failed : List Failed) (p : ℕ) (old : SessionView) (back : Recovery) (new : SessionView) : Type 0 where

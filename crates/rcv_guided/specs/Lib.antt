@@ -8,5 +8,8 @@ pub mod Events
 pub mod Flights
 pub mod Failures
 pub mod Taking
+pub mod Restoring
 pub mod Questions
 pub mod Answers
+pub mod Laws
+pub mod Typed

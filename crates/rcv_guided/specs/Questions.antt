@@ -18,6 +18,7 @@ use Rattle.rcv_guided.specs.Hearing.{IsUp, IsDown}
 use Rattle.rcv_guided.specs.Turns.{IsTurnOf}
 use Rattle.rcv_guided.specs.Counts.{made_of, with_counts, AreStableCounts}
 use Rattle.rcv_guided.specs.Flights.{AreFlightsTo}
+use Rattle.rcv_guided.specs.Restoring.{AreSnapshot}
 
 -- All declared roles.
 abbrev pub all_roles : SessionView → List ℕ
@@ -86,11 +87,16 @@ AnswersTable s (answer.Table lines text) = IsTableText s lines text.now
 AnswersTable s answer.Memory = Unit {0}
 AnswersTable s _ = ⊥
 
+abbrev pub AnswersSnapshot : SessionView → Answer → Type 0
+AnswersSnapshot s (answer.Snapshot lines) = AreSnapshot s lines.now
+AnswersSnapshot s answer.Memory = Unit {0}
+AnswersSnapshot s _ = ⊥
+
 abbrev pub AnswersEnd : SessionView → Answer → Type 0
 AnswersEnd s (answer.End states) = AreStates s states.now
 AnswersEnd s _ = ⊥
 
--- The answer to a question. Only the messages that are on their way, and the table, take memory.
+-- The answer to a question. Only the messages that are on their way, the table and a snapshot take memory.
 abbrev pub Asks : SessionView → Question → Answer → Type 0
 Asks s (question.Next r) said = AnswersNext s r said
 Asks s question.Kept said = AnswersKept s said
@@ -99,4 +105,5 @@ Asks s (question.Role r) said = AnswersRole s r said
 Asks s (question.Flight to) said = AnswersFlight s to said
 Asks s question.Points said = said ≡ answer.Points
 Asks s question.Table said = AnswersTable s said
+Asks s question.Snapshot said = AnswersSnapshot s said
 Asks s question.End said = AnswersEnd s said

@@ -4,8 +4,8 @@ ghost use Rattle.std.specs.Prelude.{◌≡◌, ◌+◌, ◌<◌, ◌≤◌, ℕ,
 ghost use Rattle.rcv_ledger.specs.Logs.{log_at};
 ghost use Rattle.rcv_guide.specs.Numbers.{numbers_at};
 ghost use Rattle.rcv_guide.specs.Guide.{roles_of, HaveSavedEnough};
-ghost use Rattle.rcv_guided.specs.Session.{roles_in};
-ghost use Rattle.rcv_guided.specs.Counts.{made_in, AreStableCounts};
+ghost use Rattle.rcv_guided.specs.Session.{roles_in, made_in};
+ghost use Rattle.rcv_guided.specs.Counts.{AreStableCounts};
 ghost use Rattle.rcv_guided.specs.Failures.{told_count, is_told_below, first_below, IsSavedCount, HaveSaved};
 ghost use Rattle.rcv_guided.specs.Taking.{AreEnough};
 

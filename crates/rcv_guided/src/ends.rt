@@ -26,7 +26,8 @@ impl GuidedSession {
     // The role that receives at a point of the text.
     pub(crate) fn receiver(&self, point: Point) -> RoleId
         requires { IsDeclared (accepted_of self.now) point }
-        ensures { result ≡ (net_for self.now.guide).receiver point }
+        ensures value { result ≡ (net_for self.now.guide).receiver point }
+        ensures declared { result < roles_in self.now }
     {
         let accepted = self.accepted();
         // Tells the proof that the protocol is accepted.

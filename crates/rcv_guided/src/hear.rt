@@ -25,7 +25,8 @@ impl GuidedSession {
             Line::Fail(failed) => self.hear_fail(alloc, failed, text),
             Line::Crash(role) => self.hear_crash(*role, text),
             Line::Recover(told) => self.hear_recover(alloc, told, text),
-            Line::Ask(asked) => self.say_asked(alloc, *asked, text),
+            Line::Again(told) => self.hear_again(alloc, told, text),
+            Line::Ask(asked) => self.hear_asked(alloc, *asked, text),
         }
     }
 }

@@ -10,15 +10,19 @@ mod failures;
 mod flights;
 mod hear;
 mod hearing;
+pub mod laws;
 mod questions;
 mod receipts;
+mod restoring;
 mod room;
 mod saves;
 pub mod saving;
 mod sends;
 pub mod session;
+mod snapshot;
 mod states;
 mod taken;
+pub mod typed;
 
 /// Want of memory.
 pub use std::alloc::AllocError as Memory;

@@ -3,12 +3,13 @@
 ghost use Rattle.std.specs.Prelude.{◌≡◌, ◌<◌, ◌==◌, count_by, All, IfSome, IfOk, OnOk};
 ghost use Rattle.std.specs.List.{range_with_len};
 ghost use Rattle.rcv_guide.specs.Guide.{roles_of};
+ghost use Rattle.rcv_dialogue.specs.declared.line.Line.TheVariants as line;
 ghost use Rattle.rcv_dialogue.specs.Lines.{IsQuestion};
 ghost use Rattle.rcv_guided.specs.Session.{roles_in};
 ghost use Rattle.rcv_guided.specs.Hearing.{accepted_of};
 ghost use Rattle.rcv_guided.specs.Flights.{flights_to_all, AreFlightsTo, IsFlight};
 ghost use Rattle.rcv_guided.specs.Questions.{AnswersNext, AnswersKept, AnswersLine, AnswersRole, AnswersFlight, AnswersTable, AnswersEnd, Asks};
-ghost use Rattle.rcv_guided.specs.Answers.{Says};
+ghost use Rattle.rcv_guided.specs.Answers.{IsAnswer, Says};
 
 use crate::counts::all_made;
 use crate::flights::add_flights;
@@ -160,7 +161,27 @@ impl GuidedSession {
             Question::Flight(to) => self.say_flight(alloc, to, text),
             Question::Points => self.say_found(text, &Some(Answer::Points)),
             Question::Table => self.say_table(alloc, text),
+            Question::Snapshot => self.say_snapshot(alloc, text),
             Question::End => self.say_end(text),
         }
+    }
+
+    // A question. Before a snapshot is given, what is stable is forgotten: so it is short.
+    pub(crate) fn hear_asked(
+        &mut self,
+        alloc: Global,
+        asked: Question,
+        text: &mut Writer,
+    ) -> Result<(), AllocError>
+        requires { IsQuestion (accepted_of self.old) asked }
+        ensures says { OnOk result (Says (accepted_of self.old) text.old text.new
+            (IsAnswer self.old (line.Ask asked) self.new)) }
+        ensures protocol { self.new.guide.protocol ≡ self.old.guide.protocol }
+    {
+        if matches!(asked, Question::Snapshot) {
+            self.shorten(alloc);
+            return self.say_asked(alloc, asked, text);
+        }
+        self.say_asked(alloc, asked, text)
     }
 }

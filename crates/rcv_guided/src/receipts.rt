@@ -89,7 +89,7 @@ impl GuidedSession {
     }
 
     // What is answered where a receipt isn't taken.
-    fn refusal_of_receipt(&self, told: &ToldRecv) -> Option<Answer<'_>>
+    pub(crate) fn refusal_of_receipt(&self, told: &ToldRecv) -> Option<Answer<'_>>
         requires { IsToldRecv self.now told.now }
         ensures why { MatchOption result (MayReceive self.now told.now)
             (λ said. IsRefusalOfReceipt self.now told.now said ⊎ (said ≡ answer.Memory)) }
@@ -105,7 +105,7 @@ impl GuidedSession {
     }
 
     // Takes a receipt that may come.
-    fn take_receipt(&mut self, told: &ToldRecv) -> Answer<'static>
+    pub(crate) fn take_receipt(&mut self, told: &ToldRecv) -> Answer<'static>
         requires told { IsToldRecv self.old told.now }
         requires may { MayReceive self.old told.now }
         ensures comes { ComesBy self.old (line.Recv told.now) self.new result }

@@ -45,6 +45,15 @@ impl GuidedSession {
         Ok(())
     }
 
+    // Forgets what no failure takes back, if there is memory for it.
+    pub(crate) fn shorten(&mut self, alloc: Global)
+        ensures judging { IsJudging self.old self.new }
+        ensures history { GoesOnBy self.old [] self.new }
+        ensures protocol { self.new.guide.protocol ≡ self.old.guide.protocol }
+    {
+        let _forgotten = self.forget_stable(alloc);
+    }
+
     // Doubles the room. Fails where memory runs out, and above 2^31 events.
     fn grow(&mut self, alloc: Global) -> Result<(), AllocError>
         requires { MayForget self.old.guide (replicate 8 0) }
@@ -52,7 +61,9 @@ impl GuidedSession {
         ensures history { OnOk result (GoesOnBy self.old [] self.new) }
         ensures err { OnErr result (self.new ≡ self.old) }
     {
-        // Tells the proof that what is remembered fits.
+        // Tells the proof that the session has a memory.
+        let _roles = self.guide.roles();
+        // Tells it that what is remembered fits.
         let _used = self.guide.used();
         let room = self.guide.room();
         if room >= MOST_BUT_TWICE {

@@ -16,7 +16,7 @@ use std::alloc::AllocError;
 
 impl GuidedSession {
     // What is answered where a save isn't taken.
-    fn refusal_of_save(&self, told: &ToldSave) -> Option<Answer<'_>>
+    pub(crate) fn refusal_of_save(&self, told: &ToldSave) -> Option<Answer<'_>>
         requires { IsToldSave self.now told.now }
         ensures why { MatchOption result (MaySave self.now told.now) (IsRefusalOfSave self.now told.now) }
         ensures named { IfSome result (IsNamed (accepted_of self.now)) }
@@ -32,7 +32,7 @@ impl GuidedSession {
     }
 
     // Takes a save that may come. What is forgotten is saved already.
-    fn take_save(&mut self, told: &ToldSave) -> Answer<'static>
+    pub(crate) fn take_save(&mut self, told: &ToldSave) -> Answer<'static>
         requires told { IsToldSave self.old told.now }
         requires may { MaySave self.old told.now }
         ensures comes { ComesBy self.old (line.Save told.now) self.new result }

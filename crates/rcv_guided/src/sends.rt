@@ -35,7 +35,7 @@ impl GuidedSession {
     }
 
     // What is answered where a send isn't taken.
-    fn refusal_of_send(&self, told: &ToldSend) -> Option<Answer<'_>>
+    pub(crate) fn refusal_of_send(&self, told: &ToldSend) -> Option<Answer<'_>>
         requires { IsToldSend self.now told.now }
         ensures why { MatchOption result (MaySend self.now told.now)
             (λ said. IsRefusalOfSend self.now told.now said ⊎ (said ≡ answer.Memory)) }
@@ -48,7 +48,7 @@ impl GuidedSession {
     }
 
     // Takes a send that may come.
-    fn take_send(&mut self, told: &ToldSend) -> Answer<'static>
+    pub(crate) fn take_send(&mut self, told: &ToldSend) -> Answer<'static>
         requires told { IsToldSend self.old told.now }
         requires may { MaySend self.old told.now }
         ensures comes { ComesBy self.old (line.Send told.now) self.new result }

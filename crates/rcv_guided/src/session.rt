@@ -28,6 +28,8 @@ pub struct GuidedSession {
     pub(crate) saves: Saves,
     // For each role of the protocol.
     pub(crate) incarnations: Vec<u64>,
+    // How much was told of the session whose snapshot was told to this one, if one was.
+    pub(crate) restored: Option<u64>,
 }
 
 impl Model for GuidedSession {
@@ -39,9 +41,9 @@ impl Model for GuidedSession {
 
     ghost coded = { Prim.hlevel (codes, e.the_row.coded) };
 
-    ghost view = { λ a. record { guide = a.guide; saves = a.saves; incarnations = a.incarnations.items } };
+    ghost view = { λ a. record { guide = a.guide; saves = a.saves; incarnations = a.incarnations.items; restored = a.restored } };
 
-    ghost invariant = { λ a. IsSession (record { guide = a.guide; saves = a.saves; incarnations = a.incarnations.items }) };
+    ghost invariant = { λ a. IsSession (record { guide = a.guide; saves = a.saves; incarnations = a.incarnations.items; restored = a.restored }) };
 }
 
 impl GuidedSession {
@@ -68,6 +70,7 @@ impl GuidedSession {
             guide,
             saves,
             incarnations,
+            restored: None,
         })
     }
 

@@ -1,19 +1,19 @@
 -- Rows and arrows say something each.
-use Rattle.std.proofs.Common.{◌≡◌, ◌≤◌, ℕ, List, [], ◌∷◌, ◌++◌, length, refl, ap, ap₂, ◌∙◌}
+use Rattle.std.proofs.Common.{◌≡◌, ◌≤◌, ℕ, List, [], ◌∷◌, ◌++◌, length, refl, ap, ap₂, subst, ◌∙◌}
 use Rattle.std.specs.List.{All}
 use Rattle.std.proofs.lemmas.List.Elements.{All-head, All-tail, filter-append}
 use Rattle.rcv_tree.specs.declared.event.Event.{Event}
 use Rattle.rcv_tree.specs.declared.entry.Entry.{Entry}
 use Rattle.rcv_model.specs.Net.{Net}
-use Rattle.rcv_model.specs.Journal.{Rules}
-use Rattle.rcv_core.specs.Book.{BookView}
-use Rattle.rcv_session.specs.Session.{rules_of}
+use Rattle.rcv_session.specs.Session.{SessionView, rules_of}
+use Rattle.rcv_core.specs.Book.{BookView, state_of}
+use Rattle.rcv_fates.specs.Record.{RecordView, journal_of}
 use Rattle.rcv_picture.specs.declared.group.Says.{Says}
 use Rattle.rcv_picture.specs.declared.group.Says.TheVariants as says
 use Rattle.rcv_rows.specs.Told.{ArePieces, IsWireIn, Tells}
 use Rattle.rcv_picture.specs.declared.picture.Picture.{Picture}
 use Rattle.rcv_scene.specs.Told.{told, said, says_something, AreTitled}
-use Rattle.rcv_look.specs.Drawing.{IsJournalDrawing, IsTextOf, most_drawn}
+use Rattle.rcv_look.specs.Drawing.{IsDrawing, IsJournalDrawing, IsTextOf, most_drawn}
 
 rows_say : (from to : ℕ) (rows : List Says) → ArePieces from to rows → said rows ≡ rows
 rows_say from to [] pieces = refl
@@ -30,22 +30,29 @@ wires_say net kept entries shows (says.Fold first end counts ∷ wires) all = ab
 wires_say net kept entries shows (says.Nothing ∷ wires) all = absurd (All-head (IsWireIn net kept entries shows) says.Nothing wires all)
 
 -- So nothing of them is left out.
-pub all_say : (rules : Rules) (entries : List Entry) (rows wires : List Says) → Tells rules entries rows wires → said (wires ++ rows) ≡ wires ++ rows
-all_say rules entries rows wires tells =
+pub all_say : (net : Net) (kept : List Event) (entries : List Entry) (rows wires : List Says) → Tells net kept entries rows wires → said (wires ++ rows) ≡ wires ++ rows
+all_say net kept entries rows wires tells =
     filter-append says_something wires rows
     ∙ ap₂ (λ (a b : List Says). a ++ b) (wires_say _ _ entries _ wires tells.in_wires.right) (rows_say 0 _ rows tells.in_rows.pieces)
 
--- A picture that says these tells of the journal.
-pub drawn_so : (book : BookView) (picture : Picture) (rows wires said_rows said_wires : List Says) (bytes : List ℕ) → said_rows ≡ rows → said_wires ≡ wires
-    → Tells (rules_of book.setup) book.entries rows wires → told picture.groups.items ≡ said (said_wires ++ said_rows) → AreTitled book picture.groups.items
-    → IsTextOf picture bytes → length bytes ≤ most_drawn (length book.entries) → IsJournalDrawing book.setup book.entries bytes
-drawn_so book picture rows wires said_rows said_wires bytes same_rows same_wires tells says titled text few = record {
+-- A picture that says these tells of the entries.
+pub drawn_so : (r : RecordView) (kept : List Event) (picture : Picture) (rows wires said_rows said_wires : List Says) (bytes : List ℕ) → said_rows ≡ rows → said_wires ≡ wires
+    → Tells (rules_of r.setup).net kept r.entries rows wires → told picture.groups.items ≡ said (said_wires ++ said_rows) → AreTitled (journal_of r) picture.groups.items
+    → IsTextOf picture bytes → length bytes ≤ most_drawn (length r.entries) → IsDrawing r.setup r.entries kept bytes
+drawn_so r kept picture rows wires said_rows said_wires bytes same_rows same_wires tells says titled text few = record {
   picture = picture;
   rows = rows;
   arrows = wires;
   tells = tells;
-  told_so = says ∙ ap₂ (λ (a b : List Says). said (a ++ b)) same_wires same_rows ∙ all_say (rules_of book.setup) book.entries rows wires tells;
+  told_so = says ∙ ap₂ (λ (a b : List Says). said (a ++ b)) same_wires same_rows ∙ all_say (rules_of r.setup).net kept r.entries rows wires tells;
   titled = titled;
   is_text = text;
   short = few;
 }
+
+-- One of a record of a book's journal is one of the journal.
+pub of_book : (book : BookView) (r : RecordView) (bytes : List ℕ) → r.setup ≡ book.setup → r.entries ≡ book.entries
+    → IsDrawing r.setup r.entries (state_of book).kept bytes → IsJournalDrawing book.setup book.entries bytes
+of_book book r bytes setup entries drawing =
+    subst (λ (es : List Entry). IsDrawing book.setup es (state_of book).kept bytes) entries
+    (subst (λ (s : SessionView). IsDrawing s r.entries (state_of book).kept bytes) setup drawing)

@@ -2,8 +2,10 @@
 use Rattle.std.specs.Prelude.{◌≡◌, ◌≤◌, ◌+◌, ◌*◌, ℕ, ◌⊎◌, List, ◌++◌, length, nat_lt, if◌then◌else◌, position, codes, decimal, Option, Some, None}
 use Rattle.std.specs.Str.{bytes_eq}
 use Rattle.rcv_tree.specs.declared.entry.Entry.{Entry}
+use Rattle.rcv_tree.specs.declared.event.Event.{Event}
 use Rattle.rcv_tree.specs.declared.protocol.Protocol.{Protocol}
 use Rattle.rcv_model.specs.Text.{body_of}
+use Rattle.rcv_model.specs.Journal.{reading}
 use Rattle.rcv_accept.specs.Accepted.{AcceptedView, net_for, roles_of}
 use Rattle.rcv_session.specs.Session.{SessionView, rules_of}
 use Rattle.rcv_tables.specs.Rows.{TableView, IsTable}
@@ -37,19 +39,23 @@ IsTextOf picture bytes = bytes ≡ trees.spelled (tree_of picture)
 abbrev pub most_drawn : ℕ → ℕ
 most_drawn entries = 131072 + 4096 * (if nat_lt entries 450 then entries else 450)
 
--- The bytes are a picture of a session's journal. What its groups say, by class, id and title, tells of the entries: each
+-- The bytes are a picture of a session's entries where these events are kept at their end. What its groups say, by class, id and title, tells of the entries: each
 -- has one group or stands in one fold, says undone exactly if it isn't kept at the end, and each arrow is a message. The
 -- title of an entry's group is the entry's line. What is drawn in a group is free. The bytes are as few as a picture of
 -- so many entries may have.
-pub record IsJournalDrawing (session : SessionView) (entries : List Entry) (bytes : List ℕ) : Type 0 where
+pub record IsDrawing (session : SessionView) (entries : List Entry) (kept : List Event) (bytes : List ℕ) : Type 0 where
   pub picture : Picture
   pub rows : List Says
   pub arrows : List Says
-  pub tells : Tells (rules_of session) entries rows arrows
+  pub tells : Tells (rules_of session).net kept entries rows arrows
   pub told_so : told picture.groups.items ≡ arrows ++ rows
   pub titled : AreTitled (record { setup = session; entries = entries }) picture.groups.items
   pub is_text : IsTextOf picture bytes
   pub short : length bytes ≤ most_drawn (length entries)
+
+-- They are one of a session's journal: the kept events are those that the journal leaves.
+abbrev pub IsJournalDrawing : SessionView → List Entry → List ℕ → Type 0
+IsJournalDrawing session entries bytes = IsDrawing session entries (reading (rules_of session) entries).kept bytes
 
 abbrev pub accepted_as : Protocol → AcceptedView
 accepted_as protocol = record { protocol = protocol }

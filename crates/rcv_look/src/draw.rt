@@ -1,9 +1,12 @@
 // The picture of a journal.
 
-ghost use Rattle.std.specs.Prelude.{◌≡◌, ◌≤◌, length, IfOk};
-ghost use Rattle.rcv_look.specs.Drawing.{IsJournalDrawing, most_drawn};
+ghost use Rattle.std.specs.Prelude.{◌≡◌, ◌≤◌, List, length, IfOk};
+ghost use Rattle.rcv_tree.specs.declared.event.Event.{Event};
+ghost use Rattle.rcv_fates.specs.Record.{HasKept};
+ghost use Rattle.rcv_look.specs.Drawing.{IsDrawing, IsJournalDrawing, most_drawn};
 
 use rcv_core::book::Book;
+use rcv_fates::Record;
 use rcv_journal::line::RoleLine;
 use rcv_picture::picture_text;
 use rcv_rows::tell;
@@ -12,13 +15,13 @@ use rcv_story::shown::shown_entries;
 use rcv_story::story::{Story, story_of};
 use std::alloc::{AllocError, Global};
 
-// For each entry of the book whether it is shown.
-fn marks(alloc: Global, book: &Book<'_>, story: &Story) -> Result<Vec<bool>, AllocError>
-    ensures { IfOk result (λ marks. length marks.items ≡ length book.now.entries) }
+// For each entry whether it is shown.
+fn marks(alloc: Global, record: &Record<'_>, story: &Story) -> Result<Vec<bool>, AllocError>
+    ensures { IfOk result (λ marks. length marks.items ≡ length record.now.entries) }
 {
-    let shown = shown_entries(alloc, book.entries(), story)?;
+    let shown = shown_entries(alloc, record.entries(), story)?;
     let mut marks = Vec::new(alloc);
-    for place in 0..book.entries().len() {
+    for place in 0..record.entries().len() {
         marks.push(shown.get(place).copied().unwrap_or(true))?;
     }
     Ok(marks)
@@ -43,21 +46,30 @@ fn short(text: Vec<u8>, entries: usize) -> Result<Vec<u8>, AllocError>
     Ok(text)
 }
 
-/// The text of a picture of a book's journal, whose roles ended as these lines say. Fails where memory runs out.
-pub fn draw(alloc: Global, book: &Book<'_>, lines: &[RoleLine]) -> Result<Vec<u8>, AllocError>
-    ensures { IfOk result (λ text. IsJournalDrawing book.now.setup book.now.entries text.items) }
+/// The text of a picture of a journal, whose roles ended as these lines say. Fails where memory runs out.
+pub fn draw(alloc: Global, record: &Record<'_>, lines: &[RoleLine]) -> Result<Vec<u8>, AllocError>
+    ensures { IfOk result (λ text. (kept : List Event) → HasKept record.now kept
+        → IsDrawing record.now.setup record.now.entries kept text.items) }
 {
-    let story = story_of(alloc, book.setup().points(), book.entries())?;
-    let marks = marks(alloc, book, &story)?;
-    let told = tell(alloc, book, marks.as_slice())?;
+    let story = story_of(alloc, record.setup().points(), record.entries())?;
+    let marks = marks(alloc, record, &story)?;
+    let told = tell(alloc, record, marks.as_slice())?;
     let picture = journal_picture(
         alloc,
-        book,
+        record,
         lines,
         &story,
         told.wires.as_slice(),
         told.rows.as_slice(),
     )?;
     let text = picture_text(alloc, &picture)?;
-    short(text, book.entries().len())
+    short(text, record.entries().len())
+}
+
+/// The text of a picture of a book's journal, whose roles ended as these lines say. Fails where memory runs out.
+pub fn draw_book(alloc: Global, book: &Book<'_>, lines: &[RoleLine]) -> Result<Vec<u8>, AllocError>
+    ensures { IfOk result (λ text. IsJournalDrawing book.now.setup book.now.entries text.items) }
+{
+    let record = Record::of_book(alloc, book)?;
+    draw(alloc, &record, lines)
 }

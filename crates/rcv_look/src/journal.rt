@@ -6,7 +6,7 @@ ghost use Rattle.rcv_session.specs.Session.{rules_of};
 ghost use Rattle.rcv_replay.specs.Cutting.{cut_of};
 ghost use Rattle.rcv_look.specs.Outcome.{IsVerdict, IsTextAnswer, IsBundleAnswer, IsJournalAnswer};
 
-use crate::draw::draw;
+use crate::draw::draw_book;
 use crate::input::MOST_OF_BUNDLE;
 use crate::lines::{illegal, malformed, no_journal, refuse};
 use crate::output::Output;
@@ -132,7 +132,7 @@ fn close(
         }
         None => Ok(Output {
             status: Status::Drawn,
-            bytes: draw(alloc, book, journal.roles.as_slice())?,
+            bytes: draw_book(alloc, book, journal.roles.as_slice())?,
         }),
     }
 }

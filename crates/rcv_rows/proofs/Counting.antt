@@ -6,7 +6,8 @@ use Rattle.std.proofs.lemmas.List.{get_or-drop, length-drop, length-take}
 use Rattle.std.proofs.lemmas.Option.{slice_get-get_or}
 use Rattle.rcv_tree.specs.declared.event.Event.{Event}
 use Rattle.rcv_tree.specs.declared.entry.Entry.{Entry}
-use Rattle.rcv_rows.specs.Told.{IsUndone, IsUndoneAt, AreUndone, AtEnd, Undone, Passed}
+use Rattle.rcv_fates.specs.Fates.{IsUndone, IsUndoneAt}
+use Rattle.rcv_rows.specs.Told.{AreUndone, AtEnd, Undone, Passed}
 
 one_more : (kept : List Event) (run : List Entry) (e : Entry) (n : ℕ) → AreUndone kept run n → IsUndone kept e → AreUndone kept (run ++ e ∷ []) (suc n)
 one_more kept [] e n AtEnd u = Undone u AtEnd

@@ -9,7 +9,8 @@ use Rattle.rcv_tree.specs.declared.entry.Entry.{Entry}
 use Rattle.rcv_picture.specs.declared.group.Counts.{Counts}
 use Rattle.rcv_picture.specs.declared.group.Says.{Says}
 use Rattle.rcv_picture.specs.declared.group.Says.TheVariants as says
-use Rattle.rcv_rows.specs.Told.{ArePieces, AreApart, begins_folded, AreCounts, IsRight, IsUndoneAt, IsSaid, IsShown, IsWireIn}
+use Rattle.rcv_fates.specs.Fates.{IsUndoneAt}
+use Rattle.rcv_rows.specs.Told.{ArePieces, AreApart, begins_folded, AreCounts, IsRight, IsSaid, IsShown, IsWireIn}
 use Rattle.rcv_rows.specs.Laws.{RowsAreDetermined, WiresAreDetermined}
 use Rattle.rcv_rows.proofs.Counting.{same_number}
 

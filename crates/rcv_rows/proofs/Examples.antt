@@ -10,10 +10,10 @@ use Rattle.rcv_model.specs.Net.{Net}
 use Rattle.rcv_picture.specs.declared.group.Counts.{Counts}
 use Rattle.rcv_picture.specs.declared.group.Says.{Says}
 use Rattle.rcv_picture.specs.declared.group.Says.TheVariants as says
-use Rattle.rcv_fates.specs.Fates.{IsAmong, IsMessage}
-use Rattle.rcv_rows.specs.Told.{ArePieces, AreApart, IsUndoneAt, AreUndone, AtEnd, Undone, Passed, AreCounts, IsRight, AreRows, IsShown, AreWires}
+use Rattle.rcv_fates.specs.Fates.{IsAmong, IsMessage, IsUndoneAt}
+use Rattle.rcv_rows.specs.Told.{ArePieces, AreApart, AreUndone, AtEnd, Undone, Passed, AreCounts, IsRight, AreRows, IsShown, AreWires}
 use Rattle.rcv_rows.proofs.Counting.{same_number}
-use Rattle.rcv_rows.proofs.Kept.{entry_undone}
+use Rattle.rcv_fates.proofs.Undoing.{entry_undone}
 
 abbrev net : Net
 net = record { count = 1; offers = λ k. []; sender = λ p. 0; receiver = λ p. 1; label = λ p. []; lane = λ p. 0; stage = λ l. 0; begins = λ l. [] }

@@ -11,8 +11,8 @@ use Rattle.rcv_model.specs.Net.{Net}
 use Rattle.rcv_picture.specs.declared.group.Says.{Says}
 use Rattle.rcv_picture.specs.declared.group.Says.TheVariants as says
 use Rattle.rcv_fates.specs.declared.arrow.Arrow.{Arrow}
-use Rattle.rcv_fates.specs.Fates.{arrow, AreArrows}
-use Rattle.rcv_rows.specs.Told.{IsSaid, IsMarked, IsUndoneAt, IsWireIn, IsDrawn, AreOnce, AreWires}
+use Rattle.rcv_fates.specs.Fates.{arrow, AreArrows, IsUndoneAt}
+use Rattle.rcv_rows.specs.Told.{IsSaid, IsMarked, IsWireIn, IsDrawn, AreOnce, AreWires}
 use Rattle.rcv_rows.specs.Adding.{IsWireOf}
 use Rattle.rcv_rows.proofs.Saying.{said_left, said_right, said_either}
 

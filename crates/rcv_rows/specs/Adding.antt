@@ -5,7 +5,8 @@ use Rattle.rcv_tree.specs.declared.entry.Entry.{Entry}
 use Rattle.rcv_picture.specs.declared.group.Counts.{Counts}
 use Rattle.rcv_picture.specs.declared.group.Says.{Says}
 use Rattle.rcv_picture.specs.declared.group.Says.TheVariants as says
-use Rattle.rcv_rows.specs.Told.{IsRight, IsUndoneAt}
+use Rattle.rcv_fates.specs.Fates.{IsUndoneAt}
+use Rattle.rcv_rows.specs.Told.{IsRight}
 
 -- The row of the entry at this place.
 pub record IsRowOf (kept : List Event) (entries : List Entry) (place : ℕ) (row : Says) : Type 0 where

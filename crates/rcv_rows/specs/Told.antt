@@ -5,11 +5,10 @@ use Rattle.rcv_tree.specs.declared.event.Event.{Event}
 use Rattle.rcv_tree.specs.declared.entry.Entry.{Entry}
 use Rattle.rcv_tree.specs.declared.entry.Entry.TheVariants.{Send, Recv, Crash, Recover}
 use Rattle.rcv_model.specs.Net.{Net}
-use Rattle.rcv_model.specs.Journal.{Rules, reading}
 use Rattle.rcv_picture.specs.declared.group.Counts.{Counts}
 use Rattle.rcv_picture.specs.declared.group.Says.{Says}
 use Rattle.rcv_picture.specs.declared.group.Says.TheVariants as says
-use Rattle.rcv_fates.specs.Fates.{IsAmong, IsMessage}
+use Rattle.rcv_fates.specs.Fates.{IsUndone, IsUndoneAt, IsMessage}
 
 -- The rows tell of each entry from one place up to before another exactly once, in order.
 abbrev pub ArePieces : ℕ → ℕ → List Says → Type 0
@@ -35,19 +34,6 @@ AreApart (says.Fold first end counts ∷ rows) = (begins_folded rows ≡ false) 
 AreApart (says.Entry place undone ∷ rows) = AreApart rows
 AreApart (says.Nothing ∷ rows) = AreApart rows
 AreApart (says.Arrow send receive undone ∷ rows) = AreApart rows
-
--- The entry is a Send or Recv of an event that isn't among the kept ones.
-abbrev pub IsUndone : List Event → Entry → Type 0
-IsUndone kept (Send event) = IsAmong event kept → ⊥
-IsUndone kept (Recv event) = IsAmong event kept → ⊥
-IsUndone kept (Crash role) = ⊥
-IsUndone kept (Recover role concerned keeps removed) = ⊥
-
--- So is the entry at this place.
-pub record IsUndoneAt (kept : List Event) (entries : List Entry) (place : ℕ) : Type 0 where
-  pub entry : Entry
-  pub there : slice_get entries place ≡ Some entry
-  pub undone : IsUndone kept entry
 
 -- So many of these entries are undone.
 pub data AreUndone (kept : List Event) : List Entry → ℕ → Type 0 where
@@ -151,7 +137,7 @@ pub record AreWires (net : Net) (kept : List Event) (entries : List Entry) (show
   pub all : (s t : ℕ) → IsMessage net entries s t → shows s ⊎ shows t → IsDrawn wires s t
   pub once : AreOnce wires
 
--- The rows and arrows tell of a journal: what is undone isn't among the events that are kept at its end.
-pub record Tells (rules : Rules) (entries : List Entry) (rows wires : List Says) : Type 0 where
-  pub in_rows : AreRows (reading rules entries).kept entries rows
-  pub in_wires : AreWires rules.net (reading rules entries).kept entries (IsShown rows) wires
+-- The rows and arrows tell of these entries, where these events are kept at the end.
+pub record Tells (net : Net) (kept : List Event) (entries : List Entry) (rows wires : List Says) : Type 0 where
+  pub in_rows : AreRows kept entries rows
+  pub in_wires : AreWires net kept entries (IsShown rows) wires

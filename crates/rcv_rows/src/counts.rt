@@ -1,28 +1,27 @@
 // How many entries of each kind lie between two places of a journal, and how many of them are undone.
 
-ghost use Rattle.std.specs.Prelude.{◌≡◌, ◌≤◌, ◌<◌, ◌^◌, count_by, length, slice_range};
-ghost use Rattle.rcv_core.specs.Book.{state_of};
+ghost use Rattle.std.specs.Prelude.{◌≡◌, ◌≤◌, ◌<◌, ◌^◌, List, count_by, length, slice_range};
+ghost use Rattle.rcv_tree.specs.declared.event.Event.{Event};
+ghost use Rattle.rcv_fates.specs.Record.{HasKept};
 ghost use Rattle.rcv_rows.specs.Told.{AreCounts, AreUndone, is_send, is_recv, is_crash, is_recover};
 
-use crate::entries::entries_of;
-use crate::undone::is_undone;
-use rcv_core::book::Book;
+use rcv_fates::Record;
 use rcv_picture::group::Counts;
 use rcv_tree::entry::Entry;
 
 // The counts of the entries from the first up to before the end.
-pub fn counts_of(book: &Book<'_>, first: usize, end: usize) -> Counts
+pub fn counts_of(record: &Record<'_>, first: usize, end: usize) -> Counts
     requires order { first ≤ end }
-    requires within { end ≤ length book.now.entries }
-    ensures { AreCounts (state_of book.now).kept (slice_range book.now.entries first end) result }
+    requires within { end ≤ length record.now.entries }
+    ensures { (kept : List Event) → HasKept record.now kept → AreCounts kept (slice_range record.now.entries first end) result }
 {
-    let run = &entries_of(book)[first..end];
+    let run = &record.entries()[first..end];
     Counts {
         sends: sends(run),
         receives: receives(run),
         crashes: crashes(run),
         recoveries: recoveries(run),
-        undone: undone(book, first, end),
+        undone: undone(record, first, end),
     }
 }
 
@@ -63,16 +62,16 @@ fn recoveries(run: &[Entry]) -> u32
 }
 
 // How many of them are undone.
-fn undone(book: &Book<'_>, first: usize, end: usize) -> u32
+fn undone(record: &Record<'_>, first: usize, end: usize) -> u32
     requires order { first ≤ end }
-    requires within { end ≤ length book.now.entries }
-    ensures { AreUndone (state_of book.now).kept (slice_range book.now.entries first end) result }
+    requires within { end ≤ length record.now.entries }
+    ensures { (kept : List Event) → HasKept record.now kept → AreUndone kept (slice_range record.now.entries first end) result }
 {
     // Tells the proof that there are few.
-    let _entries = entries_of(book);
+    let _entries = record.entries();
     let mut count = 0;
     for place in first..end {
-        if is_undone(book, place) {
+        if record.is_undone(place) {
             count += 1;
         }
     }

@@ -3,14 +3,12 @@
 #![tactic(auto)]
 
 mod counts;
-mod entries;
 pub mod laws;
 mod mark;
 mod row;
 #[cfg(test)]
 mod tests;
 mod told;
-mod undone;
 mod wire;
 
 pub use row::rows;

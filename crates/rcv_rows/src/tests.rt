@@ -3,6 +3,7 @@
 use crate::told::{Told, tell};
 use rcv_core::book::Book;
 use rcv_core::setup::Setup;
+use rcv_fates::Record;
 use rcv_input::read_input;
 use rcv_picture::group::{Counts, Says};
 use std::alloc::Global;
@@ -33,7 +34,8 @@ fn told_of(alloc: Global, input: &[u8], shown: &[bool]) -> Option<Told> {
     if shown.len() != book.len() {
         return None;
     }
-    tell(alloc, &book, shown).ok()
+    let record = Record::of_book(alloc, &book).ok()?;
+    tell(alloc, &record, shown).ok()
 }
 
 // Whether this is said at a place, from 0.

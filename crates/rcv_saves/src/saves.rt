@@ -52,6 +52,14 @@ impl Saves {
         add(&mut self.told[role.0 as usize], count)
     }
 
+    /// Behind which counts a role was told to have saved its state, ascending; without those that were dropped.
+    pub fn told(&self, role: RoleId) -> &[u64]
+        requires { role < length self.now.steps }
+        ensures { result.now ≡ told_of self.now role }
+    {
+        self.told[role.0 as usize].as_slice()
+    }
+
     /// The greatest count up to this one behind which a role has saved its state, where it has saved it behind the base.
     /// It takes no memory.
     pub fn last(&self, role: RoleId, base: u64, count: u64) -> u64

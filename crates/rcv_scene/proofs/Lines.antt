@@ -1,17 +1,13 @@
--- The line of the entry at a place of a legal journal.
+-- The line of the entry at a place of a journal.
 use Rattle.std.proofs.Common.{◌≡◌, ℕ, ◌+◌, List, ◌++◌, Some, None, slice_get, length, ◌≤◌, codes, flat_map, refl, sym, ◌∙◌, ap, subst, inl, inr, append_assoc}
 use Rattle.std.specs.List.{range_with_len}
-use Rattle.std.proofs.lemmas.Option.{slice_get_cases, slice_get_past}
-use Rattle.std.proofs.lemmas.List.Elements.{All-get_or}
+use Rattle.std.proofs.lemmas.Option.{slice_get_past}
 use Rattle.rcv_tree.specs.declared.entry.Entry.{Entry}
 use Rattle.rcv_tree.specs.declared.entry.Entry.TheVariants.{Send, Recv, Crash, Recover}
-use Rattle.rcv_model.specs.Journal.{IsLegal}
-use Rattle.rcv_accept.specs.Accepted.{IsAcceptedProtocol}
-use Rattle.rcv_session.specs.Session.{SessionView, rules_of}
+use Rattle.rcv_session.specs.Session.{SessionView}
 use Rattle.rcv_core.specs.Book.{BookView}
-use Rattle.rcv_journal.specs.JournalText.{IsNamed, entry_line}
+use Rattle.rcv_journal.specs.JournalText.{entry_line}
 use Rattle.rcv_journal.proofs.Lists.{said_of_one_more}
-use Rattle.rcv_journal.proofs.Named.{legal_is_named}
 use Rattle.rcv_scene.specs.Told.{bare_line, IsLineAt}
 
 -- a line is what is written of it, and a line feed
@@ -37,18 +33,6 @@ no_line book at text none other there =
 -- behind the last there is none
 pub past_end : (read entries : List Entry) (at : ℕ) → read ≡ entries → length read ≤ at → slice_get entries at ≡ None
 past_end read entries at same past = subst (λ (l : List Entry). slice_get l at ≡ None) same (slice_get_past read at past)
-
--- the entry at a place names what is declared
-pub named_at : (setup : SessionView) (entries : List Entry) (at : ℕ) (e : Entry) → IsAcceptedProtocol setup.protocol → IsLegal (rules_of setup) entries → slice_get entries at ≡ Some e → IsNamed setup e
-named_at setup entries at e plain legal is =
-    let all = legal_is_named setup entries plain legal in
-    elim (slice_get_cases entries at).1 [
-      | inl w ↦
-          (let found : Some w.0 ≡ Some e = sym w.2 ∙ is in
-          let same : w.0 ≡ e = cc in
-          subst (IsNamed setup) (w.3 ∙ same) (All-get_or (IsNamed setup) entries at w.0 w.1 all))
-      | inr w ↦ (let wrong : None ≡ Some e = sym w.1 ∙ is in absurd cc)
-    ]
 
 -- what is said of each role so far, and of one more
 pub role_added : (said : ℕ → List ℕ) (n : ℕ) (before old new : List ℕ) → old ≡ before ++ flat_map said (range_with_len 0 n) → new ≡ old ++ said n → new ≡ before ++ flat_map said (range_with_len 0 (n + 1))

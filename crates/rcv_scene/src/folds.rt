@@ -95,7 +95,7 @@ fn add_numbers(
     end: u32,
     y: Pixels,
 ) -> Result<(), AllocError> {
-    let x = layout.left - Pixels(10);
+    let x = layout.numbers;
     let number = text_of(layout.alloc, &[Piece::Number(first.saturating_add(1))])?;
     shapes.text(place(x, y - Pixels(3)), Anchor::End, Look::Note, number)?;
     let number = text_of(

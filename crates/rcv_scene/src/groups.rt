@@ -2,6 +2,7 @@
 
 ghost use Rattle.std.specs.Prelude.{[], ◌∷◌, IfOk, OnOk};
 ghost use Rattle.rcv_core.specs.Book.{BookView};
+ghost use Rattle.rcv_fates.specs.Record.{journal_of};
 ghost use Rattle.rcv_scene.specs.Told.{Adds, IsTitle};
 
 use crate::folds::fold_shapes;
@@ -10,7 +11,7 @@ use crate::line::line_at;
 use crate::marks::mark_shapes;
 use crate::routes::Routes;
 use crate::wires::{wire_shapes, wire_title};
-use rcv_core::book::Book;
+use rcv_fates::Record;
 use rcv_picture::group::{Group, Says};
 use rcv_picture::shape::Shape;
 use std::alloc::{AllocError, Global};
@@ -31,11 +32,11 @@ fn shapes_of(
 }
 
 // The title of what is said.
-fn title_of(alloc: Global, book: &Book<'_>, says: &Says) -> Result<Vec<u8>, AllocError>
-    ensures { IfOk result (λ title. IsTitle book.now says.now title.items) }
+fn title_of(alloc: Global, record: &Record<'_>, says: &Says) -> Result<Vec<u8>, AllocError>
+    ensures { IfOk result (λ title. IsTitle (journal_of record.now) says.now title.items) }
 {
     match says {
-        Says::Entry { place, .. } => line_at(alloc, book, *place),
+        Says::Entry { place, .. } => line_at(alloc, record, *place),
         Says::Arrow { send, receive, .. } => wire_title(alloc, *send, *receive),
         Says::Fold { .. } | Says::Nothing => Ok(Vec::new(alloc)),
     }
@@ -46,13 +47,13 @@ fn title_of(alloc: Global, book: &Book<'_>, says: &Says) -> Result<Vec<u8>, Allo
 fn add_one(
     groups: &mut Vec<Group>,
     alloc: Global,
-    book: &Book<'_>,
+    record: &Record<'_>,
     says: &Says,
     shapes: Vec<Shape>,
 ) -> Result<(), AllocError>
-    ensures { OnOk result (Adds book.now groups.old.items groups.new.items (says.now ∷ [])) }
+    ensures { OnOk result (Adds (journal_of record.now) groups.old.items groups.new.items (says.now ∷ [])) }
 {
-    let title = title_of(alloc, book, says)?;
+    let title = title_of(alloc, record, says)?;
     groups.push(Group {
         says: *says,
         title,
@@ -65,16 +66,16 @@ fn add_one(
 pub fn add_all(
     groups: &mut Vec<Group>,
     alloc: Global,
-    book: &Book<'_>,
+    record: &Record<'_>,
     layout: &Layout<'_>,
     routes: &Routes,
     all: &[Says],
 ) -> Result<(), AllocError>
-    ensures { OnOk result (Adds book.now groups.old.items groups.new.items all.now) }
+    ensures { OnOk result (Adds (journal_of record.now) groups.old.items groups.new.items all.now) }
 {
     for (number, says) in all.iter().enumerate() {
         let shapes = shapes_of(layout, routes, number, says)?;
-        add_one(groups, alloc, book, says, shapes)?;
+        add_one(groups, alloc, record, says, shapes)?;
     }
     Ok(())
 }

@@ -2,6 +2,7 @@
 
 ghost use Rattle.std.specs.Prelude.{◌≡◌, ◌++◌, [], IfOk, OnOk};
 ghost use Rattle.rcv_core.specs.Book.{BookView};
+ghost use Rattle.rcv_fates.specs.Record.{journal_of};
 ghost use Rattle.rcv_scene.specs.Told.{told, said, Adds, AreTitled};
 
 use crate::bar::bar;
@@ -17,7 +18,7 @@ use crate::recoveries::zones;
 use crate::routes::{Routes, find_routes};
 use crate::wires::{loose_shapes, loose_title};
 use crate::wording::{Piece, text_of};
-use rcv_core::book::Book;
+use rcv_fates::Record;
 use rcv_journal::line::RoleLine;
 use rcv_picture::group::{Group, Says};
 use rcv_picture::picture::Picture;
@@ -44,9 +45,10 @@ fn add_loose(
 ) -> Result<(), AllocError>
     ensures { OnOk result ((book : BookView) → Adds book groups.old.items groups.new.items []) }
 {
-    for route in routes.routes.iter().skip(wires) {
+    for (number, route) in routes.routes.iter().enumerate().skip(wires) {
         let title = loose_title(layout.alloc, route)?;
-        add_silent(groups, title, loose_shapes(layout, route)?)?;
+        let shapes = loose_shapes(layout, route, routes.is_first_dropped(number))?;
+        add_silent(groups, title, shapes)?;
     }
     Ok(())
 }
@@ -77,7 +79,7 @@ fn add_below(
 // What the picture shows, in words: how many entries there are, and the recoveries that are shown.
 fn description_of(
     alloc: Global,
-    book: &Book<'_>,
+    record: &Record<'_>,
     layout: &Layout<'_>,
 ) -> Result<Vec<u8>, AllocError> {
     let mut text = text_of(
@@ -86,7 +88,7 @@ fn description_of(
     )?;
     for recovery in layout.story.recoveries.iter() {
         if layout.is_shown(recovery.place) {
-            let line = line_at(alloc, book, recovery.place)?;
+            let line = line_at(alloc, record, recovery.place)?;
             text.extend_from_slice(b"; ")?;
             text.extend_from_slice(line.as_slice())?;
         }
@@ -97,20 +99,20 @@ fn description_of(
 // The groups of a picture, and where it ends.
 fn groups_of(
     alloc: Global,
-    book: &Book<'_>,
+    record: &Record<'_>,
     layout: &Layout<'_>,
+    routes: &Routes,
     lines: &[RoleLine],
     wires: &[Says],
     rows: &[Says],
 ) -> Result<(Vec<Group>, Pixels), AllocError>
-    ensures { IfOk result (λ made. Adds book.now [] made.0.items (wires.now ++ rows.now)) }
+    ensures { IfOk result (λ made. Adds (journal_of record.now) [] made.0.items (wires.now ++ rows.now)) }
 {
-    let routes = find_routes(alloc, layout, wires)?;
     let mut groups = Vec::new(alloc);
     add_background(&mut groups, layout)?;
-    add_all(&mut groups, alloc, book, layout, &routes, wires)?;
-    add_loose(&mut groups, layout, &routes, wires.len())?;
-    add_all(&mut groups, alloc, book, layout, &routes, rows)?;
+    add_all(&mut groups, alloc, record, layout, routes, wires)?;
+    add_loose(&mut groups, layout, routes, wires.len())?;
+    add_all(&mut groups, alloc, record, layout, routes, rows)?;
     add_above(&mut groups, layout)?;
     let (shapes, end) = legend(layout, layout.end + FOOT + Pixels(18))?;
     add_below(&mut groups, layout, lines, shapes)?;
@@ -119,24 +121,26 @@ fn groups_of(
     Ok((groups, end))
 }
 
-/// The picture of a book's journal: what its roles did, from above to below, with an arrow for each of these wires and
+/// The picture of a journal: what its roles did, from above to below, with an arrow for each of these wires and
 /// a row for each of these entries and folds. `lines` says how the roles ended, and `story` is that of the journal.
 /// Fails where memory runs out.
 #[tactic(auto, using(crate::proofs::Telling::from_none, crate::proofs::Telling::titled_from_none))]
 pub fn journal_picture(
     alloc: Global,
-    book: &Book<'_>,
+    record: &Record<'_>,
     lines: &[RoleLine],
     story: &Story,
     wires: &[Says],
     rows: &[Says],
 ) -> Result<Picture, AllocError>
     ensures told { IfOk result (λ picture. told picture.groups.items ≡ said (wires.now ++ rows.now)) }
-    ensures titled { IfOk result (λ picture. AreTitled book.now picture.groups.items) }
+    ensures titled { IfOk result (λ picture. AreTitled (journal_of record.now) picture.groups.items) }
 {
-    let cast = Cast::of(alloc, book.setup())?;
-    let layout = lay_out(alloc, cast, book.entries(), story, lines, rows)?;
-    let (groups, end) = groups_of(alloc, book, &layout, lines, wires, rows)?;
+    let cast = Cast::of(alloc, record.setup())?;
+    let mut layout = lay_out(alloc, cast, record.entries(), story, lines, rows)?;
+    let routes = find_routes(alloc, &layout, wires)?;
+    layout.widen(routes.wider());
+    let (groups, end) = groups_of(alloc, record, &layout, &routes, lines, wires, rows)?;
     Ok(Picture {
         width: layout.width,
         height: end + Pixels(14),
@@ -144,7 +148,7 @@ pub fn journal_picture(
             alloc,
             &[Piece::Word(b"Journal of "), Piece::Word(layout.cast.name)],
         )?,
-        description: description_of(alloc, book, &layout)?,
+        description: description_of(alloc, record, &layout)?,
         groups,
     })
 }

@@ -65,6 +65,8 @@ pub struct Layout<'a> {
     pub title: Vec<u8>,
     /// Whether some entries are folded.
     pub folded: bool,
+    /// Where the numbers of the rows end.
+    pub numbers: Pixels,
     /// Where the first column begins, and how wide each is.
     pub left: Pixels,
     pub column: Pixels,
@@ -207,6 +209,52 @@ fn widest_label(
     Ok(widest)
 }
 
+// How far from the middle of its column what a Recv's label says ends, where it stands away from the sender: at most this.
+fn width_of_note(alloc: Global, cast: &Cast<'_>, event: &Event, again: bool) -> Result<Pixels, AllocError> {
+    let label = label_of(alloc, cast, event)?;
+    let more = if again { Pixels(36) } else { Pixels(0) };
+    Ok(width_of(label.as_slice(), Letters::Small) + more + Pixels(18))
+}
+
+// Whether the Recv at a place may have a label away from its sender: where it was received before, or far from its Send.
+fn may_be_noted(story: &Story, at: u32) -> bool {
+    match story.send_of(at) {
+        Some(send) => at.saturating_sub(send) > 3 || story.is_again(at),
+        None => false,
+    }
+}
+
+// How far from the middles of the first and of the last column labels go at the outer side.
+fn widest_outer(
+    alloc: Global,
+    cast: &Cast<'_>,
+    entries: &[Entry],
+    story: &Story,
+    rows: &[Says],
+) -> Result<(Pixels, Pixels), AllocError> {
+    let mut widest = (Pixels(0), Pixels(0));
+    let last = cast.count().saturating_sub(1);
+    for row in rows {
+        let Says::Entry { place, .. } = row else {
+            continue;
+        };
+        let Some(Entry::Recv(event)) = entries.get(*place as usize) else {
+            continue;
+        };
+        if !may_be_noted(story, *place) {
+            continue;
+        }
+        let width = width_of_note(alloc, cast, event, story.is_again(*place))?;
+        if event.role.0 == 0 {
+            widest.0 = widest.0.max(width);
+        }
+        if u32::from(event.role.0) == last {
+            widest.1 = widest.1.max(width);
+        }
+    }
+    Ok(widest)
+}
+
 // How many entries the longest fold has; 0 where nothing is folded.
 fn longest_fold(rows: &[Says]) -> u32 {
     let mut longest: u32 = 0;
@@ -320,7 +368,7 @@ pub fn lay_out<'a>(
     let (widest_name, most_lines) = sizes_of(names.as_slice());
     let fold = longest_fold(rows);
     let numbers = wide(digits(count_of(entries)).saturating_add(1), Letters::Small);
-    let left = Pixels(52).max(numbers + Pixels(16));
+    let numbers = Pixels(42).max(numbers + Pixels(6));
     let mut column = Pixels(132)
         .max(widest_label(alloc, &cast, entries, rows)? + Pixels(74))
         .max(widest_name + Pixels(20));
@@ -331,8 +379,10 @@ pub fn lay_out<'a>(
         );
         column = column.max(counts + Pixels(12));
     }
+    let outer = widest_outer(alloc, &cast, entries, story, rows)?;
+    let left = numbers + Pixels(10) + (outer.0 - column.half());
     let notes = left + column * cast.count() + Pixels(12);
-    let beside = width_of_notes(alloc, &cast, entries, rows)?;
+    let beside = width_of_notes(alloc, &cast, entries, rows)?.max(outer.1 - column.half());
     let title = title_of(alloc, &cast, entries, lines)?;
     let foot = widest_foot(&cast);
     let width = (notes + beside + Pixels(12))
@@ -361,6 +411,7 @@ pub fn lay_out<'a>(
         names,
         title,
         folded: fold > 0,
+        numbers,
         left,
         column,
         notes,
@@ -374,6 +425,14 @@ pub fn lay_out<'a>(
 }
 
 impl<'a> Layout<'a> {
+    /// Makes each column so much wider.
+    pub fn widen(&mut self, more: Pixels) {
+        let all = more * self.cast.count();
+        self.column = self.column + more;
+        self.notes = self.notes + all;
+        self.width = self.width + all;
+    }
+
     /// The middle of a role's column.
     pub fn x(&self, role: u8) -> Pixels {
         self.left + self.column * u32::from(role) + self.column.half()

@@ -4,10 +4,11 @@ ghost use Rattle.std.specs.Prelude.{◌≡◌, ◌<◌, ◌++◌, IfOk, OnOk, fl
 ghost use Rattle.std.specs.List.{range_with_len};
 ghost use Rattle.rcv_session.specs.Session.{roles_of};
 ghost use Rattle.rcv_journal.specs.JournalText.{IsNamed, IsNamedEvent, name_of, event_text, kept_text};
+ghost use Rattle.rcv_fates.specs.Record.{journal_of};
 ghost use Rattle.rcv_scene.specs.Told.{bare_line, IsLineAt};
 
-use rcv_core::book::Book;
 use rcv_core::setup::Setup;
+use rcv_fates::Record;
 use rcv_text::writer::Writer;
 use rcv_tree::entry::Entry;
 use rcv_tree::event::Event;
@@ -124,15 +125,13 @@ fn line_of(alloc: Global, setup: &Setup, entry: &Entry) -> Result<Vec<u8>, Alloc
     Ok(text.finish())
 }
 
-/// The line of the entry of a book at a place, without its line feed; empty where there is none. Fails where memory
+/// The line of the entry of a journal at a place, without its line feed; empty where there is none. Fails where memory
 /// runs out.
-pub fn line_at(alloc: Global, book: &Book<'_>, at: u32) -> Result<Vec<u8>, AllocError>
-    ensures { IfOk result (λ line. IsLineAt book.now at line.items) }
+pub fn line_at(alloc: Global, record: &Record<'_>, at: u32) -> Result<Vec<u8>, AllocError>
+    ensures { IfOk result (λ line. IsLineAt (journal_of record.now) at line.items) }
 {
-    // Tells the proof that the protocol is accepted, and so what a legal journal names is declared.
-    let _protocol = book.setup().protocol();
-    match book.entries().get(at as usize) {
-        Some(entry) => line_of(alloc, book.setup(), entry),
+    match record.entries().get(at as usize) {
+        Some(entry) => line_of(alloc, record.setup(), entry),
         None => Ok(Vec::new(alloc)),
     }
 }

@@ -22,7 +22,7 @@ const LONG: u32 = 8;
 // The number of an entry, beside the columns.
 fn add_number(shapes: &mut Shapes, layout: &Layout<'_>, at: u32) -> Result<(), AllocError> {
     let number = text_of(layout.alloc, &[Piece::Number(at.saturating_add(1))])?;
-    let end = place(layout.left - Pixels(10), layout.y(at) + Pixels(4));
+    let end = place(layout.numbers, layout.y(at) + Pixels(4));
     shapes.text(end, Anchor::End, Look::Note, number)
 }
 

@@ -7,12 +7,15 @@ use rcv_picture::shape::Anchor;
 use std::alloc::{AllocError, Global};
 
 /// The most lanes at one side of a column. Later ones share the last.
-const LANES: usize = 6;
+const LANES: usize = 40;
 
 /// How far the first lane is from the middle of its column, and each other from the one before.
 const NEAREST: Pixels = Pixels(24);
 
 const APART: Pixels = Pixels(6);
+
+/// Columns have room for so many lanes at each side, if they aren't made wider.
+const FEW: usize = 6;
 
 // A number of 64 bits has an upper half and a lower one.
 const HALF: u64 = 0x1_0000_0000;
@@ -277,6 +280,28 @@ impl Routes {
             }
         }
         far + Pixels(6)
+    }
+
+    /// How much wider columns have to be so that all lanes have room.
+    pub fn wider(&self) -> Pixels {
+        let mut most = FEW;
+        for side in self.lanes.iter() {
+            most = most.max(side.ends.len());
+        }
+        APART * (most.min(LANES).saturating_sub(FEW) as u32)
+    }
+
+    /// Whether no way before the one with this number is of a message that the same Recover dropped.
+    pub fn is_first_dropped(&self, number: usize) -> bool {
+        let Some(Fate::Dropped(recover)) = self.route(number).map(|route| route.fate) else {
+            return false;
+        };
+        for before in self.routes.iter().take(number) {
+            if before.fate == Fate::Dropped(recover) {
+                return false;
+            }
+        }
+        true
     }
 
     /// The way with this number.

@@ -149,9 +149,9 @@ pub fn loose_title(alloc: Global, route: &Route) -> Result<Vec<u8>, AllocError> 
     }
 }
 
-/// The wire of a message that isn't received: to a cross where it was dropped, to a ring where it waits at the end.
-/// Fails where memory runs out.
-pub fn loose_shapes(layout: &Layout<'_>, route: &Route) -> Result<Vec<Shape>, AllocError> {
+/// The wire of a message that isn't received: to a cross where it was dropped, which says so where it is the first of its
+/// recovery; to a ring where it waits at the end. Fails where memory runs out.
+pub fn loose_shapes(layout: &Layout<'_>, route: &Route, first: bool) -> Result<Vec<Shape>, AllocError> {
     let mut shapes = Shapes::new(layout.alloc);
     let lane = route.side.beside(layout.x(route.receiver), route.lane);
     match route.fate {
@@ -159,8 +159,10 @@ pub fn loose_shapes(layout: &Layout<'_>, route: &Route) -> Result<Vec<Shape>, Al
         Fate::Dropped(_) => {
             shapes.path(turns_of(layout, route, route.to, None)?, Look::Gone)?;
             shapes.cross(place(lane, route.to), Pixels(5))?;
-            let at = place(route.side.beside(lane, Pixels(8)), route.to - Pixels(2));
-            shapes.words(at, route.side.anchor(), Look::NoteFailed, b"dropped")?;
+            if first {
+                let at = place(route.side.beside(lane, Pixels(8)), route.to - Pixels(2));
+                shapes.words(at, route.side.anchor(), Look::NoteFailed, b"dropped")?;
+            }
         }
         Fate::Waits => {
             let end = place(lane, route.to - Pixels(5));

@@ -20,7 +20,7 @@ use Rattle.rcv_pipe.specs.Opening.{IsOpening, Opens, OpensNone}
 use Rattle.rcv_talk.specs.declared.status.Status.{Status}
 use Rattle.rcv_talk.specs.declared.status.Status.TheVariants.{Done, Usage, Refused, ReadFault, WriteFault, Memory, TooLong, HalfLine}
 use Rattle.rcv_talk.specs.Around.{Around, Takes}
-use Rattle.rcv_talk.specs.Dialogue.{AreTold}
+use Rattle.rcv_talk.specs.Dialogue.{AreTold, NoneRestores}
 use Rattle.rcv_talk.specs.Openings.{AreWords, AreOtherWords, Begins, first_room, ready_line, usage_line, no_events_line}
 use Rattle.rcv_talk.specs.Talking.{HasTalked, Talks, TalksToLine, TalksToSourceEnd}
 use Rattle.rcv_talk.specs.Calls.{Dialogue, output_of, IsRefusal, Says, Wrote}
@@ -33,10 +33,10 @@ use Rattle.rcv_talk.proofs.Rounds.{took_nothing, took_both, wrote_both, began_be
 begun_history : (text : List ℕ) (saving : Saving) (s : SessionView) → Begins text saving s → HasHistory s.guide []
 begun_history text saving s b = subst (λ (x : SessionView). HasHistory x.guide []) (sym b.is) (histories_begin b.bundle.protocol b.bundle.plan first_room)
 
--- What was told from the start on is the history.
+-- What was told from the start on is the history, where nothing was restored.
 pub told_history : (text : List ℕ) (saving : Saving) (start last : SessionView) (lines : List (List ℕ)) (output : List ℕ) (added : List Entry)
-    → Begins text saving start → AreTold start lines output added last → HasHistory last.guide added
-told_history text saving start last lines output added b told = lines_go_on start last lines output added told [] (begun_history text saving start b)
+    → Begins text saving start → AreTold start lines output added last → NoneRestores start lines → HasHistory last.guide added
+told_history text saving start last lines output added b told none = lines_go_on start last lines output added none told [] (begun_history text saving start b)
 
 -- ---- what was taken
 

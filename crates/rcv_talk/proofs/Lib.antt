@@ -1,3 +1,4 @@
+pub mod Protocols
 pub mod Telling
 pub mod Rounds
 pub mod AnswersGiven

@@ -1,24 +1,33 @@
 -- Lines that are told, one behind the other.
-use Rattle.std.proofs.Common.{◌≡◌, ◌∙◌, ℕ, List, [], ◌∷◌, ◌++◌, flat_map, Result, Ok, Err, refl, sym, ap, subst, arith, append_assoc, append-nil}
+use Rattle.std.proofs.Common.{◌≡◌, ◌∙◌, ◌≤◌, ℕ, List, [], ◌∷◌, ◌++◌, flat_map, length, Result, Ok, Err, refl, sym, ap, subst, ⊎_elim, arith, append_assoc, append-nil}
+use Rattle.std.proofs.lemmas.Bool.{cases_lt}
 use Rattle.std.proofs.lemmas.List.Concat.{flat_map-append}
-use Rattle.std.proofs.lemmas.List.Elements.{All-append}
+use Rattle.std.proofs.lemmas.List.Elements.{All-append, All-head, All-tail}
 use Rattle.rcv_tree.specs.declared.entry.Entry.{Entry}
 use Rattle.rcv_tree.specs.declared.protocol.Protocol.{Protocol}
 use Rattle.rcv_dialogue.specs.declared.answer.Answer.{Answer}
 use Rattle.rcv_dialogue.specs.declared.line.Line.{Line}
-use Rattle.rcv_dialogue.specs.declared.line.Line.TheVariants.{Ask}
+use Rattle.rcv_dialogue.specs.declared.line.Line.TheVariants as line
+use Rattle.rcv_dialogue.specs.declared.words.Misfit.{Misfit}
 use Rattle.rcv_dialogue.specs.declared.line.Question.TheVariants.{End}
 use Rattle.rcv_dialogue.specs.declared.wrong.LineError.{LineError}
 use Rattle.rcv_dialogue.specs.declared.wrong.LineError.TheVariants.{Long, Wrong}
 use Rattle.rcv_dialogue.specs.Answers.{answer_text}
 use Rattle.rcv_dialogue.specs.Lines.{SaysLine}
+use Rattle.rcv_dialogue.specs.Reading.{Words, counted, line_at}
+use Rattle.rcv_dialogue.proofs.Whole.{line_takes}
+use Rattle.rcv_lines.specs.Cutting.{fields_of, joined}
+use Rattle.rcv_lines.proofs.Joining.{join_again}
 use Rattle.rcv_guide.specs.History.{HasHistory}
 use Rattle.rcv_guided.specs.Session.{SessionView}
 use Rattle.rcv_guided.specs.Hearing.{accepted_of, IsUnchanged}
 use Rattle.rcv_guided.specs.Histories.{GoesOnBy}
+use Rattle.rcv_guided.specs.Answers.{GoesOnBehind}
 use Rattle.rcv_pipe.specs.Feeds.{HasNoFeed, ended}
-use Rattle.rcv_talk.specs.Dialogue.{AreTold, ComesOf, EndsByLine, GoOn, IsTold, SaysEnd}
+use Rattle.rcv_talk.specs.Dialogue.{AreTold, ComesOf, EndsByLine, GoOn, IsRead, IsTold, NoneRestores, SaysAgain, SaysEnd}
+use Rattle.rcv_talk.specs.Laws.{HistoriesGoOnBehindSnapshots}
 use Rattle.rcv_talk.specs.Talking.{Tells, TellsOn}
+use Rattle.rcv_talk.proofs.Protocols.{hears_keep}
 
 -- Lines, and then others.
 pub told_both : (s mid new : SessionView) (xs ys : List (List ℕ)) (out more : List ℕ) (added later : List Entry) → AreTold s xs out added mid → AreTold mid ys more later new
@@ -60,21 +69,62 @@ unchanged_goes_on old new added is history has =
     subst (λ (s : SessionView). HasHistory s.guide (history ++ added)) (sym is.same)
     (subst (λ (e : List Entry). HasHistory old.guide (history ++ e)) (sym is.nothing) (subst (HasHistory old.guide) (sym (append-nil history)) has))
 
-line_goes_on : (old new : SessionView) (read : Result Line LineError) (said : Answer) (added : List Entry) → ComesOf old read said added new → GoesOnBy old added new
-line_goes_on old new (Ok l) said added comes = comes.1
-line_goes_on old new (Err Long) said added comes = unchanged_goes_on old new added comes.1
-line_goes_on old new (Err (Wrong w)) said added comes = unchanged_goes_on old new added comes.1
+-- What is read is what the text says.
+counted_ok : (words : Words) (r : Result Line Misfit) (l : Line) → counted words r ≡ Ok l → r ≡ Ok l
+counted_ok words (Ok x) l is = cc
+counted_ok words (Err e) l is = absurd (cc)
 
-pub lines_go_on : (old new : SessionView) (lines : List (List ℕ)) (output : List ℕ) (added : List Entry) → AreTold old lines output added new → GoesOnBy old added new
-lines_go_on old new [] output added told = unchanged_goes_on old new added (record { nothing = told.1; same = told.2 })
-lines_go_on old new (x ∷ xs) output added told = λ history has.
-    let one = line_goes_on old told.between told.told.read told.said told.first told.told.comes history has in
-    let rest = lines_go_on told.between new xs told.rest told.more told.others (history ++ told.first) one in
+says_it : (s : SessionView) (text : List ℕ) (l : Line) → IsRead s text (Ok l) → SaysLine (accepted_of s) text l
+says_it s text l is =
+    let short : length text ≤ 2048 = ⊎_elim (λ more. absurd (not_long (is.long.1 more))) (λ le. le) (cases_lt 2048 (length text)) in
+    let t = line_takes (accepted_of s) (fields_of text) l (counted_ok (fields_of text) (line_at (accepted_of s) (fields_of text)) l (is.exact short)) in
+    record { formed = t.0; words = sym (join_again text) ∙ ap joined t.1; short = short }
+  where
+    not_long : Ok l ≡ Err Long → ⊥
+    not_long e = absurd (cc)
+
+-- A line leaves the protocol as it is, and the history goes on by it, unless it is one of a snapshot.
+line_keeps : (old new : SessionView) (read : Result Line LineError) (said : Answer) (added : List Entry) → ComesOf old read said added new → new.guide.protocol ≡ old.guide.protocol
+line_keeps old new (Ok l) said added comes = hears_keep old l said added new comes.0
+line_keeps old new (Err Long) said added comes = ap (λ (s : SessionView). s.guide.protocol) comes.1.same
+line_keeps old new (Err (Wrong w)) said added comes = ap (λ (s : SessionView). s.guide.protocol) comes.1.same
+
+heard_goes_on : (old new : SessionView) (text : List ℕ) (l : Line) (added : List Entry) → SaysLine (accepted_of old) text l → (SaysAgain old text → ⊥) → GoesOnBehind l old added new → GoesOnBy old added new
+heard_goes_on old new text (line.Send told) added says none goes = goes
+heard_goes_on old new text (line.Recv told) added says none goes = goes
+heard_goes_on old new text (line.Save told) added says none goes = goes
+heard_goes_on old new text (line.Fail failed) added says none goes = goes
+heard_goes_on old new text (line.Crash r) added says none goes = goes
+heard_goes_on old new text (line.Recover told) added says none goes = goes
+heard_goes_on old new text (line.Ask asked) added says none goes = goes
+heard_goes_on old new text (line.Again told) added says none goes = absurd (none (told, says))
+
+line_goes_on : (old new : SessionView) (text : List ℕ) (read : Result Line LineError) (said : Answer) (added : List Entry) → IsRead old text read → (SaysAgain old text → ⊥) → ComesOf old read said added new → GoesOnBy old added new
+line_goes_on old new text (Ok l) said added is none comes = heard_goes_on old new text l added (says_it old text l is) none comes.1
+line_goes_on old new text (Err Long) said added is none comes = unchanged_goes_on old new added comes.1
+line_goes_on old new text (Err (Wrong w)) said added is none comes = unchanged_goes_on old new added comes.1
+
+-- Which lines are of a snapshot is a matter of the protocol.
+same_again : (s t : SessionView) (text : List ℕ) → t.guide.protocol ≡ s.guide.protocol → SaysAgain t text → SaysAgain s text
+same_again s t text same says = (says.0, subst (λ (p : Protocol). SaysLine (record { protocol = p }) text (line.Again says.0)) same says.1)
+
+none_again : (s t : SessionView) (lines : List (List ℕ)) → t.guide.protocol ≡ s.guide.protocol → NoneRestores s lines → NoneRestores t lines
+none_again s t lines same none k d inside says = none k d inside (same_again s t _ same says)
+
+pub lines_go_on : (old new : SessionView) (lines : List (List ℕ)) (output : List ℕ) (added : List Entry) → NoneRestores old lines → AreTold old lines output added new → GoesOnBy old added new
+lines_go_on old new [] output added none told = unchanged_goes_on old new added (record { nothing = told.1; same = told.2 })
+lines_go_on old new (x ∷ xs) output added none told = λ history has.
+    let one = line_goes_on old told.between x told.told.read told.said told.first told.told.is_read (All-head (λ l. SaysAgain old l → ⊥) x xs none) told.told.comes history has in
+    let others = none_again old told.between xs (line_keeps old told.between told.told.read told.said told.first told.told.comes) (All-tail (λ l. SaysAgain old l → ⊥) x xs none) in
+    let rest = lines_go_on told.between new xs told.rest told.more others told.others (history ++ told.first) one in
     subst (HasHistory new.guide) (append_assoc history told.first told.more ∙ ap (λ e. history ++ e) (sym told.added_is)) rest
 
+pub histories_go_on_behind_snapshots : HistoriesGoOnBehindSnapshots
+histories_go_on_behind_snapshots s last lines output added none told = lines_go_on s last lines output added none told
+
 -- Which lines end a dialogue is a matter of its protocol.
-pub same_end : (s t : SessionView) (line : List ℕ) → t.guide.protocol ≡ s.guide.protocol → SaysEnd t line → SaysEnd s line
-same_end s t line same says = subst (λ (p : Protocol). SaysLine (record { protocol = p }) line (Ask End)) same says
+pub same_end : (s t : SessionView) (text : List ℕ) → t.guide.protocol ≡ s.guide.protocol → SaysEnd t text → SaysEnd s text
+same_end s t text same says = subst (λ (p : Protocol). SaysLine (record { protocol = p }) text (line.Ask End)) same says
 
 pub same_go_on : (s t : SessionView) (lines : List (List ℕ)) → t.guide.protocol ≡ s.guide.protocol → GoOn t lines → GoOn s lines
 same_go_on s t lines same go k d inside says = go k d inside (same_end t s _ (sym same) says)

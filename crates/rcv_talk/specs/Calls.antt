@@ -16,7 +16,7 @@ use Rattle.rcv_guided.specs.declared.saving.Saving.{Saving}
 use Rattle.rcv_talk.specs.declared.status.Status.{Status}
 use Rattle.rcv_talk.specs.declared.status.Status.TheVariants.{Done, Usage, Refused, ReadFault, WriteFault, Memory, TooLong, HalfLine}
 use Rattle.rcv_talk.specs.Around.{Around, Takes, Writes}
-use Rattle.rcv_talk.specs.Dialogue.{AreTold, GoOn, EndsByLine}
+use Rattle.rcv_talk.specs.Dialogue.{AreTold, NoneRestores, GoOn, EndsByLine}
 use Rattle.rcv_talk.specs.Openings.{AreWords, AreOtherWords, Begins, ready_line, usage_line, no_events_line}
 
 -- The number of a status.
@@ -31,7 +31,8 @@ number_of TooLong = 7
 number_of HalfLine = 9
 
 -- A dialogue was held: behind the text, of which a session begins, stand whole lines that it is told, and some bytes more. It
--- wrote its first line and its answers. What was told and taken is a history of that session, from its start on.
+-- wrote its first line and its answers. What was told and taken is a history of that session, from its start on, where no line
+-- of a snapshot was told, which restores another one's.
 pub record Dialogue (words : List (List ℕ)) (call : Around) : Type 0 where
   pub taken : List ℕ
   pub takes : Takes call taken
@@ -50,7 +51,7 @@ pub record Dialogue (words : List (List ℕ)) (call : Around) : Type 0 where
   pub entries : List Entry
   pub last : SessionView
   pub told : AreTold start lines answers entries last
-  pub history : HasHistory last.guide entries
+  pub history : NoneRestores start lines → HasHistory last.guide entries
 
 -- All that it writes.
 abbrev pub output_of : {words : List (List ℕ)} {call : Around} → Dialogue words call → List ℕ

@@ -4,7 +4,8 @@ use Rattle.rcv_tree.specs.declared.entry.Entry.{Entry}
 use Rattle.rcv_dialogue.specs.declared.answer.Answer.{Answer}
 use Rattle.rcv_dialogue.specs.declared.answer.Answer.TheVariants as answer
 use Rattle.rcv_dialogue.specs.declared.line.Line.{Line}
-use Rattle.rcv_dialogue.specs.declared.line.Line.TheVariants.{Ask}
+use Rattle.rcv_dialogue.specs.declared.line.Again.{Again as ToldAgain}
+use Rattle.rcv_dialogue.specs.declared.line.Line.TheVariants.{Ask, Again}
 use Rattle.rcv_dialogue.specs.declared.line.Question.TheVariants.{End}
 use Rattle.rcv_dialogue.specs.declared.wrong.LineError.{LineError}
 use Rattle.rcv_dialogue.specs.declared.wrong.LineError.TheVariants.{Long, Wrong}
@@ -13,8 +14,7 @@ use Rattle.rcv_dialogue.specs.Lines.{SaysLine}
 use Rattle.rcv_dialogue.specs.Reading.{IsReadAs, reading}
 use Rattle.rcv_guided.specs.Session.{SessionView}
 use Rattle.rcv_guided.specs.Hearing.{accepted_of, IsUnchanged}
-use Rattle.rcv_guided.specs.Histories.{GoesOnBy}
-use Rattle.rcv_guided.specs.Answers.{Hears}
+use Rattle.rcv_guided.specs.Answers.{Hears, GoesOnBehind}
 
 -- What a line says in a session, without its end: a line of the grammar; or it is too long; or a word of it is wrong.
 pub record IsRead (s : SessionView) (text : List ℕ) (read : Result Line LineError) : Type 0 where
@@ -23,11 +23,12 @@ pub record IsRead (s : SessionView) (text : List ℕ) (read : Result Line LineEr
 
 -- What comes of it: the session hears a line of the grammar, and another one leaves it as it is.
 abbrev pub ComesOf : SessionView → Result Line LineError → Answer → List Entry → SessionView → Type 0
-ComesOf old (Ok told) said added new = Hears old told said added new × GoesOnBy old added new
+ComesOf old (Ok told) said added new = Hears old told said added new × GoesOnBehind told old added new
 ComesOf old (Err Long) said added new = (said ≡ answer.Long) × IsUnchanged old added new
 ComesOf old (Err (Wrong w)) said added new = (said ≡ answer.Wrong w) × IsUnchanged old added new
 
--- The session is told this line, answers this, and is the new one then, whose history goes on by what is added.
+-- The session is told this line, answers this, and is the new one then, whose history goes on by what is added, unless the
+-- line is one of a snapshot.
 pub record IsTold (old : SessionView) (text : List ℕ) (said : Answer) (added : List Entry) (new : SessionView) : Type 0 where
   pub read : Result Line LineError
   pub is_read : IsRead old text read
@@ -58,6 +59,13 @@ SaysEnd s text = SaysLine (accepted_of s) text (Ask End)
 -- None of these lines ends the dialogue.
 abbrev pub GoOn : SessionView → List (List ℕ) → Type 0
 GoOn s lines = All (λ line. SaysEnd s line → ⊥) lines
+
+-- The line is one of a snapshot, which restores a session; and none of these lines is.
+abbrev pub SaysAgain : SessionView → List ℕ → Type 0
+SaysAgain s text = (told : ToldAgain) × SaysLine (accepted_of s) text (Again told)
+
+abbrev pub NoneRestores : SessionView → List (List ℕ) → Type 0
+NoneRestores s lines = All (λ line. SaysAgain s line → ⊥) lines
 
 -- The last line, and no other one, ends the dialogue.
 pub record EndsByLine (s : SessionView) (lines : List (List ℕ)) : Type 0 where

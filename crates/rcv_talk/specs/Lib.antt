@@ -1,5 +1,6 @@
 pub mod Around
 pub mod Dialogue
+pub mod Laws
 pub mod Openings
 pub mod Answering
 pub mod Talking

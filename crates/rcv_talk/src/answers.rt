@@ -41,8 +41,9 @@ fn next_behind(line: &Line) -> Next
     }
 }
 
-// The answer to a line, which is given without its line feed.
-fn answer_line(
+/// The answer to a line, which is given without its line feed. Fails where memory runs out for the answer: then nothing is
+/// said of the session.
+pub fn answer_line(
     alloc: Global,
     session: &mut GuidedSession,
     line: &[u8],

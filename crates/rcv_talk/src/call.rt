@@ -40,7 +40,8 @@ const NO_EVENTS: &[u8] = b"refused 57 NoEvents\n";
 /// - `TooLong`: the text has more than 1,048,576 bytes, and nothing was written.
 /// - `HalfLine`: the source ended within a line, which isn't answered; all before it are.
 ///
-/// What a session is told is a history of it from its start on: each line is answered as it stands behind those before.
+/// What a session is told is a history of it from its start on, where no line of a snapshot restores another one's: each line
+/// is answered as it stands behind those before.
 pub fn talk<S: Source, K: Sink>(
     alloc: Global,
     words: &[String],

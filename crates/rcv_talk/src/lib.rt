@@ -1,10 +1,11 @@
 // The dialogue with a guide as one call: from words and a source to a status and what is written.
 #![tactic(auto)]
 
-mod answers;
+pub mod answers;
 mod begin;
 mod call;
 mod dialogue;
+pub mod laws;
 mod output;
 mod status;
 mod words;

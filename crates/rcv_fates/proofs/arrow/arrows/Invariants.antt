@@ -6,5 +6,5 @@ use Rattle.rcv_fates.proofs.arrow.arrows.Given as goal
 
 abbrev pub invariant-loop-place : goal.invariant-loop-place
 invariant-loop-place l =
-    AllSends (roles_of l.book.setup) l.book.entries l.place (lists_in l.sends.items)
-    × AreArrowsTo (net_for l.book.setup) l.book.entries l.place l.arrows.items
+    AllSends (roles_of l.record.setup) l.record.entries l.place (lists_in l.sends.items)
+    × AreArrowsTo (net_for l.record.setup) l.record.entries l.place l.arrows.items

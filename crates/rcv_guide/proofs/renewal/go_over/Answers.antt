@@ -48,7 +48,7 @@ returns-clause-fresh c =
           subst (λ (l : LedgerView). IsRenewing (net_in c.args.points.now) c.args.ledger.now.logs c.args.ends.now c.args.room (slice_set c.args.passed.now.counts c.args.role (slice_index c.args.passed.now.counts c.args.role + 1)) l) (sym w.fresh-is)
           (added (net_in c.args.points.now) c.args.ledger.now.logs c.args.ends.now c.args.room c.requires.ordered c.args.passed.now.counts c.args.passed.now.put c.requires.passed c.args.fresh.now c.requires.fresh c.args.role
           (next_as (net_in c.args.points.now) c.args.ledger.now.logs c.args.passed.now.counts c.args.role c.event-event.result.now c.requires.next c.event-event.ensures)
-          (is ∙ w.if-keeps.true) w.add_event.new.fresh w.in_ok-add_event.ensures)
+          (is ∙ w.if-keeps.true) w.add_event.new.fresh w.in_ok-add_event.ensures.ok)
       | else-keeps w ↦
           subst (λ (l : LedgerView). IsRenewing (net_in c.args.points.now) c.args.ledger.now.logs c.args.ends.now c.args.room (slice_set c.args.passed.now.counts c.args.role (slice_index c.args.passed.now.counts c.args.role + 1)) l) (sym w.fresh-is)
           (left_out (net_in c.args.points.now) c.args.ledger.now.logs c.args.ends.now c.args.room c.requires.ordered c.args.passed.now.counts c.args.passed.now.put c.requires.passed c.args.fresh.now c.requires.fresh c.args.role

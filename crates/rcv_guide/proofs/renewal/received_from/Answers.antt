@@ -4,7 +4,7 @@ use Rattle.rcv_model.specs.Run.{taken_by}
 use Rattle.rcv_points.specs.Follow.{net_in}
 use Rattle.rcv_ledger.specs.Logs.{log_at}
 use Rattle.rcv_guide.proofs.Staying.{taken_yes, taken_no}
-use Rattle.rcv_guide.proofs.Telling.{no_longer}
+use Rattle.rcv_guide.proofs.Reserved.{no_longer}
 use Rattle.rcv_guide.proofs.renewal.received_from.Goals as goal
 use Rattle.rcv_guide.proofs.renewal.received_from.Goals.{then-takes, else-takes}
 

@@ -1,7 +1,7 @@
 -- Those of the roles so far.
 use Rattle.std.proofs.Common.{◌≡◌, ℕ, ◌<◌, length}
 use Rattle.std.specs.Prelude.{slice_index}
-use Rattle.rcv_guided.specs.Counts.{made_in}
+use Rattle.rcv_guided.specs.Session.{made_in}
 use Rattle.rcv_guided.proofs.counts.all_made.Given as goal
 
 abbrev pub invariant-loop-role : goal.invariant-loop-role

@@ -7,6 +7,6 @@ use Rattle.rcv_look.proofs.draw.draw.Goals as goal
 
 pub returns : goal.returns
 returns c = IfOk-weaker c.short.result _ _
-    (λ text is. drawn_so c.args.book.now c.in_ok-picture.picture c.in_ok-told.told.rows.items c.in_ok-told.told.wires.items c.as_slice-3.result.now c.as_slice-2.result.now text.items
-    c.as_slice-3.ensures.value c.as_slice-2.ensures.value c.in_ok-told.ensures.tells c.in_ok-picture.ensures.told c.in_ok-picture.ensures.titled
+    (λ text is kept has. drawn_so c.args.record.now kept c.in_ok-picture.picture c.in_ok-told.told.rows.items c.in_ok-told.told.wires.items c.as_slice-3.result.now c.as_slice-2.result.now text.items
+    c.as_slice-3.ensures.value c.as_slice-2.ensures.value (c.in_ok-told.ensures.tells kept has) c.in_ok-picture.ensures.told c.in_ok-picture.ensures.titled
     (is.0 ∙ c.in_ok-text.ensures) (subst (λ n. length text.items ≤ most_drawn n) (ap length c.entries-2.ensures.value) is.1)) c.short.ensures

@@ -16,5 +16,5 @@ returns-in-Some c =
     (ap (λ (n : ℕ). n + 1 + c.len.result + c.from-in-Some.result) c.from.ensures ∙ ap (λ (n : ℕ). c.args.feeds + 1 + n + c.from-in-Some.result) c.len.ensures.value ∙ ap (λ (n : ℕ). c.args.feeds + 1 + length c.args.book.now.entries + n) c.from-in-Some.ensures)
     c.illegal.ensures.status c.illegal.ensures.bytes
 
-pub returns-in_ok-draw-in-None : goal.returns-in_ok-draw-in-None
-returns-in_ok-draw-in-None c = drawn_said c.args.book.now.setup c.args.journal.now c.args.book.now.entries c.args.feeds c.in_ok-draw-in-None.field-0.items c.requires.entries c.requires.legal (at_none c.in_ok-wrong.wrong c.in-None.is c.in_ok-wrong.ensures.right) c.in_ok-draw-in-None.ensures
+pub returns-in_ok-draw_book-in-None : goal.returns-in_ok-draw_book-in-None
+returns-in_ok-draw_book-in-None c = drawn_said c.args.book.now.setup c.args.journal.now c.args.book.now.entries c.args.feeds c.in_ok-draw_book-in-None.field-0.items c.requires.entries c.requires.legal (at_none c.in_ok-wrong.wrong c.in-None.is c.in_ok-wrong.ensures.right) c.in_ok-draw_book-in-None.ensures

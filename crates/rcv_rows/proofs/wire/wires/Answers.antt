@@ -3,7 +3,6 @@ use Rattle.std.proofs.Common.{◌≡◌, ◌+◌, List, get_or, Some, ◌⊎◌,
 use Rattle.std.specs.Prelude.{slice_get}
 use Rattle.std.proofs.lemmas.Option.{slice_get-get_or}
 use Rattle.rcv_session.specs.Session.{net_for}
-use Rattle.rcv_core.specs.Book.{state_of}
 use Rattle.rcv_picture.specs.declared.group.Says.{Says}
 use Rattle.rcv_fates.specs.declared.arrow.Arrow.{Arrow}
 use Rattle.rcv_rows.specs.Told.{IsMarked}
@@ -14,19 +13,17 @@ use Rattle.rcv_rows.proofs.wire.wires.Goals as goal
 use Rattle.rcv_rows.proofs.wire.wires.Goals.{then-is_seen+in_ok-push, else-is_seen}
 
 pub loop-arrow-init : goal.loop-arrow-init
-loop-arrow-init c =
-    let net = net_for c.args.book.now.setup in
-    let kept = (state_of c.args.book.now).kept in
-    let entries = c.args.book.now.entries in
+loop-arrow-init c = λ kept has.
+    let net = net_for c.args.record.now.setup in
+    let entries = c.args.record.now.entries in
     let marks = c.args.shown.now in
     let messages : List Arrow = c.deref-arrow-items.result.now in
     subst (IsWiring net kept entries marks messages 0) (sym c.new-wires.ensures.items) (wiring_start net kept entries marks messages)
 
 pub loop-arrow-preserved : goal.loop-arrow-preserved
-loop-arrow-preserved c =
-    let net = net_for c.args.book.now.setup in
-    let kept = (state_of c.args.book.now).kept in
-    let entries = c.args.book.now.entries in
+loop-arrow-preserved c = λ kept has.
+    let net = net_for c.args.record.now.setup in
+    let entries = c.args.record.now.entries in
     let marks = c.args.shown.now in
     let messages : List Arrow = c.deref-arrow-items.result.now in
     let i = c.loop-arrow.arrow-index in
@@ -37,20 +34,19 @@ loop-arrow-preserved c =
       | then-is_seen+in_ok-push w ↦
           subst (λ (wires : List Says). IsWiring net kept entries marks messages (i + 1) wires) (ap (λ v. v.items) (sym w.wires-is))
           (subst (λ (wires : List Says). IsWiring net kept entries marks messages (i + 1) wires) (sym w.in_ok-push.ensures.items)
-          (wiring_next net kept entries marks messages i c.loop-arrow.wires.items a w.wire_of.result are at c.loop-arrow.invariant (c.is_seen.ensures.0 w.if-is_seen.true) w.wire_of.ensures))
+          (wiring_next net kept entries marks messages i c.loop-arrow.wires.items a w.wire_of.result are at (c.loop-arrow.invariant kept has) (c.is_seen.ensures.0 w.if-is_seen.true) (w.wire_of.ensures kept has)))
       | else-is_seen w ↦
           subst (λ (wires : List Says). IsWiring net kept entries marks messages (i + 1) wires) (ap (λ v. v.items) (sym w.wires-is))
-          (wiring_on net kept entries marks messages i c.loop-arrow.wires.items a at c.loop-arrow.invariant
+          (wiring_on net kept entries marks messages i c.loop-arrow.wires.items a at (c.loop-arrow.invariant kept has)
           (is_not (IsMarked marks a.send ⊎ IsMarked marks a.receive) c.is_seen.result c.is_seen.ensures w.if-is_seen.false))
     ]
 
 pub returns : goal.returns
-returns c =
-    let net = net_for c.args.book.now.setup in
-    let kept = (state_of c.args.book.now).kept in
-    let entries = c.args.book.now.entries in
+returns c = λ kept has.
+    let net = net_for c.args.record.now.setup in
+    let entries = c.args.record.now.entries in
     let marks = c.args.shown.now in
     let messages : List Arrow = c.deref-arrow-items.result.now in
     let done = c.loop-arrow-test.false in
     let are = subst (AreArrows net entries) (sym c.deref-arrow-items.ensures.value) c.in_ok-messages.ensures in
-    wired net kept entries marks messages c.loop-arrow.arrow-index c.loop-arrow.wires.items are (omega (arith, done)) c.loop-arrow.invariant
+    wired net kept entries marks messages c.loop-arrow.arrow-index c.loop-arrow.wires.items are (omega (arith, done)) (c.loop-arrow.invariant kept has)

@@ -10,7 +10,8 @@ use Rattle.rcv_told.specs.Told.{IsRecv}
 use Rattle.rcv_guide.specs.Guide.{GuideView, guide_of, net_for, stand, with_event, HasRoom, IsAfter, IsGuide}
 use Rattle.rcv_guide.proofs.Memories.{not_err}
 use Rattle.rcv_guide.proofs.Guides.{many_logs}
-use Rattle.rcv_guide.proofs.Telling.{more_view, few_entries, few_held, no_change, few_raw, receiver_declared, received_in, sender_low, received_after, received_guide, event_fits, waits}
+use Rattle.rcv_guide.proofs.Reserved.{few_entries, few_held, no_change, event_fits}
+use Rattle.rcv_guide.proofs.Telling.{more_view, few_raw, receiver_declared, received_in, sender_low, received_after, received_guide, waits}
 use Rattle.rcv_guide.proofs.guide.Guide.add_recv.Goals as goal
 
 pub sender-sender-requires-clause-first : goal.sender-sender-requires-clause-first
@@ -26,19 +27,19 @@ pub add_recv-added-requires-clause-sender : goal.add_recv-added-requires-clause-
 add_recv-added-requires-clause-sender c = subst (λ q. q < 8) (sym (c.sender-sender.ensures ∙ ap (λ (n : Net). n.sender c.args.event.now.point) (same_net (body_of c.self.inside.accepted.protocol.body) _ c.points.result.now c.self.invariant.protocol.form c.points.ensures))) (sender_low c.self.invariant (subst (λ (g : GuideView). HasRoom g) (sym c.self.view_is) c.requires.room) c.args.event.now (subst (λ (g : GuideView). IsRecv (net_for g) (stand g c.args.event.now.role) c.args.event.now) (sym c.self.view_is) c.requires.may))
 
 pub add_recv-added-requires-clause-change : goal.add_recv-added-requires-clause-change
-add_recv-added-requires-clause-change c = no_change c.self.invariant (subst (λ (g : GuideView). HasRoom g) (sym c.self.view_is) c.requires.room) c.args.event.now c.args.event.now.role (receiver_declared c.self.invariant (subst (λ (g : GuideView). HasRoom g) (sym c.self.view_is) c.requires.room) c.args.event.now (subst (λ (g : GuideView). IsRecv (net_for g) (stand g c.args.event.now.role) c.args.event.now) (sym c.self.view_is) c.requires.may))
+add_recv-added-requires-clause-change c = no_change c.self.invariant (subst (λ (g : GuideView). HasRoom g) (sym c.self.view_is) c.requires.room).0 c.args.event.now.role (receiver_declared c.self.invariant (subst (λ (g : GuideView). HasRoom g) (sym c.self.view_is) c.requires.room) c.args.event.now (subst (λ (g : GuideView). IsRecv (net_for g) (stand g c.args.event.now.role) c.args.event.now) (sym c.self.view_is) c.requires.may))
 
 pub add_recv-added-requires-clause-waits : goal.add_recv-added-requires-clause-waits
 add_recv-added-requires-clause-waits c = waits c.self.invariant (subst (λ (g : GuideView). HasRoom g) (sym c.self.view_is) c.requires.room) c.args.event.now (subst (λ (g : GuideView). IsRecv (net_for g) (stand g c.args.event.now.role) c.args.event.now) (sym c.self.view_is) c.requires.may) c.sender-sender.result (c.sender-sender.ensures ∙ ap (λ (n : Net). n.sender c.args.event.now.point) (same_net (body_of c.self.inside.accepted.protocol.body) _ c.points.result.now c.self.invariant.protocol.form c.points.ensures))
 
 pub add_recv-added-requires-clause-few : goal.add_recv-added-requires-clause-few
-add_recv-added-requires-clause-few c = few_held c.self.invariant (subst (λ (g : GuideView). HasRoom g) (sym c.self.view_is) c.requires.room) c.args.event.now c.args.event.now.role (receiver_declared c.self.invariant (subst (λ (g : GuideView). HasRoom g) (sym c.self.view_is) c.requires.room) c.args.event.now (subst (λ (g : GuideView). IsRecv (net_for g) (stand g c.args.event.now.role) c.args.event.now) (sym c.self.view_is) c.requires.may))
+add_recv-added-requires-clause-few c = few_held c.self.invariant (subst (λ (g : GuideView). HasRoom g) (sym c.self.view_is) c.requires.room).0 c.args.event.now.role (receiver_declared c.self.invariant (subst (λ (g : GuideView). HasRoom g) (sym c.self.view_is) c.requires.room) c.args.event.now (subst (λ (g : GuideView). IsRecv (net_for g) (stand g c.args.event.now.role) c.args.event.now) (sym c.self.view_is) c.requires.may))
 
 pub add_recv-added-requires-clause-few_entries : goal.add_recv-added-requires-clause-few_entries
-add_recv-added-requires-clause-few_entries c = few_entries c.self.invariant (subst (λ (g : GuideView). HasRoom g) (sym c.self.view_is) c.requires.room) c.args.event.now
+add_recv-added-requires-clause-few_entries c = few_entries c.self.invariant (subst (λ (g : GuideView). HasRoom g) (sym c.self.view_is) c.requires.room).0
 
 pub unreachable-requires : goal.unreachable-requires
-unreachable-requires c = not_err c.add_recv-added.result (c.add_recv-added.ensures.room (event_fits c.self.invariant (subst (λ (g : GuideView). HasRoom g) (sym c.self.view_is) c.requires.room) c.args.event.now c.args.event.now.role (receiver_declared c.self.invariant (subst (λ (g : GuideView). HasRoom g) (sym c.self.view_is) c.requires.room) c.args.event.now (subst (λ (g : GuideView). IsRecv (net_for g) (stand g c.args.event.now.role) c.args.event.now) (sym c.self.view_is) c.requires.may)))) c.if-is_err.ensures.value
+unreachable-requires c = not_err c.add_recv-added.result (c.add_recv-added.ensures.room (event_fits c.self.invariant (subst (λ (g : GuideView). HasRoom g) (sym c.self.view_is) c.requires.room).0 c.args.event.now.role (receiver_declared c.self.invariant (subst (λ (g : GuideView). HasRoom g) (sym c.self.view_is) c.requires.room) c.args.event.now (subst (λ (g : GuideView). IsRecv (net_for g) (stand g c.args.event.now.role) c.args.event.now) (sym c.self.view_is) c.requires.may)))) c.if-is_err.ensures.value
 
 pub advance-requires-clause-declared : goal.advance-requires-clause-declared
 advance-requires-clause-declared c = let a = c.self.invariant.numbers in let b = receiver_declared c.self.invariant (subst (λ (g : GuideView). HasRoom g) (sym c.self.view_is) c.requires.room) c.args.event.now (subst (λ (g : GuideView). IsRecv (net_for g) (stand g c.args.event.now.role) c.args.event.now) (sym c.self.view_is) c.requires.may) in omega (arith, a, b)

@@ -10,7 +10,8 @@ use Rattle.rcv_told.specs.Told.{IsSend}
 use Rattle.rcv_guide.specs.Guide.{GuideView, guide_of, net_for, stand, with_event, HasRoom, IsAfter, IsGuide}
 use Rattle.rcv_guide.proofs.Memories.{not_err}
 use Rattle.rcv_guide.proofs.Guides.{many_logs}
-use Rattle.rcv_guide.proofs.Telling.{more_view, few_entries, few_held, no_change, few_raw, sender_declared, sent_in, receiver_low, sent_after, sent_guide, send_room}
+use Rattle.rcv_guide.proofs.Reserved.{few_entries, few_held, no_change}
+use Rattle.rcv_guide.proofs.Telling.{more_view, few_raw, sender_declared, sent_in, receiver_low, sent_after, sent_guide, send_room}
 use Rattle.rcv_guide.proofs.guide.Guide.add_send.Goals as goal
 
 pub receiver-receiver-requires-clause-first : goal.receiver-receiver-requires-clause-first
@@ -26,13 +27,13 @@ pub add_send-added-requires-clause-receiver : goal.add_send-added-requires-claus
 add_send-added-requires-clause-receiver c = subst (λ q. q < 8) (sym (c.receiver-receiver.ensures ∙ ap (λ (n : Net). n.receiver c.args.event.now.point) (same_net (body_of c.self.inside.accepted.protocol.body) _ c.points.result.now c.self.invariant.protocol.form c.points.ensures))) (receiver_low c.self.invariant (subst (λ (g : GuideView). HasRoom g) (sym c.self.view_is) c.requires.room) c.args.event.now (subst (λ (g : GuideView). IsSend (net_for g) (stand g c.args.event.now.role) c.args.event.now) (sym c.self.view_is) c.requires.may))
 
 pub add_send-added-requires-clause-change : goal.add_send-added-requires-clause-change
-add_send-added-requires-clause-change c = no_change c.self.invariant (subst (λ (g : GuideView). HasRoom g) (sym c.self.view_is) c.requires.room) c.args.event.now c.args.event.now.role (sender_declared c.self.invariant (subst (λ (g : GuideView). HasRoom g) (sym c.self.view_is) c.requires.room) c.args.event.now (subst (λ (g : GuideView). IsSend (net_for g) (stand g c.args.event.now.role) c.args.event.now) (sym c.self.view_is) c.requires.may))
+add_send-added-requires-clause-change c = no_change c.self.invariant (subst (λ (g : GuideView). HasRoom g) (sym c.self.view_is) c.requires.room).0 c.args.event.now.role (sender_declared c.self.invariant (subst (λ (g : GuideView). HasRoom g) (sym c.self.view_is) c.requires.room) c.args.event.now (subst (λ (g : GuideView). IsSend (net_for g) (stand g c.args.event.now.role) c.args.event.now) (sym c.self.view_is) c.requires.may))
 
 pub add_send-added-requires-clause-few : goal.add_send-added-requires-clause-few
-add_send-added-requires-clause-few c = few_held c.self.invariant (subst (λ (g : GuideView). HasRoom g) (sym c.self.view_is) c.requires.room) c.args.event.now c.args.event.now.role (sender_declared c.self.invariant (subst (λ (g : GuideView). HasRoom g) (sym c.self.view_is) c.requires.room) c.args.event.now (subst (λ (g : GuideView). IsSend (net_for g) (stand g c.args.event.now.role) c.args.event.now) (sym c.self.view_is) c.requires.may))
+add_send-added-requires-clause-few c = few_held c.self.invariant (subst (λ (g : GuideView). HasRoom g) (sym c.self.view_is) c.requires.room).0 c.args.event.now.role (sender_declared c.self.invariant (subst (λ (g : GuideView). HasRoom g) (sym c.self.view_is) c.requires.room) c.args.event.now (subst (λ (g : GuideView). IsSend (net_for g) (stand g c.args.event.now.role) c.args.event.now) (sym c.self.view_is) c.requires.may))
 
 pub add_send-added-requires-clause-few_entries : goal.add_send-added-requires-clause-few_entries
-add_send-added-requires-clause-few_entries c = few_entries c.self.invariant (subst (λ (g : GuideView). HasRoom g) (sym c.self.view_is) c.requires.room) c.args.event.now
+add_send-added-requires-clause-few_entries c = few_entries c.self.invariant (subst (λ (g : GuideView). HasRoom g) (sym c.self.view_is) c.requires.room).0
 
 pub unreachable-requires : goal.unreachable-requires
 unreachable-requires c = not_err c.add_send-added.result (c.add_send-added.ensures.room (send_room c.self.invariant (subst (λ (g : GuideView). HasRoom g) (sym c.self.view_is) c.requires.room) c.args.event.now (subst (λ (g : GuideView). IsSend (net_for g) (stand g c.args.event.now.role) c.args.event.now) (sym c.self.view_is) c.requires.may) c.receiver-receiver.result (c.receiver-receiver.ensures ∙ ap (λ (n : Net). n.receiver c.args.event.now.point) (same_net (body_of c.self.inside.accepted.protocol.body) _ c.points.result.now c.self.invariant.protocol.form c.points.ensures)))) c.if-is_err.ensures.value

@@ -8,7 +8,7 @@ use Rattle.rcv_guide.specs.Failing.{all_events}
 use Rattle.rcv_guide.specs.Guide.{GuideView, guide_of, net_for, MayForget, HasForgotten}
 use Rattle.rcv_guide.specs.Renewal.{AreOrdered, AreEnds, MayEnd, IsRenewed}
 use Rattle.rcv_guide.proofs.Forgetting.{may_end, short, memory_short, has_forgotten}
-use Rattle.rcv_guide.proofs.Lasting.{sound_now, stamped_now, few_now, rooms_now, holds_now, part_now}
+use Rattle.rcv_guide.proofs.Lasting.{sound_now, stamped_now, few_now, rooms_now, holds_now}
 use Rattle.rcv_guide.proofs.Ordering.{guide_ordered, log_long, log_small}
 use Rattle.rcv_guide.proofs.guide.Guide.forget.Goals as goal
 
@@ -37,7 +37,6 @@ invariant_of-self c = record {
   holds = record {
     memory = short (guide_of c.self.inside.accepted.protocol c.self.inside.plan c.self.inside.ledger c.self.inside.numbers.items c.self.inside.room c.self.inside.told) c.args.counts.now c.ends-ends.result c.self.invariant.logs c.self.invariant.numbers (guide_ordered c.self.invariant) (subst (λ (g : GuideView). MayForget g c.args.counts.now) (sym c.self.view_is) c.requires.counts) (subst (λ (l : List Numbers). AreEnds l c.args.counts.now c.ends-ends.result) c.as_slice.ensures.value c.ends-ends.ensures) c.args.room c.in_ok-ledger.ledger (subst (λ (net : Net). IsRenewed net c.self.inside.ledger.logs c.ends-ends.result c.args.room c.in_ok-ledger.ledger) (same_net (body_of c.self.inside.accepted.protocol.body) _ c.points.result.now c.self.invariant.protocol.form c.points.ensures) c.in_ok-ledger.ensures) c.forget.new.numbers.items c.forget.ensures c.self.invariant.holds.memory;
     is = memory_short (guide_of c.self.inside.accepted.protocol c.self.inside.plan c.self.inside.ledger c.self.inside.numbers.items c.self.inside.room c.self.inside.told) c.args.counts.now c.ends-ends.result c.self.invariant.logs c.self.invariant.numbers (guide_ordered c.self.invariant) (subst (λ (g : GuideView). MayForget g c.args.counts.now) (sym c.self.view_is) c.requires.counts) (subst (λ (l : List Numbers). AreEnds l c.args.counts.now c.ends-ends.result) c.as_slice.ensures.value c.ends-ends.ensures) c.args.room c.in_ok-ledger.ledger (subst (λ (net : Net). IsRenewed net c.self.inside.ledger.logs c.ends-ends.result c.args.room c.in_ok-ledger.ledger) (same_net (body_of c.self.inside.accepted.protocol.body) _ c.points.result.now c.self.invariant.protocol.form c.points.ensures) c.in_ok-ledger.ensures) c.forget.new.numbers.items c.forget.ensures c.self.invariant.holds.memory c.self.invariant.holds.is (length c.in_ok-ledger.ledger.entries);
-    part = part_now (guide_of c.self.inside.accepted.protocol c.self.inside.plan c.self.inside.ledger c.self.inside.numbers.items c.self.inside.room c.self.inside.told) c.args.counts.now c.ends-ends.result c.self.invariant.logs c.self.invariant.numbers (guide_ordered c.self.invariant) (subst (λ (g : GuideView). MayForget g c.args.counts.now) (sym c.self.view_is) c.requires.counts) (subst (λ (l : List Numbers). AreEnds l c.args.counts.now c.ends-ends.result) c.as_slice.ensures.value c.ends-ends.ensures) c.args.room c.in_ok-ledger.ledger (subst (λ (net : Net). IsRenewed net c.self.inside.ledger.logs c.ends-ends.result c.args.room c.in_ok-ledger.ledger) (same_net (body_of c.self.inside.accepted.protocol.body) _ c.points.result.now c.self.invariant.protocol.form c.points.ensures) c.in_ok-ledger.ensures) c.forget.new.numbers.items c.forget.ensures c.self.invariant.holds.memory c.self.invariant.holds.is c.self.invariant.holds.part;
     holds = holds_now (guide_of c.self.inside.accepted.protocol c.self.inside.plan c.self.inside.ledger c.self.inside.numbers.items c.self.inside.room c.self.inside.told) c.args.counts.now c.ends-ends.result c.self.invariant.logs c.self.invariant.numbers (guide_ordered c.self.invariant) (subst (λ (g : GuideView). MayForget g c.args.counts.now) (sym c.self.view_is) c.requires.counts) (subst (λ (l : List Numbers). AreEnds l c.args.counts.now c.ends-ends.result) c.as_slice.ensures.value c.ends-ends.ensures) c.args.room c.in_ok-ledger.ledger (subst (λ (net : Net). IsRenewed net c.self.inside.ledger.logs c.ends-ends.result c.args.room c.in_ok-ledger.ledger) (same_net (body_of c.self.inside.accepted.protocol.body) _ c.points.result.now c.self.invariant.protocol.form c.points.ensures) c.in_ok-ledger.ensures) c.forget.new.numbers.items c.forget.ensures _ refl;
   };
   sound = sound_now (guide_of c.self.inside.accepted.protocol c.self.inside.plan c.self.inside.ledger c.self.inside.numbers.items c.self.inside.room c.self.inside.told) c.args.counts.now c.ends-ends.result c.self.invariant.logs c.self.invariant.numbers (guide_ordered c.self.invariant) (subst (λ (g : GuideView). MayForget g c.args.counts.now) (sym c.self.view_is) c.requires.counts) (subst (λ (l : List Numbers). AreEnds l c.args.counts.now c.ends-ends.result) c.as_slice.ensures.value c.ends-ends.ensures) c.args.room c.in_ok-ledger.ledger (subst (λ (net : Net). IsRenewed net c.self.inside.ledger.logs c.ends-ends.result c.args.room c.in_ok-ledger.ledger) (same_net (body_of c.self.inside.accepted.protocol.body) _ c.points.result.now c.self.invariant.protocol.form c.points.ensures) c.in_ok-ledger.ensures) c.forget.new.numbers.items c.forget.ensures c.self.invariant.sound c.self.invariant.holds.memory c.self.invariant.holds.is;

@@ -1,6 +1,6 @@
 -- Where no point comes next the part has ended.
 use Rattle.std.proofs.Common.{sym, ◌∙◌}
-use Rattle.rcv_guide.proofs.Standing.{none_in_none, some_in}
+use Rattle.rcv_guide.proofs.Placing.{none_in_none, some_in}
 use Rattle.rcv_guide.proofs.guide.Guide.is_over.Goals as goal
 
 pub returns : goal.returns

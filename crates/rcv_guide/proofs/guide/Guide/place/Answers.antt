@@ -8,7 +8,7 @@ use Rattle.rcv_guide.specs.declared.numbers.Numbers.{Numbers}
 use Rattle.rcv_guide.specs.Numbers.{numbers_at}
 use Rattle.rcv_guide.specs.Guide.{GuideView, guide_of, net_for, roles_of, stand}
 use Rattle.rcv_guide.proofs.Guides.{own_at, stands_at}
-use Rattle.rcv_guide.proofs.Standing.{place_first, place_last}
+use Rattle.rcv_guide.proofs.Placing.{place_first, place_last}
 use Rattle.rcv_guide.proofs.guide.Guide.place.Goals as goal
 
 pub returns-then-made-own-clause-value : goal.returns-then-made-own-clause-value

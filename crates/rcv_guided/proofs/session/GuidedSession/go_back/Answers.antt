@@ -27,7 +27,7 @@ unreachable-requires c =
 
 pub invariant_of-self : goal.invariant_of-self
 invariant_of-self c =
-    is_session (record { guide = c.self.inside.guide; saves = c.self.inside.saves; incarnations = c.self.inside.incarnations.items }) c.tell_recovered.new.self c.cut.new.saves c.raise.new.incarnations.items
+    is_session (record { guide = c.self.inside.guide; saves = c.self.inside.saves; incarnations = c.self.inside.incarnations.items; restored = c.self.inside.restored }) c.tell_recovered.new.self c.cut.new.saves c.raise.new.incarnations.items
     c.args.role c.args.saved.now c.in-Ok.recovery c.roles-roles.ensures.memory c.in-Ok.ensures.back c.in-Ok.ensures.gone c.self.invariant
     (subst (λ n. AreCut c.self.inside.saves c.cut.new.saves n (slice_index c.in-Ok.recovery.kept)) c.roles-roles.ensures.value c.cut.ensures)
     c.who_goes_back-back.result.0 c.raise.ensures
@@ -36,20 +36,20 @@ pub returns-clause-back : goal.returns-clause-back
 returns-clause-back c =
     let may = subst (λ (s : SessionView). MayRecover s.guide c.args.role c.args.saved.now) (sym c.self.view_is) c.requires in
     let few : roles_of c.self.inside.guide ≤ 8 = (let few = c.roles-roles.ensures.few in let value = c.roles-roles.ensures.value in omega (arith, few, value)) in
-    subst (λ (s : SessionView). GoesBack c.args.role c.args.saved.now s c.in-Ok.recovery (record { guide = c.tell_recovered.new.self; saves = c.cut.new.saves; incarnations = c.raise.new.incarnations.items })) c.self.view_is
-    (has_gone_back (record { guide = c.self.inside.guide; saves = c.self.inside.saves; incarnations = c.self.inside.incarnations.items }) c.tell_recovered.new.self c.cut.new.saves c.raise.new.incarnations.items
+    subst (λ (s : SessionView). GoesBack c.args.role c.args.saved.now s c.in-Ok.recovery (record { guide = c.tell_recovered.new.self; saves = c.cut.new.saves; incarnations = c.raise.new.incarnations.items; restored = c.self.inside.restored })) c.self.view_is
+    (has_gone_back (record { guide = c.self.inside.guide; saves = c.self.inside.saves; incarnations = c.self.inside.incarnations.items; restored = c.self.inside.restored }) c.tell_recovered.new.self c.cut.new.saves c.raise.new.incarnations.items
     c.args.role c.args.saved.now c.in-Ok.recovery c.roles-roles.ensures.memory c.in-Ok.ensures.back c.in-Ok.ensures.gone c.self.invariant may few c.group-group.result.0 c.who_goes_back-back.result.0 c.all_made-before.result
     c.group-group.ensures c.all_made-before.ensures.all c.who_goes_back-back.ensures
     (subst (λ n. AreCut c.self.inside.saves c.cut.new.saves n (slice_index c.in-Ok.recovery.kept)) c.roles-roles.ensures.value c.cut.ensures) c.raise.ensures)
 
 pub returns-clause-still : goal.returns-clause-still
 returns-clause-still c =
-    subst (λ (s : SessionView). IsStill s (record { guide = c.tell_recovered.new.self; saves = c.cut.new.saves; incarnations = c.raise.new.incarnations.items }) 1) c.self.view_is
-    (is_still (record { guide = c.self.inside.guide; saves = c.self.inside.saves; incarnations = c.self.inside.incarnations.items }) c.tell_recovered.new.self c.cut.new.saves c.raise.new.incarnations.items
+    subst (λ (s : SessionView). IsStill s (record { guide = c.tell_recovered.new.self; saves = c.cut.new.saves; incarnations = c.raise.new.incarnations.items; restored = c.self.inside.restored }) 1) c.self.view_is
+    (is_still (record { guide = c.self.inside.guide; saves = c.self.inside.saves; incarnations = c.self.inside.incarnations.items; restored = c.self.inside.restored }) c.tell_recovered.new.self c.cut.new.saves c.raise.new.incarnations.items
     c.args.role c.args.saved.now c.in-Ok.recovery c.roles-roles.ensures.memory c.in-Ok.ensures.back c.in-Ok.ensures.gone)
 
 pub returns-clause-history : goal.returns-clause-history
 returns-clause-history c =
-    subst (λ (s : SessionView). GoesOnBy s (entry_of c.args.role c.in-Ok.recovery ∷ []) (record { guide = c.tell_recovered.new.self; saves = c.cut.new.saves; incarnations = c.raise.new.incarnations.items })) c.self.view_is
-    (goes_on (record { guide = c.self.inside.guide; saves = c.self.inside.saves; incarnations = c.self.inside.incarnations.items }) c.tell_recovered.new.self c.cut.new.saves c.raise.new.incarnations.items
+    subst (λ (s : SessionView). GoesOnBy s (entry_of c.args.role c.in-Ok.recovery ∷ []) (record { guide = c.tell_recovered.new.self; saves = c.cut.new.saves; incarnations = c.raise.new.incarnations.items; restored = c.self.inside.restored })) c.self.view_is
+    (goes_on (record { guide = c.self.inside.guide; saves = c.self.inside.saves; incarnations = c.self.inside.incarnations.items; restored = c.self.inside.restored }) c.tell_recovered.new.self c.cut.new.saves c.raise.new.incarnations.items
     c.args.role c.args.saved.now c.in-Ok.recovery c.roles-roles.ensures.memory c.in-Ok.ensures.back c.in-Ok.ensures.gone (entry_of c.args.role c.in-Ok.recovery) c.in-Ok.ensures.after)

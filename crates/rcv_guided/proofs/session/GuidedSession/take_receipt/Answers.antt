@@ -2,7 +2,7 @@
 use Rattle.std.proofs.Common.{rules, w64, sym, ◌∙◌, ap, subst}
 use mir.Val.{SFits}
 use Rattle.std.proofs.lemmas.Int.{to_z-of_z}
-use Rattle.rcv_guide.specs.Guide.{GuideView}
+use Rattle.rcv_guide.specs.Guide.{GuideView, received}
 use Rattle.rcv_dialogue.specs.declared.answer.Answer.{Answer}
 use Rattle.rcv_dialogue.specs.declared.answer.Answer.TheVariants as answer
 use Rattle.rcv_dialogue.specs.declared.line.Line.TheVariants as line
@@ -11,12 +11,13 @@ use Rattle.rcv_guided.specs.Hearing.{news_of}
 use Rattle.rcv_guided.specs.Events.{news_of_recv, channel_of, stamp_told, MayReceive}
 use Rattle.rcv_guided.specs.Answers.{ComesBy}
 use Rattle.rcv_guided.proofs.Told.{no_memory_to_receive, received_by}
+use Rattle.rcv_guided.proofs.Sessions.{session_same, session_event}
 use Rattle.rcv_guided.proofs.session.GuidedSession.take_receipt.Goals as goal
 use Rattle.rcv_guided.proofs.session.GuidedSession.take_receipt.Goals.{in-Ok, in-Err}
 
 pub returns-clause-comes : goal.returns-clause-comes
 returns-clause-comes c =
-    let s : SessionView = record { guide = c.self.inside.guide; saves = c.self.inside.saves; incarnations = c.self.inside.incarnations.items } in
+    let s : SessionView = record { guide = c.self.inside.guide; saves = c.self.inside.saves; incarnations = c.self.inside.incarnations.items; restored = c.self.inside.restored } in
     let told = c.args.told.now in
     let fits : SFits w64 told.value = search rules in
     let same = to_z-of_z w64 told.value fits in
@@ -29,3 +30,11 @@ returns-clause-comes c =
       | in-Err w ↦ subst (λ (said : Answer). ComesBy s (line.Recv told) (record s { guide = c.tell_received.new.self }) said) (sym w.result-is)
           (subst (λ (g : GuideView). ComesBy s (line.Recv told) (record s { guide = g }) answer.Memory) (sym w.in-Err.ensures.err) (no_memory_to_receive s told))
     ])
+
+pub invariant_of-self : goal.invariant_of-self
+invariant_of-self c =
+    let s : SessionView = record { guide = c.self.inside.guide; saves = c.self.inside.saves; incarnations = c.self.inside.incarnations.items; restored = c.self.inside.restored } in
+    elim c.match-tell_received.branch [
+      | in-Ok w ↦ session_event s c.tell_received.new.self (received s.guide c.news-news.result c.stamp_told-sent.result) c.self.invariant w.in-Ok.ensures.ok
+      | in-Err w ↦ session_same s c.tell_received.new.self c.self.invariant w.in-Err.ensures.err
+    ]

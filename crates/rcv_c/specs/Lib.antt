@@ -1,0 +1,5 @@
+pub mod Status
+pub mod Owned
+pub mod Refusals
+pub mod Opening
+pub mod Telling

@@ -1,6 +1,0 @@
-use Rattle.std.proofs.Common.{◌≡◌, replicate}
-use Rattle.rcv_guide.specs.Numbers.{at_start}
-use Rattle.rcv_guide.proofs.guide.Guide.new.Given as goal
-
-abbrev pub invariant-loop-role : goal.invariant-loop-role
-invariant-loop-role l = l.numbers.items ≡ replicate l._role at_start

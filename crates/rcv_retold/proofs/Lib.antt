@@ -1,0 +1,12 @@
+pub mod Growing
+pub mod Sending
+pub mod Sounding
+pub mod Refusing
+pub mod Matching
+pub mod Rising
+pub mod Listing
+pub mod Telling
+pub mod Marking
+pub mod Counts
+pub mod Searching
+pub mod Records
