@@ -25,7 +25,7 @@ _rcv_complete() {
 }
 
 _rcv() { _rcv_complete "run check project table gen replay line"; }
-_rcv_show() { _rcv_complete "journal replay table role protocol points explain"; }
+_rcv_show() { _rcv_complete "journal told replay table role protocol points explain"; }
 
 complete -F _rcv rcv ./rcv
 complete -F _rcv_show rcv-show ./rcv-show

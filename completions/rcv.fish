@@ -16,6 +16,7 @@ complete -c rcv -n '__fish_seen_subcommand_from gen' -l number -x -d 'from 0 to 
 
 complete -c rcv-show -f
 complete -c rcv-show -n __fish_use_subcommand -a journal -d 'draw a journal, behind the input and a line %% journal'
+complete -c rcv-show -n __fish_use_subcommand -a told -d 'draw the journal that a guide was told, behind the input'
 complete -c rcv-show -n __fish_use_subcommand -a replay -d 'judge the journal behind the input and say what is wrong with it'
 complete -c rcv-show -n __fish_use_subcommand -a table -d 'draw whom the failure of each role concerns'
 complete -c rcv-show -n __fish_use_subcommand -a role -d 'draw what a role does at each of its places'

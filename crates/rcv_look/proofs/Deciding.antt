@@ -5,7 +5,7 @@ use Rattle.std.specs.Str.{bytes_eq}
 use Rattle.std.proofs.lemmas.Bool.{cases_lt}
 use Rattle.std.proofs.lemmas.Slice.Eq.{bytes_eq-Decides}
 use Rattle.clap.specs.Words.{Kinds, Text, fault_of}
-use Rattle.rcv_look.specs.Commands.{CommandView, DrawJournal, DrawSession, ReplayJournal, DrawTable, DrawRole, DrawProtocol, ListPoints, Explain, Given, IsGiven, Says, IsWithin, IsCommand, IsNoCommand, given, line_of}
+use Rattle.rcv_look.specs.Commands.{CommandView, DrawJournal, DrawSession, DrawTold, ReplayJournal, DrawTable, DrawRole, DrawProtocol, ListPoints, Explain, Given, IsGiven, Says, IsWithin, IsCommand, IsNoCommand, given, line_of}
 use Rattle.rcv_look.specs.Program.{rcv_show}
 
 abbrev OrNot : Type 0 → Type 0
@@ -78,10 +78,11 @@ says_explain g = both (is_given g (codes "explain") None (Some (unwrap_or g.code
 value_of : {X : Type 0} (o : Option X) (x y : X) → o ≡ Some y → y ≡ unwrap_or o x
 value_of o x y e = sym (ap (λ p. unwrap_or p x) e)
 
--- None of the eight, never command.
+-- None of the nine, never command.
 record SaysNone (g : Given) : Type 0 where
   pub journal : SaysWithin g DrawJournal → ⊥
   pub session : SaysWithin g (session_of g) → ⊥
+  pub told : SaysWithin g DrawTold → ⊥
   pub replay : SaysWithin g ReplayJournal → ⊥
   pub table : SaysWithin g DrawTable → ⊥
   pub role : SaysWithin g (role_of g) → ⊥
@@ -92,6 +93,7 @@ record SaysNone (g : Given) : Type 0 where
 none_of : (g : Given) → SaysNone g → (c : CommandView) → SaysWithin g c → ⊥
 none_of g none DrawJournal s = none.journal s
 none_of g none (DrawSession number) s = none.session (subst (SaysWithin g) (ap DrawSession (value_of g.session 0 number s.0.session_is)) s)
+none_of g none DrawTold s = none.told s
 none_of g none ReplayJournal s = none.replay s
 none_of g none DrawTable s = none.table s
 none_of g none (DrawRole name) s = none.role (subst (SaysWithin g) (ap DrawRole (value_of g.role [] name s.0.role_is)) s)
@@ -103,14 +105,15 @@ says_or_not : (g : Given) → ((c : CommandView) × SaysWithin g c) ⊎ ((c : Co
 says_or_not g =
     ⊎_elim (λ s. inl (DrawJournal, s)) (λ journal.
     ⊎_elim (λ s. inl (session_of g, s)) (λ session.
+    ⊎_elim (λ s. inl (DrawTold, s)) (λ told.
     ⊎_elim (λ s. inl (ReplayJournal, s)) (λ replay.
     ⊎_elim (λ s. inl (DrawTable, s)) (λ table.
     ⊎_elim (λ s. inl (role_of g, s)) (λ role.
     ⊎_elim (λ s. inl (DrawProtocol, s)) (λ protocol.
     ⊎_elim (λ s. inl (ListPoints, s)) (λ points.
     ⊎_elim (λ s. inl (explain_of g, s)) (λ explain.
-    inr (none_of g (record { journal = journal; session = session; replay = replay; table = table; role = role; protocol = protocol; points = points; explain = explain })))
-    (says_explain g)) (free (alone g (codes "points")))) (free (alone g (codes "protocol")))) (says_role g)) (free (alone g (codes "table")))) (free (alone g (codes "replay")))) (says_session g)) (free (alone g (codes "journal")))
+    inr (none_of g (record { journal = journal; session = session; told = told; replay = replay; table = table; role = role; protocol = protocol; points = points; explain = explain })))
+    (says_explain g)) (free (alone g (codes "points")))) (free (alone g (codes "protocol")))) (says_role g)) (free (alone g (codes "table")))) (free (alone g (codes "replay")))) (free (alone g (codes "told")))) (says_session g)) (free (alone g (codes "journal")))
 
 pub command_or_none : (words : List Text) → ((c : CommandView) × IsCommand words c) ⊎ IsNoCommand words
 command_or_none words = go (fault_of rcv_show (line_of words)) refl

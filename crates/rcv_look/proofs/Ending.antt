@@ -11,9 +11,9 @@ use Rattle.rcv_listing.specs.declared.listing.Listing.{Listing}
 use Rattle.rcv_listing.specs.declared.listing.Listing.TheVariants.{Accepted, RuledOut}
 use Rattle.rcv_look.specs.declared.status.Status.{Status}
 use Rattle.rcv_look.specs.declared.status.Status.TheVariants as statuses
-use Rattle.rcv_look.specs.Commands.{CommandView, DrawJournal, DrawSession, ReplayJournal, DrawTable, DrawRole, DrawProtocol, ListPoints, Explain}
+use Rattle.rcv_look.specs.Commands.{CommandView, DrawJournal, DrawSession, DrawTold, ReplayJournal, DrawTable, DrawRole, DrawProtocol, ListPoints, Explain}
 use Rattle.rcv_look.specs.Drawing.{ArePoints, ListsAs, listed, unread, IsExplanation, explained, unknown}
-use Rattle.rcv_look.specs.Outcome.{IsVerdict, illegal, misclosed, drawn, IsTextAnswer, malformed, formed, IsBundleAnswer, IsJournalAnswer, IsLaterAnswer, IsSessionAnswer, uncut, long, parted, status_of, IsReplayAnswer, IsChartAnswer, Draws, IsAnswer}
+use Rattle.rcv_look.specs.Outcome.{IsVerdict, illegal, misclosed, drawn, IsTextAnswer, malformed, formed, IsBundleAnswer, IsJournalAnswer, IsLaterAnswer, IsSessionAnswer, IsToldTextAnswer, IsToldBundleAnswer, IsToldAnswer, uncut, long, parted, status_of, IsReplayAnswer, IsChartAnswer, Draws, IsAnswer}
 use Rattle.rcv_look.specs.Outcome as outcomes
 
 -- An answer may end so: written whole, or too long, and then nothing is written.
@@ -61,6 +61,19 @@ session_ends number input s b (long cut is more) = refl
 session_ends number input s b (outcomes.missing cut is few none) = tt
 session_ends number input s b (parted cut section is few there answer) = later_ends _ _ _ _ s b answer
 
+told_text_ends : (session : SessionView) (text : List ℕ) (feeds : ℕ) (s : Status) (b : List ℕ) → IsToldTextAnswer session text feeds s b → EndsSo s b
+told_text_ends session text feeds s b (outcomes.wrong k first) = tt
+told_text_ends session text feeds s b (drawn entries told drawing) = tt
+
+told_bundle_ends : (bundle text : List ℕ) (feeds : ℕ) (s : Status) (b : List ℕ) → IsToldBundleAnswer bundle text feeds s b → EndsSo s b
+told_bundle_ends bundle text feeds s b (outcomes.refused refusal first) = tt
+told_bundle_ends bundle text feeds s b (outcomes.taken session taken answer) = told_text_ends session text feeds s b answer
+
+told_ends : (input : List ℕ) (s : Status) (b : List ℕ) → IsToldAnswer input s b → EndsSo s b
+told_ends input s b (uncut none) = tt
+told_ends input s b (long cut is more) = refl
+told_ends input s b (parted cut is few answer) = told_bundle_ends _ _ _ s b answer
+
 said_ends : (said : Replayed) (b : List ℕ) → EndsSo (status_of (finding_of said)) b
 said_ends (replays.Refused refused) b = tt
 said_ends (replays.Legal entries limited) b = tt
@@ -81,6 +94,7 @@ draws_end session (DrawRole name) s b (inr draws) = with_refused s b draws.1
 draws_end session DrawProtocol s b draws = with_drawn s b draws.0
 draws_end session DrawJournal s b draws = absurd draws
 draws_end session (DrawSession number) s b draws = absurd draws
+draws_end session DrawTold s b draws = absurd draws
 draws_end session ReplayJournal s b draws = absurd draws
 draws_end session ListPoints s b draws = absurd draws
 draws_end session (Explain code) s b draws = absurd draws
@@ -104,6 +118,7 @@ explanation_ends code s b (unknown none) = tt
 pub answer_ends : (command : CommandView) (input : List ℕ) (s : Status) (b : List ℕ) → IsAnswer command input s b → EndsSo s b
 answer_ends DrawJournal input s b answer = journal_ends input s b answer
 answer_ends (DrawSession number) input s b answer = session_ends number input s b answer
+answer_ends DrawTold input s b answer = told_ends input s b answer
 answer_ends ReplayJournal input s b answer = replay_ends input s b answer
 answer_ends DrawTable input s b answer = chart_ends DrawTable input s b answer
 answer_ends (DrawRole name) input s b answer = chart_ends (DrawRole name) input s b answer

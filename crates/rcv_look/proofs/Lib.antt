@@ -10,6 +10,7 @@ pub mod Answering
 pub mod Telling
 pub mod Journals
 pub mod Sessions
+pub mod Guided
 pub mod Plain
 pub mod Pictures
 mod Examples

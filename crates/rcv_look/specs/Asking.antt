@@ -1,6 +1,6 @@
 -- What words ask for: how much a command takes, and whether it reads the source.
 use Rattle.std.specs.Prelude.{ℕ, List, ⊤}
-use Rattle.rcv_look.specs.Commands.{CommandView, DrawJournal, DrawSession, ReplayJournal, Explain, IsCommand}
+use Rattle.rcv_look.specs.Commands.{CommandView, DrawJournal, DrawSession, DrawTold, ReplayJournal, Explain, IsCommand}
 
 -- How many bytes a bundle may have, and a bundle with a journal behind it.
 abbrev pub most_of_bundle : ℕ
@@ -13,6 +13,7 @@ most_with_journal = 134217728
 abbrev pub most_for : CommandView → ℕ
 most_for DrawJournal = most_with_journal
 most_for (DrawSession number) = most_with_journal
+most_for DrawTold = most_with_journal
 most_for ReplayJournal = most_with_journal
 most_for _ = most_of_bundle
 

@@ -14,6 +14,7 @@ use Rattle.rcv_look.specs.Program.{rcv_show}
 pub data CommandView : Type 0 where
   DrawJournal : CommandView
   DrawSession : (number : ℕ) → CommandView
+  DrawTold : CommandView
   ReplayJournal : CommandView
   DrawTable : CommandView
   DrawRole : (name : Text) → CommandView
@@ -25,6 +26,7 @@ pub data CommandView : Type 0 where
 abbrev pub view_of : Command → CommandView
 view_of commands.Journal = DrawJournal
 view_of (commands.Session number) = DrawSession number
+view_of commands.Told = DrawTold
 view_of commands.Replay = ReplayJournal
 view_of commands.Table = DrawTable
 view_of (commands.Role role) = DrawRole role
@@ -95,6 +97,7 @@ pub record IsGiven (g : Given) (word : Text) (role : Option Text) (code session 
 abbrev pub Says : Given → CommandView → Type 0
 Says g DrawJournal = IsGiven g (codes "journal") None None None
 Says g (DrawSession number) = IsGiven g (codes "journal") None None (Some number)
+Says g DrawTold = IsGiven g (codes "told") None None None
 Says g ReplayJournal = IsGiven g (codes "replay") None None None
 Says g DrawTable = IsGiven g (codes "table") None None None
 Says g (DrawRole name) = IsGiven g (codes "role") (Some name) None None

@@ -1,5 +1,6 @@
 -- What the program answers: a status and bytes, for words and an input.
 use Rattle.std.specs.Prelude.{◌≡◌, ℕ, ◌+◌, ◌-◌, ◌<◌, ◌≤◌, codes, decimal, List, [], ◌++◌, length, take, Some, None}
+use Rattle.rcv_tree.specs.declared.entry.Entry.{Entry}
 use Rattle.rcv_model.specs.Journal.{reading, IsLegal}
 use Rattle.rcv_session.specs.Session.{SessionView, rules_of}
 use Rattle.rcv_input.specs.declared.refused.Refused as refusals
@@ -11,19 +12,22 @@ use Rattle.rcv_form.specs.Form as form
 use Rattle.rcv_form.specs.Journal.{JournalView, bare}
 use Rattle.rcv_judge.specs.Closing.{ClosesRight, IsFirstWrongClosing}
 use Rattle.rcv_judge.specs.Judged.{IsFirstWrong as IsFirstIllegal}
+use Rattle.rcv_told.specs.Told.{told}
+use Rattle.rcv_retold.specs.Retold.{terms_for}
+use Rattle.rcv_retold.specs.Text.{IsToldText, IsFirstWrong}
 use Rattle.rcv_replay.specs.declared.cut.Cut.{Cut}
 use Rattle.rcv_diagnosis.specs.declared.diagnosis.Finding.{Finding}
 use Rattle.rcv_diagnosis.specs.declared.diagnosis.Finding.TheVariants as findings
 use Rattle.rcv_diagnosis.specs.Diagnosing.{IsDiagnosis}
 use Rattle.rcv_look.specs.declared.status.Status.{Status}
 use Rattle.rcv_look.specs.declared.status.Status.TheVariants.{Drawn, Usage, Refused, ReadFault, WriteFault, Memory, TooLong, Illegal}
-use Rattle.rcv_look.specs.Commands.{CommandView, DrawJournal, DrawSession, ReplayJournal, DrawTable, DrawRole, DrawProtocol, ListPoints, Explain, IsCommand, IsNoCommand}
+use Rattle.rcv_look.specs.Commands.{CommandView, DrawJournal, DrawSession, DrawTold, ReplayJournal, DrawTable, DrawRole, DrawProtocol, ListPoints, Explain, IsCommand, IsNoCommand}
 use Rattle.rcv_look.specs.Asking.{most_for, most_of_bundle, IsAskedOfSource}
 use Rattle.rcv_replay.specs.Cutting.{cut_of, bundle_of, journal_of, feeds_before, feeds_in, line_of_end}
 use Rattle.rcv_section.specs.declared.section.Section.{Section}
 use Rattle.rcv_section.specs.Sections.{IsSection, HasNoSection, section_text}
 use Rattle.rcv_later.specs.Later.{IsLaterOf}
-use Rattle.rcv_look.specs.Drawing.{IsJournalDrawing, IsTableDrawing, IsRoleAnswer, IsProtocolDrawing, ArePoints, IsExplanation}
+use Rattle.rcv_look.specs.Drawing.{IsDrawing, IsJournalDrawing, IsTableDrawing, IsRoleAnswer, IsProtocolDrawing, ArePoints, IsExplanation}
 
 -- The number of a status, with which the process ends.
 abbrev pub number_of : Status → ℕ
@@ -38,7 +42,7 @@ number_of Illegal = 8
 
 -- What is written where the words are no command.
 abbrev pub usage_line : List ℕ
-usage_line = codes "usage: rcv-show journal|replay|table|role|protocol|points|explain [--session I] [--role R] [--code N]\n"
+usage_line = codes "usage: rcv-show journal|told|replay|table|role|protocol|points|explain [--session I] [--role R] [--code N]\n"
 
 -- `refused 50 NoJournal line L`: an input that ends at this line has no line `%% journal`.
 abbrev pub no_journal_line : ℕ → List ℕ
@@ -127,6 +131,36 @@ pub data IsSessionAnswer (number : ℕ) (input : List ℕ) : Status → List ℕ
       (feeds_up_to input cut section) status bytes
       → IsSessionAnswer number input status bytes
 
+-- What is answered to the text behind so many line feeds of the input, as that of a journal that a guide was told: its first
+-- wrong line, counted over the whole input, whether it isn't of the form or may not come there; or a picture of it, where the
+-- kept events are those that the guide holds at the end.
+pub data IsToldTextAnswer (session : SessionView) (text : List ℕ) (feeds : ℕ) : Status → List ℕ → Type 0 where
+  wrong : (k : ℕ) → IsFirstWrong session text k → IsToldTextAnswer session text feeds Illegal (illegal_line (feeds + k))
+  drawn :
+      {bytes : List ℕ} (entries : List Entry) → IsToldText session text entries
+      → IsDrawing session entries (told (terms_for session) entries).held bytes
+      → IsToldTextAnswer session text feeds Drawn bytes
+
+-- What is answered to a bundle with such a text behind so many line feeds of the input: the bundle's first refusal, or what
+-- the text is answered.
+pub data IsToldBundleAnswer (bundle text : List ℕ) (feeds : ℕ) : Status → List ℕ → Type 0 where
+  refused :
+      (refusal : refusals.Refused) → IsFirstRefusal bundle refusal
+      → IsToldBundleAnswer bundle text feeds Refused (refusal_line refusal)
+  taken :
+      {status : Status} {bytes : List ℕ} (session : SessionView) → IsTaken bundle session
+      → IsToldTextAnswer session text feeds status bytes → IsToldBundleAnswer bundle text feeds status bytes
+
+-- What is answered to `told`: that the input has no line `%% journal`, at the line of its end; the bundle before that line is
+-- too long; or what the bundle and the text behind the line are answered.
+pub data IsToldAnswer (input : List ℕ) : Status → List ℕ → Type 0 where
+  uncut : cut_of input ≡ None → IsToldAnswer input Refused (no_journal_line (line_of_end input))
+  long : (cut : Cut) → cut_of input ≡ Some cut → most_of_bundle < cut.end → IsToldAnswer input TooLong []
+  parted :
+      {status : Status} {bytes : List ℕ} (cut : Cut) → cut_of input ≡ Some cut → cut.end ≤ most_of_bundle
+      → IsToldBundleAnswer (bundle_of input cut) (journal_of input cut) (feeds_before input cut) status bytes
+      → IsToldAnswer input status bytes
+
 -- The status that says what a diagnosis found.
 abbrev pub status_of : Finding → Status
 status_of findings.Legal = Drawn
@@ -147,6 +181,7 @@ Draws session (DrawRole name) status bytes = IsRoleAnswer session.protocol name 
 Draws session DrawProtocol status bytes = (status ≡ Drawn) × IsProtocolDrawing session.protocol bytes
 Draws session DrawJournal status bytes = ⊥
 Draws session (DrawSession number) status bytes = ⊥
+Draws session DrawTold status bytes = ⊥
 Draws session ReplayJournal status bytes = ⊥
 Draws session ListPoints status bytes = ⊥
 Draws session (Explain code) status bytes = ⊥
@@ -163,6 +198,7 @@ pub data IsChartAnswer (command : CommandView) (input : List ℕ) : Status → L
 abbrev pub IsAnswer : CommandView → List ℕ → Status → List ℕ → Type 0
 IsAnswer DrawJournal input status bytes = IsJournalAnswer input status bytes
 IsAnswer (DrawSession number) input status bytes = IsSessionAnswer number input status bytes
+IsAnswer DrawTold input status bytes = IsToldAnswer input status bytes
 IsAnswer ReplayJournal input status bytes = IsReplayAnswer input status bytes
 IsAnswer DrawTable input status bytes = IsChartAnswer DrawTable input status bytes
 IsAnswer (DrawRole name) input status bytes = IsChartAnswer (DrawRole name) input status bytes

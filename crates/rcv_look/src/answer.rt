@@ -12,6 +12,7 @@ use crate::output::Output;
 use crate::replay::replay_answer;
 use crate::session::session_answer;
 use crate::texts::{explain_answer, points_answer};
+use crate::told::told_answer;
 use std::alloc::{AllocError, Global};
 
 /// What a command answers to its input. Fails where memory runs out.
@@ -23,6 +24,7 @@ pub fn answer(alloc: Global, command: &Command, input: &[u8]) -> Result<Output, 
     match command {
         Command::Journal => journal_answer(alloc, input),
         Command::Session { number } => session_answer(alloc, input, *number),
+        Command::Told => told_answer(alloc, input),
         Command::Replay => replay_answer(alloc, input),
         Command::Table => table_answer(alloc, input),
         Command::Role { role } => role_answer(alloc, input, role.as_slice()),

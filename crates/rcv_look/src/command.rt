@@ -9,6 +9,8 @@ pub enum Command {
     Journal,
     /// Draws the journal of the session with this number, from 1 to 64, of those that stand behind the bundle.
     Session { number: u32 },
+    /// Draws the journal that a guide was told, which stands behind the bundle.
+    Told,
     /// Says of the journal that stands behind the bundle whether it is legal, and what of it is wrong.
     Replay,
     /// Draws who restarts where, for each role and each point at which it may fail.

@@ -10,6 +10,7 @@ use rcv_fates::Record;
 use rcv_journal::line::RoleLine;
 use rcv_picture::picture_text;
 use rcv_rows::tell;
+use rcv_scene::ends::{RoleEnd, ends_of};
 use rcv_scene::journal_picture::journal_picture;
 use rcv_story::shown::shown_entries;
 use rcv_story::story::{Story, story_of};
@@ -46,8 +47,8 @@ fn short(text: Vec<u8>, entries: usize) -> Result<Vec<u8>, AllocError>
     Ok(text)
 }
 
-/// The text of a picture of a journal, whose roles ended as these lines say. Fails where memory runs out.
-pub fn draw(alloc: Global, record: &Record<'_>, lines: &[RoleLine]) -> Result<Vec<u8>, AllocError>
+/// The text of a picture of a journal, whose roles ended so. Fails where memory runs out.
+pub fn draw(alloc: Global, record: &Record<'_>, ends: &[RoleEnd]) -> Result<Vec<u8>, AllocError>
     ensures { IfOk result (λ text. (kept : List Event) → HasKept record.now kept
         → IsDrawing record.now.setup record.now.entries kept text.items) }
 {
@@ -57,7 +58,7 @@ pub fn draw(alloc: Global, record: &Record<'_>, lines: &[RoleLine]) -> Result<Ve
     let picture = journal_picture(
         alloc,
         record,
-        lines,
+        ends,
         &story,
         told.wires.as_slice(),
         told.rows.as_slice(),
@@ -71,5 +72,6 @@ pub fn draw_book(alloc: Global, book: &Book<'_>, lines: &[RoleLine]) -> Result<V
     ensures { IfOk result (λ text. IsJournalDrawing book.now.setup book.now.entries text.items) }
 {
     let record = Record::of_book(alloc, book)?;
-    draw(alloc, &record, lines)
+    let ends = ends_of(alloc, lines)?;
+    draw(alloc, &record, ends.as_slice())
 }

@@ -123,6 +123,7 @@ impl<'a> Given<'a> {
     {
         match self.command.ok_or(WordsError::Usage)? {
             "journal" => self.journal().ok_or(WordsError::Usage),
+            "told" => self.alone(Command::Told).ok_or(WordsError::Usage),
             "replay" => self.alone(Command::Replay).ok_or(WordsError::Usage),
             "table" => self.alone(Command::Table).ok_or(WordsError::Usage),
             "role" => Ok(Command::Role {

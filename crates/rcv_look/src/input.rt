@@ -23,7 +23,9 @@ fn most_for(command: &Command) -> usize
     ensures most { result ≤ 134217728 }
 {
     match command {
-        Command::Journal | Command::Session { .. } | Command::Replay => MOST_WITH_JOURNAL,
+        Command::Journal | Command::Session { .. } | Command::Told | Command::Replay => {
+            MOST_WITH_JOURNAL
+        }
         _ => MOST_OF_BUNDLE,
     }
 }

@@ -19,6 +19,7 @@ mod role;
 mod session;
 mod status;
 mod texts;
+mod told;
 mod whole;
 mod words;
 

@@ -10,3 +10,9 @@ pub mod Marking
 pub mod Counts
 pub mod Searching
 pub mod Records
+pub mod Ending
+pub mod Comparing
+pub mod Beginning
+pub mod Fronts
+pub mod Heads
+pub mod Same

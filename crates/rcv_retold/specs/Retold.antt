@@ -3,6 +3,8 @@ use Rattle.std.specs.Prelude.{◌≡◌, ℕ, ◌+◌, ◌<◌, ◌≤◌, true,
 use Rattle.rcv_tree.specs.declared.event.Event.{Event}
 use Rattle.rcv_tree.specs.declared.entry.Entry.{Entry}
 use Rattle.rcv_tree.specs.declared.entry.Entry.TheVariants.{Send, Recv, Crash, Recover}
+use Rattle.rcv_tree.specs.declared.protocol.Protocol.{Protocol}
+use Rattle.rcv_model.specs.Text.{body_of}
 use Rattle.rcv_model.specs.Journal.{events_of}
 use Rattle.rcv_model.specs.Plan.{host_in}
 use Rattle.rcv_session.specs.Session.{SessionView, roles_of, net_for}
@@ -16,6 +18,15 @@ use Rattle.rcv_retold.specs.Stamps.{stamps_at, stamps_of}
 -- What a session's roles are told by: its scripts have no part in it.
 abbrev pub terms_for : SessionView → Terms
 terms_for session = record { net = net_for session; roles = roles_of session; host = host_in session.plan }
+
+-- Both protocols have the same roles and the same text.
+pub record HasSameText (p q : Protocol) : Type 0 where
+  pub names : p.roles ≡ q.roles
+  pub bodies : body_of p.body ≡ body_of q.body
+
+-- The session with a protocol for its own.
+abbrev pub with_protocol : SessionView → Protocol → SessionView
+with_protocol session protocol = record session { protocol = protocol }
 
 -- An entry may be told as it stands. A recovery has to take back just what it states where each failed role has saved as
 -- many events as it states of it, and no more.

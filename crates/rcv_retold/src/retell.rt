@@ -6,7 +6,7 @@ ghost use Rattle.rcv_ledger.specs.Logs.{log_at};
 ghost use Rattle.rcv_guide.specs.Guide.{roles_of, opened, IsMemory};
 ghost use Rattle.rcv_told.specs.Told.{told};
 ghost use Rattle.rcv_fates.specs.Record.{HasKept};
-ghost use Rattle.rcv_retold.specs.Retold.{terms_for, IsRetold, IsFirstUntold, HasWhole, HasStamps};
+ghost use Rattle.rcv_retold.specs.Retold.{terms_for, with_protocol, HasSameText, IsRetold, IsFirstUntold, HasWhole, HasStamps};
 ghost use Rattle.rcv_retold.specs.Stamps.{lists_in, AreStamps, IsEventOf, IsBehind};
 ghost use Rattle.rcv_retold.specs.declared.retell.RetellError.TheVariants as errors;
 
@@ -59,7 +59,7 @@ fn follow(stamps: &mut Stamps, guide: &Guide, entry: &Entry) -> Result<(), Alloc
     }
 }
 
-// Tells all entries, and gives the stamps of each role's events that are kept then.
+// Tells all entries to a guide of a protocol with the setup's plan, and gives the stamps of each role's events that are kept then.
 fn tell_all(
     alloc: Global,
     setup: &Setup,
@@ -67,13 +67,15 @@ fn tell_all(
     entries: &[Entry],
 ) -> Result<Stamps, RetellError>
     requires few { length entries.now < 2 ^ 31 }
-    requires fresh { guide.old ≡ opened setup.now.protocol setup.now.plan (length entries.now) }
-    ensures retold { OnOk result (IsRetold (terms_for setup.now) entries.now) }
-    ensures stamps { IfOk result (λ stamps. HasStamps setup.now entries.now (lists_in stamps.items)) }
-    ensures protocol { OnOk result (guide.new.protocol ≡ setup.now.protocol) }
-    ensures memory { OnOk result (IsMemory guide.new (told (terms_for setup.now) entries.now)) }
+    requires fresh { guide.old ≡ opened guide.old.protocol setup.now.plan (length entries.now) }
+    ensures retold { OnOk result (IsRetold (terms_for (with_protocol setup.now guide.old.protocol)) entries.now) }
+    ensures stamps { IfOk result (λ stamps. HasStamps (with_protocol setup.now guide.old.protocol) entries.now
+        (lists_in stamps.items)) }
+    ensures protocol { OnOk result (guide.new.protocol ≡ guide.old.protocol) }
+    ensures memory { OnOk result (IsMemory guide.new
+        (told (terms_for (with_protocol setup.now guide.old.protocol)) entries.now)) }
     ensures wrong { IfErr result (λ e. (k : ℕ) → e ≡ RetellError.Entry k
-        → IsFirstUntold (terms_for setup.now) entries.now k) }
+        → IsFirstUntold (terms_for (with_protocol setup.now guide.old.protocol)) entries.now k) }
 {
     let mut stamps = no_stamps(alloc, guide.roles())?;
     for (number, entry) in entries.iter().enumerate() {
@@ -95,12 +97,13 @@ pub fn retell<'a>(
     entries: &'a [Entry],
 ) -> Result<Record<'a>, RetellError>
     requires few { length entries.now < 2 ^ 31 }
-    requires fresh { guide.old ≡ opened setup.now.protocol setup.now.plan (length entries.now) }
+    requires fresh { guide.old ≡ opened guide.old.protocol setup.now.plan (length entries.now) }
+    requires same { HasSameText guide.old.protocol setup.now.protocol }
     ensures setup { IfOk result (λ made. made.setup ≡ setup.now) }
     ensures entries { IfOk result (λ made. made.entries ≡ entries.now) }
     ensures kept { IfOk result (λ made. HasKept made (told (terms_for setup.now) entries.now).held) }
     ensures retold { OnOk result (IsRetold (terms_for setup.now) entries.now) }
-    ensures protocol { OnOk result (guide.new.protocol ≡ setup.now.protocol) }
+    ensures protocol { OnOk result (HasSameText guide.new.protocol setup.now.protocol) }
     ensures memory { OnOk result (IsMemory guide.new (told (terms_for setup.now) entries.now)) }
     ensures wrong { IfErr result (λ e. (k : ℕ) → e ≡ RetellError.Entry k
         → IsFirstUntold (terms_for setup.now) entries.now k) }

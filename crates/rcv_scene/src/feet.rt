@@ -1,17 +1,17 @@
 // What stands under the columns: how each role ended.
 
+use crate::ends::{End, RoleEnd};
 use crate::layout::{FOOT, LABEL, Layout};
 use crate::shapes::Shapes;
 use crate::wording::{Piece, text_of};
-use rcv_journal::line::{RoleLine, RoleWord};
 use rcv_picture::look::Look;
 use rcv_picture::pixels::{Pixels, place};
 use rcv_picture::shape::{Anchor, Shape};
 use std::alloc::AllocError;
 
 // The foot of a role.
-fn add_foot(shapes: &mut Shapes, layout: &Layout<'_>, line: &RoleLine) -> Result<(), AllocError> {
-    let x = layout.x(line.role.0);
+fn add_foot(shapes: &mut Shapes, layout: &Layout<'_>, role: &RoleEnd) -> Result<(), AllocError> {
+    let x = layout.x(role.role.0);
     let y = layout.end;
     shapes.rect(
         place(x - layout.column.half() + Pixels(6), y),
@@ -20,29 +20,30 @@ fn add_foot(shapes: &mut Shapes, layout: &Layout<'_>, line: &RoleLine) -> Result
         Pixels(6),
         Look::Box,
     )?;
-    let (look, word): (Look, &[u8]) = match line.word {
-        RoleWord::Done => (Look::Good, b"done"),
-        RoleWord::Limit => (Look::Failed, b"limit"),
-        RoleWord::Waits => (Look::Failed, b"waits"),
+    let (look, word): (Look, &[u8]) = match role.end {
+        End::Done => (Look::Good, b"done"),
+        End::Limit => (Look::Failed, b"limit"),
+        End::Waits => (Look::Failed, b"waits"),
+        End::Down => (Look::Failed, b"down"),
     };
     shapes.words(place(x, y + Pixels(15)), Anchor::Middle, look, word)?;
     let kept = text_of(
         layout.alloc,
         &[
             Piece::Word(b"kept "),
-            Piece::Number(line.kept),
+            Piece::Number(role.kept),
             Piece::Word(b" of "),
-            Piece::Number(line.raw),
+            Piece::Number(role.raw),
         ],
     )?;
     shapes.text(place(x, y + Pixels(29)), Anchor::Middle, Look::Note, kept)
 }
 
-/// The feet of the roles that these lines say. Fails where memory runs out.
-pub fn feet(layout: &Layout<'_>, lines: &[RoleLine]) -> Result<Vec<Shape>, AllocError> {
+/// The feet of the roles, which ended so. Fails where memory runs out.
+pub fn feet(layout: &Layout<'_>, ends: &[RoleEnd]) -> Result<Vec<Shape>, AllocError> {
     let mut shapes = Shapes::new(layout.alloc);
-    for line in lines {
-        add_foot(&mut shapes, layout, line)?;
+    for role in ends {
+        add_foot(&mut shapes, layout, role)?;
     }
     Ok(shapes.finish())
 }

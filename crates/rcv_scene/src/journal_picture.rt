@@ -7,6 +7,7 @@ ghost use Rattle.rcv_scene.specs.Told.{told, said, Adds, AreTitled};
 
 use crate::bar::bar;
 use crate::cast::Cast;
+use crate::ends::RoleEnd;
 use crate::feet::{feet, long_labels};
 use crate::groups::{add_all, add_silent};
 use crate::heads::heads;
@@ -19,7 +20,6 @@ use crate::routes::{Routes, find_routes};
 use crate::wires::{loose_shapes, loose_title};
 use crate::wording::{Piece, text_of};
 use rcv_fates::Record;
-use rcv_journal::line::RoleLine;
 use rcv_picture::group::{Group, Says};
 use rcv_picture::picture::Picture;
 use rcv_picture::pixels::Pixels;
@@ -66,12 +66,12 @@ fn add_above(groups: &mut Vec<Group>, layout: &Layout<'_>) -> Result<(), AllocEr
 fn add_below(
     groups: &mut Vec<Group>,
     layout: &Layout<'_>,
-    lines: &[RoleLine],
+    ends: &[RoleEnd],
     shapes: Vec<Shape>,
 ) -> Result<(), AllocError>
     ensures { OnOk result ((book : BookView) → Adds book groups.old.items groups.new.items []) }
 {
-    add_silent(groups, Vec::new(layout.alloc), feet(layout, lines)?)?;
+    add_silent(groups, Vec::new(layout.alloc), feet(layout, ends)?)?;
     add_silent(groups, Vec::new(layout.alloc), shapes)?;
     Ok(())
 }
@@ -102,7 +102,7 @@ fn groups_of(
     record: &Record<'_>,
     layout: &Layout<'_>,
     routes: &Routes,
-    lines: &[RoleLine],
+    ends: &[RoleEnd],
     wires: &[Says],
     rows: &[Says],
 ) -> Result<(Vec<Group>, Pixels), AllocError>
@@ -115,20 +115,20 @@ fn groups_of(
     add_all(&mut groups, alloc, record, layout, routes, rows)?;
     add_above(&mut groups, layout)?;
     let (shapes, end) = legend(layout, layout.end + FOOT + Pixels(18))?;
-    add_below(&mut groups, layout, lines, shapes)?;
+    add_below(&mut groups, layout, ends, shapes)?;
     let (shapes, end) = long_labels(layout, end + Pixels(10))?;
     add_silent(&mut groups, Vec::new(alloc), shapes)?;
     Ok((groups, end))
 }
 
 /// The picture of a journal: what its roles did, from above to below, with an arrow for each of these wires and
-/// a row for each of these entries and folds. `lines` says how the roles ended, and `story` is that of the journal.
+/// a row for each of these entries and folds. `ends` says how the roles ended, and `story` is that of the journal.
 /// Fails where memory runs out.
 #[tactic(auto, using(crate::proofs::Telling::from_none, crate::proofs::Telling::titled_from_none))]
 pub fn journal_picture(
     alloc: Global,
     record: &Record<'_>,
-    lines: &[RoleLine],
+    ends: &[RoleEnd],
     story: &Story,
     wires: &[Says],
     rows: &[Says],
@@ -137,10 +137,10 @@ pub fn journal_picture(
     ensures titled { IfOk result (λ picture. AreTitled (journal_of record.now) picture.groups.items) }
 {
     let cast = Cast::of(alloc, record.setup())?;
-    let mut layout = lay_out(alloc, cast, record.entries(), story, lines, rows)?;
+    let mut layout = lay_out(alloc, cast, record.entries(), story, ends, rows)?;
     let routes = find_routes(alloc, &layout, wires)?;
     layout.widen(routes.wider());
-    let (groups, end) = groups_of(alloc, record, &layout, &routes, lines, wires, rows)?;
+    let (groups, end) = groups_of(alloc, record, &layout, &routes, ends, wires, rows)?;
     Ok(Picture {
         width: layout.width,
         height: end + Pixels(14),

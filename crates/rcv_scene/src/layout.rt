@@ -1,10 +1,10 @@
 // Where the columns and the rows of a picture stand.
 
 use crate::cast::{Cast, Role};
+use crate::ends::{End, RoleEnd};
 use crate::notes::width_of_notes;
 use crate::text_width::{Letters, wide, width_of};
 use crate::wording::{Piece, lines_of_name, shortened, text_of};
-use rcv_journal::line::{RoleLine, RoleWord};
 use rcv_picture::group::Says;
 use rcv_picture::pixels::Pixels;
 use rcv_story::story::Story;
@@ -118,9 +118,9 @@ fn count_of(entries: &[Entry]) -> u32 {
 }
 
 // Whether all roles are done.
-fn are_done(lines: &[RoleLine]) -> bool {
-    for line in lines {
-        if line.word != RoleWord::Done {
+fn are_done(ends: &[RoleEnd]) -> bool {
+    for role in ends {
+        if role.end != End::Done {
             return false;
         }
     }
@@ -132,7 +132,7 @@ fn title_of(
     alloc: Global,
     cast: &Cast<'_>,
     entries: &[Entry],
-    lines: &[RoleLine],
+    ends: &[RoleEnd],
 ) -> Result<Vec<u8>, AllocError> {
     let start = [
         Piece::Word(cast.name),
@@ -145,17 +145,21 @@ fn title_of(
         }),
     ];
     let mut title = text_of(alloc, &start)?;
-    if are_done(lines) {
+    if are_done(ends) {
         title.extend_from_slice(b"completed")?;
         return Ok(title);
     }
+    if !ends.iter().any(|role| role.end == End::Limit) {
+        title.extend_from_slice(b"open")?;
+        return Ok(title);
+    }
     title.extend_from_slice(b"limited at")?;
-    for line in lines {
-        if line.word == RoleWord::Limit {
+    for role in ends {
+        if role.end == End::Limit {
             title.extend_from_slice(b" ")?;
             title.extend_from_slice(shortened(
                 alloc,
-                cast.name_of(line.role.0),
+                cast.name_of(role.role.0),
                 LABEL,
             )?.as_slice())?;
         }
@@ -361,7 +365,7 @@ pub fn lay_out<'a>(
     cast: Cast<'a>,
     entries: &'a [Entry],
     story: &'a Story,
-    lines: &[RoleLine],
+    ends: &[RoleEnd],
     rows: &[Says],
 ) -> Result<Layout<'a>, AllocError> {
     let names = names_of(alloc, cast.roles.as_slice())?;
@@ -383,7 +387,7 @@ pub fn lay_out<'a>(
     let left = numbers + Pixels(10) + (outer.0 - column.half());
     let notes = left + column * cast.count() + Pixels(12);
     let beside = width_of_notes(alloc, &cast, entries, rows)?.max(outer.1 - column.half());
-    let title = title_of(alloc, &cast, entries, lines)?;
+    let title = title_of(alloc, &cast, entries, ends)?;
     let foot = widest_foot(&cast);
     let width = (notes + beside + Pixels(12))
         .max(width_of(title.as_slice(), Letters::Big) + Pixels(24))

@@ -3,6 +3,7 @@
 
 mod bar;
 mod cast;
+pub mod ends;
 mod feet;
 mod folds;
 mod groups;
