@@ -16,3 +16,4 @@ pub mod Beginning
 pub mod Fronts
 pub mod Heads
 pub mod Same
+mod Examples
