@@ -15,3 +15,4 @@ pub mod Answered
 pub mod Few
 mod Cases
 mod Examples
+pub mod Alone

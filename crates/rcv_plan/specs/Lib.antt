@@ -2,6 +2,7 @@ pub mod Symbols
 pub mod Lines
 pub mod Plans
 pub mod Shifted
+pub mod OneCrash
 pub mod Grammar
 pub mod Codes
 pub mod Refusing

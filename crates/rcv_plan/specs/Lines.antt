@@ -12,7 +12,7 @@ line_in (lines.Every role number) = EveryLine role number
 line_in (lines.Crash role number) = CrashLine role number
 line_in (lines.Limit number) = LimitLine number
 line_in (lines.Room number) = RoomLine number
-line_in (lines.Host roles) = HostLine roles
+line_in (lines.Host name roles) = HostLine roles
 
 -- The numbers of a line that was read are in their ranges, and its roles are among so many.
 abbrev pub IsReadLine : ℕ → PlanLine → Type 0
@@ -42,7 +42,8 @@ IsLineFor roles (HostLine qs) = All (λ q. q < roles) qs
 abbrev pub IsPlanFor : ℕ → List PlanLine → Type 0
 IsPlanFor roles plan = All (IsLineFor roles) plan
 
--- The line says how often this role saves; it lets this role crash at this count; it names this role in a host.
+-- The line says how often this role saves; it lets this role crash at this count, or any role at any; it names this role in a
+-- host.
 abbrev pub is_every : ℕ → PlanLine → Bool
 is_every r (EveryLine q n) = q == r
 is_every r _ = false
@@ -50,6 +51,10 @@ is_every r _ = false
 abbrev pub is_crash : ℕ → ℕ → PlanLine → Bool
 is_crash r c (CrashLine q n) = q == r && n == c
 is_crash r c _ = false
+
+abbrev pub is_any_crash : PlanLine → Bool
+is_any_crash (CrashLine q n) = true
+is_any_crash _ = false
 
 abbrev pub is_limit : PlanLine → Bool
 is_limit (LimitLine n) = true

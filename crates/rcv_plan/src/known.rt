@@ -9,6 +9,7 @@ ghost use Rattle.rcv_plan.specs.Items.{with_line, with_host};
 use crate::crash_counts::CrashCounts;
 use crate::line::Line;
 use rcv_scan::is;
+use rcv_tree::name::Name;
 use rcv_tree::role::{RoleId, Roles};
 use std::alloc::{AllocError, Global};
 use std::marker::Model;
@@ -119,11 +120,17 @@ impl<'a> Known<'a> {
     }
 
     /// Appends a host with its name. Fails where memory runs out.
-    pub fn push_host(&mut self, name: &'a [u8], roles: Roles) -> Result<(), AllocError>
+    pub fn push_host(
+        &mut self,
+        alloc: Global,
+        name: &'a [u8],
+        roles: Roles,
+    ) -> Result<(), AllocError>
         ensures { OnOk result (self.new ≡ with_host self.old name.now roles) }
     {
+        let kept = Name::of(alloc, name)?;
         self.names.push(name)?;
-        self.lines.push(Line::Host(roles))?;
+        self.lines.push(Line::Host { name: kept, roles })?;
         Ok(())
     }
 }

@@ -2,6 +2,7 @@
 #![tactic(auto)]
 
 ghost use Rattle.rcv_plan.specs.Laws.{PlansHaveOneAnswer, PlansAreShort, ReadPlansArePlanned};
+ghost use Rattle.rcv_plan.specs.OneCrash.{OneCrashIsAlone};
 
 mod crash_counts;
 mod fault;
@@ -28,4 +29,9 @@ pub fn plans_are_short()
 /// In a plan that was read each role is declared, each number is in its range, and no role crashes twice at one count.
 pub fn read_plans_are_planned()
     ensures { ReadPlansArePlanned }
+{}
+
+/// A plan in which one role alone crashes, once, says of crashes this alone, and of all else what the plan says.
+pub fn one_crash_is_alone()
+    ensures { OneCrashIsAlone }
 {}

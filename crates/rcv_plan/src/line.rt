@@ -2,9 +2,11 @@
 
 ghost use Rattle.std.specs.Prelude.{◌≡◌, ◌≤◌, IfOk};
 ghost use Rattle.rcv_tree.specs.Bits.{is_listed};
-ghost use Rattle.rcv_plan.specs.Lines.{line_in, is_every, is_limit, is_room, is_host, HasReadCount};
+ghost use Rattle.rcv_plan.specs.Lines.{line_in, is_every, is_limit, is_room, is_host, is_any_crash, HasReadCount};
+ghost use Rattle.rcv_model.specs.Plan.{HostLine};
 ghost use Rattle.rcv_plan.specs.Shifted.{later_line};
 
+use rcv_tree::name::Name;
 use rcv_tree::role::{RoleId, Roles};
 use std::alloc::{AllocError, Global};
 
@@ -19,8 +21,8 @@ pub enum Line {
     Limit(u32),
     /// How many messages a channel holds.
     Room(u32),
-    /// The roles of one host.
-    Host(Roles),
+    /// The roles of one host, which has this name.
+    Host { name: Name, roles: Roles },
 }
 
 impl Line {
@@ -41,8 +43,34 @@ impl Line {
             },
             Line::Limit(number) => Line::Limit(*number),
             Line::Room(number) => Line::Room(*number),
-            Line::Host(roles) => Line::Host(copied(alloc, roles)?),
+            Line::Host { name, roles } => copied_host(alloc, name, roles)?,
         })
+    }
+
+    /// The same line. Fails where memory runs out.
+    pub fn copied(&self, alloc: Global) -> Result<Line, AllocError>
+        ensures { IfOk result (λ line. line_in line ≡ line_in self.now) }
+    {
+        Ok(match self {
+            Line::Every { role, number } => Line::Every {
+                role: *role,
+                number: *number,
+            },
+            Line::Crash { role, number } => Line::Crash {
+                role: *role,
+                number: *number,
+            },
+            Line::Limit(number) => Line::Limit(*number),
+            Line::Room(number) => Line::Room(*number),
+            Line::Host { name, roles } => copied_host(alloc, name, roles)?,
+        })
+    }
+
+    /// Whether it says where a role crashes.
+    pub fn is_any_crash(&self) -> bool
+        ensures { result ≡ is_any_crash (line_in self.now) }
+    {
+        matches!(self, Line::Crash { .. })
     }
 
     /// Whether it says how often this role saves.
@@ -74,7 +102,7 @@ impl Line {
         ensures { result ≡ is_host role (line_in self.now) }
     {
         match self {
-            Line::Host(roles) => is_listed(roles.as_slice(), role),
+            Line::Host { roles, .. } => is_listed(roles.as_slice(), role),
             _ => false,
         }
     }
@@ -85,6 +113,16 @@ pub fn is_listed(roles: &[RoleId], role: RoleId) -> bool
     ensures { result ≡ is_listed roles.now role }
 {
     roles.iter().any(|other| *other == role)
+}
+
+// The same host.
+fn copied_host(alloc: Global, name: &Name, roles: &Roles) -> Result<Line, AllocError>
+    ensures { IfOk result (λ line. line_in line ≡ HostLine roles.now) }
+{
+    Ok(Line::Host {
+        name: Name::of(alloc, name.as_slice())?,
+        roles: copied(alloc, roles)?,
+    })
 }
 
 // The same roles.

@@ -7,6 +7,7 @@ ghost use Rattle.rcv_tree.specs.Bits.{is_listed};
 ghost use Rattle.rcv_model.specs.Plan.{every_in, limit_in, room_in, crashes_in, host_in};
 ghost use Rattle.rcv_plan.specs.Lines.{line_in, IsPlanFor, HasReadCount, IsPlanned};
 ghost use Rattle.rcv_plan.specs.Shifted.{shifted};
+ghost use Rattle.rcv_plan.specs.OneCrash.{calm_lines, with_one_crash};
 ghost use Rattle.rcv_plan.specs.Plans.{IsGroup, IsRow, IsSilentOn};
 
 use crate::line::{Line, is_listed};
@@ -77,6 +78,33 @@ impl Plan {
     {
         let lines = shifted_lines(alloc, self.lines.as_slice(), by)?;
         Plan::of(alloc, self.rows.len() as u8, lines)
+    }
+
+    /// The same plan but for its crash lines: this role alone crashes, once, at this count of its events. So many roles
+    /// are declared. Fails if memory runs out.
+    pub fn with_one_crash(
+        &self,
+        alloc: Global,
+        roles: u8,
+        role: RoleId,
+        number: u32,
+    ) -> Result<Plan, AllocError>
+        requires few { roles ≤ 8 }
+        requires declared { role < roles }
+        requires number { number ≤ 100000 }
+        requires planned { IsPlanned roles self.now }
+        ensures lines { IfOk result (λ plan. plan ≡ with_one_crash role number self.now) }
+        ensures planned { IsPlanned roles (with_one_crash role number self.now) }
+    {
+        let lines = lines_with_one_crash(alloc, self.lines.as_slice(), role, number)?;
+        Plan::of(alloc, roles, lines)
+    }
+
+    /// The name of the host that a role shares; none if it shares none.
+    pub fn host(&self, role: RoleId) -> Option<&[u8]>
+        ensures { IfNone result (host_in self.now role ≡ []) }
+    {
+        host_name(self.lines.as_slice(), role)
     }
 
     // What the lines say of a role, where they say anything.
@@ -164,6 +192,47 @@ fn shifted_lines(alloc: Global, lines: &[Line], by: u32) -> Result<Vec<Line>, Al
     Ok(later)
 }
 
+// The lines that are no crash lines.
+fn calm_lines(alloc: Global, lines: &[Line]) -> Result<Vec<Line>, AllocError>
+    ensures { IfOk result (λ calm. map line_in calm.items ≡ calm_lines (map line_in lines.now)) }
+{
+    let mut calm = Vec::new(alloc);
+    for line in lines {
+        if !line.is_any_crash() {
+            calm.push(line.copied(alloc)?)?;
+        }
+    }
+    Ok(calm)
+}
+
+// They, and then the one crash line.
+fn lines_with_one_crash(
+    alloc: Global,
+    lines: &[Line],
+    role: RoleId,
+    number: u32,
+) -> Result<Vec<Line>, AllocError>
+    ensures { IfOk result (λ made. map line_in made.items ≡ with_one_crash role number (map line_in lines.now)) }
+{
+    let mut calm = calm_lines(alloc, lines)?;
+    calm.push(Line::Crash { role, number })?;
+    Ok(calm)
+}
+
+// The name of the host that has a role.
+fn host_name(lines: &[Line], role: RoleId) -> Option<&[u8]>
+    ensures { IfNone result (host_in (map line_in lines.now) role ≡ []) }
+{
+    for line in lines {
+        if let Line::Host { name, roles } = line
+            && is_listed(roles.as_slice(), role)
+        {
+            return Some(name.as_slice());
+        }
+    }
+    None
+}
+
 // Whether the count that stands behind so many others has been reached.
 fn is_due(counts: &[u32], raw: u32, crashes: u32) -> bool
     requires { IsNonDecreasing counts.now }
@@ -245,10 +314,10 @@ fn host_of<'a>(lines: &'a [Line], role: RoleId) -> &'a [RoleId]
     ensures { result.now ≡ host_in (map line_in lines.now) role }
 {
     for line in lines {
-        if let Line::Host(members) = line
-            && is_listed(members.as_slice(), role)
+        if let Line::Host { roles, .. } = line
+            && is_listed(roles.as_slice(), role)
         {
-            return members.as_slice();
+            return roles.as_slice();
         }
     }
     &[]

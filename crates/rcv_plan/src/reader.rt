@@ -291,7 +291,7 @@ impl<'a> Reader<'a> {
         let name = self.name(known)?;
         self.expect(Sign::Equals)?;
         let members = self.host_roles(alloc, roles, known)?;
-        known.push_host(name, members)?;
+        known.push_host(alloc, name, members)?;
         Ok(())
     }
 
