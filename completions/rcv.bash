@@ -13,11 +13,16 @@ _rcv_complete() {
         ;;
     --role | --number | --sessions | --session) COMPREPLY=() && return ;;
     esac
+    # The table of rcv has no options.
+    [[ $command == table && $1 != *points* ]] && COMPREPLY=() && return
     case $command in
     "") COMPREPLY=($(compgen -W "$1" -- "$current")) ;;
     run) COMPREPLY=($(compgen -W "--workers --json --sessions" -- "$current")) ;;
     journal) COMPREPLY=($(compgen -W "--session" -- "$current")) ;;
-    project | role) COMPREPLY=($(compgen -W "--role" -- "$current")) ;;
+    project) COMPREPLY=($(compgen -W "--role" -- "$current")) ;;
+    role) COMPREPLY=($(compgen -W "--role --json" -- "$current")) ;;
+    table | points) COMPREPLY=($(compgen -W "--json" -- "$current")) ;;
+    failures) COMPREPLY=($(compgen -W "--text --json" -- "$current")) ;;
     gen) COMPREPLY=($(compgen -W "--number" -- "$current")) ;;
     explain) COMPREPLY=($(compgen -W "--code" -- "$current")) ;;
     *) COMPREPLY=() ;;
@@ -25,7 +30,7 @@ _rcv_complete() {
 }
 
 _rcv() { _rcv_complete "run check project table gen replay line"; }
-_rcv_show() { _rcv_complete "journal told replay table role protocol points explain"; }
+_rcv_show() { _rcv_complete "journal told replay table role protocol points failures explain"; }
 
 complete -F _rcv rcv ./rcv
 complete -F _rcv_show rcv-show ./rcv-show

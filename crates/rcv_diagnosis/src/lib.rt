@@ -8,7 +8,7 @@ mod journal;
 mod making;
 mod session;
 mod telling;
-mod written;
+pub mod written;
 
 /// Of an input that is short enough to be replayed, and whose journal isn't JSON, a diagnosis says first what a replay
 /// says.

@@ -10,7 +10,7 @@ ghost use Rattle.rcv_diagnosis.specs.Diagnosing.{is_json, Says, IsRefusal, IsOfT
 use crate::diagnosis::Diagnosis;
 use crate::journal::of_journal;
 use crate::telling::refusal;
-use crate::written::Written;
+use crate::written::{Written, is_json};
 use rcv_core::setup::Setup;
 use rcv_decode::{JsonError, read_json};
 use rcv_form::journal::Journal;
@@ -35,16 +35,6 @@ pub fn of_session(
 {
     let setup = Setup::new(alloc, taken.accepted, taken.scripts, taken.plan)?;
     of_text(alloc, &setup, text, feeds)
-}
-
-// Whether a text is JSON.
-fn is_json(text: &[u8]) -> bool
-    ensures { result ≡ is_json text.now }
-{
-    match text {
-        [first, ..] => *first == b'{',
-        [] => false,
-    }
 }
 
 // The same by the setup.

@@ -5,7 +5,9 @@ use Rattle.std.specs.Str.{bytes_eq}
 use Rattle.std.proofs.lemmas.Bool.{cases_lt}
 use Rattle.std.proofs.lemmas.Slice.Eq.{bytes_eq-Decides}
 use Rattle.clap.specs.Words.{Kinds, Text, fault_of}
-use Rattle.rcv_look.specs.Commands.{CommandView, DrawJournal, DrawSession, DrawTold, ReplayJournal, DrawTable, DrawRole, DrawProtocol, ListPoints, Explain, Given, IsGiven, Says, IsWithin, IsCommand, IsNoCommand, given, line_of}
+use Rattle.rcv_look.specs.Commands.{CommandView, DrawJournal, DrawSession, DrawTold, ReplayJournal, DrawTable, ExportTable, DrawRole, ExportRole, DrawProtocol, ListPoints, ExportPoints, DrawFailures, ListFailures, ExportFailures, Explain, Form, Usual, AsText, AsJson, AreFlags, Given, IsGiven, Says, IsWithin, IsCommand, IsNoCommand, given, line_of}
+use Rattle.rcv_look.specs.Asked.{asked}
+use Rattle.rcv_look.proofs.OneCommand.{is_asked}
 use Rattle.rcv_look.specs.Program.{rcv_show}
 
 abbrev OrNot : Type 0 → Type 0
@@ -19,10 +21,6 @@ both (inr never) b = inr (λ ab. never ab.0)
 is_none : {X : Type 0} (o : Option X) → OrNot (o ≡ None)
 is_none None = inl refl
 is_none (Some x) = inr (λ e. cc)
-
-is_some : {X : Type 0} (o : Option X) (x : X) → OrNot (o ≡ Some (unwrap_or o x))
-is_some None x = inr (λ e. cc)
-is_some (Some y) x = inl refl
 
 is_text : (a b : Text) → OrNot (a ≡ b)
 is_text a b = go (bytes_eq a b) refl
@@ -38,82 +36,71 @@ is_word (Some v) w = ⊎_elim (λ e. inl (ap Some e)) (λ never. inr (λ e. neve
 is_at_most : (m n : ℕ) → OrNot (m ≤ n)
 is_at_most m n = ⊎_elim (λ more. inr (λ few. omega (arith, more, few))) (λ few. inl few) (cases_lt n m)
 
-is_given : (g : Given) (w : Text) (r : Option Text) (n i : Option ℕ) → OrNot (g.role ≡ r) → OrNot (g.code ≡ n) → OrNot (g.session ≡ i) → OrNot (IsGiven g w r n i)
-is_given g w r n i role code session = go (both (is_word g.command w) (both role (both code session)))
+is_number : (o : Option ℕ) (n : ℕ) → OrNot (o ≡ Some n)
+is_number None n = inr (λ e. cc)
+is_number (Some m) n =
+    ⊎_elim (λ less. inr (λ e. let same = ap (λ (o : Option ℕ). unwrap_or o 0) e in omega (arith, less, same)))
+    (λ least. ⊎_elim (λ more. inr (λ e. let same = ap (λ (o : Option ℕ). unwrap_or o 0) e in omega (arith, more, same))) (λ most. inl (ap Some (omega (arith, least, most)))) (cases_lt n m))
+    (cases_lt m n)
+
+are_flags : (form : Form) (text json : Bool) → OrNot (AreFlags form text json)
+are_flags Usual false false = inl (refl, refl)
+are_flags Usual false true = inr (λ h. let no = h.1 in cc)
+are_flags Usual true json = inr (λ h. let no = h.0 in cc)
+are_flags AsText true false = inl (refl, refl)
+are_flags AsText true true = inr (λ h. let no = h.1 in cc)
+are_flags AsText false json = inr (λ h. let no = h.0 in cc)
+are_flags AsJson false true = inl (refl, refl)
+are_flags AsJson false false = inr (λ h. let no = h.1 in cc)
+are_flags AsJson true json = inr (λ h. let no = h.0 in cc)
+
+is_given : (g : Given) (w : Text) (r : Option Text) (n i : Option ℕ) (f : Form) → OrNot (g.role ≡ r) → OrNot (g.code ≡ n) → OrNot (g.session ≡ i) → OrNot (IsGiven g w r n i f)
+is_given g w r n i f role code session = go (both (is_word g.command w) (both role (both code (both session (are_flags f g.text g.json)))))
   where
-    go : OrNot ((g.command ≡ Some w) × ((g.role ≡ r) × ((g.code ≡ n) × (g.session ≡ i)))) → OrNot (IsGiven g w r n i)
-    go (inl a) = inl (record { word_is = a.0; role_is = a.1.0; code_is = a.1.1.0; session_is = a.1.1.1 })
-    go (inr never) = inr (λ h. never (h.word_is, (h.role_is, (h.code_is, h.session_is))))
+    go : OrNot ((g.command ≡ Some w) × ((g.role ≡ r) × ((g.code ≡ n) × ((g.session ≡ i) × AreFlags f g.text g.json)))) → OrNot (IsGiven g w r n i f)
+    go (inl a) = inl (record { word_is = a.0; role_is = a.1.0; code_is = a.1.1.0; session_is = a.1.1.1.0; flags = a.1.1.1.1 })
+    go (inr never) = inr (λ h. never (h.word_is, (h.role_is, (h.code_is, (h.session_is, h.flags)))))
 
 -- What is given says this command, whose number is in range.
 abbrev SaysWithin : Given → CommandView → Type 0
 SaysWithin g c = Says g c × IsWithin c
 
-abbrev role_of : Given → CommandView
-role_of g = DrawRole (unwrap_or g.role [])
-
-abbrev explain_of : Given → CommandView
-explain_of g = Explain (unwrap_or g.code 0)
-
-abbrev session_of : Given → CommandView
-session_of g = DrawSession (unwrap_or g.session 0)
-
--- For each word there is one command that it can be.
-alone : (g : Given) (word : Text) → OrNot (IsGiven g word None None None)
-alone g word = is_given g word None None None (is_none g.role) (is_none g.code) (is_none g.session)
-
 free : {A : Type 0} → OrNot A → OrNot (A × Unit {0})
 free (inl a) = inl (a, tt)
 free (inr never) = inr (λ b. never b.0)
 
-says_role : (g : Given) → OrNot (SaysWithin g (role_of g))
-says_role g = free (is_given g (codes "role") (Some (unwrap_or g.role [])) None None (is_some g.role []) (is_none g.code) (is_none g.session))
+-- No option, or the role, is given, with flags of this form.
+alone : (g : Given) (word : Text) (f : Form) → OrNot (IsGiven g word None None None f × Unit {0})
+alone g word f = free (is_given g word None None None f (is_none g.role) (is_none g.code) (is_none g.session))
 
-says_session : (g : Given) → OrNot (SaysWithin g (session_of g))
-says_session g = both (is_given g (codes "journal") None None (Some (unwrap_or g.session 0)) (is_none g.role) (is_none g.code) (is_some g.session 0)) (both (is_at_most 1 (unwrap_or g.session 0)) (is_at_most (unwrap_or g.session 0) 64))
+of_role : (g : Given) (name : Text) (f : Form) → OrNot (IsGiven g (codes "role") (Some name) None None f × Unit {0})
+of_role g name f = free (is_given g (codes "role") (Some name) None None f (is_word g.role name) (is_none g.code) (is_none g.session))
 
-says_explain : (g : Given) → OrNot (SaysWithin g (explain_of g))
-says_explain g = both (is_given g (codes "explain") None (Some (unwrap_or g.code 0)) None (is_none g.role) (is_some g.code 0) (is_none g.session)) (is_at_most (unwrap_or g.code 0) 255)
+says : (g : Given) (c : CommandView) → OrNot (SaysWithin g c)
+says g DrawJournal = alone g (codes "journal") Usual
+says g (DrawSession number) =
+    both (is_given g (codes "journal") None None (Some number) Usual (is_none g.role) (is_none g.code) (is_number g.session number))
+    (both (is_at_most 1 number) (is_at_most number 64))
+says g DrawTold = alone g (codes "told") Usual
+says g ReplayJournal = alone g (codes "replay") Usual
+says g DrawTable = alone g (codes "table") Usual
+says g ExportTable = alone g (codes "table") AsJson
+says g (DrawRole name) = of_role g name Usual
+says g (ExportRole name) = of_role g name AsJson
+says g DrawProtocol = alone g (codes "protocol") Usual
+says g ListPoints = alone g (codes "points") Usual
+says g ExportPoints = alone g (codes "points") AsJson
+says g DrawFailures = alone g (codes "failures") Usual
+says g ListFailures = alone g (codes "failures") AsText
+says g ExportFailures = alone g (codes "failures") AsJson
+says g (Explain code) =
+    both (is_given g (codes "explain") None (Some code) None Usual (is_none g.role) (is_number g.code code) (is_none g.session)) (is_at_most code 255)
 
-value_of : {X : Type 0} (o : Option X) (x y : X) → o ≡ Some y → y ≡ unwrap_or o x
-value_of o x y e = sym (ap (λ p. unwrap_or p x) e)
-
--- None of the nine, never command.
-record SaysNone (g : Given) : Type 0 where
-  pub journal : SaysWithin g DrawJournal → ⊥
-  pub session : SaysWithin g (session_of g) → ⊥
-  pub told : SaysWithin g DrawTold → ⊥
-  pub replay : SaysWithin g ReplayJournal → ⊥
-  pub table : SaysWithin g DrawTable → ⊥
-  pub role : SaysWithin g (role_of g) → ⊥
-  pub protocol : SaysWithin g DrawProtocol → ⊥
-  pub points : SaysWithin g ListPoints → ⊥
-  pub explain : SaysWithin g (explain_of g) → ⊥
-
-none_of : (g : Given) → SaysNone g → (c : CommandView) → SaysWithin g c → ⊥
-none_of g none DrawJournal s = none.journal s
-none_of g none (DrawSession number) s = none.session (subst (SaysWithin g) (ap DrawSession (value_of g.session 0 number s.0.session_is)) s)
-none_of g none DrawTold s = none.told s
-none_of g none ReplayJournal s = none.replay s
-none_of g none DrawTable s = none.table s
-none_of g none (DrawRole name) s = none.role (subst (SaysWithin g) (ap DrawRole (value_of g.role [] name s.0.role_is)) s)
-none_of g none DrawProtocol s = none.protocol s
-none_of g none ListPoints s = none.points s
-none_of g none (Explain code) s = none.explain (subst (SaysWithin g) (ap Explain (value_of g.code 0 code s.0.code_is)) s)
-
+-- It says what it asks for, or nothing.
 says_or_not : (g : Given) → ((c : CommandView) × SaysWithin g c) ⊎ ((c : CommandView) → SaysWithin g c → ⊥)
 says_or_not g =
-    ⊎_elim (λ s. inl (DrawJournal, s)) (λ journal.
-    ⊎_elim (λ s. inl (session_of g, s)) (λ session.
-    ⊎_elim (λ s. inl (DrawTold, s)) (λ told.
-    ⊎_elim (λ s. inl (ReplayJournal, s)) (λ replay.
-    ⊎_elim (λ s. inl (DrawTable, s)) (λ table.
-    ⊎_elim (λ s. inl (role_of g, s)) (λ role.
-    ⊎_elim (λ s. inl (DrawProtocol, s)) (λ protocol.
-    ⊎_elim (λ s. inl (ListPoints, s)) (λ points.
-    ⊎_elim (λ s. inl (explain_of g, s)) (λ explain.
-    inr (none_of g (record { journal = journal; session = session; told = told; replay = replay; table = table; role = role; protocol = protocol; points = points; explain = explain })))
-    (says_explain g)) (free (alone g (codes "points")))) (free (alone g (codes "protocol")))) (says_role g)) (free (alone g (codes "table")))) (free (alone g (codes "replay")))) (free (alone g (codes "told")))) (says_session g)) (free (alone g (codes "journal")))
+    ⊎_elim (λ s. inl (asked g, s)) (λ never. inr (λ c s. never (subst (SaysWithin g) (sym (is_asked g c s.0)) s)))
+    (says g (asked g))
 
 pub command_or_none : (words : List Text) → ((c : CommandView) × IsCommand words c) ⊎ IsNoCommand words
 command_or_none words = go (fault_of rcv_show (line_of words)) refl

@@ -6,6 +6,8 @@ use Rattle.rcv_replay.specs.declared.replayed.Replayed.{Replayed}
 use Rattle.rcv_replay.specs.declared.replayed.Replayed.TheVariants as replays
 use Rattle.rcv_diagnosis.specs.declared.diagnosis.Finding.{Finding}
 use Rattle.rcv_diagnosis.specs.Telling.{finding_of}
+use Rattle.rcv_diagnosis.specs.declared.written.Written.{Written}
+use Rattle.rcv_diagnosis.specs.declared.written.Written.TheVariants.{Lines, Json}
 use Rattle.rcv_diagnosis.specs.Diagnosing.{IsDiagnosis}
 use Rattle.rcv_listing.specs.declared.listing.Listing.{Listing}
 use Rattle.rcv_listing.specs.declared.listing.Listing.TheVariants.{Accepted, RuledOut}
@@ -13,7 +15,7 @@ use Rattle.rcv_look.specs.declared.status.Status.{Status}
 use Rattle.rcv_look.specs.declared.status.Status.TheVariants as statuses
 use Rattle.rcv_look.specs.Commands.{CommandView, DrawJournal, DrawSession, DrawTold, ReplayJournal, DrawTable, DrawRole, DrawProtocol, ListPoints, Explain}
 use Rattle.rcv_look.specs.Drawing.{ArePoints, ListsAs, listed, unread, IsExplanation, explained, unknown}
-use Rattle.rcv_look.specs.Outcome.{IsVerdict, illegal, misclosed, drawn, IsTextAnswer, malformed, formed, IsBundleAnswer, IsJournalAnswer, IsLaterAnswer, IsSessionAnswer, IsToldTextAnswer, IsToldBundleAnswer, IsToldAnswer, uncut, long, parted, status_of, IsReplayAnswer, IsChartAnswer, Draws, IsAnswer}
+use Rattle.rcv_look.specs.Outcome.{IsVerdict, illegal, misclosed, drawn, IsTextAnswer, malformed, formed, shapeless, decoded, IsBundleAnswer, IsJournalAnswer, IsLaterAnswer, IsSessionAnswer, IsToldTextAnswer, IsToldBundleAnswer, IsToldAnswer, uncut, long, parted, status_of, IsReplayAnswer, IsChartAnswer, Draws, IsAnswer}
 use Rattle.rcv_look.specs.Outcome as outcomes
 
 -- An answer may end so: written whole, or too long, and then nothing is written.
@@ -33,14 +35,16 @@ with_drawn s b e = subst (λ (x : Status). EndsSo x b) (sym e) tt
 with_refused : (s : Status) (b : List ℕ) → s ≡ statuses.Refused → EndsSo s b
 with_refused s b e = subst (λ (x : Status). EndsSo x b) (sym e) tt
 
-verdict_ends : (session : SessionView) (j : JournalView) (feeds : ℕ) (s : Status) (b : List ℕ) → IsVerdict session j feeds s b → EndsSo s b
-verdict_ends session j feeds s b (illegal k wrong) = tt
-verdict_ends session j feeds s b (misclosed k legal wrong) = tt
-verdict_ends session j feeds s b (drawn legal closes drawing) = tt
+verdict_ends : (session : SessionView) (j : JournalView) (written : Written) (s : Status) (b : List ℕ) → IsVerdict session j written s b → EndsSo s b
+verdict_ends session j written s b (illegal k wrong) = tt
+verdict_ends session j written s b (misclosed k legal wrong) = tt
+verdict_ends session j written s b (drawn legal closes drawing) = tt
 
 text_ends : (session : SessionView) (text : List ℕ) (feeds : ℕ) (s : Status) (b : List ℕ) → IsTextAnswer session text feeds s b → EndsSo s b
-text_ends session text feeds s b (malformed k wrong) = tt
-text_ends session text feeds s b (formed j spells verdict) = verdict_ends session j feeds s b verdict
+text_ends session text feeds s b (malformed k lines wrong) = tt
+text_ends session text feeds s b (formed j lines spells verdict) = verdict_ends session j (Lines feeds) s b verdict
+text_ends session text feeds s b (shapeless json none) = tt
+text_ends session text feeds s b (decoded j json is verdict) = verdict_ends session j Json s b verdict
 
 bundle_ends : (bundle text : List ℕ) (feeds : ℕ) (s : Status) (b : List ℕ) → IsBundleAnswer bundle text feeds s b → EndsSo s b
 bundle_ends bundle text feeds s b (outcomes.refused refusal first) = tt

@@ -1,5 +1,5 @@
 -- What is answered to a journal, from what its parts are.
-use Rattle.std.proofs.Common.{◌≡◌, ℕ, ◌+◌, ◌<◌, ◌≤◌, List, [], length, Some, None, sym, ◌∙◌, ap, subst}
+use Rattle.std.proofs.Common.{◌≡◌, ℕ, ◌+◌, ◌<◌, ◌≤◌, true, false, List, [], length, Some, None, sym, ◌∙◌, ap, subst}
 use Rattle.std.specs.Prelude.{Result, IfOk}
 use Rattle.rcv_tree.specs.declared.entry.Entry.{Entry}
 use Rattle.rcv_tree.specs.declared.protocol.Protocol.{Protocol}
@@ -19,8 +19,11 @@ use Rattle.rcv_replay.specs.declared.cut.Cut.{Cut}
 use Rattle.rcv_look.specs.declared.output.Output.{Output}
 use Rattle.rcv_look.specs.declared.status.Status.TheVariants as statuses
 use Rattle.rcv_replay.specs.Cutting.{cut_of, bundle_of, journal_of, feeds_before, line_of_end}
+use Rattle.rcv_diagnosis.specs.declared.written.Written.{Written}
+use Rattle.rcv_diagnosis.specs.declared.written.Written.TheVariants.{Lines, Json}
+use Rattle.rcv_diagnosis.specs.Diagnosing.{is_json, IsJsonOf}
 use Rattle.rcv_look.specs.Drawing.{IsJournalDrawing}
-use Rattle.rcv_look.specs.Outcome.{IsVerdict, IsTextAnswer, IsBundleAnswer, IsJournalAnswer, no_journal_line, malformed_line, illegal_line, illegal, misclosed, drawn, malformed, formed, uncut, long, parted}
+use Rattle.rcv_look.specs.Outcome.{IsVerdict, IsTextAnswer, IsBundleAnswer, IsJournalAnswer, no_journal_line, malformed_line, illegal_entry_line, illegal_closing_line, illegal, misclosed, drawn, malformed, formed, shapeless, decoded, uncut, long, parted}
 use Rattle.rcv_look.specs.Outcome as outcomes
 use Rattle.rcv_look.proofs.Making.{Makes, made, widen, refused}
 
@@ -53,35 +56,48 @@ module _ {E : Type 0} (result : Result Output E) where
       → Makes (IsBundleAnswer bundle text feeds) result
   refused_said bundle text feeds error is said = refused (IsBundleAnswer bundle text feeds) error result said (λ refusal same. outcomes.refused refusal (subst (IsRefused bundle) same is))
 
-  -- a text of the form, or one with a wrong line
+  -- lines of the form, or with a wrong one
   pub formed_said : (setup : SessionView) (protocol : Protocol) (text : List ℕ) (feeds : ℕ) (j : JournalView) → protocol ≡ setup.protocol
-      → Spells (bare protocol) text j → Makes (IsVerdict setup j feeds) result → Makes (IsTextAnswer setup text feeds) result
-  formed_said setup protocol text feeds j same spells makes =
-      widen (IsVerdict setup j feeds) (IsTextAnswer setup text feeds) result
-      (λ s b verdict. formed j (subst (λ (p : Protocol). Spells (bare p) text j) same spells) verdict) makes
+      → is_json text ≡ false → Spells (bare protocol) text j → Makes (IsVerdict setup j (Lines feeds)) result → Makes (IsTextAnswer setup text feeds) result
+  formed_said setup protocol text feeds j same lines spells makes =
+      widen (IsVerdict setup j (Lines feeds)) (IsTextAnswer setup text feeds) result
+      (λ s b verdict. formed j lines (subst (λ (p : Protocol). Spells (bare p) text j) same spells) verdict) makes
 
   pub malformed_said : (setup : SessionView) (protocol : Protocol) (text : List ℕ) (feeds number sum : ℕ) → protocol ≡ setup.protocol
-      → IsFirstWrong (bare protocol) text number → sum ≡ feeds + number
+      → is_json text ≡ false → IsFirstWrong (bare protocol) text number → sum ≡ feeds + number
       → IfOk result (λ output. output.status ≡ statuses.Refused) → IfOk result (λ output. output.bytes.items ≡ malformed_line sum) → Makes (IsTextAnswer setup text feeds) result
-  malformed_said setup protocol text feeds number sum same wrong is status bytes =
+  malformed_said setup protocol text feeds number sum same lines wrong is status bytes =
       made (IsTextAnswer setup text feeds) result statuses.Refused (malformed_line sum) status bytes
       (subst (λ (n : ℕ). IsTextAnswer setup text feeds statuses.Refused (malformed_line n)) (sym is)
-      (malformed number (subst (λ (p : Protocol). IsFirstWrong (bare p) text number) same wrong)))
+      (malformed number lines (subst (λ (p : Protocol). IsFirstWrong (bare p) text number) same wrong)))
+
+  -- JSON that says a journal, or none
+  pub decoded_said : (setup : SessionView) (text : List ℕ) (feeds : ℕ) (j : JournalView) → is_json text ≡ true → IsJsonOf setup.protocol text j
+      → Makes (IsVerdict setup j Json) result → Makes (IsTextAnswer setup text feeds) result
+  decoded_said setup text feeds j json is makes =
+      widen (IsVerdict setup j Json) (IsTextAnswer setup text feeds) result (λ s b verdict. decoded j json is verdict) makes
+
+  pub shapeless_said : (setup : SessionView) (text : List ℕ) (feeds sum : ℕ) → is_json text ≡ true
+      → ((j : JournalView) → IsJsonOf setup.protocol text j → ⊥) → sum ≡ feeds + 1
+      → IfOk result (λ output. output.status ≡ statuses.Refused) → IfOk result (λ output. output.bytes.items ≡ malformed_line sum) → Makes (IsTextAnswer setup text feeds) result
+  shapeless_said setup text feeds sum json none is status bytes =
+      made (IsTextAnswer setup text feeds) result statuses.Refused (malformed_line sum) status bytes
+      (subst (λ (n : ℕ). IsTextAnswer setup text feeds statuses.Refused (malformed_line n)) (sym is) (shapeless json none))
 
   -- an entry that can't come
-  pub illegal_said : (session : SessionView) (j : JournalView) (entries : List Entry) (feeds k sum : ℕ) → entries ≡ j.entries → IsFirstIllegal (rules_of session) entries k → sum ≡ feeds + 1 + k
-      → IfOk result (λ output. output.status ≡ statuses.Illegal) → IfOk result (λ output. output.bytes.items ≡ illegal_line sum) → Makes (IsVerdict session j feeds) result
-  illegal_said session j entries feeds k sum same wrong is status bytes =
-      made (IsVerdict session j feeds) result statuses.Illegal (illegal_line sum) status bytes
-      (subst (λ (n : ℕ). IsVerdict session j feeds statuses.Illegal (illegal_line n)) (sym is) (illegal k (subst (λ (es : List Entry). IsFirstIllegal (rules_of session) es k) same wrong)))
+  pub illegal_said : (session : SessionView) (j : JournalView) (entries : List Entry) (written : Written) (k : ℕ) → entries ≡ j.entries → IsFirstIllegal (rules_of session) entries k
+      → IfOk result (λ output. output.status ≡ statuses.Illegal) → IfOk result (λ output. output.bytes.items ≡ illegal_entry_line written k) → Makes (IsVerdict session j written) result
+  illegal_said session j entries written k same wrong status bytes =
+      made (IsVerdict session j written) result statuses.Illegal (illegal_entry_line written k) status bytes
+      (illegal k (subst (λ (es : List Entry). IsFirstIllegal (rules_of session) es k) same wrong))
 
   -- a closing line that isn't what the entries leave
-  pub misclosed_said : (session : SessionView) (j : JournalView) (entries : List Entry) (feeds k sum : ℕ) → entries ≡ j.entries → IsLegal (rules_of session) entries
-      → IsFirstWrongClosing (rules_of session) (reading (rules_of session) entries) j.roles j.limited k → sum ≡ feeds + 1 + length entries + k
-      → IfOk result (λ output. output.status ≡ statuses.Illegal) → IfOk result (λ output. output.bytes.items ≡ illegal_line sum) → Makes (IsVerdict session j feeds) result
-  misclosed_said session j entries feeds k sum same legal wrong is status bytes =
-      made (IsVerdict session j feeds) result statuses.Illegal (illegal_line sum) status bytes
-      (subst (λ (n : ℕ). IsVerdict session j feeds statuses.Illegal (illegal_line n)) (sym (is ∙ ap (λ (es : List Entry). feeds + 1 + length es + k) same))
+  pub misclosed_said : (session : SessionView) (j : JournalView) (entries : List Entry) (written : Written) (k count : ℕ) → entries ≡ j.entries → IsLegal (rules_of session) entries
+      → IsFirstWrongClosing (rules_of session) (reading (rules_of session) entries) j.roles j.limited k → count ≡ length entries
+      → IfOk result (λ output. output.status ≡ statuses.Illegal) → IfOk result (λ output. output.bytes.items ≡ illegal_closing_line written count k) → Makes (IsVerdict session j written) result
+  misclosed_said session j entries written k count same legal wrong is status bytes =
+      made (IsVerdict session j written) result statuses.Illegal (illegal_closing_line written count k) status bytes
+      (subst (λ (n : ℕ). IsVerdict session j written statuses.Illegal (illegal_closing_line written n k)) (sym (is ∙ ap (λ (es : List Entry). length es) same))
       (misclosed k (subst (IsLegal (rules_of session)) same legal)
       (subst (λ (es : List Entry). IsFirstWrongClosing (rules_of session) (reading (rules_of session) es) j.roles j.limited k) same wrong)))
 
@@ -90,8 +106,8 @@ pub long_said : (input : List ℕ) (cut : Cut) (bytes : List ℕ) → cut_of inp
 long_said input cut bytes is more empty = subst (IsJournalAnswer input statuses.TooLong) (sym empty) (long cut is more)
 
 -- a journal that is drawn
-pub drawn_said : (session : SessionView) (j : JournalView) (entries : List Entry) (feeds : ℕ) (bytes : List ℕ) → entries ≡ j.entries → IsLegal (rules_of session) entries
-    → ClosesRight session entries j.roles j.limited → IsJournalDrawing session entries bytes → IsVerdict session j feeds statuses.Drawn bytes
-drawn_said session j entries feeds bytes same legal closes drawing =
+pub drawn_said : (session : SessionView) (j : JournalView) (entries : List Entry) (written : Written) (bytes : List ℕ) → entries ≡ j.entries → IsLegal (rules_of session) entries
+    → ClosesRight session entries j.roles j.limited → IsJournalDrawing session entries bytes → IsVerdict session j written statuses.Drawn bytes
+drawn_said session j entries written bytes same legal closes drawing =
     drawn (subst (IsLegal (rules_of session)) same legal) (subst (λ (es : List Entry). ClosesRight session es j.roles j.limited) same closes)
     (subst (λ (es : List Entry). IsJournalDrawing session es bytes) same drawing)

@@ -1,5 +1,5 @@
 -- What an option is given has passed the test of the option.
-use Rattle.std.proofs.Common.{◌≡◌, ◌∙◌, ◌<◌, ℕ, Bool, true, false, true≢false, zero, suc, List, [], ◌∷◌, map, length, Option, Some, None, refl, sym, ap, subst, inl, inr, arith, codes}
+use Rattle.std.proofs.Common.{◌≡◌, ◌∙◌, ◌<◌, ◌||◌, ℕ, Bool, true, false, true≢false, zero, suc, List, [], ◌∷◌, map, length, Option, Some, None, refl, sym, ap, subst, inl, inr, arith, codes}
 use Rattle.std.specs.Prelude.{pos, option_map, option_and_then, slice_get, unwrap_or}
 use Rattle.std.specs.List.{All, slice_index_or}
 use Rattle.std.specs.Str.{bytes_eq}
@@ -57,29 +57,51 @@ all_rules = rcv_show.top.rules
 told : (program : Command) → app_of program ≡ rcv_show → map rule_of (args_of program) ≡ all_rules
 told program is = ap (λ a. a.top.rules) is
 
-four : (program : Command) → app_of program ≡ rcv_show → length (args_of program) ≡ 4
-four program is = sym (length-map (args_of program) rule_of) ∙ ap length (told program is)
+six : (program : Command) → app_of program ≡ rcv_show → length (args_of program) ≡ 6
+six program is = sym (length-map (args_of program) rule_of) ∙ ap length (told program is)
 
-rule_of_arg : (program : Command) → app_of program ≡ rcv_show → (k : ℕ) (d : Arg) → k < 4 → rule_of (slice_index_or (args_of program) k d) ≡ slice_index_or all_rules k (rule_of d)
-rule_of_arg program is k d inside = rule_at (args_of program) all_rules k d (told program is) (omega (arith, four program is))
+rule_of_arg : (program : Command) → app_of program ≡ rcv_show → (k : ℕ) (d : Arg) → k < 6 → rule_of (slice_index_or (args_of program) k d) ≡ slice_index_or all_rules k (rule_of d)
+rule_of_arg program is k d inside = rule_at (args_of program) all_rules k d (told program is) (omega (arith, six program is))
 
-name_at : (program : Command) → app_of program ≡ rcv_show → (k : ℕ) (d : Arg) → k < 4 → (slice_index_or (args_of program) k d).id.now ≡ (slice_index_or all_rules k (rule_of d)).id
+name_at : (program : Command) → app_of program ≡ rcv_show → (k : ℕ) (d : Arg) → k < 6 → (slice_index_or (args_of program) k d).id.now ≡ (slice_index_or all_rules k (rule_of d)).id
 name_at program is k d inside = ap (λ (r : Rule). r.id) (rule_of_arg program is k d inside)
 
 -- Each name is that of one place.
-only_code : (j : ℕ) (a : Rule) → j < 4 → bytes_eq (slice_index_or all_rules j a).id (codes "code") ≡ true → j ≡ 2
+only_code : (j : ℕ) (a : Rule) → j < 6 → bytes_eq (slice_index_or all_rules j a).id (codes "code") ≡ true → j ≡ 2
 only_code zero a inside same = absurd (true≢false (sym same))
 only_code (suc zero) a inside same = absurd (true≢false (sym same))
 only_code (suc (suc zero)) a inside same = refl
 only_code (suc (suc (suc zero))) a inside same = absurd (true≢false (sym same))
-only_code (suc (suc (suc (suc j)))) a inside same = absurd (omega arith)
+only_code (suc (suc (suc (suc zero)))) a inside same = absurd (true≢false (sym same))
+only_code (suc (suc (suc (suc (suc zero))))) a inside same = absurd (true≢false (sym same))
+only_code (suc (suc (suc (suc (suc (suc j)))))) a inside same = absurd (omega arith)
 
-only_session : (j : ℕ) (a : Rule) → j < 4 → bytes_eq (slice_index_or all_rules j a).id (codes "session") ≡ true → j ≡ 3
+only_session : (j : ℕ) (a : Rule) → j < 6 → bytes_eq (slice_index_or all_rules j a).id (codes "session") ≡ true → j ≡ 3
 only_session zero a inside same = absurd (true≢false (sym same))
 only_session (suc zero) a inside same = absurd (true≢false (sym same))
 only_session (suc (suc zero)) a inside same = absurd (true≢false (sym same))
 only_session (suc (suc (suc zero))) a inside same = refl
-only_session (suc (suc (suc (suc j)))) a inside same = absurd (omega arith)
+only_session (suc (suc (suc (suc zero)))) a inside same = absurd (true≢false (sym same))
+only_session (suc (suc (suc (suc (suc zero))))) a inside same = absurd (true≢false (sym same))
+only_session (suc (suc (suc (suc (suc (suc j)))))) a inside same = absurd (omega arith)
+
+only_text : (j : ℕ) (a : Rule) → j < 6 → bytes_eq (slice_index_or all_rules j a).id (codes "text") ≡ true → j ≡ 4
+only_text zero a inside same = absurd (true≢false (sym same))
+only_text (suc zero) a inside same = absurd (true≢false (sym same))
+only_text (suc (suc zero)) a inside same = absurd (true≢false (sym same))
+only_text (suc (suc (suc zero))) a inside same = absurd (true≢false (sym same))
+only_text (suc (suc (suc (suc zero)))) a inside same = refl
+only_text (suc (suc (suc (suc (suc zero))))) a inside same = absurd (true≢false (sym same))
+only_text (suc (suc (suc (suc (suc (suc j)))))) a inside same = absurd (omega arith)
+
+only_json : (j : ℕ) (a : Rule) → j < 6 → bytes_eq (slice_index_or all_rules j a).id (codes "json") ≡ true → j ≡ 5
+only_json zero a inside same = absurd (true≢false (sym same))
+only_json (suc zero) a inside same = absurd (true≢false (sym same))
+only_json (suc (suc zero)) a inside same = absurd (true≢false (sym same))
+only_json (suc (suc (suc zero))) a inside same = absurd (true≢false (sym same))
+only_json (suc (suc (suc (suc zero)))) a inside same = absurd (true≢false (sym same))
+only_json (suc (suc (suc (suc (suc zero))))) a inside same = refl
+only_json (suc (suc (suc (suc (suc (suc j)))))) a inside same = absurd (omega arith)
 
 -- An entry of an argument, whose name isn't empty, where the program has no groups.
 values_pass : (built : Command) (e : Entry) (name : Text) → groups_of built ≡ [] → (name ≡ [] → ⊥) → e.0.now ≡ name → EntryPasses built e → All (λ v. PassesArg built name v.now) e.1.vals.items
@@ -111,9 +133,9 @@ no_groups program m p is =
     (p.from.same_groups (simple_groups program (ap (λ a. all_simple a.top.rules) is))).1 ∙ plain.groups
 
 -- What an option is given, at its place, has passed its parser, and is read as that parser says.
-passed : (program : Command) (m : ArgMatches) (p : IsParsedFrom program m) → app_of program ≡ rcv_show → (k : ℕ) (d : Arg) (name : Text) (q : ValueParser) → k < 4
+passed : (program : Command) (m : ArgMatches) (p : IsParsedFrom program m) → app_of program ≡ rcv_show → (k : ℕ) (d : Arg) (name : Text) (q : ValueParser) → k < 6
     → (slice_index_or all_rules k (rule_of d)).id ≡ name → (slice_index_or all_rules k (rule_of d)).parser ≡ Some q → (slice_index_or all_rules k (rule_of d)).ignore_case ≡ false
-    → ((j : ℕ) (a : Rule) → j < 4 → bytes_eq (slice_index_or all_rules j a).id name ≡ true → j ≡ k)
+    → ((j : ℕ) (a : Rule) → j < 6 → bytes_eq (slice_index_or all_rules j a).id name ≡ true → j ≡ k)
     → (name ≡ [] → ⊥) → (name ≡ codes "help" → ⊥) → (name ≡ codes "version" → ⊥)
     → (text : Text) → one_text (found_of m) name ≡ Some text → (v : Text) × (text ≡ read_as (reading_of q) v) × Accepts false q v
 passed program m p is k d name q inside id_is parser_is case_is only named help version text given =
@@ -126,9 +148,9 @@ passed program m p is k d name q inside id_is parser_is case_is only named help 
     let first = first_text (found_of m) name text given in
     let entry = entry_by_id (EntryPasses p.built) (found_of m).entries.items name first.0 parsed.values first.1 in
     let key : entry.0.0.now ≡ name = (bytes_eq-Decides entry.0.0.now name).0 entry.2 in
-    let within : k < length (args_of program) = omega (arith, four program is) in
+    let within : k < length (args_of program) = omega (arith, six program is) in
     let unique : (j : ℕ) (e : Arg) → j < length (args_of program) → bytes_eq (slice_index_or (args_of program) j e).id.now arg.id.now ≡ true → j ≡ k =
-    λ j e low same. only j (rule_of e) (omega (arith, four program is)) (rw (← name_at program is j e (omega (arith, four program is)), ← arg_id) same) in
+    λ j e low same. only j (rule_of e) (omega (arith, six program is)) (rw (← name_at program is j e (omega (arith, six program is)), ← arg_id) same) in
     let own : IsAuto arg → ⊥ = λ auto. elim auto [ inl h ↦ help (sym arg_id ∙ h) | inr h ↦ version (sym arg_id ∙ h) ] in
     let reads = reads_of p.built entry.0 name (no_groups program m p is) named key entry.3 in
     let how : first.0.reading ≡ reading_of q =
@@ -154,11 +176,21 @@ some_arg [] some = absurd (omega arith)
 some_arg (x ∷ xs) some = x
 
 an_arg : (program : Command) → app_of program ≡ rcv_show → Arg
-an_arg program is = some_arg (args_of program) (omega (arith, four program is))
+an_arg program is = some_arg (args_of program) (omega (arith, six program is))
 
--- What `--code` and `--session` are given.
+-- What `--code`, `--session`, `--text` and `--json` are given.
 pub code_pass : (m : ArgMatches) → IsOfProgram m → (text : Text) → one_text (found_of m) (codes "code") ≡ Some text → IsNumberText 0 255 text
 code_pass m (program, is, p) = passed program m p is 2 (an_arg program is) (codes "code") (vp.Signed (pos 0) (pos 255)) (omega arith) refl refl refl only_code (apart _ _ refl) (apart _ _ refl) (apart _ _ refl)
 
 pub session_pass : (m : ArgMatches) → IsOfProgram m → (text : Text) → one_text (found_of m) (codes "session") ≡ Some text → IsNumberText 1 64 text
 session_pass m (program, is, p) = passed program m p is 3 (an_arg program is) (codes "session") (vp.Signed (pos 1) (pos 64)) (omega arith) refl refl refl only_session (apart _ _ refl) (apart _ _ refl) (apart _ _ refl)
+
+pub text_pass : (m : ArgMatches) → IsOfProgram m → (text : Text) → one_text (found_of m) (codes "text") ≡ Some text → (bytes_eq text (codes "true") || bytes_eq text (codes "false")) ≡ true
+text_pass m (program, is, p) text given =
+    let pass = passed program m p is 4 (an_arg program is) (codes "text") vp.Bool (omega arith) refl refl refl only_text (apart _ _ refl) (apart _ _ refl) (apart _ _ refl) text given in
+    subst (λ (w : Text). (bytes_eq w (codes "true") || bytes_eq w (codes "false")) ≡ true) (sym pass.1) pass.2
+
+pub json_pass : (m : ArgMatches) → IsOfProgram m → (text : Text) → one_text (found_of m) (codes "json") ≡ Some text → (bytes_eq text (codes "true") || bytes_eq text (codes "false")) ≡ true
+json_pass m (program, is, p) text given =
+    let pass = passed program m p is 5 (an_arg program is) (codes "json") vp.Bool (omega arith) refl refl refl only_json (apart _ _ refl) (apart _ _ refl) (apart _ _ refl) text given in
+    subst (λ (w : Text). (bytes_eq w (codes "true") || bytes_eq w (codes "false")) ≡ true) (sym pass.1) pass.2

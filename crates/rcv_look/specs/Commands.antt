@@ -1,5 +1,7 @@
 -- The commands, and the words that say them.
-use Rattle.std.specs.Prelude.{◌≡◌, ◌≤◌, ℕ, codes, List, [], ◌∷◌, ⊤, Option, Some, None, option_map, map}
+use Rattle.std.specs.Prelude.{◌≡◌, ◌≤◌, ℕ, Bool, true, false, codes, List, [], ◌∷◌, ⊤, Option, Some, None, option_map, map}
+use Rattle.std.specs.Option.{option_map_or}
+use Rattle.std.specs.Str.{bytes_eq}
 use Rattle.std.specs.String.{string_bytes}
 use Rattle.std.specs.Str.Parse.{digits_value, without_leading_plus}
 use Rattle.std.specs.declared.string.String.{String}
@@ -17,9 +19,15 @@ pub data CommandView : Type 0 where
   DrawTold : CommandView
   ReplayJournal : CommandView
   DrawTable : CommandView
+  ExportTable : CommandView
   DrawRole : (name : Text) → CommandView
+  ExportRole : (name : Text) → CommandView
   DrawProtocol : CommandView
   ListPoints : CommandView
+  ExportPoints : CommandView
+  DrawFailures : CommandView
+  ListFailures : CommandView
+  ExportFailures : CommandView
   Explain : (code : ℕ) → CommandView
 
 -- What a command says.
@@ -29,9 +37,15 @@ view_of (commands.Session number) = DrawSession number
 view_of commands.Told = DrawTold
 view_of commands.Replay = ReplayJournal
 view_of commands.Table = DrawTable
+view_of commands.TableJson = ExportTable
 view_of (commands.Role role) = DrawRole role
+view_of (commands.RoleJson role) = ExportRole role
 view_of commands.Protocol = DrawProtocol
 view_of commands.Points = ListPoints
+view_of commands.PointsJson = ExportPoints
+view_of commands.Failures = DrawFailures
+view_of commands.FailuresText = ListFailures
+view_of commands.FailuresJson = ExportFailures
 view_of (commands.Explain code) = Explain code
 
 -- Words as their bytes.
@@ -56,11 +70,17 @@ pub record Given : Type 0 where
   pub role : Option Text
   pub code : Option ℕ
   pub session : Option ℕ
+  pub text : Bool
+  pub json : Bool
 
 -- The number that is given for the option. `one_of` gives the text without a `-` in front, which only a 0 that passed
 -- has.
 abbrev pub number_in : Text → List Row → Option ℕ
 number_in name rows = option_map (λ text. digits_value 10 (without_leading_plus text)) (one_of name rows)
+
+-- Whether the flag is given.
+abbrev pub flag_in : Text → List Row → Bool
+flag_in name rows = option_map_or (λ text. bytes_eq text (codes "true")) (one_of name rows) false
 
 abbrev pub given_in : List Row → Given
 given_in rows = record {
@@ -68,6 +88,8 @@ given_in rows = record {
   role = first_of (codes "role") rows;
   code = number_in (codes "code") rows;
   session = number_in (codes "session") rows;
+  text = flag_in (codes "text") rows;
+  json = flag_in (codes "json") rows;
 }
 
 abbrev pub given_of : Found → Given
@@ -76,6 +98,8 @@ given_of found = record {
   role = option_map (λ text. text.now) found.role;
   code = found.code;
   session = found.session;
+  text = found.text;
+  json = found.json;
 }
 
 abbrev pub given : List Text → Given
@@ -86,24 +110,43 @@ abbrev pub journal_for : Option ℕ → CommandView
 journal_for None = DrawJournal
 journal_for (Some number) = DrawSession number
 
+-- How the answer is to be written: as a command writes it, as text, or as JSON.
+pub data Form : Type 0 where
+  Usual : Form
+  AsText : Form
+  AsJson : Form
+
+-- The flags say the form.
+abbrev pub AreFlags : Form → Bool → Bool → Type 0
+AreFlags Usual text json = (text ≡ false) × (json ≡ false)
+AreFlags AsText text json = (text ≡ true) × (json ≡ false)
+AreFlags AsJson text json = (text ≡ false) × (json ≡ true)
+
 -- The word is given, and these of the options.
-pub record IsGiven (g : Given) (word : Text) (role : Option Text) (code session : Option ℕ) : Type 0 where
+pub record IsGiven (g : Given) (word : Text) (role : Option Text) (code session : Option ℕ) (form : Form) : Type 0 where
   pub word_is : g.command ≡ Some word
   pub role_is : g.role ≡ role
   pub code_is : g.code ≡ code
   pub session_is : g.session ≡ session
+  pub flags : AreFlags form g.text g.json
 
--- What is given says the command: its word and its option, and no option of another one.
+-- What is given says the command: its word and its options, and no option of another one.
 abbrev pub Says : Given → CommandView → Type 0
-Says g DrawJournal = IsGiven g (codes "journal") None None None
-Says g (DrawSession number) = IsGiven g (codes "journal") None None (Some number)
-Says g DrawTold = IsGiven g (codes "told") None None None
-Says g ReplayJournal = IsGiven g (codes "replay") None None None
-Says g DrawTable = IsGiven g (codes "table") None None None
-Says g (DrawRole name) = IsGiven g (codes "role") (Some name) None None
-Says g DrawProtocol = IsGiven g (codes "protocol") None None None
-Says g ListPoints = IsGiven g (codes "points") None None None
-Says g (Explain code) = IsGiven g (codes "explain") None (Some code) None
+Says g DrawJournal = IsGiven g (codes "journal") None None None Usual
+Says g (DrawSession number) = IsGiven g (codes "journal") None None (Some number) Usual
+Says g DrawTold = IsGiven g (codes "told") None None None Usual
+Says g ReplayJournal = IsGiven g (codes "replay") None None None Usual
+Says g DrawTable = IsGiven g (codes "table") None None None Usual
+Says g ExportTable = IsGiven g (codes "table") None None None AsJson
+Says g (DrawRole name) = IsGiven g (codes "role") (Some name) None None Usual
+Says g (ExportRole name) = IsGiven g (codes "role") (Some name) None None AsJson
+Says g DrawProtocol = IsGiven g (codes "protocol") None None None Usual
+Says g ListPoints = IsGiven g (codes "points") None None None Usual
+Says g ExportPoints = IsGiven g (codes "points") None None None AsJson
+Says g DrawFailures = IsGiven g (codes "failures") None None None Usual
+Says g ListFailures = IsGiven g (codes "failures") None None None AsText
+Says g ExportFailures = IsGiven g (codes "failures") None None None AsJson
+Says g (Explain code) = IsGiven g (codes "explain") None (Some code) None Usual
 
 -- Its number is in range.
 abbrev pub IsWithin : CommandView → Type 0

@@ -1,5 +1,6 @@
 pub mod Program
 pub mod Commands
+pub mod Asked
 pub mod Asking
 pub mod Inputs
 pub mod Drawing

@@ -1,5 +1,5 @@
 -- What the program answers: a status and bytes, for words and an input.
-use Rattle.std.specs.Prelude.{◌≡◌, ℕ, ◌+◌, ◌-◌, ◌<◌, ◌≤◌, codes, decimal, List, [], ◌++◌, length, take, Some, None}
+use Rattle.std.specs.Prelude.{◌≡◌, true, false, ℕ, ◌+◌, ◌-◌, ◌<◌, ◌≤◌, codes, decimal, List, [], ◌++◌, length, take, Some, None}
 use Rattle.rcv_tree.specs.declared.entry.Entry.{Entry}
 use Rattle.rcv_model.specs.Journal.{reading, IsLegal}
 use Rattle.rcv_session.specs.Session.{SessionView, rules_of}
@@ -18,7 +18,9 @@ use Rattle.rcv_retold.specs.Text.{IsToldText, IsFirstWrong}
 use Rattle.rcv_replay.specs.declared.cut.Cut.{Cut}
 use Rattle.rcv_diagnosis.specs.declared.diagnosis.Finding.{Finding}
 use Rattle.rcv_diagnosis.specs.declared.diagnosis.Finding.TheVariants as findings
-use Rattle.rcv_diagnosis.specs.Diagnosing.{IsDiagnosis}
+use Rattle.rcv_diagnosis.specs.declared.written.Written.{Written}
+use Rattle.rcv_diagnosis.specs.declared.written.Written.TheVariants.{Lines, Json}
+use Rattle.rcv_diagnosis.specs.Diagnosing.{IsDiagnosis, is_json, IsJsonOf}
 use Rattle.rcv_look.specs.declared.status.Status.{Status}
 use Rattle.rcv_look.specs.declared.status.Status.TheVariants.{Drawn, Usage, Refused, ReadFault, WriteFault, Memory, TooLong, Illegal}
 use Rattle.rcv_look.specs.Commands.{CommandView, DrawJournal, DrawSession, DrawTold, ReplayJournal, DrawTable, DrawRole, DrawProtocol, ListPoints, Explain, IsCommand, IsNoCommand}
@@ -42,7 +44,7 @@ number_of Illegal = 8
 
 -- What is written where the words are no command.
 abbrev pub usage_line : List ℕ
-usage_line = codes "usage: rcv-show journal|told|replay|table|role|protocol|points|explain [--session I] [--role R] [--code N]\n"
+usage_line = codes "usage: rcv-show journal|told|replay|table|role|protocol|points|failures|explain [--session I] [--role R] [--code N] [--text] [--json]\n"
 
 -- `refused 50 NoJournal line L`: an input that ends at this line has no line `%% journal`.
 abbrev pub no_journal_line : ℕ → List ℕ
@@ -56,29 +58,48 @@ malformed_line line = refusal_line (Line 51 line)
 abbrev pub illegal_line : ℕ → List ℕ
 illegal_line line = codes "illegal line " ++ decimal line ++ codes "\n"
 
--- What is answered to a journal of the form behind so many line feeds of the input: its first entry that can't come; or
--- its first closing line that isn't what the entries leave; or a picture of it.
-pub data IsVerdict (session : SessionView) (j : JournalView) (feeds : ℕ) : Status → List ℕ → Type 0 where
+-- What is written of the first entry that can't come, counted from 0: the line of the input at which it stands, or, of JSON,
+-- its number, counted from 1.
+abbrev pub illegal_entry_line : Written → ℕ → List ℕ
+illegal_entry_line (Lines feeds) k = illegal_line (feeds + 1 + k)
+illegal_entry_line Json k = codes "illegal entry " ++ decimal (k + 1) ++ codes "\n"
+
+-- And of the first closing line that isn't what so many entries leave.
+abbrev pub illegal_closing_line : Written → ℕ → ℕ → List ℕ
+illegal_closing_line (Lines feeds) entries k = illegal_line (feeds + 1 + entries + k)
+illegal_closing_line Json entries k = codes "illegal end\n"
+
+-- What is answered to a journal of the form that is written so: its first entry that can't come; or its first closing line
+-- that isn't what the entries leave; or a picture of it.
+pub data IsVerdict (session : SessionView) (j : JournalView) (written : Written) : Status → List ℕ → Type 0 where
   illegal :
       (k : ℕ) → IsFirstIllegal (rules_of session) j.entries k
-      → IsVerdict session j feeds Illegal (illegal_line (feeds + 1 + k))
+      → IsVerdict session j written Illegal (illegal_entry_line written k)
   misclosed :
       (k : ℕ) → IsLegal (rules_of session) j.entries
       → IsFirstWrongClosing (rules_of session) (reading (rules_of session) j.entries) j.roles j.limited k
-      → IsVerdict session j feeds Illegal (illegal_line (feeds + 1 + length j.entries + k))
+      → IsVerdict session j written Illegal (illegal_closing_line written (length j.entries) k)
   drawn :
       {bytes : List ℕ} → IsLegal (rules_of session) j.entries → ClosesRight session j.entries j.roles j.limited
-      → IsJournalDrawing session j.entries bytes → IsVerdict session j feeds Drawn bytes
+      → IsJournalDrawing session j.entries bytes → IsVerdict session j written Drawn bytes
 
--- What is answered to the text behind so many line feeds of the input: the first line at which it isn't a journal of the
--- form, counted over the whole input, or what the journal's verdict is.
+-- What is answered to the text behind so many line feeds of the input. Of lines: the first at which it isn't a journal of the
+-- form, counted over the whole input, or what the journal's verdict is. Of JSON: that it is no journal of the form, by its
+-- first line, or the verdict.
 pub data IsTextAnswer (session : SessionView) (text : List ℕ) (feeds : ℕ) : Status → List ℕ → Type 0 where
   malformed :
-      (k : ℕ) → form.IsFirstWrong (bare session.protocol) text k
+      (k : ℕ) → is_json text ≡ false → form.IsFirstWrong (bare session.protocol) text k
       → IsTextAnswer session text feeds Refused (malformed_line (feeds + k))
   formed :
-      {status : Status} {bytes : List ℕ} (j : JournalView) → form.Spells (bare session.protocol) text j
-      → IsVerdict session j feeds status bytes → IsTextAnswer session text feeds status bytes
+      {status : Status} {bytes : List ℕ} (j : JournalView) → is_json text ≡ false
+      → form.Spells (bare session.protocol) text j
+      → IsVerdict session j (Lines feeds) status bytes → IsTextAnswer session text feeds status bytes
+  shapeless :
+      is_json text ≡ true → ((j : JournalView) → IsJsonOf session.protocol text j → ⊥)
+      → IsTextAnswer session text feeds Refused (malformed_line (feeds + 1))
+  decoded :
+      {status : Status} {bytes : List ℕ} (j : JournalView) → is_json text ≡ true → IsJsonOf session.protocol text j
+      → IsVerdict session j Json status bytes → IsTextAnswer session text feeds status bytes
 
 -- What is answered to a bundle with a text behind so many line feeds of the input: the bundle's first refusal, or what
 -- the session's text is answered.

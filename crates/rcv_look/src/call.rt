@@ -15,7 +15,7 @@ use std::alloc::Global;
 
 /// What is written where the words are no command.
 const USAGE: &[u8] =
-    b"usage: rcv-show journal|told|replay|table|role|protocol|points|explain [--session I] [--role R] [--code N]\n";
+    b"usage: rcv-show journal|told|replay|table|role|protocol|points|failures|explain [--session I] [--role R] [--code N] [--text] [--json]\n";
 
 /// Does what the program does: reads the words, then the whole source unless the command is `explain`, and writes the
 /// answer.

@@ -15,12 +15,24 @@ pub enum Command {
     Replay,
     /// Draws who restarts where, for each role and each point at which it may fail.
     Table,
+    /// Says the same as JSON.
+    TableJson,
     /// Draws what the role with this name does at each of its places.
     Role { role: Name },
+    /// Says the same as JSON.
+    RoleJson { role: Name },
     /// Draws the protocol.
     Protocol,
-    /// Lists the protocol's points with their lines, and explains the rule that refuses it.
+    /// Lists the protocol's points with their lines, and explains what refuses the input.
     Points,
+    /// Says the same as JSON.
+    PointsJson,
+    /// Draws what each failure would cost.
+    Failures,
+    /// Lists the same, a line for each.
+    FailuresText,
+    /// Says the same as JSON.
+    FailuresJson,
     /// Explains the rule with this code.
     Explain { code: u32 },
 }

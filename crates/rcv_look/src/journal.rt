@@ -1,18 +1,22 @@
 // What is answered to `journal`.
 
-ghost use Rattle.std.specs.Prelude.{◌≡◌, ◌≤◌, ◌<◌, ◌^◌, Some, length, IfOk};
+ghost use Rattle.std.specs.Prelude.{◌≡◌, ◌≤◌, ◌<◌, ◌^◌, Some, true, false, length, IfOk};
 ghost use Rattle.rcv_model.specs.Journal.{IsLegal};
 ghost use Rattle.rcv_session.specs.Session.{rules_of};
+ghost use Rattle.rcv_decode.specs.Reading.{IsReadAs};
+ghost use Rattle.rcv_diagnosis.specs.Diagnosing.{is_json};
 ghost use Rattle.rcv_replay.specs.Cutting.{cut_of};
 ghost use Rattle.rcv_look.specs.Outcome.{IsVerdict, IsTextAnswer, IsBundleAnswer, IsJournalAnswer};
 
 use crate::draw::draw_book;
 use crate::input::MOST_OF_BUNDLE;
-use crate::lines::{illegal, malformed, no_journal, refuse};
+use crate::lines::{illegal_closing, illegal_entry, malformed, no_journal, refuse};
 use crate::output::Output;
 use crate::status::Status;
 use rcv_core::book::Book;
 use rcv_core::setup::Setup;
+use rcv_decode::{JsonError, read_json};
+use rcv_diagnosis::written::{Written, is_json};
 use rcv_form::journal::Journal;
 use rcv_input::read_input;
 use rcv_judge::closing::wrong_closing;
@@ -73,9 +77,9 @@ fn bundle_answer(
     }
 }
 
-/// What is answered to the text of a session behind so many line feeds of the input: its picture, or the first line at
-/// which it isn't a legal journal of the session. It has at most 134,217,728 bytes, and so many line feeds stand before
-/// it at most. Fails where memory runs out.
+/// What is answered to the text of a session behind so many line feeds of the input: its picture, or why there is none. The
+/// text is lines or JSON. It has at most 134,217,728 bytes, and so many line feeds stand before it at most. Fails if memory
+/// runs out.
 pub fn text_answer(
     alloc: Global,
     setup: &Setup,
@@ -86,28 +90,84 @@ pub fn text_answer(
     requires feeds { feeds ≤ 134217728 }
     ensures { IfOk result (λ output. IsTextAnswer setup.now text.now feeds output.status output.bytes.items) }
 {
+    if is_json(text) {
+        json_answer(alloc, setup, text, feeds)
+    } else {
+        lines_answer(alloc, setup, text, feeds)
+    }
+}
+
+// What is answered to lines.
+fn lines_answer(
+    alloc: Global,
+    setup: &Setup,
+    text: &[u8],
+    feeds: u32,
+) -> Result<Output, AllocError>
+    requires lines { is_json text.now ≡ false }
+    requires text { length text.now ≤ 134217728 }
+    requires feeds { feeds ≤ 134217728 }
+    ensures { IfOk result (λ output. IsTextAnswer setup.now text.now feeds output.status output.bytes.items) }
+{
     match read_text(alloc, text, setup.accepted()) {
-        Ok(journal) => verdict(alloc, setup, &journal, feeds),
+        Ok(journal) => verdict(alloc, setup, &journal, Written::Lines(feeds)),
         Err(LinesError::Line(number)) => malformed(alloc, feeds + number),
         Err(LinesError::Memory) => Err(AllocError),
     }
 }
 
-// What is answered to a journal of the form behind so many line feeds.
+// What is answered to JSON.
+fn json_answer(
+    alloc: Global,
+    setup: &Setup,
+    text: &[u8],
+    feeds: u32,
+) -> Result<Output, AllocError>
+    requires json { is_json text.now ≡ true }
+    requires feeds { feeds ≤ 134217728 }
+    ensures { IfOk result (λ output. IsTextAnswer setup.now text.now feeds output.status output.bytes.items) }
+{
+    match read_json(alloc, text, setup.accepted()) {
+        Ok(journal) => decoded_answer(alloc, setup, &journal, text, feeds),
+        Err(JsonError::Shape) => malformed(alloc, feeds + 1),
+        Err(JsonError::Memory) => Err(AllocError),
+    }
+}
+
+// What is answered to a journal that the JSON says.
+fn decoded_answer(
+    alloc: Global,
+    setup: &Setup,
+    journal: &Journal,
+    text: &[u8],
+    feeds: u32,
+) -> Result<Output, AllocError>
+    requires json { is_json text.now ≡ true }
+    requires read { IsReadAs setup.now.protocol text.now journal.now }
+    requires feeds { feeds ≤ 134217728 }
+    ensures { IfOk result (λ output. IsTextAnswer setup.now text.now feeds output.status output.bytes.items) }
+{
+    // Tells the proof that the protocol is accepted, and so the text says one journal.
+    let _protocol = setup.protocol();
+    if journal.entries.as_slice().len() > u32::MAX as usize {
+        return malformed(alloc, feeds + 1);
+    }
+    verdict(alloc, setup, journal, Written::Json)
+}
+
+// What is answered to a journal of the form that is written so.
 fn verdict(
     alloc: Global,
     setup: &Setup,
     journal: &Journal,
-    feeds: u32,
+    written: Written,
 ) -> Result<Output, AllocError>
     requires { length journal.now.entries < 2 ^ 32 }
-    ensures { IfOk result (λ output. IsVerdict setup.now journal.now feeds output.status output.bytes.items) }
+    ensures { IfOk result (λ output. IsVerdict setup.now journal.now written output.status output.bytes.items) }
 {
     match judge(alloc, setup, journal.entries.as_slice()) {
-        Ok(book) => close(alloc, &book, journal, feeds),
-        Err(JudgeError::Entry(number)) => {
-            illegal(alloc, u64::from(feeds) + 1 + u64::from(number))
-        }
+        Ok(book) => close(alloc, &book, journal, written),
+        Err(JudgeError::Entry(number)) => illegal_entry(alloc, written, number),
         Err(JudgeError::Memory) => Err(AllocError),
     }
 }
@@ -117,19 +177,16 @@ fn close(
     alloc: Global,
     book: &Book<'_>,
     journal: &Journal,
-    feeds: u32,
+    written: Written,
 ) -> Result<Output, AllocError>
     requires entries { book.now.entries ≡ journal.now.entries }
     requires few { length journal.now.entries < 2 ^ 32 }
     requires legal { IsLegal (rules_of book.now.setup) book.now.entries }
-    ensures { IfOk result (λ output. IsVerdict book.now.setup journal.now feeds output.status output.bytes.items) }
+    ensures { IfOk result (λ output. IsVerdict book.now.setup journal.now written output.status output.bytes.items) }
 {
     let wrong = wrong_closing(alloc, book, journal)?;
     match wrong {
-        Some(number) => {
-            let entries = u64::from(feeds) + 1 + book.len() as u64;
-            illegal(alloc, entries + u64::from(number))
-        }
+        Some(number) => illegal_closing(alloc, written, book.len() as u32, number),
         None => Ok(Output {
             status: Status::Drawn,
             bytes: draw_book(alloc, book, journal.roles.as_slice())?,

@@ -4,11 +4,12 @@ ghost use Rattle.std.specs.Prelude.{◌≡◌, ◌++◌, decimal, codes, IfOk};
 ghost use Rattle.rcv_input.specs.declared.refused.Refused as refusals;
 ghost use Rattle.rcv_input.specs.Line.{refusal_line};
 ghost use Rattle.rcv_look.specs.Drawing.{no_rule_line};
-ghost use Rattle.rcv_look.specs.Outcome.{no_journal_line, malformed_line, illegal_line};
+ghost use Rattle.rcv_look.specs.Outcome.{no_journal_line, malformed_line, illegal_line, illegal_entry_line, illegal_closing_line};
 
 use crate::output::Output;
 use crate::status::Status;
 use itoa::Buffer;
+use rcv_diagnosis::written::Written;
 use rcv_input::{InputError, Refused, refusal_line};
 use std::alloc::{AllocError, Global};
 
@@ -48,6 +49,42 @@ pub fn illegal(alloc: Global, line: u64) -> Result<Output, AllocError>
         status: Status::Illegal,
         bytes: numbered(alloc, b"illegal line ", line)?,
     })
+}
+
+/// Says which entry of a journal, counted from 0, can't come.
+pub fn illegal_entry(alloc: Global, written: Written, number: u32) -> Result<Output, AllocError>
+    ensures status { IfOk result (λ output. output.status ≡ Status.Illegal) }
+    ensures bytes { IfOk result (λ output. output.bytes.items ≡ illegal_entry_line written number) }
+{
+    match written {
+        Written::Lines(feeds) => illegal(alloc, u64::from(feeds) + 1 + u64::from(number)),
+        Written::Json => Ok(Output {
+            status: Status::Illegal,
+            bytes: numbered(alloc, b"illegal entry ", u64::from(number) + 1)?,
+        }),
+    }
+}
+
+/// Says which closing line of a journal with so many entries, counted from 0, isn't what they leave.
+pub fn illegal_closing(
+    alloc: Global,
+    written: Written,
+    entries: u32,
+    number: u32,
+) -> Result<Output, AllocError>
+    ensures status { IfOk result (λ output. output.status ≡ Status.Illegal) }
+    ensures bytes { IfOk result (λ output. output.bytes.items ≡ illegal_closing_line written entries number) }
+{
+    match written {
+        Written::Lines(feeds) => {
+            let before = u64::from(feeds) + 1 + u64::from(entries);
+            illegal(alloc, before + u64::from(number))
+        }
+        Written::Json => Ok(Output {
+            status: Status::Illegal,
+            bytes: Vec::from_slice(alloc, b"illegal end\n")?,
+        }),
+    }
 }
 
 /// Says that no rule has this code.

@@ -2,9 +2,9 @@
 
 ghost use Rattle.std.specs.Prelude.{◌≡◌, codes, false, IfOk};
 ghost use Rattle.clap.specs.Words.{app_of, rule_of};
-ghost use Rattle.rcv_look.specs.Program.{rcv_show, text_rule, number_rule, command_rule};
+ghost use Rattle.rcv_look.specs.Program.{rcv_show, text_rule, flag_rule, number_rule, command_rule};
 
-use clap::{Arg, Command, value_parser};
+use clap::{Arg, ArgAction, Command, value_parser};
 use std::alloc::{AllocError, Global};
 
 // The option with this name takes any text.
@@ -13,6 +13,16 @@ fn text<'a>(alloc: Global, name: &'a str) -> Arg<'a>
     ensures local { result.global ≡ false }
 {
     Arg::new(alloc, name).long(name)
+}
+
+// The option with this name is given or it isn't.
+fn flag<'a>(alloc: Global, name: &'a str) -> Arg<'a>
+    ensures rule { rule_of result ≡ flag_rule name.entry.now }
+    ensures local { result.global ≡ false }
+{
+    text(alloc, name)
+        .action(ArgAction::SetTrue)
+        .value_parser(value_parser!(bool))
 }
 
 // The word that says what to do.
@@ -47,5 +57,7 @@ pub fn program<'a>(alloc: Global) -> Result<Command<'a>, AllocError>
         .arg(command(alloc))?
         .arg(text(alloc, "role"))?
         .arg(code(alloc))?
-        .arg(session(alloc))
+        .arg(session(alloc))?
+        .arg(flag(alloc, "text"))?
+        .arg(flag(alloc, "json"))
 }

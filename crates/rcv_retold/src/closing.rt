@@ -42,8 +42,8 @@ fn role_state(guide: &Guide, role: RoleId) -> RoleState
     }
 }
 
-// Where each role is. Fails where memory runs out.
-fn states_of(alloc: Global, guide: &Guide) -> Result<Vec<RoleState>, AllocError>
+/// Where each role of a guide is. Fails if memory runs out.
+pub fn states_of(alloc: Global, guide: &Guide) -> Result<Vec<RoleState>, AllocError>
     ensures { IfOk result (λ states. (m : Remembered) → IsMemory guide.now m
         → AreStates (net_for guide.now) (roles_of guide.now) m states.items) }
 {

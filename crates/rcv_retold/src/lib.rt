@@ -3,7 +3,7 @@
 
 ghost use Rattle.rcv_retold.specs.Laws.{RetoldIsTold, ToldEntriesHaveTexts, ToldTextsSayOneThing, WrongTextsAreNotTold};
 
-mod closing;
+pub mod closing;
 mod kept;
 mod lines;
 pub mod retell;

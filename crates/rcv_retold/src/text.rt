@@ -139,6 +139,8 @@ pub fn judge<'a>(
     ensures setup { IfOk result (λ made. made.setup ≡ setup.now) }
     ensures entries { IfOk result (λ made. made.entries ≡ front.now.entries.items) }
     ensures kept { IfOk result (λ made. HasKept made (told (terms_for setup.now) front.now.entries.items).held) }
+    ensures protocol { OnOk result (HasSameText guide.new.protocol setup.now.protocol) }
+    ensures memory { OnOk result (IsMemory guide.new (told (terms_for setup.now) front.now.entries.items)) }
     ensures wrong { IfErr result (λ e. (k : ℕ) → e ≡ ToldError.Line k → IsFirstWrong setup.now text.now k) }
 {
     // Tells the proof that the protocol is accepted.

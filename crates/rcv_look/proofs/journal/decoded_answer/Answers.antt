@@ -1,0 +1,24 @@
+-- The text says no other journal.
+use Rattle.std.proofs.Common.{◌+◌, length, refl, ap, ◌∙◌, arith}
+use Rattle.rcv_form.specs.Journal.{JournalView}
+use Rattle.rcv_decode.proofs.OneJournal.{texts_have_one_journal}
+use Rattle.rcv_look.proofs.Journals.{shapeless_said, decoded_said}
+use Rattle.rcv_look.proofs.journal.decoded_answer.Goals as goal
+
+pub returns-then-as_slice : goal.returns-then-as_slice
+returns-then-as_slice c =
+    let same = ap length (c.as_slice.ensures.value ∙ ap (λ (v : JournalView). v.entries) c.journal.view_is) in
+    let long = c.if-as_slice.true in
+    shapeless_said c.malformed.result c.args.setup.now c.args.text.now c.args.feeds (c.args.feeds + 1) c.requires.json
+    (λ j is.
+    let one = ap (λ (v : JournalView). length v.entries) (texts_have_one_journal c.args.setup.now.protocol c.args.text.now j c.args.journal.now c.protocol-protocol.ensures.accepted is.0 c.requires.read) in
+    let few = is.1 in
+    omega (arith, same, long, one, few))
+    refl c.malformed.ensures.status c.malformed.ensures.bytes
+
+pub returns : goal.returns
+returns c =
+    let same = ap length (c.as_slice.ensures.value ∙ ap (λ (v : JournalView). v.entries) c.journal.view_is) in
+    let short = c.if-as_slice.false in
+    decoded_said c.verdict.result c.args.setup.now c.args.text.now c.args.feeds c.args.journal.now c.requires.json
+    (c.requires.read, omega (arith, same, short)) c.verdict.ensures
