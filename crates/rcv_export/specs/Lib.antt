@@ -1,0 +1,4 @@
+pub mod Pieces
+pub mod Messages
+pub mod TableJson
+pub mod RoleJson
