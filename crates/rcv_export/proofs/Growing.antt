@@ -1,5 +1,5 @@
--- Lists that grow number by number, place by place, and message by message.
-use Rattle.std.proofs.Common.{◌≡◌, ℕ, ◌+◌, cond, List, [], ◌∷◌, ◌++◌, flat_map, map, sym, ◌∙◌, ap, append_assoc, arith}
+-- Lists that grow number by number, and place by place.
+use Rattle.std.proofs.Common.{◌≡◌, ℕ, ◌+◌, Bool, true, false, cond, List, [], ◌∷◌, ◌++◌, flat_map, map, sym, ◌∙◌, ap, append-nil, arith}
 use Rattle.std.specs.List.{filter, range_with_len}
 use Rattle.std.proofs.lemmas.List.{map-append, map-id, flat_map_more}
 use Rattle.std.proofs.lemmas.List.FromFn.{filter_of_map_range_with_len_more, map-range_with_len_more}
@@ -14,14 +14,19 @@ goes_on f a n j start before after e so more =
     more ∙ ap (λ t. t ++ f j) so ∙ flat_map_more f start (range_with_len a n) j ∙ ap (λ r. start ++ flat_map f r) (sym (range_more a n j e))
 
 -- the places as far as one point more
-pub places_more : (net : Net) (r n : ℕ) → places_to net r (n + 1) ≡ places_to net r n ++ cond (is_own net r (n + 1)) ((n + 1) ∷ []) []
+places_more : (net : Net) (r n : ℕ) → places_to net r (n + 1) ≡ places_to net r n ++ cond (is_own net r (n + 1)) ((n + 1) ∷ []) []
 places_more net r n =
     let next : 1 + n ≡ n + 1 = omega arith in
     let whole : (m : ℕ) → filter (is_own net r) (map (λ (p : ℕ). p) (range_with_len 1 m)) ≡ filter (is_own net r) (range_with_len 1 m) = λ m. ap (filter (is_own net r)) (map-id (range_with_len 1 m)) in
     ap (λ ps. 0 ∷ ps) (sym (whole (n + 1)) ∙ filter_of_map_range_with_len_more (is_own net r) (λ (p : ℕ). p) 1 n (n + 1) next ∙ ap (λ ps. ps ++ cond (is_own net r (n + 1)) ((n + 1) ∷ []) []) (whole n))
 
-pub one_more : {A : Type 0} (old new rest : List A) (x : A) → new ≡ old ++ x ∷ [] → new ++ rest ≡ old ++ x ∷ rest
-one_more old new rest x e = ap (λ xs. xs ++ rest) e ∙ append_assoc old (x ∷ []) rest
+own_more : {A : Type 0} (f : ℕ → A) (ps : List ℕ) (p : ℕ) (own : Bool) → map f ps ++ cond own (f p ∷ []) [] ≡ map f (ps ++ cond own (p ∷ []) [])
+own_more f ps p true = sym (map-append f ps (p ∷ []))
+own_more f ps p false = append-nil (map f ps) ∙ ap (map f) (sym (append-nil ps))
 
-pub some_more : {A B : Type 0} (f : A → B) (old new : List B) (xs ys : List A) → new ≡ old ++ map f xs → new ++ map f ys ≡ old ++ map f (xs ++ ys)
-some_more f old new xs ys e = ap (λ zs. zs ++ map f ys) e ∙ append_assoc old (map f xs) (map f ys) ∙ ap (λ zs. old ++ zs) (sym (map-append f xs ys))
+pub place_added : {A : Type 0} (net : Net) (r : ℕ) (f : ℕ → A) (n : ℕ) (before after : List A) → before ≡ map f (places_to net r n) → after ≡ before ++ cond (is_own net r (n + 1)) (f (n + 1) ∷ []) [] → after ≡ map f (places_to net r (n + 1))
+place_added net r f n before after so more =
+    more
+    ∙ ap (λ t. t ++ cond (is_own net r (n + 1)) (f (n + 1) ∷ []) []) so
+    ∙ own_more f (places_to net r n) (n + 1) (is_own net r (n + 1))
+    ∙ ap (map f) (sym (places_more net r n))

@@ -18,7 +18,7 @@ use Rattle.rcv_export.specs.ReadBack.{IsReadAs}
 use Rattle.rcv_export.specs.RoleJson.{peer_of, step_data, steps_data, place_data, place_of, role_data, role_json}
 use Rattle.rcv_export.proofs.Plain.{IsPlain, ArePlain, line_is_read, plain_each, plain_map, plain_some}
 use Rattle.rcv_export.proofs.Tables.{own_is_of}
-use Rattle.rcv_export.proofs.Words.{ascii_is_text}
+use Rattle.rcv_export.proofs.Names.{ascii_is_text}
 
 module _ (accepted : AcceptedView) (lawful : IsAcceptedProtocol accepted.protocol) where
   small : (n : ℕ) → n ≤ (net_for accepted).count → n < 2 ^ 64

@@ -106,7 +106,7 @@ mutual
   value_back n (number x) plain = ap (option_map number) (number_back x plain)
   value_back n (string s) plain = refl
   value_back n (array ds) plain = ap (option_map array) (items_back plain.0 ds plain.2)
-  value_back n (object ms) plain = ap (option_map object) (members_back plain.0 ms no_members plain.2.0 (none_before ms) plain.2.1)
+  value_back n (object ms) plain = ap (option_map object) (members_back plain.0 ms no_members plain.2 (none_before ms) plain.3)
 
   items_back : (n : ℕ) (ds : Items) → ArePlain n ds → of_items (items_outline ds) ≡ Some ds
   items_back n no_items plain = refl
@@ -117,9 +117,9 @@ mutual
   members_back : (n : ℕ) (ms found : Members) → HasPlain n ms → AreAllBefore found ms → IsRising ms → of_members (members_outline ms) found ≡ Some (joined found ms)
   members_back n no_members found plain before rising = ap Some (sym (joined_none found))
   members_back n (member k d ms) found plain before rising =
-      ap (option_and_then (λ e. of_members (members_outline ms) (put k e found))) (value_back n d plain.1.0)
+      ap (option_and_then (λ e. of_members (members_outline ms) (put k e found))) (value_back n d plain.1)
       ∙ ap (of_members (members_outline ms)) (put_last k d found before.0)
-      ∙ members_back n ms (joined found (member k d no_members)) plain.1.1 (all_before_both found (member k d no_members) ms before.1 rising.0) rising.1
+      ∙ members_back n ms (joined found (member k d no_members)) plain.2 (all_before_both found (member k d no_members) ms before.1 rising.0) rising.1
       ∙ ap Some (joined_assoc found (member k d no_members) ms)
 
 mutual
@@ -129,7 +129,7 @@ mutual
   value_depth n (number x) plain = omega arith
   value_depth n (string s) plain = omega arith
   value_depth n (array ds) plain = omega (arith, plain.1, items_depth plain.0 ds plain.2)
-  value_depth n (object ms) plain = omega (arith, plain.1, members_depth plain.0 ms plain.2.0)
+  value_depth n (object ms) plain = omega (arith, plain.1, members_depth plain.0 ms plain.2)
 
   items_depth : (n : ℕ) (ds : Items) → ArePlain n ds → tree.items_depth (items_outline ds) ≤ n
   items_depth n no_items plain = omega arith
@@ -137,7 +137,7 @@ mutual
 
   members_depth : (n : ℕ) (ms : Members) → HasPlain n ms → tree.members_depth (members_outline ms) ≤ n
   members_depth n no_members plain = omega arith
-  members_depth n (member k d ms) plain = omega (arith, value_depth n d plain.1.0, members_depth n ms plain.1.1)
+  members_depth n (member k d ms) plain = omega (arith, value_depth n d plain.1, members_depth n ms plain.2)
 
 number_writes : (x : Num) → IsPlainNumber x → tree.HasNumbers (outline (number x))
 number_writes (unsigned n) plain = IsNumber-decimal n plain
@@ -151,7 +151,7 @@ mutual
   value_writes n (number x) plain = number_writes x plain
   value_writes n (string s) plain = tt
   value_writes n (array ds) plain = items_write plain.0 ds plain.2
-  value_writes n (object ms) plain = members_write plain.0 ms plain.2.0
+  value_writes n (object ms) plain = members_write plain.0 ms plain.2
 
   items_write : (n : ℕ) (ds : Items) → ArePlain n ds → tree.ItemsHaveNumbers (items_outline ds)
   items_write n no_items plain = tt
@@ -159,7 +159,7 @@ mutual
 
   members_write : (n : ℕ) (ms : Members) → HasPlain n ms → tree.MembersHaveNumbers (members_outline ms)
   members_write n no_members plain = tt
-  members_write n (member k d ms) plain = (value_writes n d plain.1.0, members_write n ms plain.1.1)
+  members_write n (member k d ms) plain = (value_writes n d plain.1, members_write n ms plain.2)
 
 number_whole : (x : Num) → IsPlainNumber x → has_float (number x) ≡ false
 number_whole (unsigned n) plain = refl
@@ -173,7 +173,7 @@ mutual
   value_whole n (number x) plain = number_whole x plain
   value_whole n (string s) plain = refl
   value_whole n (array ds) plain = items_whole plain.0 ds plain.2
-  value_whole n (object ms) plain = members_whole plain.0 ms plain.2.0
+  value_whole n (object ms) plain = members_whole plain.0 ms plain.2
 
   items_whole : (n : ℕ) (ds : Items) → ArePlain n ds → items_have_float ds ≡ false
   items_whole n no_items plain = refl
@@ -181,7 +181,7 @@ mutual
 
   members_whole : (n : ℕ) (ms : Members) → HasPlain n ms → members_have_float ms ≡ false
   members_whole n no_members plain = refl
-  members_whole n (member k d ms) plain = ap₂ (λ a b. a || b) (value_whole n d plain.1.0) (members_whole n ms plain.1.1)
+  members_whole n (member k d ms) plain = ap₂ (λ a b. a || b) (value_whole n d plain.1) (members_whole n ms plain.2)
 
 -- ---- their text
 
@@ -205,7 +205,7 @@ mutual
   value_is_text n (number x) plain = number_is_text x plain
   value_is_text n (string s) plain = IsUtf8-quoted s plain
   value_is_text n (array ds) plain = IsUtf8-append (91 ∷ []) (items_text false ds) (IsUtf8-are_ascii (91 ∷ []) refl) (items_are_text plain.0 false ds plain.2)
-  value_is_text n (object ms) plain = IsUtf8-append (123 ∷ []) (members_text false ms) (IsUtf8-are_ascii (123 ∷ []) refl) (members_are_text plain.0 false ms plain.2.0)
+  value_is_text n (object ms) plain = IsUtf8-append (123 ∷ []) (members_text false ms) (IsUtf8-are_ascii (123 ∷ []) refl) (members_are_text plain.0 false ms plain.2)
 
   items_are_text : (n : ℕ) (later : Bool) (ds : Items) → ArePlain n ds → IsUtf8 (items_text later ds)
   items_are_text n later no_items plain = IsUtf8-are_ascii (93 ∷ []) refl
@@ -219,7 +219,7 @@ mutual
       IsUtf8-append (comma_if later) (quoted k ++ 58 ∷ (compact_text d ++ members_text true ms)) (comma_is_text later)
       (IsUtf8-append (quoted k) (58 ∷ (compact_text d ++ members_text true ms)) (IsUtf8-quoted k plain.0)
       (IsUtf8-append (58 ∷ []) (compact_text d ++ members_text true ms) (IsUtf8-are_ascii (58 ∷ []) refl)
-      (IsUtf8-append (compact_text d) (members_text true ms) (value_is_text n d plain.1.0) (members_are_text n true ms plain.1.1))))
+      (IsUtf8-append (compact_text d) (members_text true ms) (value_is_text n d plain.1) (members_are_text n true ms plain.2))))
 
 line_read : (d : Data) → IsPlain 100 d → read (line_of d) ≡ Some d
 line_read d plain =

@@ -1,5 +1,5 @@
 -- A table's value is plain, and so it is read back.
-use Rattle.std.proofs.Common.{◌≡◌, ℕ, ◌<◌, ◌≤◌, ◌+◌, ◌^◌, ◌||◌, Bool, true, false, List, [], ◌∷◌, ◌++◌, length, get_or, refl, sym, subst, ◌⊎◌, inl, inr, arith, codes}
+use Rattle.std.proofs.Common.{◌≡◌, ℕ, zero, suc, ◌<◌, ◌≤◌, ◌+◌, ◌^◌, ◌||◌, Bool, true, false, List, [], ◌∷◌, ◌++◌, length, get_or, refl, sym, subst, ◌⊎◌, inl, inr, arith, codes}
 use Rattle.std.specs.Prelude.{All, ◌==◌, if◌then◌else◌}
 use Rattle.std.specs.List.{range_with_len}
 use Rattle.std.proofs.lemmas.Bool.Decides.{nat_tests}
@@ -13,7 +13,6 @@ use Rattle.rcv_model.specs.Table.{IsRestart, IsMarkedAt, AreRestarts}
 use Rattle.rcv_model.proofs.Forms.{proper}
 use Rattle.rcv_model.proofs.Lanes.{walk_in_text}
 use Rattle.rcv_accept.specs.Accepted.{AcceptedView, IsAcceptedProtocol, text_of, roles_of, net_for}
-use Rattle.rcv_project.proofs.Machine.{in_list}
 use Rattle.rcv_tables.specs.Rows.{RowView, TableView, row_at, IsRowOf, IsTable}
 use Rattle.rcv_tables.specs.Starts.{IsOwnPoint}
 use Rattle.rcv_tables.specs.TableText.{is_own, name_of}
@@ -22,7 +21,7 @@ use Rattle.rcv_export.specs.Pieces.{count, word_data}
 use Rattle.rcv_export.specs.ReadBack.{IsReadAs}
 use Rattle.rcv_export.specs.TableJson.{restarts_data, concerned_data, failure_data, start_data, role_failures, failures_data, table_data, table_json}
 use Rattle.rcv_export.proofs.Plain.{IsPlain, ArePlain, line_is_read, plain_each, plain_map, plain_range}
-use Rattle.rcv_export.proofs.Words.{ascii_is_text}
+use Rattle.rcv_export.proofs.Names.{ascii_is_text}
 
 -- a role's point
 pub own_is_of : (net : Net) (p n : ℕ) → is_own net p n ≡ true → IsOf net p n
@@ -31,6 +30,11 @@ own_is_of net p n own = go (net.sender n == p) refl own
     go : (b : Bool) → (net.sender n == p) ≡ b → (b || net.receiver n == p) ≡ true → (net.sender n ≡ p) ⊎ (net.receiver n ≡ p)
     go true e t = inl (grind (arith, nat_tests))
     go false e t = inr (grind (arith, nat_tests))
+
+in_list : (zs : List ℕ) (k d : ℕ) → k < length zs → IsIn (get_or zs k d) zs
+in_list [] k d lt = absurd (omega arith)
+in_list (z ∷ zs) zero d lt = inl refl
+in_list (z ∷ zs) (suc k) d lt = inr (in_list zs k d (omega arith))
 
 -- a role restarts at points of the text
 restart_in_text : (net : Net) (roles p n q z : ℕ) → IsProper net roles → IsOwnPoint net p n → IsRestart net p n q z → z ≤ net.count
@@ -84,7 +88,7 @@ module _ (accepted : AcceptedView) (table : TableView) (lawful : IsAcceptedProto
     omega arith,
     (
       IsUtf8-are_ascii (codes "concerned") refl,
-      (2, omega arith, plain_range 2 (concerned_data accepted.protocol.roles (row_at table p n)) 0 (roles_of accepted) (λ q low high. plain_concerned p n q role own high)),
+      (2, omega arith, plain_range 2 (concerned_data accepted.protocol.roles (row_at table p n)) 0 (roles_of accepted) (λ q low high. plain_concerned p n q role own (omega (arith, high)))),
       (
         IsUtf8-are_ascii (codes "point") refl,
         small n own.1,
@@ -110,7 +114,7 @@ module _ (accepted : AcceptedView) (table : TableView) (lawful : IsAcceptedProto
     omega arith,
     (
       IsUtf8-are_ascii (codes "failures") refl,
-      (4, omega arith, plain_range 4 (role_failures (net_for accepted) accepted.protocol.roles table) 0 (roles_of accepted) (λ p low high. plain_role p high)),
+      (4, omega arith, plain_range 4 (role_failures (net_for accepted) accepted.protocol.roles table) 0 (roles_of accepted) (λ p low high. plain_role p (omega (arith, high)))),
       (
         IsUtf8-are_ascii (codes "protocol") refl,
         ascii_is_text accepted.protocol.name,

@@ -1,6 +1,6 @@
 -- The machine of a role as a JSON value: what the role does at each of its places, and which points can come next there. Place 0
 -- is the start. The event of a step leads the role to the place that has the number of the step's point. Keys are in order.
-use Rattle.std.specs.Prelude.{ℕ, List, [], map, codes}
+use Rattle.std.specs.Prelude.{ℕ, if◌then◌else◌, List, [], ◌∷◌, map, codes}
 use Rattle.serde_json.specs.Data.{Data, boolean, member, no_members, object, string}
 use Rattle.rcv_tree.specs.declared.event.Dir.{Dir}
 use Rattle.rcv_tree.specs.declared.event.Dir.TheVariants.{Sent, Got}
@@ -9,7 +9,7 @@ use Rattle.rcv_points.specs.Follow.{has_some}
 use Rattle.rcv_accept.specs.Accepted.{AcceptedView, net_for, text_of}
 use Rattle.rcv_project.specs.Act.{ActView, Sending, Receiving, Ended}
 use Rattle.rcv_project.specs.Local.{LocalView, act_at}
-use Rattle.rcv_project.specs.LocalText.{name_of, places_to}
+use Rattle.rcv_project.specs.LocalText.{is_own, name_of, places_to}
 use Rattle.rcv_export.specs.Messages.{sorts_at}
 use Rattle.rcv_export.specs.Pieces.{count, line_of, list_of, word_data, words_data}
 
@@ -53,6 +53,10 @@ place_data accepted k Ended =
 -- What the machine says of a place.
 abbrev pub place_of : AcceptedView → LocalView → ℕ → Data
 place_of accepted local k = place_data accepted k (act_at local k)
+
+-- The same in a list, if the point is the role's, else nothing.
+abbrev pub own_place : AcceptedView → ℕ → LocalView → ℕ → List Data
+own_place accepted r local k = if is_own (net_for accepted) r k then place_of accepted local k ∷ [] else []
 
 -- The whole machine, with an element for each place of the role: `{"places":[..],"protocol":NAME,"role":ROLE}`.
 abbrev pub role_data : AcceptedView → LocalView → Data

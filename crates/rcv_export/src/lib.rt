@@ -8,6 +8,7 @@ mod messages;
 mod role;
 mod steps;
 mod table;
+mod text;
 mod words;
 
 pub use role::role_json;

@@ -6,41 +6,16 @@ ghost use Rattle.rcv_accept.specs.Accepted.{net_for, text_of};
 ghost use Rattle.rcv_project.specs.Act.{AreInText};
 ghost use Rattle.rcv_export.specs.Messages.{sorts_in, sorts_at};
 ghost use Rattle.rcv_export.specs.Pieces.{list_of};
-ghost use Rattle.rcv_export.specs.RoleJson.{peer_of, step_data};
+ghost use Rattle.rcv_export.specs.RoleJson.{step_data};
 
+use crate::text::{label, peer};
 use crate::words::{role_value, word_value, words_value};
 use rcv_accept::accepted::Accepted;
 use rcv_tree::event::Dir;
 use rcv_tree::name::{Name, Names};
 use rcv_tree::point::Point;
-use rcv_tree::role::RoleId;
 use serde_json::{Value, json};
 use std::alloc::{AllocError, Global};
-
-// The label of a point of the text.
-fn label(accepted: &Accepted, point: Point) -> &[u8]
-    requires first { 1 ≤ point }
-    requires last { point ≤ (net_for accepted.now).count }
-    ensures { result.now ≡ (net_for accepted.now).label point }
-{
-    // Tells the proof that the protocol is accepted.
-    let _protocol = accepted.protocol();
-    accepted.points().label(point)
-}
-
-// The role at the other end of a point of the text: its receiver where it is sent, else its sender.
-fn peer(accepted: &Accepted, dir: Dir, point: Point) -> RoleId
-    requires first { 1 ≤ point }
-    requires last { point ≤ (net_for accepted.now).count }
-    ensures { result ≡ peer_of (net_for accepted.now) dir point }
-{
-    // Tells the proof that the protocol is accepted.
-    let _protocol = accepted.protocol();
-    match dir {
-        Dir::Sent => accepted.points().receiver(point),
-        Dir::Got => accepted.points().sender(point),
-    }
-}
 
 // The sorts of a point of the text.
 fn sorts_at<'a>(accepted: &Accepted, sorts: &'a [Names], point: Point) -> &'a [Name]

@@ -1,27 +1,44 @@
 // The recovery table of a protocol as JSON.
 
-ghost use Rattle.std.specs.Prelude.{◌≡◌, ◌<◌, ◌≤◌, ◌++◌, flat_map, length, map, IfOk, OnOk};
-ghost use Rattle.std.specs.List.{range_with_len};
+ghost use Rattle.std.specs.Prelude.{◌≡◌, ◌<◌, ◌≤◌, ◌++◌, length, map, IfOk, OnOk};
 ghost use Rattle.serde_json.specs.View.{view};
-ghost use Rattle.rcv_points.specs.Follow.{net_in};
 ghost use Rattle.rcv_accept.specs.Accepted.{roles_of, net_for};
 ghost use Rattle.rcv_tables.specs.Rows.{IsTable, rows_at, row_at};
-ghost use Rattle.rcv_tables.specs.TableText.{is_own};
-ghost use Rattle.rcv_export.specs.Pieces.{list_of};
-ghost use Rattle.rcv_export.specs.TableJson.{concerned_data, concerned_list, failure_data, start_data};
-ghost use Rattle.rcv_export.specs.TableJson.{role_failures, failures_data, table_json};
+ghost use Rattle.rcv_export.specs.TableJson.{restarts_data, concerned_data, concerned_list, failure_data, start_data};
+ghost use Rattle.rcv_export.specs.TableJson.{role_failures, failures_data, table_data, table_json};
 
 use crate::line::line_of;
+use crate::text::{count, owns};
 use crate::words::{points_value, role_value, word_value, words_value};
 use rcv_accept::accepted::Accepted;
-use rcv_points::points::Points;
 use rcv_tables::table::Table;
 use rcv_tree::point::Point;
 use rcv_tree::role::RoleId;
 use serde_json::{Value, json};
 use std::alloc::{AllocError, Global};
 
-// Adds another role with the points at which it restarts, where it is concerned. Fails where memory runs out.
+// Another role with the points at which it restarts. Fails where memory runs out.
+fn restarts_value(
+    alloc: Global,
+    accepted: &Accepted,
+    table: &Table,
+    role: RoleId,
+    point: Point,
+    other: RoleId,
+) -> Result<Value, AllocError>
+    requires role { role < length table.now.rows }
+    requires point { point < length (rows_at table.now role) }
+    requires few { other < 8 }
+    requires row { length (row_at table.now role point).restarts ≡ 8 }
+    ensures { IfOk result (λ value. view value
+        ≡ restarts_data accepted.now.protocol.roles (row_at table.now role point) other) }
+{
+    let name = role_value(alloc, &accepted.protocol().roles, other)?;
+    let restarts = points_value(alloc, table.restarts(role, point, other))?;
+    json!(in alloc; {"restarts": restarts, "role": name})
+}
+
+// Adds another role, where it is concerned. Fails where memory runs out.
 fn push_concerned(
     list: &mut Vec<Value>,
     alloc: Global,
@@ -38,12 +55,9 @@ fn push_concerned(
     ensures { OnOk result (map view list.new.items ≡ map view list.old.items
         ++ concerned_data accepted.now.protocol.roles (row_at table.now role point) other) }
 {
-    if !table.concerned(role, point).has(other) {
-        return Ok(());
+    if table.concerned(role, point).has(other) {
+        list.push(restarts_value(alloc, accepted, table, role, point, other)?)?;
     }
-    let name = role_value(alloc, &accepted.protocol().roles, other)?;
-    let restarts = points_value(alloc, table.restarts(role, point, other))?;
-    list.push(json!(in alloc; {"restarts": restarts, "role": name})?)?;
     Ok(())
 }
 
@@ -97,21 +111,11 @@ fn failure_value(
     json!(in alloc; {"concerned": concerned, "point": point.0, "role": name})
 }
 
-// Whether the role sends or receives a point of the text.
-fn owns(points: &Points, role: RoleId, point: Point) -> bool
-    requires first { 1 ≤ point }
-    requires last { point ≤ length points.now.messages }
-    ensures { result ≡ is_own (net_in points.now) role point }
-{
-    points.sender(point) == role || points.receiver(point) == role
-}
-
 // Adds a start, where the point is the role's. Fails where memory runs out.
 fn push_start(
     list: &mut Vec<Value>,
     alloc: Global,
     accepted: &Accepted,
-    points: &Points,
     table: &Table,
     role: RoleId,
     point: Point,
@@ -119,12 +123,12 @@ fn push_start(
     requires role { role < roles_of accepted.now }
     requires few { roles_of accepted.now ≤ 8 }
     requires first { 1 ≤ point }
-    requires last { point ≤ length points.now.messages }
-    requires table { IsTable (net_in points.now) (roles_of accepted.now) table.now }
+    requires last { point ≤ (net_for accepted.now).count }
+    requires table { IsTable (net_for accepted.now) (roles_of accepted.now) table.now }
     ensures { OnOk result (map view list.new.items ≡ map view list.old.items
-        ++ start_data (net_in points.now) accepted.now.protocol.roles table.now role point) }
+        ++ start_data (net_for accepted.now) accepted.now.protocol.roles table.now role point) }
 {
-    if owns(points, role, point) {
+    if owns(accepted, role, point) {
         list.push(failure_value(alloc, accepted, table, role, point)?)?;
     }
     Ok(())
@@ -135,47 +139,46 @@ fn push_starts(
     list: &mut Vec<Value>,
     alloc: Global,
     accepted: &Accepted,
-    points: &Points,
     table: &Table,
     role: RoleId,
 ) -> Result<(), AllocError>
     requires role { role < roles_of accepted.now }
     requires few { roles_of accepted.now ≤ 8 }
-    requires table { IsTable (net_in points.now) (roles_of accepted.now) table.now }
+    requires table { IsTable (net_for accepted.now) (roles_of accepted.now) table.now }
     ensures { OnOk result (map view list.new.items ≡ map view list.old.items
-        ++ role_failures (net_in points.now) accepted.now.protocol.roles table.now role) }
+        ++ role_failures (net_for accepted.now) accepted.now.protocol.roles table.now role) }
 {
-    for before in 0..points.count() {
-        push_start(
-            list,
-            alloc,
-            accepted,
-            points,
-            table,
-            role,
-            Point(before + 1),
-        )?;
+    for before in 0..count(accepted) {
+        push_start(list, alloc, accepted, table, role, Point(before + 1))?;
     }
     Ok(())
 }
 
 // The starts of all roles. Fails where memory runs out.
-fn failures(
-    alloc: Global,
-    accepted: &Accepted,
-    points: &Points,
-    table: &Table,
-) -> Result<Vec<Value>, AllocError>
+fn failures(alloc: Global, accepted: &Accepted, table: &Table) -> Result<Vec<Value>, AllocError>
     requires few { roles_of accepted.now ≤ 8 }
-    requires table { IsTable (net_in points.now) (roles_of accepted.now) table.now }
+    requires table { IsTable (net_for accepted.now) (roles_of accepted.now) table.now }
     ensures { IfOk result (λ list. map view list.items
-        ≡ failures_data (net_in points.now) accepted.now.protocol.roles table.now) }
+        ≡ failures_data (net_for accepted.now) accepted.now.protocol.roles table.now) }
 {
     let mut list = Vec::new(alloc);
     for number in 0..accepted.roles() {
-        push_starts(&mut list, alloc, accepted, points, table, RoleId(number))?;
+        push_starts(&mut list, alloc, accepted, table, RoleId(number))?;
     }
     Ok(list)
+}
+
+// The table as a value. Fails where memory runs out.
+fn table_value(alloc: Global, accepted: &Accepted, table: &Table) -> Result<Value, AllocError>
+    requires few { roles_of accepted.now ≤ 8 }
+    requires table { IsTable (net_for accepted.now) (roles_of accepted.now) table.now }
+    ensures { IfOk result (λ value. view value ≡ table_data accepted.now table.now) }
+{
+    let protocol = accepted.protocol();
+    let failures = failures(alloc, accepted, table)?;
+    let name = word_value(alloc, protocol.name.as_slice())?;
+    let roles = words_value(alloc, protocol.roles.as_slice())?;
+    json!(in alloc; {"failures": failures, "protocol": name, "roles": roles})
 }
 
 /// The recovery table of a protocol as JSON, on one line: an object without spaces, its keys in order, with an element
@@ -186,10 +189,8 @@ pub fn table_json(alloc: Global, accepted: &Accepted, table: &Table) -> Result<V
     requires { IsTable (net_for accepted.now) (roles_of accepted.now) table.now }
     ensures { IfOk result (λ text. text.items ≡ table_json accepted.now table.now) }
 {
-    let protocol = accepted.protocol();
-    let failures = failures(alloc, accepted, accepted.points(), table)?;
-    let name = word_value(alloc, protocol.name.as_slice())?;
-    let roles = words_value(alloc, protocol.roles.as_slice())?;
-    let value = json!(in alloc; {"failures": failures, "protocol": name, "roles": roles})?;
+    // Tells the proof that the protocol is accepted.
+    let _protocol = accepted.protocol();
+    let value = table_value(alloc, accepted, table)?;
     line_of(alloc, &value)
 }

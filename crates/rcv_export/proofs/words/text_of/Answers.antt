@@ -1,5 +1,5 @@
 -- It only fails where the bytes are no text.
-use Rattle.rcv_export.proofs.Words.{is_text}
+use Rattle.rcv_export.proofs.Names.{is_text}
 use Rattle.rcv_export.proofs.words.text_of.Goals as goal
 
 pub unwrap-requires : goal.unwrap-requires
