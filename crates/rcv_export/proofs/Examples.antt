@@ -1,20 +1,18 @@
 -- The definitions, computed at small examples.
-use Rattle.std.proofs.Common.{◌≡◌, ℕ, List, [], ◌∷◌, refl, ap, codes, Some, None}
+use Rattle.std.proofs.Common.{◌≡◌, ℕ, List, [], ◌∷◌, refl, codes, Some, None}
 use Rattle.std.specs.Fmt.{digits}
 use Rattle.serde_json.specs.Data.{null}
 use Rattle.serde_json.specs.Read.{read}
 use Rattle.serde_json.specs.Written.{compact_text}
 use Rattle.serde_json.proofs.OnLiterals.{serde_json_on_literals}
-use Rattle.rcv_tree.specs.declared.event.Dir.TheVariants.{Sent, Got}
-use Rattle.rcv_model.specs.Net.{Net}
 use Rattle.rcv_accept.specs.Accepted.{AcceptedView, net_for, text_of}
 use Rattle.rcv_project.specs.Act.{Sending, Receiving, Ended}
-use Rattle.rcv_tables.specs.Rows.{RowView, TableView}
+use Rattle.rcv_tables.specs.Rows.{RowView}
 use Rattle.rcv_export.specs.Messages.{sorts_at}
 use Rattle.rcv_export.specs.Pieces.{ascii_of, line_of}
 use Rattle.rcv_export.specs.ReadBack.{IsReadAs}
-use Rattle.rcv_export.specs.RoleJson.{place_data, step_data}
-use Rattle.rcv_export.specs.TableJson.{concerned_list, failure_data, failures_data}
+use Rattle.rcv_export.specs.RoleJson.{place_data}
+use Rattle.rcv_export.specs.TableJson.{concerned_list, failure_data}
 
 -- buy, point 1, from B to S; price, point 2, from S to B
 record IsOrder (accepted : AcceptedView) : Type 0 where

@@ -1,6 +1,5 @@
 -- A machine's value is plain, and so it is read back.
-use Rattle.std.proofs.Common.{◌≡◌, ℕ, ◌<◌, ◌≤◌, ◌+◌, ◌^◌, true, List, [], ◌∷◌, map, refl, inl, inr, arith, codes}
-use Rattle.std.specs.List.{filter, range_with_len}
+use Rattle.std.proofs.Common.{ℕ, ◌<◌, ◌≤◌, ◌^◌, List, map, refl, inl, inr, arith, codes}
 use Rattle.json.proofs.Printed.Utf8.{IsUtf8-are_ascii}
 use Rattle.serde_json.specs.View.{items_of}
 use Rattle.rcv_tree.specs.declared.event.Dir.{Dir}

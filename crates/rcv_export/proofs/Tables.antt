@@ -1,25 +1,23 @@
 -- A table's value is plain, and so it is read back.
-use Rattle.std.proofs.Common.{◌≡◌, ℕ, zero, suc, ◌<◌, ◌≤◌, ◌+◌, ◌^◌, ◌||◌, Bool, true, false, List, [], ◌∷◌, ◌++◌, length, get_or, refl, sym, subst, ◌⊎◌, inl, inr, arith, codes}
+use Rattle.std.proofs.Common.{◌≡◌, ℕ, zero, suc, ◌<◌, ◌≤◌, ◌^◌, ◌||◌, Bool, true, false, List, [], ◌∷◌, ◌++◌, length, get_or, refl, sym, subst, ◌⊎◌, inl, inr, arith, codes}
 use Rattle.std.specs.Prelude.{All, ◌==◌, if◌then◌else◌}
-use Rattle.std.specs.List.{range_with_len}
 use Rattle.std.proofs.lemmas.Bool.Decides.{nat_tests}
 use Rattle.json.proofs.Printed.Utf8.{IsUtf8-are_ascii}
-use Rattle.serde_json.specs.Data.{Data}
 use Rattle.serde_json.specs.View.{items_of}
 use Rattle.rcv_tree.specs.Bits.{has_bit}
 use Rattle.rcv_model.specs.Net.{Net, IsIn, IsWalk}
 use Rattle.rcv_model.specs.Next.{IsOf, IsProper}
-use Rattle.rcv_model.specs.Table.{IsRestart, IsMarkedAt, AreRestarts}
+use Rattle.rcv_model.specs.Table.{IsRestart}
 use Rattle.rcv_model.proofs.Forms.{proper}
 use Rattle.rcv_model.proofs.Lanes.{walk_in_text}
 use Rattle.rcv_accept.specs.Accepted.{AcceptedView, IsAcceptedProtocol, text_of, roles_of, net_for}
-use Rattle.rcv_tables.specs.Rows.{RowView, TableView, row_at, IsRowOf, IsTable}
+use Rattle.rcv_tables.specs.Rows.{TableView, row_at, IsRowOf, IsTable}
 use Rattle.rcv_tables.specs.Starts.{IsOwnPoint}
 use Rattle.rcv_tables.specs.TableText.{is_own, name_of}
 use Rattle.rcv_tables.proofs.Reading.{own_row, own_restarts, has_rows}
 use Rattle.rcv_export.specs.Pieces.{count, word_data}
 use Rattle.rcv_export.specs.ReadBack.{IsReadAs}
-use Rattle.rcv_export.specs.TableJson.{restarts_data, concerned_data, failure_data, start_data, role_failures, failures_data, table_data, table_json}
+use Rattle.rcv_export.specs.TableJson.{restarts_data, concerned_data, failure_data, start_data, role_failures, table_data, table_json}
 use Rattle.rcv_export.proofs.Plain.{IsPlain, ArePlain, line_is_read, plain_each, plain_map, plain_range}
 use Rattle.rcv_export.proofs.Names.{ascii_is_text}
 

@@ -1,5 +1,5 @@
 -- What holds of the definitions.
-use Rattle.std.specs.Prelude.{◌≡◌, ◌<◌, ℕ, List}
+use Rattle.std.specs.Prelude.{◌≡◌, ℕ, List}
 use Rattle.rcv_tree.specs.Words.{IsWord}
 use Rattle.rcv_accept.specs.Accepted.{AcceptedView, IsAcceptedProtocol, roles_of, net_for}
 use Rattle.rcv_project.specs.Local.{LocalView, IsLocalOf}
