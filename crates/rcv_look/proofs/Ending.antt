@@ -13,7 +13,7 @@ use Rattle.rcv_listing.specs.declared.listing.Listing.{Listing}
 use Rattle.rcv_listing.specs.declared.listing.Listing.TheVariants.{Accepted, RuledOut}
 use Rattle.rcv_look.specs.declared.status.Status.{Status}
 use Rattle.rcv_look.specs.declared.status.Status.TheVariants as statuses
-use Rattle.rcv_look.specs.Commands.{CommandView, DrawJournal, DrawSession, DrawTold, ReplayJournal, DrawTable, DrawRole, DrawProtocol, ListPoints, Explain}
+use Rattle.rcv_look.specs.Commands.{CommandView, DrawJournal, DrawSession, DrawTold, ReplayJournal, DrawTable, ExportTable, DrawRole, ExportRole, DrawProtocol, ListPoints, ExportPoints, DrawFailures, ListFailures, ExportFailures, Explain}
 use Rattle.rcv_look.specs.Drawing.{ArePoints, ListsAs, listed, unread, IsExplanation, explained, unknown}
 use Rattle.rcv_look.specs.Outcome.{IsVerdict, illegal, misclosed, drawn, IsTextAnswer, malformed, formed, shapeless, decoded, IsBundleAnswer, IsJournalAnswer, IsLaterAnswer, IsSessionAnswer, IsToldTextAnswer, IsToldBundleAnswer, IsToldAnswer, uncut, long, parted, status_of, IsReplayAnswer, IsChartAnswer, Draws, IsAnswer}
 use Rattle.rcv_look.specs.Outcome as outcomes
@@ -93,14 +93,21 @@ replay_ends input s b answer = subst (λ (x : Status). EndsSo x b) (sym answer.i
 
 draws_end : (session : SessionView) (command : CommandView) (s : Status) (b : List ℕ) → Draws session command s b → EndsSo s b
 draws_end session DrawTable s b draws = with_drawn s b draws.0
+draws_end session ExportTable s b draws = with_drawn s b draws.0
 draws_end session (DrawRole name) s b (inl draws) = with_drawn s b draws.2
 draws_end session (DrawRole name) s b (inr draws) = with_refused s b draws.1
+draws_end session (ExportRole name) s b (inl draws) = with_drawn s b draws.2
+draws_end session (ExportRole name) s b (inr draws) = with_refused s b draws.1
 draws_end session DrawProtocol s b draws = with_drawn s b draws.0
 draws_end session DrawJournal s b draws = absurd draws
 draws_end session (DrawSession number) s b draws = absurd draws
 draws_end session DrawTold s b draws = absurd draws
 draws_end session ReplayJournal s b draws = absurd draws
 draws_end session ListPoints s b draws = absurd draws
+draws_end session ExportPoints s b draws = absurd draws
+draws_end session DrawFailures s b draws = absurd draws
+draws_end session ListFailures s b draws = absurd draws
+draws_end session ExportFailures s b draws = absurd draws
 draws_end session (Explain code) s b draws = absurd draws
 
 chart_ends : (command : CommandView) (input : List ℕ) (s : Status) (b : List ℕ) → IsChartAnswer command input s b → EndsSo s b
@@ -125,7 +132,9 @@ answer_ends (DrawSession number) input s b answer = session_ends number input s 
 answer_ends DrawTold input s b answer = told_ends input s b answer
 answer_ends ReplayJournal input s b answer = replay_ends input s b answer
 answer_ends DrawTable input s b answer = chart_ends DrawTable input s b answer
+answer_ends ExportTable input s b answer = chart_ends ExportTable input s b answer
 answer_ends (DrawRole name) input s b answer = chart_ends (DrawRole name) input s b answer
+answer_ends (ExportRole name) input s b answer = chart_ends (ExportRole name) input s b answer
 answer_ends DrawProtocol input s b answer = chart_ends DrawProtocol input s b answer
 answer_ends ListPoints input s b answer = points_end input s b answer
 answer_ends (Explain code) input s b answer = explanation_ends code s b answer

@@ -21,7 +21,7 @@ use Rattle.rcv_picture.specs.declared.picture.Picture.{Picture}
 use Rattle.rcv_look.specs.declared.output.Output.{Output}
 use Rattle.rcv_look.specs.declared.status.Status.TheVariants as statuses
 use Rattle.rcv_look.specs.Commands.{CommandView}
-use Rattle.rcv_look.specs.Drawing.{IsTextOf, IsRoleAnswer, accepted_as, place_of, ArePoints, unread, IsExplanation, explained, unknown, no_rule_line}
+use Rattle.rcv_look.specs.Drawing.{IsTextOf, IsRoleAnswer, IsRoleDrawing, accepted_as, place_of, ArePoints, unread, IsExplanation, explained, unknown, no_rule_line}
 use Rattle.rcv_look.specs.Outcome.{IsChartAnswer, Draws}
 use Rattle.rcv_look.specs.Outcome as outcomes
 use Rattle.rcv_look.proofs.Making.{Makes, made, widen, refused}
@@ -47,16 +47,16 @@ module _ {E : Type 0} (result : Result Output E) where
 
   -- a role's picture, or the line for one that isn't declared
   pub role_drawn : (protocol : Protocol) (name : List ℕ) (role : ℕ) (picture : Picture) → place_of protocol.roles name ≡ Some role → AreTitlesOf (net_for (accepted_as protocol)) role (titles_of picture)
-      → IfOk result (λ output. output.status ≡ statuses.Drawn) → IfOk result (λ output. IsTextOf picture output.bytes.items) → Makes (IsRoleAnswer protocol name) result
+      → IfOk result (λ output. output.status ≡ statuses.Drawn) → IfOk result (λ output. IsTextOf picture output.bytes.items) → Makes (IsRoleAnswer (IsRoleDrawing protocol) protocol name) result
   role_drawn protocol name role picture is titled status text = go result status text
     where
-      go : (r : Result Output E) → IfOk r (λ output. output.status ≡ statuses.Drawn) → IfOk r (λ output. IsTextOf picture output.bytes.items) → Makes (IsRoleAnswer protocol name) r
+      go : (r : Result Output E) → IfOk r (λ output. output.status ≡ statuses.Drawn) → IfOk r (λ output. IsTextOf picture output.bytes.items) → Makes (IsRoleAnswer (IsRoleDrawing protocol) protocol name) r
       go (Ok output) status text = inl (role, is, status, record { picture = picture; titled = titled; is_text = text })
       go (Err e) status text = tt
 
-  pub no_role : (protocol : Protocol) (name : List ℕ) → place_of protocol.roles name ≡ None
-      → IfOk result (λ output. output.status ≡ statuses.Refused) → IfOk result (λ output. output.bytes.items ≡ refusal_line NoRole) → Makes (IsRoleAnswer protocol name) result
-  no_role protocol name none status bytes = made (IsRoleAnswer protocol name) result statuses.Refused (refusal_line NoRole) status bytes (inr (none, refl, refl))
+  pub no_role : (IsShown : ℕ → List ℕ → Type 0) (protocol : Protocol) (name : List ℕ) → place_of protocol.roles name ≡ None
+      → IfOk result (λ output. output.status ≡ statuses.Refused) → IfOk result (λ output. output.bytes.items ≡ refusal_line NoRole) → Makes (IsRoleAnswer IsShown protocol name) result
+  no_role IsShown protocol name none status bytes = made (IsRoleAnswer IsShown protocol name) result statuses.Refused (refusal_line NoRole) status bytes (inr (none, refl, refl))
 
   -- a protocol that isn't read
   pub points_unread : (input : List ℕ) (error : InputError) → IsUnreadable input error

@@ -18,6 +18,9 @@ use Rattle.rcv_explain.specs.Explained.{HasRule, IsNamed, spelled}
 use Rattle.rcv_listing.specs.declared.listing.Listing.{Listing}
 use Rattle.rcv_listing.specs.declared.listing.Listing.TheVariants.{Accepted, RuledOut}
 use Rattle.rcv_listing.specs.Listing.{IsListing, IsUnreadable}
+use Rattle.rcv_project.specs.Local.{LocalView, IsLocalOf}
+use Rattle.rcv_export.specs.TableJson.{table_json}
+use Rattle.rcv_export.specs.RoleJson.{role_json}
 use Rattle.rcv_picture.specs.declared.group.Says.{Says}
 use Rattle.rcv_picture.specs.declared.picture.Picture.{Picture}
 use Rattle.rcv_picture.specs.Drawn.{tree_of}
@@ -86,11 +89,23 @@ pub record IsProtocolDrawing (protocol : Protocol) (bytes : List ℕ) : Type 0 w
 abbrev pub place_of : List (List ℕ) → List ℕ → Option ℕ
 place_of names name = position (λ other. bytes_eq other name) names
 
--- A picture is drawn of the role with this name, or the protocol declares none, and that is written.
-abbrev pub IsRoleAnswer : Protocol → List ℕ → Status → List ℕ → Type 0
-IsRoleAnswer protocol name status bytes =
-    ((role : ℕ) × (place_of protocol.roles name ≡ Some role) × (status ≡ Drawn) × IsRoleDrawing protocol role bytes)
+-- The role with this name is shown so, or the protocol declares none, and that is written.
+abbrev pub IsRoleAnswer : (ℕ → List ℕ → Type 0) → Protocol → List ℕ → Status → List ℕ → Type 0
+IsRoleAnswer IsShown protocol name status bytes =
+    ((role : ℕ) × (place_of protocol.roles name ≡ Some role) × (status ≡ Drawn) × IsShown role bytes)
     ⊎ ((place_of protocol.roles name ≡ None) × (status ≡ Refused) × (bytes ≡ refusal_line NoRole))
+
+-- The bytes are the recovery table of a protocol as JSON.
+pub record IsTableJson (protocol : Protocol) (bytes : List ℕ) : Type 0 where
+  pub table : TableView
+  pub is_table : IsTable (net_for (accepted_as protocol)) (roles_of (accepted_as protocol)) table
+  pub is : bytes ≡ table_json (accepted_as protocol) table
+
+-- They are the machine of a role as JSON.
+pub record IsRoleJson (protocol : Protocol) (role : ℕ) (bytes : List ℕ) : Type 0 where
+  pub local : LocalView
+  pub is_local : IsLocalOf (net_for (accepted_as protocol)) role local
+  pub is : bytes ≡ role_json (accepted_as protocol) local
 
 -- A listing is written: as what was asked for, or, where a rule refuses the protocol, as a refusal.
 abbrev pub ListsAs : Listing → Status → List ℕ → Type 0

@@ -23,13 +23,14 @@ use Rattle.rcv_diagnosis.specs.declared.written.Written.TheVariants.{Lines, Json
 use Rattle.rcv_diagnosis.specs.Diagnosing.{IsDiagnosis, is_json, IsJsonOf}
 use Rattle.rcv_look.specs.declared.status.Status.{Status}
 use Rattle.rcv_look.specs.declared.status.Status.TheVariants.{Drawn, Usage, Refused, ReadFault, WriteFault, Memory, TooLong, Illegal}
-use Rattle.rcv_look.specs.Commands.{CommandView, DrawJournal, DrawSession, DrawTold, ReplayJournal, DrawTable, DrawRole, DrawProtocol, ListPoints, Explain, IsCommand, IsNoCommand}
+use Rattle.rcv_look.specs.Commands.{CommandView, DrawJournal, DrawSession, DrawTold, ReplayJournal, DrawTable, ExportTable, DrawRole, ExportRole, DrawProtocol, ListPoints, ExportPoints, DrawFailures, ListFailures, ExportFailures, Explain, IsCommand, IsNoCommand}
 use Rattle.rcv_look.specs.Asking.{most_for, most_of_bundle, IsAskedOfSource}
 use Rattle.rcv_replay.specs.Cutting.{cut_of, bundle_of, journal_of, feeds_before, feeds_in, line_of_end}
 use Rattle.rcv_section.specs.declared.section.Section.{Section}
 use Rattle.rcv_section.specs.Sections.{IsSection, HasNoSection, section_text}
 use Rattle.rcv_later.specs.Later.{IsLaterOf}
-use Rattle.rcv_look.specs.Drawing.{IsDrawing, IsJournalDrawing, IsTableDrawing, IsRoleAnswer, IsProtocolDrawing, ArePoints, IsExplanation}
+use Rattle.rcv_look.specs.Drawing.{IsDrawing, IsJournalDrawing, IsTableDrawing, IsTableJson, IsRoleAnswer, IsRoleDrawing, IsRoleJson}
+use Rattle.rcv_look.specs.Drawing.{IsProtocolDrawing, ArePoints, IsExplanation}
 
 -- The number of a status, with which the process ends.
 abbrev pub number_of : Status → ℕ
@@ -195,16 +196,22 @@ pub record IsReplayAnswer (input : List ℕ) (status : Status) (bytes : List ℕ
   pub diagnosis : IsDiagnosis input finding bytes
   pub is_status : status ≡ status_of finding
 
--- What the commands that draw a protocol make of it.
+-- What the commands that draw or write a protocol make of it.
 abbrev pub Draws : SessionView → CommandView → Status → List ℕ → Type 0
 Draws session DrawTable status bytes = (status ≡ Drawn) × IsTableDrawing session.protocol bytes
-Draws session (DrawRole name) status bytes = IsRoleAnswer session.protocol name status bytes
+Draws session ExportTable status bytes = (status ≡ Drawn) × IsTableJson session.protocol bytes
+Draws session (DrawRole name) status bytes = IsRoleAnswer (IsRoleDrawing session.protocol) session.protocol name status bytes
+Draws session (ExportRole name) status bytes = IsRoleAnswer (IsRoleJson session.protocol) session.protocol name status bytes
 Draws session DrawProtocol status bytes = (status ≡ Drawn) × IsProtocolDrawing session.protocol bytes
 Draws session DrawJournal status bytes = ⊥
 Draws session (DrawSession number) status bytes = ⊥
 Draws session DrawTold status bytes = ⊥
 Draws session ReplayJournal status bytes = ⊥
 Draws session ListPoints status bytes = ⊥
+Draws session ExportPoints status bytes = ⊥
+Draws session DrawFailures status bytes = ⊥
+Draws session ListFailures status bytes = ⊥
+Draws session ExportFailures status bytes = ⊥
 Draws session (Explain code) status bytes = ⊥
 
 -- What is answered to them: the first refusal of the input, or what they make of its session.
@@ -222,7 +229,9 @@ IsAnswer (DrawSession number) input status bytes = IsSessionAnswer number input 
 IsAnswer DrawTold input status bytes = IsToldAnswer input status bytes
 IsAnswer ReplayJournal input status bytes = IsReplayAnswer input status bytes
 IsAnswer DrawTable input status bytes = IsChartAnswer DrawTable input status bytes
+IsAnswer ExportTable input status bytes = IsChartAnswer ExportTable input status bytes
 IsAnswer (DrawRole name) input status bytes = IsChartAnswer (DrawRole name) input status bytes
+IsAnswer (ExportRole name) input status bytes = IsChartAnswer (ExportRole name) input status bytes
 IsAnswer DrawProtocol input status bytes = IsChartAnswer DrawProtocol input status bytes
 IsAnswer ListPoints input status bytes = ArePoints input status bytes
 IsAnswer (Explain code) input status bytes = IsExplanation code status bytes

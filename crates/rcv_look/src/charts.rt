@@ -2,7 +2,7 @@
 
 ghost use Rattle.std.specs.Prelude.{◌≡◌, ◌≤◌, length, IfOk};
 ghost use Rattle.rcv_look.specs.Commands.{DrawTable, DrawRole, DrawProtocol};
-ghost use Rattle.rcv_look.specs.Drawing.{IsProtocolDrawing, IsRoleAnswer, IsTableDrawing, IsTextOf};
+ghost use Rattle.rcv_look.specs.Drawing.{IsProtocolDrawing, IsRoleAnswer, IsRoleDrawing, IsTableDrawing, IsTextOf};
 ghost use Rattle.rcv_look.specs.Outcome.{IsChartAnswer};
 
 use crate::lines::{refuse, refused};
@@ -84,7 +84,8 @@ fn draw_table(alloc: Global, accepted: &Accepted) -> Result<Output, AllocError>
 
 // Draws what the role with this name does, if the protocol declares it.
 fn draw_role(alloc: Global, accepted: &Accepted, name: &[u8]) -> Result<Output, AllocError>
-    ensures { IfOk result (λ output. IsRoleAnswer accepted.now.protocol name.now output.status output.bytes.items) }
+    ensures { IfOk result (λ output. IsRoleAnswer (IsRoleDrawing accepted.now.protocol) accepted.now.protocol name.now
+        output.status output.bytes.items) }
 {
     // Tells the proof that the place of a role fits in a byte.
     let _count = accepted.roles();

@@ -8,6 +8,7 @@ mod call;
 mod charts;
 mod command;
 mod draw;
+mod exports;
 mod given;
 mod input;
 mod journal;
