@@ -3,3 +3,5 @@ mod Ruled
 pub mod Texts
 mod Receiving
 mod Sourced
+pub mod Forking
+pub mod Unreading

@@ -18,3 +18,8 @@ five s t u v w x a b c d e one two three four last =
     let abc : v ≡ s ++ (a ++ b ++ c) = three ∙ ap (λ l. l ++ c) ab ∙ append_assoc s (a ++ b) c in
     let abcd : w ≡ s ++ (a ++ b ++ c ++ d) = four ∙ ap (λ l. l ++ d) abc ∙ append_assoc s (a ++ b ++ c) d in
     last ∙ ap (λ l. l ++ e) abcd ∙ append_assoc s (a ++ b ++ c ++ d) e
+
+pub six : (s t u v w x y a b c d e f : List ℕ) → t ≡ s ++ a → u ≡ t ++ b → v ≡ u ++ c → w ≡ v ++ d → x ≡ w ++ e → y ≡ x ++ f
+    → y ≡ s ++ (a ++ b ++ c ++ d ++ e ++ f)
+six s t u v w x y a b c d e f one two three four more last =
+    last ∙ ap (λ l. l ++ f) (five s t u v w x a b c d e one two three four more) ∙ append_assoc s (a ++ b ++ c ++ d ++ e) f

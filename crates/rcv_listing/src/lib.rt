@@ -3,12 +3,16 @@
 
 ghost use Rattle.rcv_listing.specs.Laws.{LinesAreThoseOfReceivers};
 
+mod found;
 mod listing;
+mod parts;
 mod read;
 mod receivers;
 mod shown;
 mod table;
 mod told;
+mod unread;
+mod way;
 mod written;
 
 pub use listing::{Listing, points_text};
