@@ -1,6 +1,6 @@
 -- What a role meets is what a place offers or what a lane begins with, so a fork is found there.
 use Rattle.std.proofs.Common.{◌≡◌, ◌≤◌, ◌<◌, ℕ, zero, suc, ◌+◌, Bool, true, false, ◌==◌, ◌&&◌, not, nat_le, List, [], ◌∷◌, ◌++◌, append-nil, length, get_or, refl, sym, ◌∙◌, ap, subst, inl, inr, ⊎_elim, arith}
-use Rattle.std.specs.Prelude.{◌⊎◌, if◌then◌else◌}
+use Rattle.std.specs.Prelude.{◌⊎◌, if◌then◌else◌, Option, Some, None, MatchOption}
 use Rattle.std.proofs.lemmas.Bool.{cases_lt}
 use Rattle.std.proofs.lemmas.List.{get_or_past}
 use Rattle.rcv_model.specs.Net.{Net, IsIn}
@@ -18,11 +18,11 @@ IsGiven net ps = (ps ≡ []) ⊎ (((k : ℕ) × (ps ≡ net.offers k)) ⊎ ((l :
 
 begins_given : (net : Net) (r s : ℕ) (ps : List ℕ) → IsGiven net (next_begins net r s ps)
 begins_given net r s [] = inl refl
-begins_given net r s (p ∷ ps) = go (has_end net r p && (nat_le s (net.stage (net.lane p)) && not (is_nil (net.begins (net.lane p)))))
+begins_given net r s (p ∷ ps) = go (has_end net r p && (nat_le s (net.stage (net.lane p)) && not (is_nil (net.begins (net.lane p))))) (begins_given net r s ps)
   where
-    go : (here : Bool) → IsGiven net (if here then net.begins (net.lane p) else next_begins net r s ps)
-    go true = inr (inr (net.lane p, refl))
-    go false = begins_given net r s ps
+    go : (here : Bool) → IsGiven net (next_begins net r s ps) → IsGiven net (if here then net.begins (net.lane p) else next_begins net r s ps)
+    go true rest = inr (inr (net.lane p, refl))
+    go false rest = rest
 
 behind_given : (net : Net) (r k : ℕ) (ps : List ℕ) → (ps ≡ []) ⊎ (ps ≡ net.offers k) → IsGiven net (met_behind net r k ps)
 behind_given net r k [] h = begins_given net r (net.stage (net.lane k) + 1) (points_in net)
@@ -49,28 +49,32 @@ at_place : (points : PointsView) (r k j p : ℕ) → length points.places ≡ le
 at_place points r k j p all none fork = ⊎_elim
     (λ less. none j p (omega (arith, less)) fork)
     (λ past. let gone : (net_in points).offers j ≡ [] = get_or_past points.places j [] (omega (arith, past, all)) in
-    let some = fork.2.0 in absurd cc)
+    let some = fork.2 in absurd cc)
     (cases_lt j (length points.messages + 1))
 
 at_lane : (points : PointsView) (r k l p : ℕ) → NoneAtLanes points r k → IsForkOf (net_in points) r k ((net_in points).begins l) p → ⊥
 at_lane points r k l p none fork = ⊎_elim
     (λ less. none l p less fork)
     (λ past. let gone : (net_in points).begins l ≡ [] = ap (λ lane. lane.begins) (get_or_past points.lanes l no_lane past) in
-    let some = fork.2.0 in absurd cc)
+    let some = fork.2 in absurd cc)
     (cases_lt l (length points.lanes))
 
 pub no_fork : (points : PointsView) (r k : ℕ) → length points.places ≡ length points.messages + 1 → NoneAtPlaces points r k → NoneAtLanes points r k
     → (p : ℕ) → IsInTheWay (net_in points) r k p → ⊥
-no_fork points r k all places lanes p (ps, (q, (more, (is, (j, (chain, met)))))) = go (met_given (net_in points) r j)
+no_fork points r k all places lanes p (ps, fork) = go (met_given (net_in points) r fork.3.0)
   where
-    go : IsGiven (net_in points) (met_by (net_in points) r j) → ⊥
-    go (inl e) = let none : p ∷ q ∷ more ≡ [] = sym is ∙ sym met ∙ e in absurd cc
-    go (inr (inl (i, e))) =
-        let same : ps ≡ (net_in points).offers i = sym met ∙ e in
-        at_place points r k i p all places (subst (λ (xs : List ℕ). IsForkOf (net_in points) r k xs p) same (q, more, is, (j, chain, met)))
-    go (inr (inr (l, e))) =
-        let same : ps ≡ (net_in points).begins l = sym met ∙ e in
-        at_lane points r k l p lanes (subst (λ (xs : List ℕ). IsForkOf (net_in points) r k xs p) same (q, more, is, (j, chain, met)))
+    go : IsGiven (net_in points) (met_by (net_in points) r fork.3.0) → ⊥
+    go (inl e) = let is = fork.2 in let met = fork.3.2 in absurd cc
+    go (inr (inl (i, e))) = let same : ps ≡ (net_in points).offers i = sym fork.3.2 ∙ e in
+        at_place points r k i p all places (subst (λ (xs : List ℕ). IsForkOf (net_in points) r k xs p) same fork)
+    go (inr (inr (l, e))) = let same : ps ≡ (net_in points).begins l = sym fork.3.2 ∙ e in
+        at_lane points r k l p lanes (subst (λ (xs : List ℕ). IsForkOf (net_in points) r k xs p) same fork)
+
+pub fork_or_none : (points : PointsView) (r k : ℕ) (o : Option ℕ) → length points.places ≡ length points.messages + 1 → NoneAtPlaces points r k
+    → MatchOption o (NoneAtLanes points r k) (IsInTheWay (net_in points) r k)
+    → MatchOption o ((p : ℕ) → IsInTheWay (net_in points) r k p → ⊥) (IsInTheWay (net_in points) r k)
+fork_or_none points r k (Some p) all places h = h
+fork_or_none points r k None all places h = no_fork points r k all places h
 
 -- ---- one list of points
 

@@ -92,8 +92,12 @@ ruled p points names lines given before after text r form are named same h told 
 
 pub listed_of : (input : List ℕ) (p q : Protocol) (lines : List PointLines) (text : List ℕ) (listing : Listing) → q ≡ p → IsAcceptedProtocol q
     → text ≡ points_of p lines → IsListedAs input q text listing → IsListingOf input p lines listing
-listed_of input p q lines text (Accepted x) same accepted told h = rw same at (accepted, subst (λ t. IsListedAs input q t (Accepted x)) told h)
-listed_of input p q lines text (HalfRead x) same accepted told h = rw same at (accepted, subst (λ t. IsListedAs input q t (HalfRead x)) told h)
+listed_of input p q lines text (Accepted x) same accepted told h =
+    let there : IsListedAs input q (points_of p lines) (Accepted x) = subst (λ t. IsListedAs input q t (Accepted x)) told h in
+    (subst IsAcceptedProtocol same accepted, subst (λ (r : Protocol). IsListedAs input r (points_of p lines) (Accepted x)) same there)
+listed_of input p q lines text (HalfRead x) same accepted told h =
+    let there : IsListedAs input q (points_of p lines) (HalfRead x) = subst (λ t. IsListedAs input q t (HalfRead x)) told h in
+    (subst IsAcceptedProtocol same accepted, subst (λ (r : Protocol). IsListedAs input r (points_of p lines) (HalfRead x)) same there)
 listed_of input p q lines text (RuledOut x) same accepted told h = absurd h
 listed_of input p q lines text (Unread x) same accepted told h = absurd h
 

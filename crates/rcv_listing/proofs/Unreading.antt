@@ -1,6 +1,7 @@
 -- What is found in a part is the input's first refusal, if the parts before it are read.
 use Rattle.std.proofs.Common.{◌≡◌, ℕ, List, [], ◌++◌, sym, refl, ◌∙◌, ap, subst, inl, inr, append_assoc, append-nil, Option, Some, None}
-use Rattle.std.specs.Prelude.{MatchOption}
+use Rattle.std.specs.Prelude.{MatchOption, Result, Ok, Err, IfOk}
+use Rattle.std.specs.declared.alloc.AllocError.{AllocError}
 use Rattle.rcv_tree.specs.declared.protocol.Protocol.{Protocol}
 use Rattle.rcv_lexer.specs.declared.token.Span.{Span}
 use Rattle.rcv_lexer.specs.Parts.{parts_of}
@@ -17,7 +18,7 @@ use Rattle.rcv_found.specs.declared.finding.Finding.TheVariants as findings
 use Rattle.rcv_found.proofs.Lining.{refused_there}
 use Rattle.rcv_listing.specs.declared.unread.Unread.{Unread}
 use Rattle.rcv_listing.specs.Lines.{rule_text}
-use Rattle.rcv_listing.specs.Unread.{IsSaidBy, IsUnreadIn, IsUnread, IsHalfRead, IsRuleTold, wrong_part, AddsUnread}
+use Rattle.rcv_listing.specs.Unread.{IsSaidBy, IsUnreadIn, IsUncalled, IsUnread, IsHalfRead, IsRuleTold, wrong_part, AddsUnread}
 use Rattle.rcv_listing.specs.Listing.{AreRestRead}
 
 pub first_of_protocol : (input : List ℕ) (u : Unread) → IsUnreadIn OfProtocol input (parts_of input).protocol u
@@ -38,10 +39,10 @@ first_of_scripts input p u accepted (findings.Taken, is, said) = absurd said
 pub first_of_plan : (input : List ℕ) (p : Protocol) (u : Unread) → IsAcceptedOf input p
     → IsFindingIn (OfScripts (record { protocol = p })) input (parts_of input).scripts findings.Taken
     → IsUnreadIn (OfPlan (record { protocol = p })) input (parts_of input).plan u → IsFirstRefusal input (Line u.code u.line)
-first_of_plan input p u accepted (tokens, cut, lines, read) (findings.Letter line, is, said) =
-    rw (said.0, said.1) (plan_letter p lines line accepted (record { tokens = tokens; cut = cut; read = read }) is)
-first_of_plan input p u accepted (tokens, cut, lines, read) (findings.Wrong w, is, said) =
-    rw (said.0, said.1) (unplanned p lines is.0 w.code w.spot.line accepted (record { tokens = tokens; cut = cut; read = read }) is.1
+first_of_plan input p u accepted (tokens, cut, taken) (findings.Letter line, is, said) =
+    rw (said.0, said.1) (plan_letter p taken.0 line accepted (record { tokens = tokens; cut = cut; read = taken.1 }) is)
+first_of_plan input p u accepted (tokens, cut, taken) (findings.Wrong w, is, said) =
+    rw (said.0, said.1) (unplanned p taken.0 is.0 w.code w.spot.line accepted (record { tokens = tokens; cut = cut; read = taken.1 }) is.1
     (refused_there (OfPlan (record { protocol = p })) input is.0 (parts_of input).plan.end w is.2))
 first_of_plan input p u accepted taken (findings.Taken, is, said) = absurd said
 
@@ -55,27 +56,49 @@ said_of g input part None found is taken = subst (IsFindingIn g input part) take
 
 pub protocol_unread : (input : List ℕ) (part : Span) (u : Unread) → part ≡ (parts_of input).protocol → IsUnreadIn OfProtocol input part u
     → IsUnread input u
-protocol_unread input part u same h = rw same at (record { first = first_of_protocol input u h; said = inl h })
+protocol_unread input part u same h =
+    let there : IsUnreadIn OfProtocol input (parts_of input).protocol u = subst (λ (s : Span). IsUnreadIn OfProtocol input s u) same h in
+    record { first = first_of_protocol input u there; said = inl there }
 
 pub protocol_uncalled : (input : List ℕ) (part : Span) (code line : ℕ) → part ≡ (parts_of input).protocol
     → IsFirstRefusal input (Line code line) → IsFindingIn OfProtocol input part findings.Taken
     → IsUnread input (record { code = code; line = line; wrong = None })
-protocol_uncalled input part code line same first taken = rw same at (record {
-  first = first;
-  said = inr (record { tokens = taken.0; cut = taken.1; read = taken.2; silent = refl });
-})
+protocol_uncalled input part code line same first taken =
+    let there : IsFindingIn OfProtocol input (parts_of input).protocol findings.Taken = subst (λ (s : Span). IsFindingIn OfProtocol input s findings.Taken) same taken in
+    let uncalled : IsUncalled input (record { code = code; line = line; wrong = None })
+        = record { tokens = there.0; cut = there.1; read = there.2; silent = refl } in
+    record { first = first; said = inr uncalled }
 
 pub scripts_unread : (input : List ℕ) (part : Span) (p : Protocol) (u : Unread) → part ≡ (parts_of input).scripts → IsAcceptedOf input p
     → IsUnreadIn (OfScripts (record { protocol = p })) input part u → IsHalfRead input p u
-scripts_unread input part p u same accepted h = rw same at (record { first = first_of_scripts input p u accepted h; said = inl h })
+scripts_unread input part p u same accepted h =
+    let there : IsUnreadIn (OfScripts (record { protocol = p })) input (parts_of input).scripts u
+        = subst (λ (s : Span). IsUnreadIn (OfScripts (record { protocol = p })) input s u) same h in
+    record { first = first_of_scripts input p u accepted there; said = inl there }
 
-pub plan_unread : (input : List ℕ) (scripts plan : Span) (p : Protocol) (o : Option Unread) → scripts ≡ (parts_of input).scripts
+plan_unread : (input : List ℕ) (scripts plan : Span) (p : Protocol) (o : Option Unread) → scripts ≡ (parts_of input).scripts
     → plan ≡ (parts_of input).plan → IsAcceptedOf input p → IsFindingIn (OfScripts (record { protocol = p })) input scripts findings.Taken
     → MatchOption o (IsFindingIn (OfPlan (record { protocol = p })) input plan findings.Taken) (IsUnreadIn (OfPlan (record { protocol = p })) input plan)
     → MatchOption o (AreRestRead input p) (IsHalfRead input p)
 plan_unread input scripts plan p (Some u) same there accepted taken h =
-    rw (same, there) at (record { first = first_of_plan input p u accepted taken h; said = inr h })
-plan_unread input scripts plan p None same there accepted taken h = rw (same, there) at (record { are_scripts = taken; plan = h })
+    let read : IsFindingIn (OfScripts (record { protocol = p })) input (parts_of input).scripts findings.Taken
+        = subst (λ (s : Span). IsFindingIn (OfScripts (record { protocol = p })) input s findings.Taken) same taken in
+    let found : IsUnreadIn (OfPlan (record { protocol = p })) input (parts_of input).plan u
+        = subst (λ (s : Span). IsUnreadIn (OfPlan (record { protocol = p })) input s u) there h in
+    record { first = first_of_plan input p u accepted read found; said = inr found }
+plan_unread input scripts plan p None same there accepted taken h =
+    let read : IsFindingIn (OfScripts (record { protocol = p })) input (parts_of input).scripts findings.Taken
+        = subst (λ (s : Span). IsFindingIn (OfScripts (record { protocol = p })) input s findings.Taken) same taken in
+    let also : IsFindingIn (OfPlan (record { protocol = p })) input (parts_of input).plan findings.Taken
+        = subst (λ (s : Span). IsFindingIn (OfPlan (record { protocol = p })) input s findings.Taken) there h in
+    record { are_scripts = read; plan = also }
+
+pub rest_unread : (input : List ℕ) (scripts plan : Span) (p : Protocol) (result : Result (Option Unread) AllocError) → scripts ≡ (parts_of input).scripts
+    → plan ≡ (parts_of input).plan → IsAcceptedOf input p → IsFindingIn (OfScripts (record { protocol = p })) input scripts findings.Taken
+    → IfOk result (λ o. MatchOption o (IsFindingIn (OfPlan (record { protocol = p })) input plan findings.Taken) (IsUnreadIn (OfPlan (record { protocol = p })) input plan))
+    → IfOk result (λ o. MatchOption o (AreRestRead input p) (IsHalfRead input p))
+rest_unread input scripts plan p (Ok o) same there accepted taken h = plan_unread input scripts plan p o same there accepted taken h
+rest_unread input scripts plan p (Err e) same there accepted taken h = tt
 
 -- ---- what is written
 

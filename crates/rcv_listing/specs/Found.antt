@@ -4,9 +4,15 @@ use Rattle.rcv_found.specs.Things.{ThingView, said_of, quoted}
 use Rattle.rcv_found.specs.declared.spot.Spot.{Spot}
 use Rattle.rcv_found.specs.declared.wrong.Wrong.{Wrong}
 
--- The bytes of a token in quotes: of a long one the first 64.
+-- The bytes of a token in quotes: of a long one the first 64, and that there are more.
+abbrev pub shown_length : ℕ → ℕ
+shown_length n = if nat_le n 64 then n else 64
+
+abbrev pub rest_words : ℕ → List ℕ
+rest_words n = if nat_le n 64 then [] else codes " and more"
+
 abbrev pub cut_words : List ℕ → List ℕ
-cut_words word = if nat_le (length word) 64 then quoted word else quoted (take 64 word) ++ codes " and more"
+cut_words word = quoted (take (shown_length (length word)) word) ++ rest_words (length word)
 
 -- What was found: a token by its bytes, unless these begin with a quote; or the end, which has none.
 abbrev pub found_words : List ℕ → List ℕ
@@ -24,9 +30,12 @@ found_text input spot =
 abbrev pub next_text : ThingView → List ℕ
 next_text x = codes ", " ++ said_of x
 
+abbrev pub listed_text : ThingView → List ThingView → List ℕ
+listed_text x xs = codes "may stand here: " ++ said_of x ++ flat_map next_text xs ++ codes "\n"
+
 abbrev pub may_text : List ThingView → List ℕ
 may_text [] = []
-may_text (x ∷ xs) = codes "may stand here: " ++ said_of x ++ flat_map next_text xs ++ codes "\n"
+may_text (x ∷ xs) = listed_text x xs
 
 -- Both lines.
 abbrev pub wrong_text : List ℕ → Wrong → List ℕ

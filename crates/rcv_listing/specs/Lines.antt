@@ -85,10 +85,14 @@ abbrev pub rule_text : Explanation → List ℕ
 rule_text e = e.rule.now ++ codes "\n" ++ codes "Repair: " ++ e.repair.now ++ codes "\n"
 
 -- The choice with this first message, which stands in the way of a role's next send; its sender decides there.
+abbrev pub first_text : List PointLines → ℕ → List ℕ
+first_text lines p = codes "The choice whose first message is point " ++ decimal p ++ codes ", line " ++ decimal (line_of lines p)
+
+abbrev pub decides_text : List (List ℕ) → ℕ → List ℕ
+decides_text roles role = codes ", stands in its way. There " ++ name_of roles role ++ codes " decides.\n"
+
 abbrev pub choice_text : List (List ℕ) → Net → List PointLines → ℕ → List ℕ
-choice_text roles net lines p =
-    codes "The choice whose first message is point " ++ decimal p ++ codes ", line " ++ decimal (line_of lines p)
-    ++ codes ", stands in its way. There " ++ name_of roles (net.sender p) ++ codes " decides.\n"
+choice_text roles net lines p = first_text lines p ++ decides_text roles (net.sender p)
 
 -- Which choice stands in the way is said for the code of a send that isn't enabled, if there is one; of other codes nothing.
 pub data IsWay (roles : List (List ℕ)) (net : Net) (lines : List PointLines) : ℕ → ℕ → ℕ → List ℕ → Type 0 where

@@ -1,9 +1,9 @@
 // What is written of a wrong token: what was found, where, and what may stand there.
 
-ghost use Rattle.std.specs.Prelude.{◌≡◌, ◌++◌, flat_map, OnOk};
+ghost use Rattle.std.specs.Prelude.{◌≡◌, ◌≤◌, ◌++◌, flat_map, OnOk};
 ghost use Rattle.rcv_lexer.specs.Parts.{LiesIn};
 ghost use Rattle.rcv_found.specs.Things.{said_of, quoted};
-ghost use Rattle.rcv_listing.specs.Found.{found_words, found_text, may_text, next_text, wrong_text, cut_words};
+ghost use Rattle.rcv_listing.specs.Found.{found_words, found_text, listed_text, may_text, next_text, wrong_text, cut_words, shown_length, rest_words};
 
 use rcv_found::spot::Spot;
 use rcv_found::thing::Thing;
@@ -11,9 +11,6 @@ use rcv_found::wrong::Wrong;
 use rcv_lexer::token::Kind;
 use rcv_text::writer::Writer;
 use std::alloc::AllocError;
-
-// Longer words are cut off behind so many bytes.
-const LONG: usize = 64;
 
 // A word in quotes.
 fn write_quoted(text: &mut Writer, word: &[u8]) -> Result<(), AllocError>
@@ -37,16 +34,32 @@ fn write_thing(text: &mut Writer, thing: &Thing) -> Result<(), AllocError>
     }
 }
 
+// How many bytes are shown of a word with so many.
+fn shown_len(len: usize) -> usize
+    ensures within { result ≤ len }
+    ensures shown { result ≡ shown_length len }
+{
+    if len <= 64 { len } else { 64 }
+}
+
+// Whether more stands there than is shown.
+fn write_rest(text: &mut Writer, len: usize) -> Result<(), AllocError>
+    ensures { OnOk result (text.new ≡ text.old ++ rest_words len) }
+{
+    if len <= 64 {
+        Ok(())
+    } else {
+        text.word(b" and more")
+    }
+}
+
 // The bytes of a token, if need be cut off.
 fn write_cut(text: &mut Writer, word: &[u8]) -> Result<(), AllocError>
     ensures { OnOk result (text.new ≡ text.old ++ cut_words word.now) }
 {
-    if word.len() <= LONG {
-        write_quoted(text, word)
-    } else {
-        write_quoted(text, &word[..LONG])?;
-        text.word(b" and more")
-    }
+    let len = shown_len(word.len());
+    write_quoted(text, &word[..len])?;
+    write_rest(text, word.len())
 }
 
 // What was found: a token's bytes, unless it is a text in quotes; or the end.
@@ -87,6 +100,17 @@ fn write_more(text: &mut Writer, things: &[Thing]) -> Result<(), AllocError>
     Ok(())
 }
 
+// This may stand there, and each of these.
+fn write_listed(text: &mut Writer, first: &Thing, more: &[Thing]) -> Result<(), AllocError>
+    ensures { OnOk result (text.new ≡ text.old ++ listed_text first.now more.now) }
+{
+    text.word(b"may stand here: ")?;
+    write_thing(text, first)?;
+    write_more(text, more)?;
+    text.word(b"\n")?;
+    Ok(())
+}
+
 // What may stand there, if something may.
 fn write_may(text: &mut Writer, things: &[Thing]) -> Result<(), AllocError>
     ensures { OnOk result (text.new ≡ text.old ++ may_text things.now) }
@@ -94,10 +118,7 @@ fn write_may(text: &mut Writer, things: &[Thing]) -> Result<(), AllocError>
     let Some((first, more)) = things.split_first() else {
         return Ok(());
     };
-    text.word(b"may stand here: ")?;
-    write_thing(text, first)?;
-    write_more(text, more)?;
-    text.word(b"\n")
+    write_listed(text, first, more)
 }
 
 /// Writes what was found at a wrong token, and what may stand there. Fails if memory runs out.

@@ -14,7 +14,7 @@ use rcv_lexer::split;
 use std::alloc::{AllocError, Global};
 
 /// What is said of the protocol part, which isn't read, or whose calls are refused: at this line, by this code.
-#[tactic(auto, using(crate::proofs::Unreading::protocol_unread, crate::proofs::Unreading::protocol_uncalled))]
+#[tactic(auto, using(crate::proofs::Unreading::protocol_uncalled))]
 pub fn unread_protocol(
     alloc: Global,
     input: &[u8],
@@ -38,7 +38,6 @@ pub fn unread_protocol(
 }
 
 /// What is said of the scripts and the plan of an accepted protocol; none if both are read.
-#[tactic(auto, using(crate::proofs::Unreading::scripts_unread, crate::proofs::Unreading::plan_unread))]
 pub fn unread_rest(
     alloc: Global,
     input: &[u8],

@@ -6,7 +6,7 @@ ghost use Rattle.rcv_input.specs.Line.{refusal_line};
 ghost use Rattle.rcv_input.specs.declared.refused.Refused.TheVariants.{Rule};
 ghost use Rattle.rcv_explain.specs.Explained.{HasRule};
 ghost use Rattle.rcv_listing.specs.Lines.{name_of, rule_text, stand_text, place_text, subject_text, unreached_text, endless_text};
-ghost use Rattle.rcv_listing.specs.Lines.{where_text, choice_text, IsWay};
+ghost use Rattle.rcv_listing.specs.Lines.{where_text, first_text, decides_text, choice_text, IsWay};
 ghost use Rattle.rcv_listing.specs.Lines as lines;
 ghost use Rattle.rcv_listing.specs.Lines.{IsNumberIn, IsRuleIn, AddsTold, AddsRefusal};
 
@@ -135,6 +135,27 @@ pub fn write_rule(text: &mut Writer, explanation: &Explanation) -> Result<(), Al
     text.word(b"\n")
 }
 
+// A choice, by its first message.
+fn write_first(text: &mut Writer, table: &Table<'_>, point: Point) -> Result<(), AllocError>
+    ensures { OnOk result (text.new ≡ text.old ++ first_text table.now.lines.now point) }
+{
+    text.word(b"The choice whose first message is point ")?;
+    text.number(point.0)?;
+    text.word(b", line ")?;
+    text.large_number(table.line(point) as u64)?;
+    Ok(())
+}
+
+// Who decides there.
+fn write_decides(text: &mut Writer, table: &Table<'_>, role: RoleId) -> Result<(), AllocError>
+    ensures { OnOk result (text.new ≡ text.old ++ decides_text table.now.roles.now role) }
+{
+    text.word(b", stands in its way. There ")?;
+    text.word(table.name(role))?;
+    text.word(b" decides.\n")?;
+    Ok(())
+}
+
 // The choice with this first message, which stands in the way.
 fn write_choice(text: &mut Writer, table: &Table<'_>, point: Point) -> Result<(), AllocError>
     requires first { 1 ≤ point }
@@ -142,13 +163,8 @@ fn write_choice(text: &mut Writer, table: &Table<'_>, point: Point) -> Result<()
     ensures { OnOk result (text.new ≡ text.old
         ++ choice_text table.now.roles.now (net_in table.now.points.now) table.now.lines.now point) }
 {
-    text.word(b"The choice whose first message is point ")?;
-    text.number(point.0)?;
-    text.word(b", line ")?;
-    text.large_number(table.line(point) as u64)?;
-    text.word(b", stands in its way. There ")?;
-    text.word(table.name(table.points.sender(point)))?;
-    text.word(b" decides.\n")
+    write_first(text, table, point)?;
+    write_decides(text, table, table.points.sender(point))
 }
 
 // Writes which choice stands in the way, for the code of a role's send that isn't enabled.

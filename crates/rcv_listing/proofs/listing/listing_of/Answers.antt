@@ -31,4 +31,4 @@ returns-in-Err-Refused c =
     ruled c.args.source.protocol c.in_ok-points.points c.in_ok-roles.roles c.args.source.lines.items c.as_slice.result.now c.write_all.new.text c.write_refusal.new.text c.finish.result.items c.in-Err-Refused.refusal c.requires.form c.in_ok-points.ensures c.in_ok-roles.ensures c.as_slice.ensures.value
     (subst (IsRefusedBy (body_of c.args.source.protocol.body) (length c.args.source.protocol.roles)) c.in-Err-Refused.field-0-is c.in-Err-Refused.ensures)
     (c.in_ok-write_all.ensures ∙ ap (λ t. t ++ all_text c.in_ok-roles.roles (net_in c.in_ok-points.points) c.as_slice.result.now) c.new-text.ensures)
-    c.in_ok-write_refusal.ensures c.finish.ensures
+    c.in_ok-write_refusal-in-Err-Refused.ensures c.finish.ensures
