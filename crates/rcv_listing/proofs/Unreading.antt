@@ -5,7 +5,7 @@ use Rattle.std.specs.declared.alloc.AllocError.{AllocError}
 use Rattle.rcv_tree.specs.declared.protocol.Protocol.{Protocol}
 use Rattle.rcv_lexer.specs.declared.token.Span.{Span}
 use Rattle.rcv_lexer.specs.Parts.{parts_of}
-use Rattle.rcv_input.specs.Input.{IsAcceptedOf, AreScriptsOf}
+use Rattle.rcv_input.specs.Input.{IsAcceptedOf}
 use Rattle.rcv_input.specs.Refusals.{IsFirstRefusal, letter, unread, script_letter, unscripted, plan_letter, unplanned}
 use Rattle.rcv_input.specs.declared.refused.Refused.TheVariants.{Line}
 use Rattle.rcv_input.specs.Line.{refusal_line}
@@ -66,14 +66,14 @@ pub protocol_uncalled : (input : List ℕ) (part : Span) (code line : ℕ) → p
 protocol_uncalled input part code line same first taken =
     let there : IsFindingIn OfProtocol input (parts_of input).protocol findings.Taken = subst (λ (s : Span). IsFindingIn OfProtocol input s findings.Taken) same taken in
     let uncalled : IsUncalled input (record { code = code; line = line; wrong = None })
-        = record { tokens = there.0; cut = there.1; read = there.2; silent = refl } in
+    = record { tokens = there.0; cut = there.1; read = there.2; silent = refl } in
     record { first = first; said = inr uncalled }
 
 pub scripts_unread : (input : List ℕ) (part : Span) (p : Protocol) (u : Unread) → part ≡ (parts_of input).scripts → IsAcceptedOf input p
     → IsUnreadIn (OfScripts (record { protocol = p })) input part u → IsHalfRead input p u
 scripts_unread input part p u same accepted h =
     let there : IsUnreadIn (OfScripts (record { protocol = p })) input (parts_of input).scripts u
-        = subst (λ (s : Span). IsUnreadIn (OfScripts (record { protocol = p })) input s u) same h in
+    = subst (λ (s : Span). IsUnreadIn (OfScripts (record { protocol = p })) input s u) same h in
     record { first = first_of_scripts input p u accepted there; said = inl there }
 
 plan_unread : (input : List ℕ) (scripts plan : Span) (p : Protocol) (o : Option Unread) → scripts ≡ (parts_of input).scripts
@@ -82,15 +82,15 @@ plan_unread : (input : List ℕ) (scripts plan : Span) (p : Protocol) (o : Optio
     → MatchOption o (AreRestRead input p) (IsHalfRead input p)
 plan_unread input scripts plan p (Some u) same there accepted taken h =
     let read : IsFindingIn (OfScripts (record { protocol = p })) input (parts_of input).scripts findings.Taken
-        = subst (λ (s : Span). IsFindingIn (OfScripts (record { protocol = p })) input s findings.Taken) same taken in
+    = subst (λ (s : Span). IsFindingIn (OfScripts (record { protocol = p })) input s findings.Taken) same taken in
     let found : IsUnreadIn (OfPlan (record { protocol = p })) input (parts_of input).plan u
-        = subst (λ (s : Span). IsUnreadIn (OfPlan (record { protocol = p })) input s u) there h in
+    = subst (λ (s : Span). IsUnreadIn (OfPlan (record { protocol = p })) input s u) there h in
     record { first = first_of_plan input p u accepted read found; said = inr found }
 plan_unread input scripts plan p None same there accepted taken h =
     let read : IsFindingIn (OfScripts (record { protocol = p })) input (parts_of input).scripts findings.Taken
-        = subst (λ (s : Span). IsFindingIn (OfScripts (record { protocol = p })) input s findings.Taken) same taken in
+    = subst (λ (s : Span). IsFindingIn (OfScripts (record { protocol = p })) input s findings.Taken) same taken in
     let also : IsFindingIn (OfPlan (record { protocol = p })) input (parts_of input).plan findings.Taken
-        = subst (λ (s : Span). IsFindingIn (OfPlan (record { protocol = p })) input s findings.Taken) there h in
+    = subst (λ (s : Span). IsFindingIn (OfPlan (record { protocol = p })) input s findings.Taken) there h in
     record { are_scripts = read; plan = also }
 
 pub rest_unread : (input : List ℕ) (scripts plan : Span) (p : Protocol) (result : Result (Option Unread) AllocError) → scripts ≡ (parts_of input).scripts
@@ -115,6 +115,6 @@ unread_added input u s t v w line given is same one two (told, rule, last) = (
   told,
   rule,
   last ∙ ap (λ l. l ++ told) (two ∙ ap (λ l. l ++ wrong_part input u.wrong) (one ∙ ap (λ l. s ++ l) (same ∙ is))
-  ∙ append_assoc s (refusal_line (Line u.code u.line)) (wrong_part input u.wrong))
-  ∙ append_assoc s (refusal_line (Line u.code u.line) ++ wrong_part input u.wrong) told,
+      ∙ append_assoc s (refusal_line (Line u.code u.line)) (wrong_part input u.wrong))
+      ∙ append_assoc s (refusal_line (Line u.code u.line) ++ wrong_part input u.wrong) told,
 )

@@ -5,7 +5,7 @@ use Rattle.rcv_lexer.specs.declared.token.Span.{Span}
 use Rattle.rcv_lexer.specs.declared.token.Token.{Token}
 use Rattle.rcv_lexer.specs.Parts.{LiesIn, parts_of}
 use Rattle.rcv_input.specs.Line.{refusal_line}
-use Rattle.rcv_input.specs.Input.{AreProtocolTokens, IsAcceptedOf}
+use Rattle.rcv_input.specs.Input.{AreProtocolTokens}
 use Rattle.rcv_input.specs.Refusals.{IsFirstRefusal}
 use Rattle.rcv_input.specs.declared.refused.Refused.TheVariants.{Line}
 use Rattle.rcv_found.specs.Grammars.{GrammarView, OfProtocol, OfScripts, OfPlan}

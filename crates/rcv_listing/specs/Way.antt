@@ -1,5 +1,5 @@
 -- Which choice stands in the way of a role's next send.
-use Rattle.std.specs.Prelude.{◌≡◌, ℕ, ◌==◌, if◌then◌else◌, codes, decimal, List, [], ◌∷◌, ◌++◌}
+use Rattle.std.specs.Prelude.{◌≡◌, ℕ, List, ◌∷◌}
 use Rattle.rcv_model.specs.Net.{Net}
 use Rattle.rcv_next.specs.Ahead.{IsMetBy}
 

@@ -11,7 +11,9 @@ fn listed(alloc: Global, input: &[u8]) -> Result<(bool, Vec<u8>), Fail> {
     }
     match points_text(alloc, input) {
         Ok(Listing::Accepted(text)) => Ok((false, text)),
-        Ok(Listing::RuledOut(text) | Listing::HalfRead(text) | Listing::Unread(text)) => Ok((true, text)),
+        Ok(Listing::RuledOut(text) | Listing::HalfRead(text) | Listing::Unread(text)) => Ok((
+            true, text,
+        )),
         Err(_error) => Err(Fail::new("no memory")),
     }
 }
@@ -54,7 +56,10 @@ fn a_refused_call_is_not_listed(rt: HostRuntime) -> Result<(), Fail> {
 global protocol Half(role X, role Y) {\n  ping() from X to Y;\n}\n";
     let (refused, text) = listed(rt.alloc(), input)?;
     assert!(rt; refused);
-    assert!(rt; text.as_slice().starts_with(b"refused 52 Arity line 3\nA `do` names as many roles"));
+    assert!(rt;
+        text.as_slice()
+            .starts_with(b"refused 52 Arity line 3\nA `do` names as many roles")
+    );
     Ok(())
 }
 
@@ -87,7 +92,8 @@ may stand here: a name, \"choice\", \"rec\", \"continue\", \"par\", \"do\", \"}\
 
 #[test]
 fn a_plan_is_refused_after_the_points(rt: HostRuntime) -> Result<(), Fail> {
-    let input = b"module m;\nglobal protocol P(role A, role B) { m(Int) from A to B; }\n%% plan\ncrash 1 A\n";
+    let input =
+        b"module m;\nglobal protocol P(role A, role B) { m(Int) from A to B; }\n%% plan\ncrash 1 A\n";
     let (refused, text) = listed(rt.alloc(), input)?;
     assert!(rt; refused);
     assert!(rt;
