@@ -5,3 +5,4 @@ mod Receiving
 mod Sourced
 pub mod Forking
 pub mod Unreading
+mod Going

@@ -6,3 +6,4 @@ pub mod Found
 pub mod Unread
 pub mod Listing
 pub mod Laws
+pub mod Going
