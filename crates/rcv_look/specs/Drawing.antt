@@ -10,14 +10,12 @@ use Rattle.rcv_accept.specs.Accepted.{AcceptedView, net_for, roles_of}
 use Rattle.rcv_session.specs.Session.{SessionView, rules_of}
 use Rattle.rcv_tables.specs.Rows.{TableView, IsTable}
 use Rattle.rcv_input.specs.declared.refused.Refused.TheVariants.{NoRole}
-use Rattle.rcv_input.specs.declared.refused.InputError.TheVariants as errors
 use Rattle.rcv_input.specs.Line.{refusal_line}
-use Rattle.rcv_input.specs.declared.refused.Refused as refusals
 use Rattle.rcv_explain.specs.declared.explanation.Explanation.{Explanation}
 use Rattle.rcv_explain.specs.Explained.{HasRule, IsNamed, spelled}
 use Rattle.rcv_listing.specs.declared.listing.Listing.{Listing}
-use Rattle.rcv_listing.specs.declared.listing.Listing.TheVariants.{Accepted, RuledOut}
-use Rattle.rcv_listing.specs.Listing.{IsListing, IsUnreadable}
+use Rattle.rcv_listing.specs.declared.listing.Listing.TheVariants.{Accepted, RuledOut, HalfRead, Unread}
+use Rattle.rcv_listing.specs.Listing.{IsListing}
 use Rattle.rcv_project.specs.Local.{LocalView, IsLocalOf}
 use Rattle.rcv_export.specs.TableJson.{table_json}
 use Rattle.rcv_export.specs.RoleJson.{role_json}
@@ -107,20 +105,18 @@ pub record IsRoleJson (protocol : Protocol) (role : ℕ) (bytes : List ℕ) : Ty
   pub is_local : IsLocalOf (net_for (accepted_as protocol)) role local
   pub is : bytes ≡ role_json (accepted_as protocol) local
 
--- A listing is written: as what was asked for, or, where a rule refuses the protocol, as a refusal.
+-- A listing is written: as what was asked for, or, if the input is refused, as a refusal.
 abbrev pub ListsAs : Listing → Status → List ℕ → Type 0
 ListsAs (Accepted text) status bytes = (status ≡ Drawn) × (bytes ≡ text.items)
 ListsAs (RuledOut text) status bytes = (status ≡ Refused) × (bytes ≡ text.items)
+ListsAs (HalfRead text) status bytes = (status ≡ Refused) × (bytes ≡ text.items)
+ListsAs (Unread text) status bytes = (status ≡ Refused) × (bytes ≡ text.items)
 
--- What is answered to `points`: the listing of the input's protocol, in which what a refusal by a rule says stands
--- behind the points; or the first refusal of a protocol that isn't read, at its line.
-pub data ArePoints (input : List ℕ) : Status → List ℕ → Type 0 where
-  listed :
-      {status : Status} {bytes : List ℕ} (listing : Listing) → IsListing input listing → ListsAs listing status bytes
-      → ArePoints input status bytes
-  unread :
-      (refusal : refusals.Refused) → IsUnreadable input (errors.Refused refusal)
-      → ArePoints input Refused (refusal_line refusal)
+-- What is answered to `points`: the listing of the input, with what its first refusal says.
+pub record ArePoints (input : List ℕ) (status : Status) (bytes : List ℕ) : Type 0 where
+  pub listing : Listing
+  pub is_listing : IsListing input listing
+  pub lists : ListsAs listing status bytes
 
 -- `no rule N`
 abbrev pub no_rule_line : ℕ → List ℕ
