@@ -1,5 +1,5 @@
 -- A thing that the grammar has behind the tokens before a refusal goes on with them as some module does, and no other one.
-use Rattle.std.proofs.Common.{◌≡◌, ◌≤◌, ◌<◌, ℕ, zero, suc, ◌+◌, Bool, true, false, List, [], ◌∷◌, ◌++◌, length, map, take, drop, refl, sym, ◌∙◌, ap, subst, arith, length-append, append_assoc, append-nil, Option, Some, None}
+use Rattle.std.proofs.Common.{◌≡◌, ℕ, suc, List, [], ◌∷◌, ◌++◌, length, take, drop, refl, sym, ◌∙◌, ap, subst, arith, length-append, append_assoc, append-nil, Option, Some, None}
 use Rattle.std.specs.List.{All}
 use Rattle.rcv_tree.specs.Words.{IsWord}
 use Rattle.rcv_lexer.specs.declared.token.Kind.{Kind}
@@ -10,7 +10,7 @@ use Rattle.rcv_lexer.specs.Parts.{parts_of}
 use Rattle.rcv_lexer.proofs.TokenBytes.{words_are_words}
 use Rattle.rcv_scan.specs.Symbols as scan
 use Rattle.rcv_syntax.specs.declared.sign.Sign.{Sign}
-use Rattle.rcv_syntax.specs.declared.sign.Sign.TheVariants.{Open, Close, Continue, Rec, At, Choice, Or}
+use Rattle.rcv_syntax.specs.declared.sign.Sign.TheVariants.{Open, Close, Continue}
 use Rattle.rcv_syntax.specs.declared.fault.Fault.{Fault}
 use Rattle.rcv_syntax.specs.declared.fault.Fault.TheVariants.{Token as WrongToken, Unguarded}
 use Rattle.rcv_syntax.specs.Symbols.{Symbol, Is, Word, reserved, sign_or, symbol_by, symbols_of}
@@ -160,7 +160,7 @@ goes_on S left t some tame h had = go (reading (S ++ t ∷ [])) refl (codes_are_
     by_grammar (u ∷ v ∷ vs) e w =
         let c = cut_before S w.0 t u v vs w.1 in
         let is : S ++ begun.0 ≡ (w.0 ++ u ∷ []) ++ (c.0 ++ begun.0) = ap (λ (ss : List Symbol). ss ++ begun.0) c.1
-            ∙ append_assoc w.0 (u ∷ c.0) begun.0 ∙ sym (append_assoc w.0 (u ∷ []) (c.0 ++ begun.0)) in
+        ∙ append_assoc w.0 (u ∷ c.0) begun.0 ∙ sym (append_assoc w.0 (u ∷ []) (c.0 ++ begun.0)) in
         absurd (w.3 (c.0 ++ begun.0, subst IsDerived is begun.1))
 
     by_code : (f : Fault) (us : List Symbol) → (f ≡ WrongToken → ⊥) → reading (S ++ t ∷ []) ≡ Refuses f us → IsSoFar (S ++ t ∷ []) us
@@ -175,7 +175,7 @@ goes_on S left t some tame h had = go (reading (S ++ t ∷ [])) refl (codes_are_
         let first = refusal_is_first (S ++ t ∷ []) f (u ∷ v ∷ vs) e in
         let there = (same_front first.front (u ∷ v ∷ vs) front (u ∷ v ∷ vs) (sym first.cut ∙ so.1) refl).0 in
         let holds : HoldsAt f front (u ∷ c.0 ++ t ∷ []) = subst (λ (ss : List Symbol). HoldsAt f front (u ∷ ss)) c.2
-            (subst (λ (ss : List Symbol). HoldsAt f ss (u ∷ v ∷ vs)) there first.holds) in
+        (subst (λ (ss : List Symbol). HoldsAt f ss (u ∷ v ∷ vs)) there first.holds) in
         absurd (h.first f front u c.0 (sym same ∙ c.1)
         (moved f front u c.0 left t (some_backward front [] (some_front front (u ∷ c.0) (subst AreSome c.1 some)) tt) tame differ holds))
 
@@ -194,13 +194,13 @@ goes_on_said input tokens place t are tame (f, left, first, code, there) had =
     let S = symbols_of input (take place tokens) in
     let is : f ≡ WrongToken = token_fault f code in
     let both : symbols_of input tokens ≡ S ++ symbols_of input (drop place tokens) =
-        ap (λ (ts : List Token). symbols_of input ts) (sym (take-append-drop place tokens)) ∙ map-append (scan.symbol_of symbol_by input) (take place tokens) (drop place tokens) in
+    ap (λ (ts : List Token). symbols_of input ts) (sym (take-append-drop place tokens)) ∙ map-append (scan.symbol_of symbol_by input) (take place tokens) (drop place tokens) in
     let many = as_many_said symbol_by input (drop place tokens) in
     let dropped = length-drop {A = Token} place tokens in
     let rest = same_front first.front left S (symbols_of input (drop place tokens)) (sym first.cut ∙ both) (omega (arith, there, many, dropped)) in
     let cut : symbols_of input tokens ≡ S ++ left = both ∙ ap (λ (ss : List Symbol). S ++ ss) (sym rest.1) in
     let wrong : IsFirst (S ++ left) WrongToken left = subst (λ (ss : List Symbol). IsFirst ss WrongToken left) cut
-        (subst (λ (g : Fault). IsFirst (symbols_of input tokens) g left) is first) in
+    (subst (λ (g : Fault). IsFirst (symbols_of input tokens) g left) is first) in
     let some : AreSome S = some_front S (symbols_of input (drop place tokens)) (subst AreSome both (all_some input tokens (words_are_words input (parts_of input).protocol tokens are))) in
     goes_on S left t some tame wrong had
 

@@ -1,5 +1,5 @@
 -- What may stand behind the tokens before a refusal goes on with them as some module does, and nothing else does.
-use Rattle.std.specs.Prelude.{◌≡◌, ℕ, List, [], ◌∷◌, ◌++◌, take, false, Some}
+use Rattle.std.specs.Prelude.{ℕ, List, [], ◌∷◌, ◌++◌, take, false, Some}
 use Rattle.rcv_lexer.specs.declared.token.Kind.{Kind}
 use Rattle.rcv_lexer.specs.declared.token.Token.{Token}
 use Rattle.rcv_syntax.specs.Symbols.{Symbol, Word, symbol_by, symbols_of}
