@@ -1,5 +1,7 @@
 mod Counted
 mod Examples
-mod Growing
+mod Growth
+mod Holding
 mod Lines
 mod Ranges
+mod Together
