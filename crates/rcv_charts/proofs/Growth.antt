@@ -7,7 +7,7 @@ use Rattle.rcv_model.specs.Text.{Body, End, Single, Choose, Loop, Again, Paralle
 use Rattle.rcv_charts.specs.MessageTitles.{message_title}
 use Rattle.rcv_charts.specs.Statements.{statement_titles, titles_beside, titles_behind, choice_title, rec_title, continue_title, par_title, block_title}
 use Rattle.rcv_charts.specs.Titles.{titles_in, title_of}
-use Rattle.rcv_charts.specs.Drawn.{DrawingView}
+use Rattle.rcv_charts.specs.Drawn.{DrawingView, with_groups}
 use Rattle.rcv_charts.specs.Chart.{Draws, DrawsBlocks, DrawsBehind, DrawsLanes, DrawsBeside, Stands, IsBelow, upper, lower}
 use Rattle.rcv_charts.specs.Chart.{Moves, AddsOne, AddsFrame, AddsBody, AddsStatement, AddsBlocks, AddsLane, AddsBeside, AddsLanes, SoFar, LanesSoFar}
 
@@ -297,3 +297,51 @@ module _ (roles : List (List ℕ)) where
     grown = same ∙ so.grown;
     drawn = subst (λ gs. DrawsLanes roles bs a.down gs c.down) (append-nil so.added) (so.drawn [] c.down (omega (arith, down)) (refl, omega (arith, down, so.down)));
   }
+
+  -- how far down they go
+  pub blocks_low : (word : List ℕ) (bs : Bodies) (start inner : DrawingView) → AddsBlocks roles word bs start inner → start.down ≤ inner.down
+  blocks_low word bs start inner adds = blocks_go roles word bs start.down inner.down adds.added adds.drawn
+
+  pub body_low : (body : Body) (start inner : DrawingView) → AddsBody roles body start inner → start.down ≤ inner.down
+  body_low body start inner adds = goes_down roles body start.down inner.down adds.added adds.drawn
+
+  -- one lane, from a to c, after which the drawing goes back up
+  pub one_lane : (body : Body) (end down top : ℕ) (a b c d : DrawingView) → top ≡ a.down → Moves a b → AddsBody roles body b c → d ≡ record { groups = c.groups; down = top } → end ≤ down → c.down ≤ down → AddsLane roles body end down a d
+  one_lane body end down top a b c d there moves adds back least low = record {
+    added = adds.added;
+    grown = ap (λ (x : DrawingView). x.groups) back ∙ adds.grown ∙ ap (λ gs. gs ++ adds.added) moves.same;
+    back = ap (λ (x : DrawingView). x.down) back ∙ there;
+    middle = c.down;
+    drawn = higher roles body a.down b.down c.down adds.added moves.down adds.drawn;
+    inside = low;
+    further = least;
+  }
+
+  -- a statement in other words
+  pub adds_same : (f g : Body → Body) (a b : DrawingView) → ((rest : Body) → f rest ≡ g rest) → AddsStatement roles f a b → AddsStatement roles g a b
+  adds_same f g a b same adds = record {
+    added = adds.added;
+    grown = adds.grown;
+    drawn = λ rest more bottom d. subst (λ (x : Body). Draws roles x a.down (adds.added ++ more) bottom) (same rest) (adds.drawn rest more bottom d);
+  }
+
+-- a group that was put, and a frame around what was drawn
+pub put_one : (title : List ℕ) (a b c : DrawingView) (g : Group) → Moves a b → IsBelow a.down b.down → g.title.items ≡ title → upper g ≡ b.down → lower g ≡ b.down → c ≡ with_groups b (g ∷ []) → AddsOne title a c
+put_one title a b c g moves below is up low put = record {
+  group = g;
+  grown = ap (λ (d : DrawingView). d.groups) put ∙ ap (λ gs. gs ++ g ∷ []) moves.same;
+  stands = record { titled = is; below = subst (IsBelow a.down) (sym up) below; down = omega (arith, up, low) };
+  down = let d : c.down ≡ b.down = ap (λ (d : DrawingView). d.down) put in omega (arith, low, d);
+}
+
+pub put_framed : (title : List ℕ) (inner skipped before middle after : DrawingView) (g : Group) (bottom : ℕ) → Moves inner skipped → bottom ≡ skipped.down → g.title.items ≡ title → upper g ≡ before.down → lower g ≡ bottom → middle ≡ with_groups before (g ∷ []) → after ≡ record { groups = middle.groups ++ skipped.groups; down = bottom } → AddsFrame title inner before after
+put_framed title inner skipped before middle after g bottom moves end is up low put done = record {
+  group = g;
+  grown =
+      ap (λ (d : DrawingView). d.groups) done ∙ ap (λ (d : DrawingView). d.groups ++ skipped.groups) put
+      ∙ append_assoc before.groups (g ∷ []) skipped.groups ∙ ap (λ gs. before.groups ++ g ∷ gs) moves.same;
+  titled = is;
+  top = up;
+  bottom = low ∙ sym (ap (λ (d : DrawingView). d.down) done);
+  around = let d : after.down ≡ bottom = ap (λ (d : DrawingView). d.down) done in omega (arith, d, end, moves.down);
+}

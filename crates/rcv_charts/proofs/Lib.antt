@@ -4,4 +4,7 @@ mod Growth
 mod Holding
 mod Lines
 mod Ranges
+mod Reached
+mod Showing
+mod Stepping
 mod Together

@@ -2,11 +2,13 @@
 use Rattle.std.proofs.Common.{◌≡◌, ℕ, zero, suc, ◌+◌, ◌<◌, ◌≤◌, List, [], ◌∷◌, ◌++◌, map, take, length, refl, sym, ◌∙◌, ap, subst, inl, inr, ⊎_elim, append_assoc, append-nil, arith}
 use Rattle.std.specs.Prelude.{slice_index_or}
 use Rattle.std.proofs.lemmas.Bool.{cases_lt}
-use Rattle.std.proofs.lemmas.List.{length-append}
+use Rattle.std.specs.declared.alloc.Global.{Global}
+use Rattle.std.specs.declared.vec.Vec.{Vec}
+use Rattle.std.proofs.lemmas.List.{length-append, map-append, take_more}
 use Rattle.rcv_picture.specs.declared.shape.Shape.{Shape}
 use Rattle.rcv_picture.specs.declared.shape.Shape.TheVariants.{Line, Rect, Circle, Path, Text}
 use Rattle.rcv_picture.specs.declared.group.Group.{Group}
-use Rattle.rcv_charts.specs.Titles.{texts_in}
+use Rattle.rcv_charts.specs.Titles.{texts_in, lists_in}
 use Rattle.rcv_charts.specs.States.{StateView, next_in}
 use Rattle.rcv_charts.specs.Wires.{state_at, steps_from}
 use Rattle.rcv_charts.specs.Drawn.{DrawingView}
@@ -60,3 +62,7 @@ steps_more i (s ∷ ss) (suc n) lt =
     ∙ ap (λ rest. map (λ (z : ℕ). (i, z)) (next_in s.act) ++ rest) (steps_more (i + 1) ss n (omega (arith, lt)))
     ∙ sym (append_assoc (map (λ (z : ℕ). (i, z)) (next_in s.act)) (steps_from (i + 1) (take n ss)) (map (λ (z : ℕ). ((i + 1) + n, z)) (next_in (state_at ss n).act)))
     ∙ ap (λ (j : ℕ). (map (λ (z : ℕ). (i, z)) (next_in s.act) ++ steps_from (i + 1) (take n ss)) ++ map (λ (z : ℕ). (j, z)) (next_in (state_at ss n).act)) moved
+
+-- one list more
+pub lists_more : (vs : List (Vec ℕ Global)) (i : ℕ) (v : Vec ℕ Global) → i < length vs → v ≡ slice_index_or vs i v → lists_in (take i vs) ++ v.items ∷ [] ≡ lists_in (take (i + 1) vs)
+lists_more vs i v lt e = sym (ap lists_in (take_more vs i v lt ∙ ap (λ y. take i vs ++ y ∷ []) (sym e)) ∙ map-append (λ (one : Vec ℕ Global). one.items) (take i vs) (v ∷ []))

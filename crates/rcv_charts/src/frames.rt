@@ -1,8 +1,8 @@
 // Frames: around the blocks of a choice, a loop or lanes, and around what came through a call.
 
-ghost use Rattle.std.specs.Prelude.{◌≡◌, ◌≤◌, [], ◌∷◌, OnOk, IsTrue};
-ghost use Rattle.rcv_charts.specs.Titles.{is_titled};
-ghost use Rattle.rcv_charts.specs.Chart.{IsBelow, Moves, AddsFrame, first_upper, first_lower};
+ghost use Rattle.std.specs.Prelude.{◌≡◌, ◌≤◌, [], ◌∷◌, IfOk, OnOk, IsTrue};
+ghost use Rattle.rcv_charts.specs.Titles.{has_title, is_titled};
+ghost use Rattle.rcv_charts.specs.Chart.{IsBelow, Moves, AddsFrame, first_upper, first_lower, upper, lower};
 
 use crate::beside::Span;
 use crate::calls::Calls;
@@ -12,6 +12,7 @@ use crate::extent::{Within, tag_width};
 use crate::shapes::{path, rect, text};
 use crate::words::joined;
 use rcv_module::Called;
+use rcv_picture::group::Group;
 use rcv_picture::look::Look;
 use rcv_picture::pixels::{At, Pixels, place};
 use rcv_picture::shape::Shape;
@@ -91,6 +92,30 @@ fn tag_of(
     Ok((ground, text(left + Pixels(7), top + Pixels(14), Look::Bold, tag)))
 }
 
+// A frame between these heights, with its tag. Fails where memory runs out.
+fn group_of(
+    chart: &Chart<'_>,
+    inset: Pixels,
+    top: Pixels,
+    bottom: Pixels,
+    title: Vec<u8>,
+    tag: Vec<u8>,
+) -> Result<Group, AllocError>
+    requires titled { IsTrue (is_titled title.items) }
+    requires down { top.0 ≤ bottom.0 }
+    ensures title { IfOk result (λ group. group.title.items ≡ title.items) }
+    ensures upper { IfOk result (λ group. upper group ≡ top.0) }
+    ensures lower { IfOk result (λ group. lower group ≡ bottom.0) }
+    ensures titled { IfOk result (λ group. IsTrue (has_title group)) }
+{
+    let (ground, words) = tag_of(chart, inset, top, tag)?;
+    let mut shapes = Vec::new(chart.alloc);
+    shapes.push(around(chart, inset, top, bottom))?;
+    shapes.push(ground)?;
+    shapes.push(words)?;
+    Ok(titled(title, shapes))
+}
+
 /// Draws a frame that begins as far down as the drawing has come, around what was drawn inside, with its tag. Fails where
 /// memory runs out.
 pub fn put_frame(
@@ -108,12 +133,8 @@ pub fn put_frame(
     inner.skip(Pixels(16));
     let top = drawing.down();
     let bottom = inner.down();
-    let (ground, words) = tag_of(chart, inset, top, tag)?;
-    let mut shapes = Vec::new(chart.alloc);
-    shapes.push(around(chart, inset, top, bottom))?;
-    shapes.push(ground)?;
-    shapes.push(words)?;
-    drawing.put_group(titled(title, shapes))?;
+    let group = group_of(chart, inset, top, bottom, title, tag)?;
+    drawing.put_group(group)?;
     drawing.put_inner(inner, bottom)
 }
 

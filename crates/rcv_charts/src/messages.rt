@@ -3,13 +3,14 @@
 ghost use Rattle.std.specs.Prelude.{◌≡◌, ◌++◌, IfOk, OnOk, IsTrue};
 ghost use Rattle.rcv_tables.specs.TableText.{name_of};
 ghost use Rattle.rcv_charts.specs.MessageTitles.{names_text, message_title};
-ghost use Rattle.rcv_charts.specs.Titles.{is_titled};
-ghost use Rattle.rcv_charts.specs.Chart.{AddsOne, first_upper, first_lower};
+ghost use Rattle.rcv_charts.specs.Titles.{has_title, is_titled};
+ghost use Rattle.rcv_charts.specs.Chart.{AddsOne, first_upper, first_lower, upper, lower};
 
 use crate::columns::Columns;
 use crate::drawing::{Drawing, titled};
 use crate::letters::{cut, is_cut};
 use crate::shapes::{circle, end_text, line, middle_text, text};
+use rcv_picture::group::Group;
 use rcv_picture::look::Look;
 use rcv_picture::pixels::{At, Pixels};
 use rcv_picture::shape::Shape;
@@ -158,6 +159,31 @@ fn arrow(
     Ok(shapes)
 }
 
+// A message at this height. Fails where memory runs out.
+fn group_of(
+    alloc: Global,
+    roles: &Names,
+    columns: Columns,
+    message: &Message<'_>,
+    y: Pixels,
+) -> Result<Group, AllocError>
+    ensures title { IfOk result (λ group. group.title.items ≡ message_title roles.now (
+      message.now.point,
+      record {
+        label = message.now.label.now;
+        sorts = message.now.sorts.now;
+        sender = message.now.sender;
+        receiver = message.now.receiver;
+      },
+    )) }
+    ensures upper { IfOk result (λ group. upper group ≡ y.0) }
+    ensures lower { IfOk result (λ group. lower group ≡ y.0) }
+    ensures titled { IfOk result (λ group. IsTrue (has_title group)) }
+{
+    let shapes = arrow(alloc, columns, message, y)?;
+    Ok(titled(title_of(alloc, roles, message)?, shapes))
+}
+
 /// Draws a message. Fails where memory runs out.
 pub fn draw_message(
     alloc: Global,
@@ -177,6 +203,6 @@ pub fn draw_message(
     )) drawing.old drawing.new) }
 {
     drawing.skip(Pixels(30));
-    let shapes = arrow(alloc, columns, message, drawing.down())?;
-    drawing.put_group(titled(title_of(alloc, roles, message)?, shapes))
+    let group = group_of(alloc, roles, columns, message, drawing.down())?;
+    drawing.put_group(group)
 }

@@ -1,9 +1,11 @@
 // A protocol from above to below: its messages, and frames around its choices, loops, lanes and calls.
 
-ghost use Rattle.std.specs.Prelude.{◌≡◌, IfOk, OnOk, codes};
+ghost use Rattle.std.specs.Prelude.{◌≡◌, IfOk, OnOk, IsTrue, codes};
 ghost use Rattle.rcv_model.specs.Text.{Choose, Loop as Looped, Parallel, body_of, bodies_of, stmt_body};
 ghost use Rattle.rcv_charts.specs.Statements.{continue_title, block_title};
 ghost use Rattle.rcv_charts.specs.Chart.{AddsOne, AddsBody, AddsStatement, AddsBlocks, AddsLane, AddsBeside, AddsLanes};
+ghost use Rattle.rcv_charts.specs.Chart.{upper, lower};
+ghost use Rattle.rcv_charts.specs.Titles.{has_title};
 
 use crate::beside::{Span, are_apart};
 use crate::drawing::{Drawing, titled};
@@ -13,6 +15,7 @@ use crate::messages::{Message, draw_message, name_of};
 use crate::shapes::{line, path, text};
 use crate::titles::{block_title, choice_title, continue_title, par_title, rec_title};
 use crate::words::joined;
+use rcv_picture::group::Group;
 use rcv_picture::look::Look;
 use rcv_picture::pixels::{At, Pixels, place};
 use rcv_tree::name::Name;
@@ -28,7 +31,30 @@ pub struct Loop<'t> {
     end: Pixels,
 }
 
-// Draws the line between two blocks of a frame, with this word above the second. Fails where memory runs out.
+// The line between two blocks of a frame at this height, with this word below it. Fails where memory runs out.
+fn divider(
+    chart: &Chart<'_>,
+    inset: Pixels,
+    y: Pixels,
+    word: &[u8],
+    block: &Block,
+) -> Result<Group, AllocError>
+    ensures title { IfOk result (λ group. group.title.items ≡ block_title word.now (body_of block.now)) }
+    ensures upper { IfOk result (λ group. upper group ≡ y.0) }
+    ensures lower { IfOk result (λ group. lower group ≡ y.0) }
+    ensures titled { IfOk result (λ group. IsTrue (has_title group)) }
+{
+    let left = chart.left + inset;
+    let right = chart.right - inset;
+    let title = block_title(chart.alloc, word, block)?;
+    let word = Vec::from_slice(chart.alloc, word)?;
+    let mut shapes = Vec::new(chart.alloc);
+    shapes.push(line(At { x: left, y }, At { x: right, y }, Look::Divider))?;
+    shapes.push(text(left + Pixels(8), y + Pixels(13), Look::Note, word))?;
+    Ok(titled(title, shapes))
+}
+
+// Draws the line between two blocks of a frame, with this word. Fails where memory runs out.
 fn draw_divider(
     chart: &Chart<'_>,
     drawing: &mut Drawing,
@@ -38,16 +64,9 @@ fn draw_divider(
 ) -> Result<(), AllocError>
     ensures { OnOk result (AddsOne (block_title word.now (body_of block.now)) drawing.old drawing.new) }
 {
-    let title = block_title(chart.alloc, word, block)?;
     drawing.skip(Pixels(10));
-    let y = drawing.down();
-    let left = chart.left + inset;
-    let right = chart.right - inset;
-    let word = Vec::from_slice(chart.alloc, word)?;
-    let mut shapes = Vec::new(chart.alloc);
-    shapes.push(line(At { x: left, y }, At { x: right, y }, Look::Divider))?;
-    shapes.push(text(left + Pixels(8), y + Pixels(13), Look::Note, word))?;
-    drawing.put_group(titled(title, shapes))?;
+    let group = divider(chart, inset, drawing.down(), word, block)?;
+    drawing.put_group(group)?;
     drawing.skip(Pixels(8));
     Ok(())
 }
@@ -87,8 +106,34 @@ fn draw_sides(
     Ok(())
 }
 
-// Draws the word beside the line to the left of a lane behind the first one of the text. That of the leftmost lane stands
-// beside the line of the first. Fails where memory runs out.
+// The word at this height beside the line to the left of a lane behind the first one of the text. That of the leftmost lane
+// stands beside the line of the first. Fails where memory runs out.
+fn and_word(
+    chart: &Chart<'_>,
+    blocks: &Blocks,
+    first: &Block,
+    block: &Block,
+    y: Pixels,
+) -> Result<Group, AllocError>
+    ensures title { IfOk result (λ group. group.title.items ≡ block_title (codes "and") (body_of block.now)) }
+    ensures upper { IfOk result (λ group. upper group ≡ y.0) }
+    ensures lower { IfOk result (λ group. lower group ≡ y.0) }
+    ensures titled { IfOk result (λ group. IsTrue (has_title group)) }
+{
+    let title = block_title(chart.alloc, b"and", block)?;
+    let own = Span::of(block).first;
+    let role = if own == leftmost(blocks) {
+        Span::of(first).first
+    } else {
+        own
+    };
+    let word = Vec::from_slice(chart.alloc, b"and")?;
+    let mut shapes = Vec::new(chart.alloc);
+    shapes.push(text(side(chart, role) + Pixels(5), y, Look::Note, word))?;
+    Ok(titled(title, shapes))
+}
+
+// Draws the word that stands beside a lane behind the first one of the text. Fails where memory runs out.
 fn draw_and(
     chart: &Chart<'_>,
     drawing: &mut Drawing,
@@ -98,26 +143,45 @@ fn draw_and(
 ) -> Result<(), AllocError>
     ensures { OnOk result (AddsOne (block_title (codes "and") (body_of block.now)) drawing.old drawing.new) }
 {
-    let title = block_title(chart.alloc, b"and", block)?;
-    let own = Span::of(block).first;
-    let role = if own == leftmost(blocks) {
-        Span::of(first).first
-    } else {
-        own
-    };
     drawing.skip(Pixels(13));
-    let word = Vec::from_slice(chart.alloc, b"and")?;
-    let mut shapes = Vec::new(chart.alloc);
-    shapes.push(text(
-        side(chart, role) + Pixels(5),
-        drawing.down(),
-        Look::Note,
-        word,
-    ))?;
-    drawing.put_group(titled(title, shapes))
+    let group = and_word(chart, blocks, first, block, drawing.down())?;
+    drawing.put_group(group)
 }
 
-// Draws the way back to the innermost of these loops that has the name. Fails where memory runs out.
+// The words of a way back at this height, and the way, to the innermost of these loops that has the name. Fails where memory
+// runs out.
+fn way_back(
+    chart: &Chart<'_>,
+    loops: &[Loop<'_>],
+    inset: Pixels,
+    base: Pixels,
+    name: &Name,
+) -> Result<Group, AllocError>
+    ensures title { IfOk result (λ group. group.title.items ≡ continue_title name.now) }
+    ensures upper { IfOk result (λ group. upper group ≡ base.0) }
+    ensures lower { IfOk result (λ group. lower group ≡ base.0) }
+    ensures titled { IfOk result (λ group. IsTrue (has_title group)) }
+{
+    let y = base - Pixels(4);
+    let left = chart.left + inset;
+    let enclosing = loops
+        .iter()
+        .rev()
+        .find(|enclosing| enclosing.name.as_slice() == name.as_slice());
+    // Nothing is drawn of a way without its loop.
+    let (x, end) = match enclosing {
+        Some(enclosing) => (enclosing.x, enclosing.end),
+        None => (left + Pixels(10), y),
+    };
+    let places = [place(left + Pixels(10), y), place(x, y), place(x, end)];
+    let words = joined(chart.alloc, b"again ", name.as_slice())?;
+    let mut shapes = Vec::new(chart.alloc);
+    shapes.push(text(left + Pixels(14), base, Look::Again, words))?;
+    shapes.push(path(chart.alloc, &places, Look::WireAgain)?)?;
+    Ok(titled(continue_title(chart.alloc, name)?, shapes))
+}
+
+// Draws a way back. Fails where memory runs out.
 fn draw_continue(
     chart: &Chart<'_>,
     drawing: &mut Drawing,
@@ -128,25 +192,8 @@ fn draw_continue(
     ensures { OnOk result (AddsOne (continue_title name.now) drawing.old drawing.new) }
 {
     drawing.skip(Pixels(30));
-    let base = drawing.down();
-    let y = base - Pixels(4);
-    let left = chart.left + inset;
-    let words = joined(chart.alloc, b"again ", name.as_slice())?;
-    let mut shapes = Vec::new(chart.alloc);
-    shapes.push(text(left + Pixels(14), base, Look::Again, words))?;
-    let enclosing = loops
-        .iter()
-        .rev()
-        .find(|enclosing| enclosing.name.as_slice() == name.as_slice());
-    if let Some(enclosing) = enclosing {
-        let places = [
-            place(left + Pixels(10), y),
-            place(enclosing.x, y),
-            place(enclosing.x, enclosing.end),
-        ];
-        shapes.push(path(chart.alloc, &places, Look::WireAgain)?)?;
-    }
-    drawing.put_group(titled(continue_title(chart.alloc, name)?, shapes))
+    let group = way_back(chart, loops, inset, drawing.down(), name)?;
+    drawing.put_group(group)
 }
 
 /// Draws the statements of a block inside these loops, with a frame around those that came through one call. Fails where
