@@ -1,6 +1,6 @@
 -- States that get one place more.
 use Rattle.std.proofs.Common.{◌≡◌, ◌≢◌, ℕ, suc, ◌+◌, ◌<◌, ◌≤◌, Bool, true, false, not, cond, length, List, [], ◌∷◌, ◌++◌, map, refl, sym, ◌∙◌, ap, subst, inl, inr, ⊎_elim, append-nil, arith}
-use Rattle.std.specs.Prelude.{◌⊎◌, ◌==◌, ◌&&◌, if◌then◌else◌, nat_lt, Option, Some, None, position, slice_set, slice_index_or}
+use Rattle.std.specs.Prelude.{◌⊎◌, ◌==◌, if◌then◌else◌, nat_lt, Some, None, position, slice_set, slice_index_or}
 use Rattle.std.specs.List.{filter, range_with_len, position_or_len, AllByRecursion}
 use Rattle.std.specs.Str.{bytes_eq}
 use Rattle.std.proofs.lemmas.Bool.{and_parts, and_from}
@@ -11,7 +11,7 @@ use Rattle.std.proofs.lemmas.Slice.Eq.{bytes_eq-Decides}
 use Rattle.rcv_model.specs.Net.{Net, IsIn}
 use Rattle.rcv_project.specs.Act.{ActView, Sending, Receiving, Ended, AreInText, IsActAt}
 use Rattle.rcv_project.specs.LocalText.{is_own, places_to}
-use Rattle.rcv_charts.specs.States.{StateView, times, times_in, AreStatesTo, IsState, same_act, HasAct, AreDifferent, alone, grown, with_place, next_in, AreMadeTo}
+use Rattle.rcv_charts.specs.States.{StateView, times, times_in, IsState, same_act, HasAct, AreDifferent, alone, grown, with_place, next_in, AreMadeTo}
 
 -- the places as far as one point more
 pub places_more : (net : Net) (r n : ℕ) → places_to net r (n + 1) ≡ places_to net r n ++ cond (is_own net r (n + 1)) ((n + 1) ∷ []) []

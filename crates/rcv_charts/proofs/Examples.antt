@@ -1,11 +1,11 @@
 -- Titles of worked examples.
-use Rattle.std.proofs.Common.{◌≡◌, ℕ, List, true, false, [], ◌∷◌, codes, ◌++◌, refl, inl, inr}
+use Rattle.std.proofs.Common.{◌≡◌, ℕ, List, false, [], ◌∷◌, codes, ◌++◌, refl, inl, inr}
 use Rattle.std.specs.Prelude.{◌⊎◌}
 use Rattle.std.specs.Fmt.{digits}
 use Rattle.rcv_charts.specs.MessageTitles.{message_title}
 use Rattle.rcv_charts.specs.RowTitles.{row_title}
 use Rattle.rcv_picture.specs.declared.group.Group.{Group}
-use Rattle.rcv_model.specs.Text.{Body, End, Single, Choose, Loop, Again, NoMore, Or}
+use Rattle.rcv_model.specs.Text.{End, Single, Choose, Loop, Again, NoMore, Or}
 use Rattle.rcv_model.specs.Net.{Net}
 use Rattle.rcv_model.specs.Next.{IsPlaceOf}
 use Rattle.rcv_project.specs.Act.{Sending, Receiving, Ended}
@@ -52,12 +52,12 @@ stand_together = inl (inr (inl refl), inl refl)
 stand_apart : StandTogether (alone Ended 0 ∷ alone Ended 5 ∷ []) 0 5 → ⊥
 stand_apart (inl both) = absurd (not_five both.1)
   where
-    not_five : ((5 ≡ 0) ⊎ ⊥) → ⊥
+    not_five : (◌≡◌ {A = ℕ} 5 0 ⊎ ⊥) → ⊥
     not_five (inl e) = absurd (cc)
     not_five (inr none) = none
 stand_apart (inr (inl both)) = absurd (not_none both.0)
   where
-    not_none : ((0 ≡ 5) ⊎ ⊥) → ⊥
+    not_none : (◌≡◌ {A = ℕ} 0 5 ⊎ ⊥) → ⊥
     not_none (inl e) = absurd (cc)
     not_none (inr none) = none
 stand_apart (inr (inr none)) = none

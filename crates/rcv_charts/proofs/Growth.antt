@@ -1,15 +1,15 @@
 -- What is drawn of statements, put together.
-use Rattle.std.proofs.Common.{◌≡◌, ℕ, ◌<◌, ◌≤◌, List, [], ◌∷◌, ◌++◌, map, codes, refl, sym, ◌∙◌, ap, subst, inl, inr, ⊎_elim, append_assoc, append-nil, arith}
-use Rattle.std.specs.Prelude.{◌⊎◌}
+use Rattle.std.proofs.Common.{◌≡◌, ℕ, ◌≤◌, List, [], ◌∷◌, ◌++◌, codes, refl, sym, ◌∙◌, ap, subst, inl, inr, ⊎_elim, append_assoc, append-nil, arith}
 use Rattle.std.proofs.lemmas.List.{map-append}
 use Rattle.rcv_picture.specs.declared.group.Group.{Group}
+use Rattle.rcv_picture.specs.declared.picture.Picture.{Picture}
 use Rattle.rcv_model.specs.Text.{Body, End, Single, Choose, Loop, Again, Parallel, Call, Bodies, NoMore, Or}
 use Rattle.rcv_charts.specs.MessageTitles.{message_title}
 use Rattle.rcv_charts.specs.Statements.{statement_titles, titles_beside, titles_behind, choice_title, rec_title, continue_title, par_title, block_title}
-use Rattle.rcv_charts.specs.Titles.{titles_in, title_of}
+use Rattle.rcv_charts.specs.Titles.{titles_in, title_of, titled_of, titles_of}
 use Rattle.rcv_charts.specs.Drawn.{DrawingView, with_groups}
 use Rattle.rcv_charts.specs.Chart.{Draws, DrawsBlocks, DrawsBehind, DrawsLanes, DrawsBeside, Stands, IsBelow, upper, lower}
-use Rattle.rcv_charts.specs.Chart.{Moves, AddsOne, AddsFrame, AddsBody, AddsStatement, AddsBlocks, AddsLane, AddsBeside, AddsLanes, SoFar, LanesSoFar}
+use Rattle.rcv_charts.specs.Chart.{Moves, AddsOne, AddsFrame, AddsBody, AddsStatement, AddsBlocks, AddsLane, AddsBeside, AddsLanes, SoFar, LanesSoFar, DrawsAll, IsChart}
 
 pub below_higher : (s t y : ℕ) → s ≤ t → IsBelow t y → IsBelow s y
 below_higher s t y le is = (omega (arith, le, is.0), ⊎_elim (λ lt. inl (omega (arith, le, lt))) (λ end. inr end) is.1)
@@ -178,10 +178,15 @@ module _ (roles : List (List ℕ)) where
       record {
         added = frame.group ∷ inner.groups;
         grown = frame.grown ∙ ap (λ gs. gs ++ frame.group ∷ inner.groups) opens.same;
-        drawn = λ rest more bottom d. (frame.group, inner.groups, more, refl,
-            frame_stands (choice_title roles subject bs) a b c start inner opens below empty (omega (arith, there)) frame frame.around low2,
-            subst (λ t. DrawsBlocks roles (codes "or") bs t inner.groups (lower frame.group)) (there ∙ sym frame.top) (blocks_down roles (codes "or") bs start.down inner.down (lower frame.group) inner.groups (omega (arith, frame.bottom, frame.around)) within),
-            higher roles rest (lower frame.group) c.down bottom more (omega (arith, frame.bottom)) d);
+        drawn = λ rest more bottom d. (
+          frame.group,
+          inner.groups,
+          more,
+          refl,
+          frame_stands (choice_title roles subject bs) a b c start inner opens below empty (omega (arith, there)) frame frame.around low2,
+          subst (λ t. DrawsBlocks roles (codes "or") bs t inner.groups (lower frame.group)) (there ∙ sym frame.top) (blocks_down roles (codes "or") bs start.down inner.down (lower frame.group) inner.groups (omega (arith, frame.bottom, frame.around)) within),
+          higher roles rest (lower frame.group) c.down bottom more (omega (arith, frame.bottom)) d,
+        );
       }
 
   pub one_loop : (name : List ℕ) (body : Body) (a b c start inner : DrawingView) → Moves a b → IsBelow a.down b.down → start.groups ≡ [] → b.down ≤ start.down → AddsBody roles body start inner → AddsFrame (rec_title name body) inner b c → AddsStatement roles (Loop name body) a c
@@ -192,10 +197,15 @@ module _ (roles : List (List ℕ)) where
       record {
         added = frame.group ∷ inner.groups;
         grown = frame.grown ∙ ap (λ gs. gs ++ frame.group ∷ inner.groups) opens.same;
-        drawn = λ rest more bottom d. (frame.group, inner.groups, more, refl,
-            frame_stands (rec_title name body) a b c start inner opens below empty there frame frame.around low,
-            subst (λ t. Draws roles body t inner.groups (lower frame.group)) (sym frame.top) (further_down roles body b.down inner.down (lower frame.group) inner.groups (omega (arith, frame.bottom, frame.around)) within),
-            higher roles rest (lower frame.group) c.down bottom more (omega (arith, frame.bottom)) d);
+        drawn = λ rest more bottom d. (
+          frame.group,
+          inner.groups,
+          more,
+          refl,
+          frame_stands (rec_title name body) a b c start inner opens below empty there frame frame.around low,
+          subst (λ t. Draws roles body t inner.groups (lower frame.group)) (sym frame.top) (further_down roles body b.down inner.down (lower frame.group) inner.groups (omega (arith, frame.bottom, frame.around)) within),
+          higher roles rest (lower frame.group) c.down bottom more (omega (arith, frame.bottom)) d,
+        );
       }
 
   pub lanes_low : (bs : Bodies) (start inner : DrawingView) → AddsLanes roles bs start inner → start.down ≤ inner.down
@@ -211,13 +221,18 @@ module _ (roles : List (List ℕ)) where
       record {
         added = frame.group ∷ inner.groups;
         grown = frame.grown ∙ ap (λ gs. gs ++ frame.group ∷ inner.groups) opens.same;
-        drawn = λ rest more bottom d. (frame.group, inner.groups, more, refl,
-            frame_stands (par_title bs) a b c start inner opens below empty (omega (arith, there)) frame frame.around low2,
-            ⊎_elim
-            (λ w. inl (subst (λ t. DrawsBlocks roles (codes "and") bs t inner.groups (lower frame.group)) top (blocks_down roles (codes "and") bs start.down inner.down (lower frame.group) inner.groups end (subst (λ gs. DrawsBlocks roles (codes "and") bs start.down gs inner.down) (sym all) w))))
-            (λ w. inr (subst (λ t. DrawsLanes roles bs t inner.groups (lower frame.group)) top (lanes_down roles bs start.down inner.down (lower frame.group) inner.groups end (subst (λ gs. DrawsLanes roles bs start.down gs inner.down) (sym all) w))))
-            lanes.drawn,
-            higher roles rest (lower frame.group) c.down bottom more (omega (arith, frame.bottom)) d);
+        drawn = λ rest more bottom d. (
+          frame.group,
+          inner.groups,
+          more,
+          refl,
+          frame_stands (par_title bs) a b c start inner opens below empty (omega (arith, there)) frame frame.around low2,
+          ⊎_elim
+              (λ w. inl (subst (λ t. DrawsBlocks roles (codes "and") bs t inner.groups (lower frame.group)) top (blocks_down roles (codes "and") bs start.down inner.down (lower frame.group) inner.groups end (subst (λ gs. DrawsBlocks roles (codes "and") bs start.down gs inner.down) (sym all) w))))
+              (λ w. inr (subst (λ t. DrawsLanes roles bs t inner.groups (lower frame.group)) top (lanes_down roles bs start.down inner.down (lower frame.group) inner.groups end (subst (λ gs. DrawsLanes roles bs start.down gs inner.down) (sym all) w))))
+              lanes.drawn,
+          higher roles rest (lower frame.group) c.down bottom more (omega (arith, frame.bottom)) d,
+        );
       }
 
   -- statements of a block
@@ -285,9 +300,18 @@ module _ (roles : List (List ℕ)) where
     back = lane.back ∙ top;
     drawn = λ more bottom ends is.
         subst (λ gs. DrawsLanes roles whole a.down gs bottom) (sym (append_assoc so.added (one.group ∷ lane.added) more))
-        (so.drawn (one.group ∷ (lane.added ++ more)) bottom (omega (arith, low, lane.further, ends))
-        (one.group, lane.added, more, lane.middle, refl, subst (λ t. Stands (block_title (codes "and") body) t one.group) so.back one.stands, omega (arith, one.down, down, lane.further, ends),
-        subst (λ t. Draws roles body t lane.added lane.middle) top lane.drawn, omega (arith, lane.inside, ends), is));
+        (so.drawn (one.group ∷ (lane.added ++ more)) bottom (omega (arith, low, lane.further, ends)) (
+          one.group,
+          lane.added,
+          more,
+          lane.middle,
+          refl,
+          subst (λ t. Stands (block_title (codes "and") body) t one.group) so.back one.stands,
+          omega (arith, one.down, down, lane.further, ends),
+          subst (λ t. Draws roles body t lane.added lane.middle) top lane.drawn,
+          omega (arith, lane.inside, ends),
+          is,
+        ));
     down = omega (arith, so.down, low, lane.further);
   }
 
@@ -345,3 +369,23 @@ put_framed title inner skipped before middle after g bottom moves end is up low 
   bottom = low ∙ sym (ap (λ (d : DrawingView). d.down) done);
   around = let d : after.down ≡ bottom = ap (λ (d : DrawingView). d.down) done in omega (arith, d, end, moves.down);
 }
+
+-- the drawing of a protocol, and its picture
+pub draws_all : (roles : List (List ℕ)) (body : Body) (start a b c : DrawingView) → start.groups ≡ [] → Moves start a → AddsBody roles body a b → Moves b c → DrawsAll roles body c
+draws_all roles body start a b c empty skips adds moves = record {
+  top = a.down;
+  bottom = b.down;
+  drawn = subst (λ gs. Draws roles body a.down gs b.down) (sym (moves.same ∙ adds.grown ∙ ap (λ gs. gs ++ adds.added) (skips.same ∙ empty))) adds.drawn;
+  inside = moves.down;
+}
+
+pub is_chart : (roles : List (List ℕ)) (body : Body) (drawing : DrawingView) (picture : Picture) → DrawsAll roles body drawing → titled_of picture ≡ drawing.groups → drawing.down ≤ picture.height.0 → IsChart roles body picture
+is_chart roles body drawing picture all groups height = record {
+  top = all.top;
+  bottom = all.bottom;
+  drawn = subst (λ gs. Draws roles body all.top gs all.bottom) (sym groups) all.drawn;
+  inside = omega (arith, all.inside, height);
+}
+
+pub chart_titled : (roles : List (List ℕ)) (body : Body) (picture : Picture) → IsChart roles body picture → titles_of picture ≡ statement_titles roles body
+chart_titled roles body picture chart = titled roles body chart.top chart.bottom (titled_of picture) chart.drawn

@@ -1,5 +1,5 @@
 -- Groups that show things one by one, the words in them, and the wires of states.
-use Rattle.std.proofs.Common.{◌≡◌, ℕ, zero, suc, ◌+◌, ◌<◌, ◌≤◌, List, [], ◌∷◌, ◌++◌, map, take, length, refl, sym, ◌∙◌, ap, subst, inl, inr, ⊎_elim, append_assoc, append-nil, arith}
+use Rattle.std.proofs.Common.{◌≡◌, ℕ, zero, suc, ◌+◌, ◌<◌, List, [], ◌∷◌, ◌++◌, map, take, length, refl, sym, ◌∙◌, ap, subst, ⊎_elim, append_assoc, append-nil, arith}
 use Rattle.std.specs.Prelude.{slice_index_or}
 use Rattle.std.proofs.lemmas.Bool.{cases_lt}
 use Rattle.std.specs.declared.alloc.Global.{Global}
@@ -12,7 +12,7 @@ use Rattle.rcv_charts.specs.Titles.{texts_in, lists_in}
 use Rattle.rcv_charts.specs.States.{StateView, next_in}
 use Rattle.rcv_charts.specs.Wires.{state_at, steps_from}
 use Rattle.rcv_charts.specs.Drawn.{DrawingView}
-use Rattle.rcv_charts.specs.Machine.{AreShown, Adds}
+use Rattle.rcv_charts.specs.Machine.{Adds}
 
 at_left : {A : Type 0} (xs ys : List A) (i : ℕ) (d : A) → i < length xs → slice_index_or (xs ++ ys) i d ≡ slice_index_or xs i d
 at_left [] ys i d lt = absurd (omega (arith, lt))
@@ -66,3 +66,9 @@ steps_more i (s ∷ ss) (suc n) lt =
 -- one list more
 pub lists_more : (vs : List (Vec ℕ Global)) (i : ℕ) (v : Vec ℕ Global) → i < length vs → v ≡ slice_index_or vs i v → lists_in (take i vs) ++ v.items ∷ [] ≡ lists_in (take (i + 1) vs)
 lists_more vs i v lt e = sym (ap lists_in (take_more vs i v lt ∙ ap (λ y. take i vs ++ y ∷ []) (sym e)) ∙ map-append (λ (one : Vec ℕ Global). one.items) (take i vs) (v ∷ []))
+
+-- an item, whatever stands behind the end
+pub item_at : {A : Type 0} (xs : List A) (i : ℕ) (x d : A) → i < length xs → x ≡ slice_index_or xs i x → slice_index_or xs i d ≡ x
+item_at [] i x d lt e = absurd (omega (arith, lt))
+item_at (y ∷ ys) zero x d lt e = sym e
+item_at (y ∷ ys) (suc i) x d lt e = item_at ys i x d (omega (arith, lt)) e

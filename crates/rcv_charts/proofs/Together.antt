@@ -1,5 +1,5 @@
 -- Two places stand in one state exactly if the role does the same at both.
-use Rattle.std.proofs.Common.{◌≡◌, ◌≢◌, ℕ, zero, suc, ◌+◌, ◌<◌, ◌≤◌, Bool, true, false, cond, length, List, [], ◌∷◌, ◌++◌, refl, sym, ◌∙◌, ap, subst, inl, inr, ⊎_elim, arith}
+use Rattle.std.proofs.Common.{◌≡◌, ◌≢◌, ℕ, zero, suc, ◌+◌, ◌<◌, ◌≤◌, Bool, true, false, cond, length, List, [], ◌∷◌, refl, sym, ◌∙◌, ap, subst, inl, inr, ⊎_elim, arith}
 use Rattle.std.specs.Prelude.{◌⊎◌, ◌==◌, ◌||◌, if◌then◌else◌, slice_index_or}
 use Rattle.std.specs.List.{All, AllByRecursion}
 use Rattle.std.proofs.lemmas.Bool.{cases_order}
@@ -23,7 +23,6 @@ counted k (x ∷ xs) some = go (x == k) refl some (counted k xs)
     go : (b : Bool) → (x == k) ≡ b → 1 ≤ (if b then 1 else 0) + times k xs → (1 ≤ times k xs → IsIn k xs) → IsIn k (x ∷ xs)
     go true e some rest = inl (sym ((Decides-eqb x k).0 e))
     go false e some rest = inr (rest (omega (arith, some)))
-
 
 held : (k : ℕ) (states : List StateView) → 1 ≤ times_in k states → StandTogether states k k
 held k [] some = absurd (omega arith)

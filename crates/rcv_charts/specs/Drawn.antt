@@ -1,5 +1,5 @@
 -- What contracts see of a drawing, and how it grows.
-use Rattle.std.specs.Prelude.{ℕ, ◌+◌, min, List, [], ◌∷◌, ◌++◌}
+use Rattle.std.specs.Prelude.{ℕ, ◌+◌, min, List, ◌++◌}
 use Rattle.rcv_picture.specs.declared.group.Group.{Group}
 
 -- The groups that have a title, and how far down it goes.

@@ -89,7 +89,10 @@ fn tag_of(
         place(left, top),
     ];
     let ground = path(chart.alloc, &corners, Look::Tag)?;
-    Ok((ground, text(left + Pixels(7), top + Pixels(14), Look::Bold, tag)))
+    Ok((
+        ground,
+        text(left + Pixels(7), top + Pixels(14), Look::Bold, tag),
+    ))
 }
 
 // A frame between these heights, with its tag. Fails where memory runs out.

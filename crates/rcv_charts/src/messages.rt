@@ -141,8 +141,16 @@ fn arrow(
     let from = columns.middle(message.sender);
     let to = columns.middle(message.receiver);
     let goes_right = from < to;
-    let start = if goes_right { from + Pixels(9) } else { from - Pixels(9) };
-    let end = if goes_right { to - Pixels(1) } else { to + Pixels(1) };
+    let start = if goes_right {
+        from + Pixels(9)
+    } else {
+        from - Pixels(9)
+    };
+    let end = if goes_right {
+        to - Pixels(1)
+    } else {
+        to + Pixels(1)
+    };
     let words = message.shown(alloc)?;
     let above = y - Pixels(4);
     let label = if goes_right {

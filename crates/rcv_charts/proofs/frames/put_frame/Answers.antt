@@ -1,5 +1,5 @@
 -- The frame goes around what was drawn.
-use Rattle.std.proofs.Common.{◌∙◌, arith}
+use Rattle.std.proofs.Common.{◌∙◌}
 use Rattle.std.proofs.lemmas.Result.{on_ok_weaker}
 use Rattle.rcv_charts.proofs.Growth.{put_framed}
 use Rattle.rcv_charts.proofs.frames.put_frame.Goals as goal

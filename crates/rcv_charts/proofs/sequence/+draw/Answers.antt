@@ -1,12 +1,12 @@
 -- Statements are drawn one by one, and blocks.
-use Rattle.std.proofs.Common.{◌≡◌, ℕ, ◌+◌, ◌≤◌, List, [], ◌∷◌, length, drop, codes, refl, sym, ◌∙◌, ap, subst, arith}
+use Rattle.std.proofs.Common.{ℕ, ◌+◌, List, drop, codes, sym, ◌∙◌, ap, subst, arith}
 use Rattle.std.proofs.lemmas.Result.{on_ok_weaker}
-use Rattle.rcv_model.specs.Text.{Body, End, Single, Choose, Loop, Again, Parallel, Bodies, NoMore, Or, body_of, bodies_of, stmt_body, body_from, bodies_from}
-use Rattle.rcv_model.proofs.Text.{body_of_lem, bodies_of_lem, stmt_body-Message, stmt_body-Choice, stmt_body-Rec, stmt_body-Continue, stmt_body-Par}
+use Rattle.rcv_model.specs.Text.{Body, Single, Again, Bodies, body_of, bodies_of, stmt_body, body_from, bodies_from}
+use Rattle.rcv_model.proofs.Text.{bodies_of_lem, stmt_body-Message, stmt_body-Continue}
 use Rattle.rcv_charts.specs.Drawn.{DrawingView}
-use Rattle.rcv_charts.specs.Chart.{Draws, DrawsBlocks, DrawsBehind, SoFar, AddsStatement, AddsBody, AddsBlocks, AddsFrame}
+use Rattle.rcv_charts.specs.Chart.{Draws, DrawsBlocks, DrawsBehind, SoFar, LanesSoFar, AddsBody, AddsFrame}
 use Rattle.rcv_charts.proofs.Stepping.{stmt_next, block_next, none_left}
-use Rattle.rcv_charts.proofs.Growth.{none_yet, one_statement, all_statements, first_block, next_block, all_blocks, blocks_low, body_low, lanes_low, one_lane, adds_same, one_message, one_continue, one_choice, one_loop, one_par}
+use Rattle.rcv_charts.proofs.Growth.{one_statement, all_statements, first_block, next_block, all_blocks, blocks_low, body_low, lanes_low, one_lane, next_lane, all_lanes, adds_same, one_message, one_continue, one_choice, one_loop, one_par}
 use Rattle.rcv_charts.proofs.sequence.+draw.Goals as goal
 
 pub draw_block-loop-stmt-preserved : goal.draw_block-loop-stmt-preserved
@@ -15,7 +15,7 @@ draw_block-loop-stmt-preserved t c =
     let body = body_of c.args.block.now in
     let items = c.as_slice-stmt-items.result.now in
     let i = c.loop-stmt.stmt-index in
-    one_statement roles (Draws roles body) (stmt_body c.stmt-item.result) (body_from (drop (i + 1) items)) c.args.drawing.now c.loop-stmt.drawing c.go_into-framed.new.drawing c.draw_stmt.new.drawing
+    one_statement roles (Draws roles body) (stmt_body c.stmt-item.result) (body_from (drop (i + 1) items)) c.args.drawing.now c.loop-stmt.drawing c.go_into.new.drawing c.draw_stmt.new.drawing
     (subst (λ (x : Body). SoFar (Draws roles body) (Draws roles x) c.args.drawing.now c.loop-stmt.drawing) (stmt_next items i c.stmt-item.result c.loop-stmt-test.true c.stmt-item.is) c.loop-stmt.invariant)
     c.in_ok-framed.ensures c.in_ok-draw_stmt.ensures
 
@@ -38,14 +38,14 @@ draw_blocks-loop-block-preserved t c =
     let b = c.block-item.result in
     next_block roles (DrawsBlocks roles word bodies) word (body_of b) (bodies_from (drop (i + 1) items)) c.args.drawing.now c.loop-block.drawing c.draw_divider.new.drawing c.draw_block-in-loop-block.new.drawing
     (subst (λ (bs : Bodies). SoFar (DrawsBlocks roles word bodies) (DrawsBehind roles word bs) c.args.drawing.now c.loop-block.drawing) (block_next items i b c.loop-block-test.true c.block-item.is) c.loop-block.invariant)
-    c.in_ok-draw_divider.ensures c.in_ok-draw_block-in-loop-block.ensures
+    c.in_ok-draw_divider.ensures c.in_ok-draw_block-2.ensures
 
 pub draw_block-returns : goal.draw_block-returns
 draw_block-returns t c =
     let roles = c.args.chart.now.roles.now in
     let body = body_of c.args.block.now in
     let items = c.as_slice-stmt-items.result.now in
-    all_statements roles body c.args.drawing.now c.loop-stmt.drawing c.go_into.new.drawing
+    all_statements roles body c.args.drawing.now c.loop-stmt.drawing c.go_into-2.new.drawing
     (subst (λ (x : Body). SoFar (Draws roles body) (Draws roles x) c.args.drawing.now c.loop-stmt.drawing) (ap (λ l. body_from l) (none_left items c.loop-stmt.stmt-index c.loop-stmt-test.false)) c.loop-stmt.invariant)
     c.in_ok-go_into.ensures
 
@@ -110,10 +110,25 @@ draw_lane-returns t c =
     c.go_to.ensures (omega (arith, c.max.ensures)) (omega (arith, c.max.ensures, c.down.ensures))
 
 pub draw_beside-loop-block-preserved : goal.draw_beside-loop-block-preserved
-draw_beside-loop-block-preserved t c = ?
+draw_beside-loop-block-preserved t c =
+    let roles = c.args.chart.now.roles.now in
+    let whole = bodies_of c.args.blocks.now in
+    let items = c.in-Some.others.now in
+    let i = c.loop-block.block-index in
+    let b = c.block-item.result in
+    next_lane roles whole (body_of b) (bodies_from (drop (i + 1) items)) c.loop-block.end.0 c.max.result c.in_ok-end-2.end.0 c.args.drawing.now c.loop-block.drawing c.draw_and.new.drawing c.go_to.new.self c.draw_lane-in-loop-block.new.drawing
+    (subst (λ (bs : Bodies). LanesSoFar roles whole bs c.loop-block.end.0 c.args.drawing.now c.loop-block.drawing) (block_next items i b c.loop-block-test.true c.block-item.is) c.loop-block.invariant)
+    c.in_ok-draw_and.ensures (omega (arith, c.max.ensures)) (omega (arith, c.max.ensures, c.down.ensures)) (ap (λ (d : DrawingView). d.groups) c.go_to.ensures) (ap (λ (d : DrawingView). d.down) c.go_to.ensures ∙ c.down-top.ensures) c.in_ok-end-2.ensures
 
 pub draw_beside-returns : goal.draw_beside-returns
-draw_beside-returns t c = ?
+draw_beside-returns t c =
+    let roles = c.args.chart.now.roles.now in
+    let whole = bodies_of c.args.blocks.now in
+    on_ok_weaker c.draw_sides.result
+    (λ same. all_lanes roles whole c.loop-block.end.0 c.args.drawing.now c.loop-block.drawing c.draw_sides.new.drawing
+    (subst (λ (bs : Bodies). LanesSoFar roles whole bs c.loop-block.end.0 c.args.drawing.now c.loop-block.drawing) (ap (λ l. bodies_from l) (none_left c.in-Some.others.now c.loop-block.block-index c.loop-block-test.false)) c.loop-block.invariant)
+    (ap (λ (d : DrawingView). d.groups) (same ∙ c.go_to-2.ensures)) (ap (λ (d : DrawingView). d.down) (same ∙ c.go_to-2.ensures)))
+    c.draw_sides.ensures
 
 pub draw_stmt-returns-in-Message : goal.draw_stmt-returns-in-Message
 draw_stmt-returns-in-Message t c =

@@ -1,4 +1,4 @@
-use Rattle.std.proofs.Common.{◌≡◌, drop}
+use Rattle.std.proofs.Common.{drop}
 use Rattle.rcv_model.specs.Text.{body_of, bodies_of, body_from, bodies_from}
 use Rattle.rcv_charts.specs.Chart.{Draws, DrawsBlocks, DrawsBehind, SoFar, LanesSoFar}
 use Rattle.rcv_charts.proofs.sequence.+draw.Given as goal

@@ -1,5 +1,5 @@
 -- A place more in a state, or a state more.
-use Rattle.std.proofs.Common.{List, ℕ, ◌≡◌, ◌<◌, length, [], ◌∷◌, ◌++◌, sym, ◌∙◌, ap, subst, arith}
+use Rattle.std.proofs.Common.{List, ◌≡◌, ◌<◌, length, [], ◌∷◌, ◌++◌, sym, ◌∙◌, ap, subst}
 use Rattle.std.specs.Prelude.{position, slice_set, slice_index_or}
 use Rattle.std.proofs.lemmas.Result.{on_ok_weaker}
 use Rattle.rcv_project.specs.Act.{owned_view}

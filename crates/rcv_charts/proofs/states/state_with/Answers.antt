@@ -1,6 +1,6 @@
 -- The place is in the state that was found.
 use Rattle.std.proofs.Common.{[], sym, ◌∙◌, subst}
-use Rattle.std.specs.Prelude.{◌==◌, ◌<◌, length, slice_index_or}
+use Rattle.std.specs.Prelude.{◌==◌, ◌<◌, length}
 use Rattle.std.specs.List.{list_any}
 use Rattle.rcv_model.specs.Net.{IsIn}
 use Rattle.rcv_project.specs.Act.{Ended}

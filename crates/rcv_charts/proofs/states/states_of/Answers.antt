@@ -1,5 +1,5 @@
 -- Each point of the role is one place more.
-use Rattle.std.proofs.Common.{◌≡◌, ◌+◌, ◌≤◌, refl, sym, ◌∙◌, ap, subst, inl, inr, arith}
+use Rattle.std.proofs.Common.{◌+◌, ◌≤◌, refl, sym, ◌∙◌, ap, subst, inl, inr, arith}
 use Rattle.rcv_model.specs.Next.{IsPlaceOf}
 use Rattle.rcv_model.proofs.Forms.{proper}
 use Rattle.rcv_accept.specs.Accepted.{net_for, text_of, roles_of}
@@ -32,10 +32,10 @@ loop-before-preserved c =
     let own = c.is_own_place.ensures ∙ ap (λ r. is_own net r (n + 1)) c.role-role.ensures in
     elim c.if-is_own_place.branch [
       | then-is_own_place+in_ok-add-2 w ↦
-        let mine = sym own ∙ w.if-is_own_place.true in
-        let here : IsPlaceOf net local.role (n + 1) = inr (low, high, own_of net local.role (n + 1) mine) in
-        let is = own_act net local.role local (n + 1) c.requires (has_place net local.role local (n + 1) c.requires here) here in
-        own_place net local.role n (act_at local (n + 1)) c.loop-before.states.items c.if-is_own_place.states.items c.loop-before.invariant mine (ap (λ states. states.items) w.states-is ∙ w.in_ok-add-2.ensures) is (act_in_text net (roles_of c.args.accepted.now) local.role (n + 1) (act_at local (n + 1)) form is)
+          let mine = sym own ∙ w.if-is_own_place.true in
+          let here : IsPlaceOf net local.role (n + 1) = inr (low, high, own_of net local.role (n + 1) mine) in
+          let is = own_act net local.role local (n + 1) c.requires (has_place net local.role local (n + 1) c.requires here) here in
+          own_place net local.role n (act_at local (n + 1)) c.loop-before.states.items c.if-is_own_place.states.items c.loop-before.invariant mine (ap (λ states. states.items) w.states-is ∙ w.in_ok-add-2.ensures) is (act_in_text net (roles_of c.args.accepted.now) local.role (n + 1) (act_at local (n + 1)) form is)
       | else-is_own_place w ↦
-        subst (λ states. AreMadeTo net local.role (n + 1) states.items) (sym w.states-is) (no_place net local.role n c.loop-before.states.items c.loop-before.invariant (sym own ∙ w.if-is_own_place.false))
+          subst (λ states. AreMadeTo net local.role (n + 1) states.items) (sym w.states-is) (no_place net local.role n c.loop-before.states.items c.loop-before.invariant (sym own ∙ w.if-is_own_place.false))
     ]
