@@ -66,7 +66,7 @@ fn draw_legend(alloc: Global, shapes: &mut Vec<Shape>, y: Pixels) -> Result<(), 
     let fails = Vec::from_slice(alloc, b"the role that fails")?;
     shapes.push(text(Pixels(44), base, Look::Note, fails))?;
     shapes.push(pill(190, Look::LostPill))?;
-    let concerned = Vec::from_slice(alloc, b"also goes back")?;
+    let concerned = Vec::from_slice(alloc, b"may go back")?;
     shapes.push(text(Pixels(218), base, Look::Note, concerned))?;
     let from = place(Pixels(330), top);
     let to = place(Pixels(330), y + Pixels(5));

@@ -14,8 +14,7 @@ use Rattle.std.specs.declared.alloc.Global.{Global}
 use Rattle.std.specs.declared.vec.Vec.{Vec}
 use Rattle.rcv_explain.specs.Explained.{IsToldOf}
 use Rattle.rcv_accept.specs.Accepted.{net_for}
-use Rattle.rcv_charts.specs.StateTitles.{AreTitlesOf}
-use Rattle.rcv_charts.specs.Titles.{titles_of}
+use Rattle.rcv_charts.specs.Machine.{IsMachine}
 use Rattle.rcv_picture.specs.declared.picture.Picture.{Picture}
 use Rattle.rcv_look.specs.declared.output.Output.{Output}
 use Rattle.rcv_look.specs.declared.status.Status.TheVariants as statuses
@@ -45,12 +44,12 @@ module _ {E : Type 0} (result : Result Output E) where
       go (Err e) status text = tt
 
   -- a role's picture, or the line for one that isn't declared
-  pub role_drawn : (protocol : Protocol) (name : List ℕ) (role : ℕ) (picture : Picture) → place_of protocol.roles name ≡ Some role → AreTitlesOf (net_for (accepted_as protocol)) role (titles_of picture)
+  pub role_drawn : (protocol : Protocol) (name : List ℕ) (role : ℕ) (picture : Picture) → place_of protocol.roles name ≡ Some role → IsMachine protocol.roles (net_for (accepted_as protocol)) role picture
       → IfOk result (λ output. output.status ≡ statuses.Drawn) → IfOk result (λ output. IsTextOf picture output.bytes.items) → Makes (IsRoleAnswer (IsRoleDrawing protocol) protocol name) result
-  role_drawn protocol name role picture is titled status text = go result status text
+  role_drawn protocol name role picture is machine status text = go result status text
     where
       go : (r : Result Output E) → IfOk r (λ output. output.status ≡ statuses.Drawn) → IfOk r (λ output. IsTextOf picture output.bytes.items) → Makes (IsRoleAnswer (IsRoleDrawing protocol) protocol name) r
-      go (Ok output) status text = inl (role, is, status, record { picture = picture; titled = titled; is_text = text })
+      go (Ok output) status text = inl (role, is, status, record { picture = picture; machine = machine; is_text = text })
       go (Err e) status text = tt
 
   pub no_role : (IsShown : ℕ → List ℕ → Type 0) (protocol : Protocol) (name : List ℕ) → place_of protocol.roles name ≡ None

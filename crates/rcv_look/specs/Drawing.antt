@@ -27,8 +27,9 @@ use Rattle.rcv_rows.specs.Told.{Tells}
 use Rattle.rcv_scene.specs.Told.{told, AreTitled}
 use Rattle.rcv_charts.specs.Titles.{titles_of}
 use Rattle.rcv_charts.specs.RowTitles.{table_titles}
-use Rattle.rcv_charts.specs.StateTitles.{AreTitlesOf}
-use Rattle.rcv_charts.specs.MessageTitles.{message_titles}
+use Rattle.rcv_charts.specs.Machine.{IsMachine}
+use Rattle.rcv_charts.specs.Chart.{IsChart}
+use Rattle.rcv_charts.specs.Statements.{statement_titles}
 use Rattle.rcv_look.specs.declared.status.Status.{Status}
 use Rattle.rcv_look.specs.declared.status.Status.TheVariants.{Drawn, Refused}
 
@@ -69,18 +70,19 @@ pub record IsTableDrawing (protocol : Protocol) (bytes : List ℕ) : Type 0 wher
   pub titled : titles_of picture ≡ table_titles (net_for (accepted_as protocol)) protocol.roles table
   pub is_text : IsTextOf picture bytes
 
--- The bytes are a picture of the machine of a role: its states hold each place of the role once, and have these places
--- as their titles.
+-- The bytes are a picture of the machine of a role: places are one state exactly if the role does the same at them, each state
+-- has a box with its steps, and each step a wire to the state that it leads to.
 pub record IsRoleDrawing (protocol : Protocol) (role : ℕ) (bytes : List ℕ) : Type 0 where
   pub picture : Picture
-  pub titled : AreTitlesOf (net_for (accepted_as protocol)) role (titles_of picture)
+  pub machine : IsMachine protocol.roles (net_for (accepted_as protocol)) role picture
   pub is_text : IsTextOf picture bytes
 
--- The bytes are a picture of a protocol: its messages have their points, labels and ends as their titles, in text
--- order.
+-- The bytes are a picture of a protocol: each statement is drawn once, in text order, further down than the one before it and
+-- between the edges of its frames; and its title says it.
 pub record IsProtocolDrawing (protocol : Protocol) (bytes : List ℕ) : Type 0 where
   pub picture : Picture
-  pub titled : titles_of picture ≡ message_titles protocol.roles (body_of protocol.body)
+  pub chart : IsChart protocol.roles (body_of protocol.body) picture
+  pub titled : titles_of picture ≡ statement_titles protocol.roles (body_of protocol.body)
   pub is_text : IsTextOf picture bytes
 
 -- The place of a name among others, counted from 0.
