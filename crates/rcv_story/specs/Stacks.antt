@@ -4,7 +4,9 @@ use Rattle.std.specs.declared.alloc.Global.{Global}
 use Rattle.std.specs.declared.vec.Vec.{Vec}
 use Rattle.rcv_tree.specs.Bits.{has_bit}
 use Rattle.rcv_tree.specs.declared.role.RoleSet.{RoleSet}
+use Rattle.rcv_tree.specs.declared.event.Event.{Event}
 use Rattle.rcv_tree.specs.declared.entry.Entry.{Entry}
+use Rattle.rcv_tree.specs.declared.entry.Entry.TheVariants.{Send}
 use Rattle.rcv_model.specs.Net.{Net, IsIn}
 use Rattle.rcv_fates.specs.Fates.{IsMessage}
 use Rattle.rcv_story.specs.declared.undoing.Undoing.{Undoing}
@@ -51,6 +53,10 @@ pub record AreUndone (entries : List Entry) (undone : List (Option ℕ)) : Type 
 pub record IsUndoing (entries : List Entry) (found : Undoing) : Type 0 where
   pub undone : AreUndone entries found.undone.items
   pub recoveries : AreRecoveries entries found.recoveries.items
+
+-- The entry is a Send.
+abbrev pub IsSend : Entry → Type 0
+IsSend x = (e : Event) × (x ≡ Send e)
 
 -- The message from place s is received at a place that shares its fate.
 pub record IsMet (net : Net) (entries : List Entry) (undone : List (Option ℕ)) (s : ℕ) : Type 0 where

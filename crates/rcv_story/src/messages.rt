@@ -1,14 +1,44 @@
 // The messages that nobody has: those that a Recover drops, and those that wait.
 
-ghost use Rattle.std.specs.Prelude.{◌≡◌, length, IfOk};
+ghost use Rattle.std.specs.Prelude.{◌≡◌, ◌↔◌, ℕ, false, None, Some, length, IsTrue, IfOk};
 ghost use Rattle.rcv_session.specs.Session.{net_for};
 ghost use Rattle.rcv_story.specs.Messages.{AreDropped, AreWaiting};
-ghost use Rattle.rcv_story.specs.Stacks.{AreMet, AreUndone};
+ghost use Rattle.rcv_story.specs.Stacks.{IsSend, AreMet, AreUndone};
 
 use crate::story::Dropped;
 use rcv_fates::Record;
 use rcv_tree::entry::Entry;
 use std::alloc::{AllocError, Global};
+
+// Which Recover drops the message of an entry, if one does: it undoes the Send, which shares its fate with no Recv.
+fn dropped_by(entry: &Entry, met: bool, undone: Option<u32>) -> Option<u32>
+    ensures { (q : ℕ) → (result ≡ Some q) ↔ (IsSend entry.now × (met ≡ false) × (undone ≡ Some q)) }
+{
+    match entry {
+        Entry::Send(_) => {
+            if met {
+                None
+            } else {
+                undone
+            }
+        }
+        Entry::Recv(_) => None,
+        Entry::Crash(_) => None,
+        Entry::Recover { .. } => None,
+    }
+}
+
+// Whether an entry is a Send that nobody undoes, and that shares its fate with no Recv.
+fn is_waiting(entry: &Entry, met: bool, undone: Option<u32>) -> bool
+    ensures { IsTrue result ↔ (IsSend entry.now × (met ≡ false) × (undone ≡ None)) }
+{
+    match entry {
+        Entry::Send(_) => !met && undone.is_none(),
+        Entry::Recv(_) => false,
+        Entry::Crash(_) => false,
+        Entry::Recover { .. } => false,
+    }
+}
 
 /// The messages that Recovers drop, in the order of their Sends: `undone` says which Recover undoes an entry, and `met`
 /// which Sends share their fate with a Recv. Fails if memory runs out.
@@ -24,11 +54,9 @@ pub fn dropped_of(
 {
     let mut dropped = Vec::new(alloc);
     for (place, entry) in record.entries().iter().enumerate() {
-        if matches!(entry, Entry::Send(_)) && !met[place] {
-            if let Some(recover) = undone[place] {
-                let send = place as u32;
-                dropped.push(Dropped { send, recover })?;
-            }
+        if let Some(recover) = dropped_by(entry, met[place], undone[place]) {
+            let send = place as u32;
+            dropped.push(Dropped { send, recover })?;
         }
     }
     Ok(dropped)
@@ -47,7 +75,7 @@ pub fn waiting_of(
 {
     let mut waiting = Vec::new(alloc);
     for (place, entry) in record.entries().iter().enumerate() {
-        if matches!(entry, Entry::Send(_)) && !met[place] && undone[place].is_none() {
+        if is_waiting(entry, met[place], undone[place]) {
             waiting.push(place as u32)?;
         }
     }

@@ -1,6 +1,6 @@
 // Which Sends share their fate with a Recv of their message: both are kept, or one Recover undoes both.
 
-ghost use Rattle.std.specs.Prelude.{◌≡◌, length, IfOk};
+ghost use Rattle.std.specs.Prelude.{◌≡◌, ◌↔◌, length, IsTrue, IfOk};
 ghost use Rattle.rcv_session.specs.Session.{net_for};
 ghost use Rattle.rcv_fates.specs.Fates.{AreArrows};
 ghost use Rattle.rcv_story.specs.Stacks.{AreMet};
@@ -8,6 +8,13 @@ ghost use Rattle.rcv_story.specs.Stacks.{AreMet};
 use crate::receipts::filled;
 use rcv_fates::{Arrow, Record};
 use std::alloc::{AllocError, Global};
+
+// Whether two entries share their fate.
+fn is_same(one: Option<u32>, other: Option<u32>) -> bool
+    ensures { IsTrue result ↔ (one ≡ other) }
+{
+    one == other
+}
 
 /// For each entry whether it is such a Send. Fails if memory runs out.
 pub fn met_of(
@@ -22,7 +29,7 @@ pub fn met_of(
 {
     let mut met = filled(alloc, record.entries().len(), false)?;
     for arrow in arrows {
-        if undone[arrow.receive as usize] == undone[arrow.send as usize] {
+        if is_same(undone[arrow.receive as usize], undone[arrow.send as usize]) {
             met[arrow.send as usize] = true;
         }
     }

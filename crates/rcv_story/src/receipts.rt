@@ -13,7 +13,7 @@ pub fn filled<T: Copy>(alloc: Global, count: usize, item: T) -> Result<Vec<T>, A
     ensures { IfOk result (λ items. items.items ≡ replicate count item) }
 {
     let mut items = Vec::new(alloc);
-    for _ in 0..count {
+    for _number in 0..count {
         items.push(item)?;
     }
     Ok(items)

@@ -14,7 +14,7 @@ pub fn no_stacks(alloc: Global) -> Result<Stacks, AllocError>
     ensures { IfOk result (λ stacks. lists_in stacks.items ≡ replicate 8 []) }
 {
     let mut stacks = Vec::new(alloc);
-    for _role in 0..8 {
+    for _role in 0..8_u8 {
         stacks.push(Vec::new(alloc))?;
     }
     Ok(stacks)
@@ -62,7 +62,7 @@ pub fn lasts_of(stacks: &Stacks) -> [Option<u32>; 8]
 {
     let mut lasts = [None; 8];
     for role in 0..8 {
-        lasts[role as usize] = stacks[role as usize].last().copied();
+        lasts[role] = stacks[role].last().copied();
     }
     lasts
 }

@@ -1,0 +1,7 @@
+pub mod Places
+pub mod Keeping
+pub mod Passing
+pub mod Marking
+pub mod Receiving
+pub mod Dropping
+pub mod Sound
