@@ -1,8 +1,8 @@
 -- Going over the entries: the messages that Recovers drop, and those that wait.
-use Rattle.std.proofs.Common.{◌≡◌, ℕ, zero, suc, ◌+◌, ◌-◌, ◌<◌, ◌≤◌, Bool, true, false, Option, Some, None, List, [], ◌∷◌, ◌++◌, length, refl, sym, ◌∙◌, ap, subst, ◌⊎◌, inl, inr, ⊎_elim, arith, length-append}
-use Rattle.std.specs.Prelude.{slice_get}
-use Rattle.std.proofs.lemmas.Bool.{cases_lt}
-use Rattle.std.proofs.lemmas.Option.{slice_get_within}
+use Rattle.std.proofs.Common.{◌≡◌, ℕ, zero, suc, ◌+◌, ◌-◌, ◌<◌, ◌≤◌, Bool, true, false, cond, Option, Some, None, List, [], ◌∷◌, ◌++◌, length, refl, sym, ◌∙◌, ap, subst, ◌⊎◌, inl, inr, ⊎_elim, arith, length-append}
+use Rattle.std.specs.Prelude.{◌↔◌, slice_get, slice_index_or, MatchOption}
+use Rattle.std.proofs.lemmas.Bool.{cases_lt, cases_Bool, false≢true}
+use Rattle.std.proofs.lemmas.Option.{slice_get_within, slice_get-get_or}
 use Rattle.rcv_tree.specs.declared.event.Event.{Event}
 use Rattle.rcv_tree.specs.declared.entry.Entry.{Entry}
 use Rattle.rcv_tree.specs.declared.entry.Entry.TheVariants.{Send}
@@ -13,7 +13,7 @@ use Rattle.rcv_fates.specs.Fates.{IsMessage}
 use Rattle.rcv_story.specs.declared.story.Dropped.{Dropped}
 use Rattle.rcv_story.specs.Kept.{IsUndoneBy, IsKeptPlace}
 use Rattle.rcv_story.specs.Messages.{IsDropped, IsWaiting, AreDropped, AreWaiting, dropped_of}
-use Rattle.rcv_story.specs.Stacks.{IsMet, AreMet, AreUndone}
+use Rattle.rcv_story.specs.Stacks.{IsSend, IsMet, AreMet, AreUndone}
 use Rattle.rcv_story.proofs.Keeping.{end_either, kept_or_undone}
 use Rattle.rcv_story.proofs.Receiving.{recv_within}
 
@@ -144,6 +144,43 @@ module _ (net : Net) (entries : List Entry) (k : ℕ) where
         let m = (meets.each k).0 at in
         let none : slice_get undone m.t ≡ Some None = m.same ∙ waiting_none w in
         w.unmet m.t m.message (⊎_elim (λ kept. kept) (λ u. absurd (let f : (let o : Option ℕ = None in o) ≡ Some u.0 = some_same (sym none ∙ (who.each m.t u.0).1 u.1) in cc)) (end_either entries m.t m.message.got (inr m.message.recv_at) (recv_within net entries k m.t m.message)))
+
+    -- the entry's own mark, and who undoes it
+    met_at : k < length entries → slice_get met k ≡ Some (slice_index_or met k false)
+    met_at lt = slice_get-get_or met k false (let s = meets.size in omega (arith, s, lt))
+
+    undone_at : k < length entries → slice_get undone k ≡ Some (slice_index_or undone k None)
+    undone_at lt = slice_get-get_or undone k None (let s = who.size in omega (arith, s, lt))
+
+    lone_at : k < length entries → slice_index_or met k false ≡ false → slice_get met k ≡ Some true → ⊥
+    lone_at lt lone at = false≢true (sym lone ∙ some_same (sym (met_at lt) ∙ at))
+
+    not_met : k < length entries → (slice_get met k ≡ Some true → ⊥) → slice_index_or met k false ≡ false
+    not_met lt lone = ⊎_elim (λ t. absurd (lone (met_at lt ∙ ap Some t))) (λ f. f) (cases_Bool (slice_index_or met k false))
+
+    pub dropped_step : (x : Entry) (o : Option ℕ) (xs : List Dropped) → slice_get entries k ≡ Some x
+        → ((q : ℕ) → (o ≡ Some q) ↔ (IsSend x × (slice_index_or met k false ≡ false) × (slice_index_or undone k None ≡ Some q)))
+        → HasDropped net entries k xs → MatchOption o (HasDropped net entries (k + 1) xs) (λ q. HasDropped net entries (k + 1) (xs ++ dropped_of k q ∷ []))
+    dropped_step x None xs at says has = dropped_other xs has (λ q d.
+        let lt = slice_get_within entries k x at in
+        let f : (let o : Option ℕ = None in o) ≡ Some q = (says q).1 ((d.event, some_same (sym at ∙ d.send_at)), not_met lt (dropped_lone q d), some_same (sym (undone_at lt) ∙ dropped_by q d)) in
+        cc)
+    dropped_step x (Some q) xs at says has =
+        let lt = slice_get_within entries k x at in
+        let said = (says q).0 refl in
+        dropped_more xs q has (dropped_is said.0.0 q (at ∙ ap Some said.0.1) (lone_at lt said.1) (undone_at lt ∙ ap Some said.2))
+        (λ o d. let f : Some o ≡ Some q = sym (some_same (sym (undone_at lt) ∙ dropped_by o d)) ∙ said.2 in some_same f)
+
+    pub waiting_step : (x : Entry) (b : Bool) (xs : List ℕ) → slice_get entries k ≡ Some x
+        → (b ≡ true) ↔ (IsSend x × (slice_index_or met k false ≡ false) × (slice_index_or undone k None ≡ None))
+        → HasWaiting net entries k xs → HasWaiting net entries (k + 1) (cond b (xs ++ k ∷ []) xs)
+    waiting_step x false xs at says has = waiting_other xs has (λ w.
+        let lt = slice_get_within entries k x at in
+        false≢true (says.1 ((w.event, some_same (sym at ∙ w.send_at)), not_met lt (waiting_lone w), some_same (sym (undone_at lt) ∙ waiting_none w))))
+    waiting_step x true xs at says has =
+        let lt = slice_get_within entries k x at in
+        let said = says.0 refl in
+        waiting_more xs has (waiting_is said.0.0 (at ∙ ap Some said.0.1) (lone_at lt said.1) (undone_at lt ∙ ap Some said.2))
 
 pub all_dropped : (net : Net) (entries : List Entry) (k : ℕ) (xs : List Dropped) → length entries ≤ k → HasDropped net entries k xs → AreDropped net entries xs
 all_dropped net entries k xs over has = record {
