@@ -5,3 +5,4 @@ pub mod Marking
 pub mod Receiving
 pub mod Dropping
 pub mod Sound
+pub mod Going
