@@ -6,3 +6,4 @@ pub mod Receiving
 pub mod Dropping
 pub mod Sound
 pub mod Going
+pub mod Showing

@@ -150,11 +150,14 @@ module _ (entries : List Entry) (k p : ℕ) (concerned : RoleSet) (keeps : List 
 
   undone_taken : (o : ℕ) → AreFew entries → IsUndoneBy entries o k → IsTaken concerned keeps lists 8 o
   undone_taken o few u =
-      let low = few u.role o (undone_stands entries o k u).1 in
-      (u.role, low, ⊎_elim
-      (λ i. absurd (u.lost (subst (IsIn o) (sym (cut_is u.role low)) i)))
-      (λ i. i)
-      (in_parts (left_count concerned keeps u.role (length (stack_at lists u.role))) o (stack_at lists u.role) (subst (IsIn o) (sym (has.each u.role low)) u.had)))
+      let low = few u.role o (undone_stands entries o k u).1 in (
+        u.role,
+        low,
+        ⊎_elim
+            (λ i. absurd (u.lost (subst (IsIn o) (sym (cut_is u.role low)) i)))
+            (λ i. i)
+            (in_parts (left_count concerned keeps u.role (length (stack_at lists u.role))) o (stack_at lists u.role) (subst (IsIn o) (sym (has.each u.role low)) u.had)),
+      )
 
   undone_recover : (undone more : List (Option ℕ)) → AreFew entries → HasUndone entries k undone → AreMarked (IsTaken concerned keeps lists 8) k (undone ++ None ∷ []) more → HasUndone entries (k + 1) more
   undone_recover undone more few old marked = record {

@@ -202,13 +202,13 @@ module _ (net : Net) (entries : List Entry) (arrows : List Arrow) (are : AreArro
     each = λ t. (
       (λ at. has.sound t at),
       (λ x.
-      let i = are.complete x.send x.earlier x.other in
-      let j = are.complete x.send t x.this in
-      let lt : i.0 < j.0 = ⊎_elim
+          let i = are.complete x.send x.earlier x.other in
+          let j = are.complete x.send t x.this in
+          let lt : i.0 < j.0 = ⊎_elim
           (λ (same : i.0 ≡ j.0). absurd (let f = same_arrow arrows j.0 (arrow x.send x.earlier) (arrow x.send t) (subst (λ (m : ℕ). slice_get arrows m ≡ Some (arrow x.send x.earlier)) same i.1) j.1 in let g = ap (λ (a : Arrow). a.receive) f in let b = x.before in omega (arith, g, b)))
           (λ s. ⊎_elim (λ low. low) (λ high. absurd (let a = are.ascending j.0 i.0 (arrow x.send t) (arrow x.send x.earlier) high j.1 i.1 in let b = x.before in omega (arith, a, b))) s)
           (cases_order i.0 j.0) in
-      has.complete i.0 j.0 (arrow x.send x.earlier) (arrow x.send t) lt (counted j.0 (arrow x.send t) j.1) i.1 j.1 refl),
+          has.complete i.0 j.0 (arrow x.send x.earlier) (arrow x.send t) lt (counted j.0 (arrow x.send t) j.1) i.1 j.1 refl),
     );
   }
 

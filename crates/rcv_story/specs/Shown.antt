@@ -45,7 +45,7 @@ abbrev pub IsNear : Recovery → ℕ → Type 0
 IsNear x p =
     IsAround x.place near far p
     ⊎ (((c : ℕ) × (x.crash ≡ Some c) × IsAround c far near p)
-    ⊎ ((r : ℕ) × (f : ℕ) × (slice_get x.firsts r ≡ Some (Some f)) × IsAround f beside beside p))
+    ⊎ ((r : ℕ) × (r < 8) × (f : ℕ) × (slice_index_or x.firsts r None ≡ Some f) × IsAround f beside beside p))
 
 -- What is near the recovery with number i, of so many, is shown.
 abbrev pub IsToldOf : ℕ → ℕ → Type 0

@@ -15,13 +15,7 @@ fn dropped_by(entry: &Entry, met: bool, undone: Option<u32>) -> Option<u32>
     ensures { (q : ℕ) → (result ≡ Some q) ↔ (IsSend entry.now × (met ≡ false) × (undone ≡ Some q)) }
 {
     match entry {
-        Entry::Send(_) => {
-            if met {
-                None
-            } else {
-                undone
-            }
-        }
+        Entry::Send(_) => { if met { None } else { undone } }
         Entry::Recv(_) => None,
         Entry::Crash(_) => None,
         Entry::Recover { .. } => None,

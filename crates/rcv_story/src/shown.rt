@@ -1,8 +1,8 @@
 // Which entries of a long journal are shown.
 
-ghost use Rattle.std.specs.Prelude.{◌≡◌, ◌↔◌, ◌<◌, ◌≤◌, ℕ, IsTrue, IfOk, length};
+ghost use Rattle.std.specs.Prelude.{◌≡◌, ◌↔◌, ◌⊎◌, ◌<◌, ℕ, IsTrue, IfOk, length};
 ghost use Rattle.rcv_story.specs.Marks.{IsMarked, AddsMarks, IsFromTo, HasMarked, IsBridged};
-ghost use Rattle.rcv_story.specs.Shown.{IsAround, IsNear, IsToldOf, ArePicked, AreShown};
+ghost use Rattle.rcv_story.specs.Shown.{IsAround, IsNear, IsToldOf, IsPicked, ArePicked, AreShown};
 
 use crate::receipts::filled;
 use crate::story::{Recovery, Story};
@@ -60,9 +60,9 @@ fn reveal_recovery(shown: &mut [bool], recovery: &Recovery)
     if let Some(crash) = recovery.crash {
         reveal_around(shown, crash, FAR, NEAR);
     }
-    for first in recovery.firsts.iter() {
+    for first in recovery.firsts {
         if let Some(first) = first {
-            reveal_around(shown, *first, BESIDE, BESIDE);
+            reveal_around(shown, first, BESIDE, BESIDE);
         }
     }
 }
@@ -75,18 +75,26 @@ fn is_told(count: usize, number: usize) -> bool
     count <= MOST_TOLD || number < FIRST_TOLD || count - number <= LAST_TOLD
 }
 
-// For each of so many entries whether it is at the beginning, at the end, or near a recovery.
+// Shows the beginning, the end, and what is near recoveries.
+fn pick(shown: &mut [bool], recoveries: &[Recovery])
+    ensures { AddsMarks (IsPicked (length shown.old) recoveries.now) shown.old shown.new }
+{
+    let count = shown.len();
+    reveal(shown, 0, ENDS);
+    reveal(shown, count.saturating_sub(ENDS), count);
+    for (number, recovery) in recoveries.iter().enumerate() {
+        if is_told(recoveries.len(), number) {
+            reveal_recovery(shown, recovery);
+        }
+    }
+}
+
+// For each of so many entries whether it is so shown.
 fn picked(alloc: Global, count: usize, recoveries: &[Recovery]) -> Result<Vec<bool>, AllocError>
     ensures { IfOk result (λ picked. ArePicked count recoveries.now picked.items) }
 {
     let mut picked = filled(alloc, count, false)?;
-    reveal(picked.as_mut_slice(), 0, ENDS);
-    reveal(picked.as_mut_slice(), count.saturating_sub(ENDS), count);
-    for (number, recovery) in recoveries.iter().enumerate() {
-        if is_told(recoveries.len(), number) {
-            reveal_recovery(picked.as_mut_slice(), recovery);
-        }
-    }
+    pick(picked.as_mut_slice(), recoveries);
     Ok(picked)
 }
 
@@ -115,6 +123,14 @@ fn is_bridged(marks: &[bool], place: usize) -> bool
     false
 }
 
+// Whether the entry at a place is shown, of a longer journal.
+fn is_shown(picked: &[bool], place: usize) -> bool
+    requires { place < length picked.now }
+    ensures { IsTrue result ↔ (IsMarked picked.now place ⊎ IsBridged picked.now place) }
+{
+    picked[place] || is_bridged(picked, place)
+}
+
 /// For each entry of a journal with this story whether it is shown; the others are folded. A journal of up to 160
 /// entries is shown whole. Of a longer one its beginning and its end are shown, and what is near recoveries: near all, or
 /// near the first four and the last two; and what is short between these. Fails if memory runs out.
@@ -132,7 +148,7 @@ pub fn shown_entries(
     let picked = picked(alloc, count, story.recoveries.as_slice())?;
     let mut shown = Vec::new(alloc);
     for place in 0..count {
-        shown.push(picked[place] || is_bridged(picked.as_slice(), place))?;
+        shown.push(is_shown(picked.as_slice(), place))?;
     }
     Ok(shown)
 }

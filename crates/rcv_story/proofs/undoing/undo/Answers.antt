@@ -25,8 +25,8 @@ loop-role-preserved c =
     let stack = c.as_slice-stack.result.now in
     let own = c.as_slice-stack.ensures.value ∙ own_list c.args.stacks.now.items role c.index.result.now c.index.result.now (omega (arith, low, eight)) c.index.ensures in
     let end : take (length stack - c.left_of-left.result) (drop c.left_of-left.result stack) ≡ drop (left_count c.args.concerned c.args.kept.now role (length (stack_at lists role))) (stack_at lists role) =
-        end_of c.left_of-left.result stack
-        ∙ ap (λ (n : ℕ). drop n stack) c.left_of-left.ensures
-        ∙ ap (λ (l : List ℕ). drop (left_count c.args.concerned c.args.kept.now role (length l)) l) own in
+    end_of c.left_of-left.result stack
+    ∙ ap (λ (n : ℕ). drop n stack) c.left_of-left.ensures
+    ∙ ap (λ (l : List ℕ). drop (left_count c.args.concerned c.args.kept.now role (length l)) l) own in
     taken_next c.args.concerned c.args.kept.now lists role c.args.recover c.args.undone.now.items c.loop-role.undone.items c.mark.new.undone.items c.loop-role.invariant
     (subst (λ (l : List ℕ). AreMarked (λ p. IsIn p l) c.args.recover c.loop-role.undone.items c.mark.new.undone.items) end c.mark.ensures)

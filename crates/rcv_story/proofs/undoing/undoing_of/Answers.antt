@@ -68,21 +68,27 @@ loop-place-preserved c =
     let xs = c.loop-place.recoveries.items in
     elim c.match-entry.branch [
       | in-Send+in_ok-put-in-Send w ↦
-          (let here = entry_here entries c.entries-entry-items.result.now k c.entry-item.result _ c.entries-entry-items.ensures.value c.loop-place-test.true c.entry-item.is w.in-Send.is in
-          (ap length w.crashes-is ∙ eight, pass_as entries (k + 1) _ _ _ _ _ _ _ _
-              (ap (λ v. lists_in v.items) w.stacks-is ∙ w.in_ok-put-in-Send.ensures) w.crashes-is (ap (λ v. v.items) w.undone-is ∙ c.in_ok-push.ensures.items) (ap (λ v. v.items) w.recoveries-is)
-              (pass_event entries k lists crashes undone xs pass w.in-Send.event (inl here) (event_low setup entries sound k w.in-Send.event (inl here)))))
+          (let here = entry_here entries c.entries-entry-items.result.now k c.entry-item.result _ c.entries-entry-items.ensures.value c.loop-place-test.true c.entry-item.is w.in-Send.is in (
+            ap length w.crashes-is ∙ eight,
+            pass_as entries (k + 1) _ _ _ _ _ _ _ _
+                (ap (λ v. lists_in v.items) w.stacks-is ∙ w.in_ok-put-in-Send.ensures) w.crashes-is (ap (λ v. v.items) w.undone-is ∙ c.in_ok-push.ensures.items) (ap (λ v. v.items) w.recoveries-is)
+                (pass_event entries k lists crashes undone xs pass w.in-Send.event (inl here) (event_low setup entries sound k w.in-Send.event (inl here))),
+          ))
       | in-Recv+in_ok-put-in-Recv w ↦
-          (let here = entry_here entries c.entries-entry-items.result.now k c.entry-item.result _ c.entries-entry-items.ensures.value c.loop-place-test.true c.entry-item.is w.in-Recv.is in
-          (ap length w.crashes-is ∙ eight, pass_as entries (k + 1) _ _ _ _ _ _ _ _
-              (ap (λ v. lists_in v.items) w.stacks-is ∙ w.in_ok-put-in-Recv.ensures) w.crashes-is (ap (λ v. v.items) w.undone-is ∙ c.in_ok-push.ensures.items) (ap (λ v. v.items) w.recoveries-is)
-              (pass_event entries k lists crashes undone xs pass w.in-Recv.event (inr here) (event_low setup entries sound k w.in-Recv.event (inr here)))))
+          (let here = entry_here entries c.entries-entry-items.result.now k c.entry-item.result _ c.entries-entry-items.ensures.value c.loop-place-test.true c.entry-item.is w.in-Recv.is in (
+            ap length w.crashes-is ∙ eight,
+            pass_as entries (k + 1) _ _ _ _ _ _ _ _
+                (ap (λ v. lists_in v.items) w.stacks-is ∙ w.in_ok-put-in-Recv.ensures) w.crashes-is (ap (λ v. v.items) w.undone-is ∙ c.in_ok-push.ensures.items) (ap (λ v. v.items) w.recoveries-is)
+                (pass_event entries k lists crashes undone xs pass w.in-Recv.event (inr here) (event_low setup entries sound k w.in-Recv.event (inr here))),
+          ))
       | in-Crash w ↦
           (let here = entry_here entries c.entries-entry-items.result.now k c.entry-item.result _ c.entries-entry-items.ensures.value c.loop-place-test.true c.entry-item.is w.in-Crash.is in
-          let noted = w.crashes-is ∙ ap (λ (r : ℕ). slice_set crashes r (Some k)) w.role.view_is in
-          (ap length noted ∙ length-set crashes w.in-Crash.role (Some k) ∙ eight, pass_as entries (k + 1) _ _ _ _ _ _ _ _
-              (ap (λ v. lists_in v.items) w.stacks-is) noted (ap (λ v. v.items) w.undone-is ∙ c.in_ok-push.ensures.items) (ap (λ v. v.items) w.recoveries-is)
-              (pass_crash entries k lists crashes undone xs pass w.in-Crash.role eight (crash_low setup entries sound k w.in-Crash.role here) here)))
+          let noted = w.crashes-is ∙ ap (λ (r : ℕ). slice_set crashes r (Some k)) w.role.view_is in (
+            ap length noted ∙ length-set crashes w.in-Crash.role (Some k) ∙ eight,
+            pass_as entries (k + 1) _ _ _ _ _ _ _ _
+                (ap (λ v. lists_in v.items) w.stacks-is) noted (ap (λ v. v.items) w.undone-is ∙ c.in_ok-push.ensures.items) (ap (λ v. v.items) w.recoveries-is)
+                (pass_crash entries k lists crashes undone xs pass w.in-Crash.role eight (crash_low setup entries sound k w.in-Crash.role here) here),
+          ))
       | in-Recover+in_ok-push-in-Recover w ↦
           (let here = entry_here entries c.entries-entry-items.result.now k c.entry-item.result _ c.entries-entry-items.ensures.value c.loop-place-test.true c.entry-item.is w.in-Recover.is in
           let p = w.in-Recover.role in
@@ -90,12 +96,14 @@ loop-place-preserved c =
           let keeps = w.in-Recover.kept in
           let more = w.cut.new.stacks.items in
           let crash = slice_index_or crashes w.role-in-Recover.inside.0 None in
-          let marked = subst (λ (l : List (Option ℕ)). AreMarked (IsTaken concerned keeps lists 8) k l w.undo.new.undone.items) c.in_ok-push.ensures.items w.undo.ensures in
-          (ap length w.crashes-is ∙ eight, pass_as entries (k + 1) _ _ _ _ _ _ _ _
-              (ap (λ v. lists_in v.items) w.stacks-is) w.crashes-is (ap (λ v. v.items) w.undone-is) (ap (λ v. v.items) w.recoveries-is ∙ w.in_ok-push-in-Recover.ensures.items)
-              (pass_recover entries k lists crashes undone xs pass p concerned keeps w.in-Recover.undone here (recover_low setup entries sound k p concerned keeps w.in-Recover.undone here) (roles_are_few setup entries sound)
-              (lists_in more) w.undo.new.undone.items (recovery_of k crash w.firsts_of-firsts.result w.lasts_of-lasts.result) marked (lists_length more ∙ w.cut.ensures.eight) w.cut.ensures.left
-              refl (ap (λ (r : ℕ). slice_index_or crashes r None) w.role-in-Recover.view_is) w.firsts_of-firsts.ensures w.lasts_of-lasts.ensures)))
+          let marked = subst (λ (l : List (Option ℕ)). AreMarked (IsTaken concerned keeps lists 8) k l w.undo.new.undone.items) c.in_ok-push.ensures.items w.undo.ensures in (
+            ap length w.crashes-is ∙ eight,
+            pass_as entries (k + 1) _ _ _ _ _ _ _ _
+                (ap (λ v. lists_in v.items) w.stacks-is) w.crashes-is (ap (λ v. v.items) w.undone-is) (ap (λ v. v.items) w.recoveries-is ∙ w.in_ok-push-in-Recover.ensures.items)
+                (pass_recover entries k lists crashes undone xs pass p concerned keeps w.in-Recover.undone here (recover_low setup entries sound k p concerned keeps w.in-Recover.undone here) (roles_are_few setup entries sound)
+                (lists_in more) w.undo.new.undone.items (recovery_of k crash w.firsts_of-firsts.result w.lasts_of-lasts.result) marked (lists_length more ∙ w.cut.ensures.eight) w.cut.ensures.left
+                refl (ap (λ (r : ℕ). slice_index_or crashes r None) w.role-in-Recover.view_is) w.firsts_of-firsts.ensures w.lasts_of-lasts.ensures),
+          ))
     ]
 
 pub returns : goal.returns
