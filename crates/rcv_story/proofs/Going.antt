@@ -25,10 +25,13 @@ module _ (entries : List Entry) (q p r : ℕ) (recover : IsRecoverAt entries q p
   unfolding count
   keeps_first = recover_takes entries q r p recover.concerned recover.keeps recover.undone recover.there
 
+  pub keeps_all : length (kept_before r entries q) ≤ length (left_after r entries q) → left_after r entries q ≡ kept_before r entries q
+  keeps_all le = keeps_first ∙ whole count (kept_before r entries q) (subst (λ (l : List ℕ). length (kept_before r entries q) ≤ length l) keeps_first le)
+
   pub loser_goes : (o : ℕ) → IsFirstLost entries q r o → GoesBack entries q r
   loser_goes o f = ⊎_elim (λ lt. lt)
       (λ (le : length (kept_before r entries q) ≤ length (left_after r entries q)).
-      absurd (f.lost (subst (IsIn o) (sym (keeps_first ∙ whole count (kept_before r entries q) (subst (λ (l : List ℕ). length (kept_before r entries q) ≤ length l) keeps_first le))) f.had)))
+      absurd (f.lost (subst (IsIn o) (sym (keeps_all le)) f.had)))
       (cases_lt (length (left_after r entries q)) (length (kept_before r entries q)))
 
 stayer_stays : (entries : List Entry) (q r : ℕ) → Stays entries q r → GoesBack entries q r → ⊥

@@ -7,3 +7,4 @@ pub mod Dropping
 pub mod Sound
 pub mod Going
 pub mod Showing
+pub mod Fating

@@ -5,3 +5,4 @@ pub mod Story
 pub mod Shown
 pub mod Stacks
 pub mod Marks
+pub mod Laws

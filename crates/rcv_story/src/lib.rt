@@ -3,6 +3,7 @@
 #![tactic(auto)]
 
 mod messages;
+pub mod laws;
 mod met;
 mod receipts;
 pub mod shown;
