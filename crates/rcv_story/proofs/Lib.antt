@@ -8,3 +8,4 @@ pub mod Sound
 pub mod Going
 pub mod Showing
 pub mod Fating
+mod Examples
