@@ -127,7 +127,7 @@ never_later r entries q k p le lt out i =
     never r entries q (k - q) p lt out (subst (λ (m : ℕ). IsIn p (kept_places r (take m entries))) same i)
 
 -- the event at one place is of one role
-one_event : (entries : List Entry) (p : ℕ) (d e : Event) → IsEventAt entries p d → IsEventAt entries p e → d ≡ e
+pub one_event : (entries : List Entry) (p : ℕ) (d e : Event) → IsEventAt entries p d → IsEventAt entries p e → d ≡ e
 one_event entries p d e (inl f) (inl g) = let h : Send d ≡ Send e = some_same (sym f ∙ g) in cc
 one_event entries p d e (inl f) (inr g) = let h : Send d ≡ Recv e = some_same (sym f ∙ g) in absurd (cc)
 one_event entries p d e (inr f) (inl g) = let h : Recv d ≡ Send e = some_same (sym f ∙ g) in absurd (cc)

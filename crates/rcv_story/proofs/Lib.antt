@@ -8,4 +8,5 @@ pub mod Sound
 pub mod Going
 pub mod Showing
 pub mod Fating
+pub mod Legal
 mod Examples
