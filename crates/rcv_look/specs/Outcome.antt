@@ -12,8 +12,6 @@ use Rattle.rcv_form.specs.Form as form
 use Rattle.rcv_form.specs.Journal.{JournalView, bare}
 use Rattle.rcv_judge.specs.Closing.{ClosesRight, IsFirstWrongClosing}
 use Rattle.rcv_judge.specs.Judged.{IsFirstWrong as IsFirstIllegal}
-use Rattle.rcv_told.specs.Told.{told}
-use Rattle.rcv_retold.specs.Retold.{terms_for}
 use Rattle.rcv_retold.specs.Text.{IsToldText, IsFirstWrong}
 use Rattle.rcv_replay.specs.declared.cut.Cut.{Cut}
 use Rattle.rcv_diagnosis.specs.declared.diagnosis.Finding.{Finding}
@@ -29,7 +27,7 @@ use Rattle.rcv_replay.specs.Cutting.{cut_of, bundle_of, journal_of, feeds_before
 use Rattle.rcv_section.specs.declared.section.Section.{Section}
 use Rattle.rcv_section.specs.Sections.{IsSection, HasNoSection, section_text}
 use Rattle.rcv_later.specs.Later.{IsLaterOf}
-use Rattle.rcv_look.specs.Drawing.{IsDrawing, IsJournalDrawing, IsTableDrawing, IsTableJson, IsRoleAnswer, IsRoleDrawing, IsRoleJson}
+use Rattle.rcv_look.specs.Drawing.{IsJournalDrawing, IsToldDrawing, IsTableDrawing, IsTableJson, IsRoleAnswer, IsRoleDrawing, IsRoleJson}
 use Rattle.rcv_look.specs.Drawing.{IsProtocolDrawing, ArePoints, IsExplanation}
 
 -- The number of a status, with which the process ends.
@@ -82,7 +80,7 @@ pub data IsVerdict (session : SessionView) (j : JournalView) (written : Written)
       → IsVerdict session j written Illegal (illegal_closing_line written (length j.entries) k)
   drawn :
       {bytes : List ℕ} → IsLegal (rules_of session) j.entries → ClosesRight session j.entries j.roles j.limited
-      → IsJournalDrawing session j.entries bytes → IsVerdict session j written Drawn bytes
+      → IsJournalDrawing session j.entries j.roles bytes → IsVerdict session j written Drawn bytes
 
 -- What is answered to the text behind so many line feeds of the input. Of lines: the first at which it isn't a journal of the
 -- form, counted over the whole input, or what the journal's verdict is. Of JSON: that it is no journal of the form, by its
@@ -160,7 +158,7 @@ pub data IsToldTextAnswer (session : SessionView) (text : List ℕ) (feeds : ℕ
   wrong : (k : ℕ) → IsFirstWrong session text k → IsToldTextAnswer session text feeds Illegal (illegal_line (feeds + k))
   drawn :
       {bytes : List ℕ} (entries : List Entry) → IsToldText session text entries
-      → IsDrawing session entries (told (terms_for session) entries).held bytes
+      → IsToldDrawing session entries bytes
       → IsToldTextAnswer session text feeds Drawn bytes
 
 -- What is answered to a bundle with such a text behind so many line feeds of the input: the bundle's first refusal, or what
