@@ -106,7 +106,7 @@ draws_end session ReplayJournal s b draws = absurd draws
 draws_end session ListPoints s b draws = absurd draws
 draws_end session ExportPoints s b draws = absurd draws
 draws_end session DrawFailures s b draws = absurd draws
-draws_end session ListFailures s b draws = absurd draws
+draws_end session ListFailures s b draws = with_drawn s b draws.0
 draws_end session ExportFailures s b draws = absurd draws
 draws_end session (Explain code) s b draws = absurd draws
 
@@ -138,4 +138,5 @@ answer_ends (DrawRole name) input s b answer = chart_ends (DrawRole name) input 
 answer_ends (ExportRole name) input s b answer = chart_ends (ExportRole name) input s b answer
 answer_ends DrawProtocol input s b answer = chart_ends DrawProtocol input s b answer
 answer_ends ListPoints input s b answer = points_end input s b answer
+answer_ends ListFailures input s b answer = chart_ends ListFailures input s b answer
 answer_ends (Explain code) input s b answer = explanation_ends code s b answer

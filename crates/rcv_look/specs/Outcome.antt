@@ -24,6 +24,7 @@ use Rattle.rcv_look.specs.declared.status.Status.TheVariants.{Drawn, Usage, Refu
 use Rattle.rcv_look.specs.Commands.{CommandView, DrawJournal, DrawSession, DrawTold, ReplayJournal, DrawTable, ExportTable, DrawRole, ExportRole, DrawProtocol, ListPoints, ExportPoints, DrawFailures, ListFailures, ExportFailures, Explain, IsCommand, IsNoCommand}
 use Rattle.rcv_look.specs.Asking.{most_for, most_of_bundle, IsAskedOfSource}
 use Rattle.rcv_replay.specs.Cutting.{cut_of, bundle_of, journal_of, feeds_before, feeds_in, line_of_end}
+use Rattle.rcv_losses.specs.LossText.{IsLossesText}
 use Rattle.rcv_section.specs.declared.section.Section.{Section}
 use Rattle.rcv_section.specs.Sections.{IsSection, HasNoSection, section_text}
 use Rattle.rcv_later.specs.Later.{IsLaterOf}
@@ -208,7 +209,7 @@ Draws session ReplayJournal status bytes = ⊥
 Draws session ListPoints status bytes = ⊥
 Draws session ExportPoints status bytes = ⊥
 Draws session DrawFailures status bytes = ⊥
-Draws session ListFailures status bytes = ⊥
+Draws session ListFailures status bytes = (status ≡ Drawn) × IsLossesText session bytes
 Draws session ExportFailures status bytes = ⊥
 Draws session (Explain code) status bytes = ⊥
 
@@ -232,6 +233,7 @@ IsAnswer (DrawRole name) input status bytes = IsChartAnswer (DrawRole name) inpu
 IsAnswer (ExportRole name) input status bytes = IsChartAnswer (ExportRole name) input status bytes
 IsAnswer DrawProtocol input status bytes = IsChartAnswer DrawProtocol input status bytes
 IsAnswer ListPoints input status bytes = ArePoints input status bytes
+IsAnswer ListFailures input status bytes = IsChartAnswer ListFailures input status bytes
 IsAnswer (Explain code) input status bytes = IsExplanation code status bytes
 
 -- The words are this command, and its input isn't too long.
