@@ -1,5 +1,5 @@
 -- Going over the entries: the messages that Recovers drop, and those that wait.
-use Rattle.std.proofs.Common.{◌≡◌, ℕ, zero, suc, ◌+◌, ◌-◌, ◌<◌, ◌≤◌, Bool, true, false, cond, Option, Some, None, List, [], ◌∷◌, ◌++◌, length, refl, sym, ◌∙◌, ap, subst, ◌⊎◌, inl, inr, ⊎_elim, arith, length-append}
+use Rattle.std.proofs.Common.{◌≡◌, ℕ, zero, suc, ◌+◌, ◌<◌, ◌≤◌, Bool, true, false, cond, Option, Some, None, List, [], ◌∷◌, ◌++◌, length, refl, sym, ◌∙◌, ap, subst, inl, inr, ⊎_elim, arith, length-append}
 use Rattle.std.specs.Prelude.{◌↔◌, slice_get, slice_index_or, MatchOption}
 use Rattle.std.proofs.lemmas.Bool.{cases_lt, cases_Bool, false≢true}
 use Rattle.std.proofs.lemmas.Option.{slice_get_within, slice_get-get_or}
@@ -9,11 +9,10 @@ use Rattle.rcv_tree.specs.declared.entry.Entry.TheVariants.{Send}
 use Rattle.rcv_model.specs.Net.{Net}
 use Rattle.rcv_model.proofs.Lists.{some_same}
 use Rattle.rcv_ledger.proofs.Lists.{get_left, get_end, get_more}
-use Rattle.rcv_fates.specs.Fates.{IsMessage}
 use Rattle.rcv_story.specs.declared.story.Dropped.{Dropped}
-use Rattle.rcv_story.specs.Kept.{IsUndoneBy, IsKeptPlace}
+use Rattle.rcv_story.specs.Kept.{IsKeptPlace}
 use Rattle.rcv_story.specs.Messages.{IsDropped, IsWaiting, AreDropped, AreWaiting, dropped_of}
-use Rattle.rcv_story.specs.Stacks.{IsSend, IsMet, AreMet, AreUndone}
+use Rattle.rcv_story.specs.Stacks.{IsSend, AreMet, AreUndone}
 use Rattle.rcv_story.proofs.Keeping.{end_either, kept_or_undone}
 use Rattle.rcv_story.proofs.Receiving.{recv_within}
 

@@ -1,18 +1,24 @@
 -- Worked journals: of a message that is received again, dropped, lost with its Recv, and waiting; and which entries are shown.
-use Rattle.std.proofs.Common.{◌≡◌, ℕ, zero, suc, ◌+◌, ◌<◌, ◌≤◌, ◌⊎◌, Some, List, [], ◌∷◌, length, replicate, refl, sym, ◌∙◌, ap, subst, inl, inr, ⊎_elim, arith}
+use Rattle.std.proofs.Common.{◌≡◌, ℕ, zero, suc, ◌<◌, ◌≤◌, ◌⊎◌, Some, List, [], ◌∷◌, length, replicate, refl, ap, inl, inr, ⊎_elim, arith}
 use Rattle.std.specs.Prelude.{slice_get}
+use Rattle.rcv_tree.specs.declared.event.Event.{Event}
 use Rattle.rcv_tree.specs.declared.entry.Entry.{Entry}
-use Rattle.rcv_tree.specs.declared.entry.Entry.TheVariants.{Send, Recv, Crash, Recover}
-use Rattle.rcv_model.specs.Net.{Net, IsIn}
+use Rattle.rcv_tree.specs.declared.entry.Entry.TheVariants.{Recv, Crash}
+use Rattle.rcv_model.specs.Net.{Net}
 use Rattle.rcv_model.specs.Places.{net_of}
-use Rattle.rcv_model.proofs.Cases.{ping, sent, got, send, recv, recover}
+use Rattle.rcv_model.specs.Journal.{reading}
+use Rattle.rcv_model.proofs.Cases.{ping, workers, sent, got, send, recv, recover, several_all}
+use Rattle.rcv_model.proofs.Journals.{several_legal}
+use Rattle.rcv_model.proofs.Ping.{ping_proper, ping_accepted}
 use Rattle.rcv_model.proofs.Lists.{some_same}
-use Rattle.rcv_fates.specs.Fates.{IsMessage}
-use Rattle.rcv_story.specs.Kept.{kept_places, kept_before, left_after, IsUndoneBy, IsKeptPlace}
+use Rattle.rcv_fates.specs.Fates.{IsAmong, IsMessage}
+use Rattle.rcv_story.specs.Kept.{kept_places, kept_before, left_after, IsUndoneBy}
 use Rattle.rcv_story.specs.Recoveries.{IsLatestCrash, GoesBack, Stays, IsFirstLost, IsLastKept}
 use Rattle.rcv_story.specs.Messages.{IsAgain, IsDropped, IsWaiting}
 use Rattle.rcv_story.specs.Shown.{IsPicked, IsShownAt}
+use Rattle.rcv_story.specs.Laws.{AreEventsAt, IsJournal}
 use Rattle.rcv_story.proofs.Keeping.{kept_or_undone}
+use Rattle.rcv_story.proofs.Legal.{kept_are_kept, undone_by_one}
 
 abbrev net : Net
 net = net_of ping
@@ -110,6 +116,26 @@ waits = record { event = sent 0 1 1; send_at = refl; kept = (0, inl refl); unmet
     go : (t : ℕ) (m : IsMessage net alone 0 t) → slice_get alone t ≡ Some (Recv m.got) → ⊥
     go zero m at = let f : send 0 1 1 ≡ Recv m.got = some_same at in cc
     go (suc t) m at = cc
+
+-- a legal journal with two recoveries: the laws hold of it
+several : IsJournal workers several_all
+several = record { session = record { proper = ping_proper; accepted = ping_accepted }; few = omega arith; legal = several_legal }
+
+several_places : kept_places 0 several_all ≡ 8 ∷ 11 ∷ []
+several_places = refl
+
+several_kept : AreEventsAt several_all (8 ∷ 11 ∷ []) (sent 0 1 6 ∷ got 0 2 9 8 ∷ [])
+several_kept = kept_are_kept workers several_all 0 several (omega arith)
+
+several_undone : (q : ℕ) × IsUndoneBy several_all 0 q
+several_undone = (undone_by_one workers several_all 0 several).0 (record { entry = send 0 1 1; there = refl; undone = λ i. out i })
+  where
+    out : IsAmong (sent 0 1 1) (reading workers several_all).kept → ⊥
+    out (inl e) = let f = ap (λ (x : Event). x.stamp) e in omega (arith, f)
+    out (inr (inl e)) = let f = ap (λ (x : Event). x.stamp) e in omega (arith, f)
+    out (inr (inr (inl e))) = let f = ap (λ (x : Event). x.stamp) e in omega (arith, f)
+    out (inr (inr (inr (inl e)))) = let f = ap (λ (x : Event). x.stamp) e in omega (arith, f)
+    out (inr (inr (inr (inr i)))) = i
 
 -- a journal of 160 entries is shown whole, and of 161 the middle isn't
 whole_shown : IsShownAt 160 [] 80

@@ -1,5 +1,5 @@
 -- What becomes of events: one fate each, by Recovers alone.
-use Rattle.std.proofs.Common.{◌≡◌, ℕ, zero, suc, ◌+◌, ◌<◌, ◌≤◌, Bool, true, false, Option, Some, None, List, [], ◌∷◌, length, take, refl, sym, ◌∙◌, ap, subst, ◌⊎◌, inl, inr, ⊎_elim, arith}
+use Rattle.std.proofs.Common.{◌≡◌, ℕ, ◌<◌, Option, Some, None, List, length, refl, sym, ap, subst, ◌⊎◌, inl, inr, ⊎_elim, arith}
 use Rattle.std.specs.Prelude.{slice_get}
 use Rattle.std.proofs.lemmas.Bool.{cases_lt}
 use Rattle.std.proofs.lemmas.Option.{slice_get_within}
@@ -8,7 +8,7 @@ use Rattle.rcv_tree.specs.declared.entry.Entry.{Entry}
 use Rattle.rcv_tree.specs.declared.entry.Entry.TheVariants.{Send, Recv, Crash, Recover}
 use Rattle.rcv_model.specs.Net.{IsIn}
 use Rattle.rcv_fates.specs.Fates.{IsEventAt}
-use Rattle.rcv_story.specs.Kept.{kept_places, kept_before, left_after, IsUndoneBy, IsKeptPlace}
+use Rattle.rcv_story.specs.Kept.{kept_places, kept_before, left_after, IsUndoneBy}
 use Rattle.rcv_story.specs.Recoveries.{IsRecoverAt, GoesBack, Stays}
 use Rattle.rcv_story.specs.Laws.{HasOneFate}
 use Rattle.rcv_story.proofs.Places.{take_over}

@@ -1,5 +1,5 @@
 -- In a legal journal what a role keeps by its places is what the session keeps of it.
-use Rattle.std.proofs.Common.{◌≡◌, ℕ, zero, suc, ◌+◌, ◌<◌, ◌≤◌, Bool, true, false, cond, Option, Some, None, List, [], ◌∷◌, ◌++◌, length, take, drop, append-nil, refl, sym, ◌∙◌, ap, subst, ◌⊎◌, inl, inr, ⊎_elim, arith, eq-eqb}
+use Rattle.std.proofs.Common.{◌≡◌, ℕ, zero, suc, ◌+◌, ◌<◌, Bool, true, false, cond, Option, Some, None, List, [], ◌∷◌, ◌++◌, length, take, drop, append-nil, refl, sym, ◌∙◌, ap, subst, inl, inr, ⊎_elim, arith, eq-eqb}
 use Rattle.std.specs.Prelude.{◌==◌, ◌↔◌, slice_get, slice_index}
 use Rattle.std.proofs.lemmas.Bool.{false≢true}
 use Rattle.std.proofs.lemmas.List.Elements.{filter-append}
@@ -12,7 +12,7 @@ use Rattle.rcv_tree.specs.declared.entry.Entry.TheVariants.{Send, Recv, Crash, R
 use Rattle.rcv_model.specs.Net.{IsIn, IsPrefix}
 use Rattle.rcv_model.specs.Run.{acts, IsRun}
 use Rattle.rcv_model.specs.Undo.{bound_of}
-use Rattle.rcv_model.specs.Journal.{Rules, State, start, events_of, after, reading, reading_from, durable, group_of, kept_by, May, MayRecover}
+use Rattle.rcv_model.specs.Journal.{Rules, State, start, events_of, after, reading, durable, group_of, kept_by, MayRecover}
 use Rattle.rcv_model.proofs.Bystanders.{as_many}
 use Rattle.rcv_model.proofs.Groups.{group_keeps}
 use Rattle.rcv_model.proofs.Keeping.{scan_of}
@@ -23,7 +23,7 @@ use Rattle.rcv_fates.specs.Fates.{IsAmong, IsEventAt, IsUndone, IsUndoneAt}
 use Rattle.rcv_fates.proofs.Clocks.{once}
 use Rattle.rcv_fates.proofs.Messages.{may_at}
 use Rattle.rcv_fates.proofs.Undoing.{declared}
-use Rattle.rcv_story.specs.Kept.{kept_after, kept_places, kept_before, left_after, IsUndoneBy, IsKeptPlace}
+use Rattle.rcv_story.specs.Kept.{kept_after, kept_places, left_after, IsUndoneBy}
 use Rattle.rcv_story.specs.Recoveries.{IsRecoverAt}
 use Rattle.rcv_story.specs.Laws.{AreEventsAt, IsJournal}
 use Rattle.rcv_story.proofs.Places.{take_more, take_over}

@@ -1,8 +1,8 @@
 -- Going over the entries: each role's stack, its latest Crash, who undoes each entry, and the recoveries so far.
-use Rattle.std.proofs.Common.{◌≡◌, ℕ, zero, suc, ◌+◌, ◌-◌, ◌<◌, ◌≤◌, Option, Some, None, List, [], ◌∷◌, ◌++◌, length, take, drop, replicate, refl, sym, ◌∙◌, ap, subst, ◌⊎◌, inl, inr, ⊎_elim, arith, length-append}
+use Rattle.std.proofs.Common.{◌≡◌, ℕ, zero, suc, ◌+◌, ◌<◌, Option, Some, None, List, [], ◌∷◌, ◌++◌, length, take, replicate, refl, sym, ◌∙◌, ap, subst, inl, inr, ⊎_elim, arith, length-append}
 use Rattle.std.specs.Prelude.{◌↔◌, slice_get, slice_index_or, slice_set, MatchOption}
 use Rattle.std.proofs.lemmas.Bool.{cases_eq, cases_lt}
-use Rattle.std.proofs.lemmas.List.{length-set, get_or-set_same, get_or-set_other, length-replicate}
+use Rattle.std.proofs.lemmas.List.{length-set, get_or-set_same, get_or-set_other}
 use Rattle.std.proofs.lemmas.Option.{slice_get_within}
 use Rattle.rcv_tree.specs.declared.event.Event.{Event}
 use Rattle.rcv_tree.specs.declared.role.RoleSet.{RoleSet}
@@ -17,7 +17,7 @@ use Rattle.rcv_story.specs.Kept.{kept_places, kept_before, left_after, IsUndoneB
 use Rattle.rcv_story.specs.Recoveries.{IsRecoverAt, HasNoCrash, IsLatestCrash, Stays, IsFirstLost, IsLastKept, IsRecovery, AreRecoveries}
 use Rattle.rcv_story.specs.Stacks.{stack_at, with_place, left_count, last_in, AreMarked, IsTaken, AreUndone}
 use Rattle.rcv_story.proofs.Places.{Ascends, in_parts, in_drop, apart, IsHead, first_of_rest, IsEnd, last_of_all}
-use Rattle.rcv_story.proofs.Keeping.{IsEventOf, stands, ascends, undone_stands, gone, undone_within, own_more, other_same, event_keeps, crash_same, recover_takes}
+use Rattle.rcv_story.proofs.Keeping.{IsEventOf, ascends, undone_stands, gone, undone_within, own_more, other_same, event_keeps, crash_same, recover_takes}
 
 match_map : {A : Type 0} (P Q : Type 0) (F G : A → Type 0) (o : Option A) → (P → Q) → ((x : A) → F x → G x) → MatchOption o P F → MatchOption o Q G
 match_map P Q F G None f g m = f m

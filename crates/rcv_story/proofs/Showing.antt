@@ -3,11 +3,11 @@ use Rattle.std.proofs.Common.{◌≡◌, ℕ, zero, suc, ◌+◌, ◌-◌, ◌<�
 use Rattle.std.specs.Prelude.{◌↔◌, slice_get, slice_index_or, slice_set}
 use Rattle.std.proofs.lemmas.Bool.{cases_eq, cases_lt, false≢true}
 use Rattle.std.proofs.lemmas.List.{length-set, length-replicate}
-use Rattle.std.proofs.lemmas.Option.{slice_get_within, slice_get-get_or}
+use Rattle.std.proofs.lemmas.Option.{slice_get_within}
 use Rattle.rcv_model.proofs.Lists.{some_same}
 use Rattle.rcv_ledger.proofs.Lists.{get_left, get_end, take_left, take_whole}
 use Rattle.rcv_story.specs.declared.story.Recovery.{Recovery}
-use Rattle.rcv_story.specs.Marks.{IsMarked, AddsMarks, IsFromTo, HasMarked, IsBridged}
+use Rattle.rcv_story.specs.Marks.{IsMarked, AddsMarks, IsFromTo, IsBridged}
 use Rattle.rcv_story.specs.Shown.{whole, ends, far, near, beside, IsAround, IsNear, IsToldOf, IsNearTold, IsPicked, ArePicked, IsBetween, IsShownAt, AreShown}
 use Rattle.rcv_story.proofs.Marking.{set_here, set_other, filled_with}
 

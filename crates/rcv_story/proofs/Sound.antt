@@ -1,5 +1,5 @@
 -- The roles of a sound journal are below eight.
-use Rattle.std.proofs.Common.{◌≡◌, ℕ, ◌+◌, ◌<◌, ◌≤◌, Option, Some, None, List, ◌++◌, ◌∷◌, [], length, sym, ◌∙◌, ap, subst, ⊎_elim, arith}
+use Rattle.std.proofs.Common.{◌≡◌, ℕ, ◌<◌, ◌≤◌, Option, Some, List, sym, subst, ⊎_elim, arith}
 use Rattle.std.specs.Prelude.{slice_get}
 use Rattle.rcv_tree.specs.declared.event.Event.{Event}
 use Rattle.rcv_tree.specs.declared.role.RoleSet.{RoleSet}
@@ -9,7 +9,6 @@ use Rattle.rcv_session.specs.Session.{SessionView, roles_of}
 use Rattle.rcv_fates.specs.Fates.{IsEventAt}
 use Rattle.rcv_fates.specs.Record.{IsSound}
 use Rattle.rcv_story.specs.declared.story.Recovery.{Recovery}
-use Rattle.rcv_story.proofs.Keeping.{IsEventOf}
 use Rattle.rcv_story.proofs.Passing.{AreFew, IsPass}
 
 module _ (setup : SessionView) (entries : List Entry) (sound : IsSound setup entries) where

@@ -1,5 +1,5 @@
 -- Which entries of a journal are shown; the others are folded. Places count from 0.
-use Rattle.std.specs.Prelude.{◌≡◌, ◌⊎◌, ◌↔◌, ℕ, ◌+◌, ◌<◌, ◌≤◌, Bool, true, Option, None, Some, List, length, slice_get, slice_index_or, IfSome}
+use Rattle.std.specs.Prelude.{◌≡◌, ◌⊎◌, ◌↔◌, ℕ, ◌+◌, ◌<◌, ◌≤◌, Bool, true, None, Some, List, length, slice_get, slice_index_or}
 use Rattle.rcv_story.specs.declared.story.Recovery.{Recovery}
 
 -- A journal of at most so many entries is shown whole.

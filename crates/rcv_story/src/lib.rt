@@ -2,8 +2,8 @@
 // are shown.
 #![tactic(auto)]
 
-mod messages;
 pub mod laws;
+mod messages;
 mod met;
 mod receipts;
 pub mod shown;

@@ -1,9 +1,8 @@
 -- One entry more: its message is dropped, or isn't.
-use Rattle.std.proofs.Common.{◌≡◌, ◌+◌, ◌≤◌, Option, Some, None, ℕ, List, [], ◌∷◌, ◌++◌, length, refl, sym, ◌∙◌, ap, subst, arith}
+use Rattle.std.proofs.Common.{◌+◌, Option, ℕ, [], ◌∷◌, ◌++◌, length, refl, sym, ◌∙◌, ap, subst, arith}
 use Rattle.std.specs.Prelude.{MatchOption}
 use Rattle.rcv_session.specs.Session.{net_for}
 use Rattle.rcv_fates.proofs.Joining.{entry_here}
-use Rattle.rcv_story.specs.declared.story.Dropped.{Dropped}
 use Rattle.rcv_story.specs.Messages.{dropped_of}
 use Rattle.rcv_story.proofs.Dropping.{HasDropped, dropped_step, all_dropped}
 use Rattle.rcv_story.proofs.messages.dropped_of.Goals as goal

@@ -1,5 +1,5 @@
 -- One entry more: its message waits, or doesn't.
-use Rattle.std.proofs.Common.{◌≡◌, ◌+◌, ◌≤◌, Bool, true, false, cond, ℕ, List, [], ◌∷◌, ◌++◌, length, refl, sym, ◌∙◌, ap, subst, arith}
+use Rattle.std.proofs.Common.{◌+◌, Bool, cond, [], ◌∷◌, ◌++◌, length, refl, sym, ◌∙◌, ap, subst, arith}
 use Rattle.rcv_session.specs.Session.{net_for}
 use Rattle.rcv_fates.proofs.Joining.{entry_here}
 use Rattle.rcv_story.proofs.Dropping.{HasWaiting, waiting_step, all_waiting}

@@ -1,5 +1,5 @@
 -- One arrow more: its Send is met if its Recv has the same fate.
-use Rattle.std.proofs.Common.{◌≡◌, ◌+◌, ◌<◌, length, None, Some, slice_get, slice_index_or, sym, ◌∙◌, ap, subst, arith, inl, inr}
+use Rattle.std.proofs.Common.{◌+◌, None, Some, slice_index_or, sym, ◌∙◌, ap, subst, arith}
 use Rattle.std.proofs.lemmas.Bool.{false≢true}
 use Rattle.std.proofs.lemmas.Option.{slice_get-get_or}
 use Rattle.rcv_model.proofs.Lists.{some_same}

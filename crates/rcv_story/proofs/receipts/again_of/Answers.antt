@@ -1,5 +1,5 @@
 -- One arrow more: it receives again what was received.
-use Rattle.std.proofs.Common.{◌≡◌, ◌<◌, length, refl, slice_index_or, sym, ◌∙◌, ap, arith}
+use Rattle.std.proofs.Common.{length, refl, slice_index_or, arith}
 use Rattle.std.proofs.lemmas.Option.{slice_get-get_or, slice_get_read}
 use Rattle.rcv_session.specs.Session.{net_for}
 use Rattle.rcv_fates.specs.Fates.{arrow}

@@ -1,5 +1,5 @@
 -- One item more.
-use Rattle.std.proofs.Common.{◌≡◌, ◌∙◌, ap, sym, arith, replicate, ◌∷◌, ◌++◌, []}
+use Rattle.std.proofs.Common.{◌∙◌, ap, ◌∷◌, ◌++◌, []}
 use Rattle.rcv_story.proofs.Marking.{one_filled}
 use Rattle.rcv_story.proofs.receipts.filled.Goals as goal
 

@@ -1,5 +1,5 @@
 -- One arrow more is noted at its Recv.
-use Rattle.std.proofs.Common.{◌≡◌, ◌<◌, length, slice_index_or, sym, ◌∙◌, ap, arith}
+use Rattle.std.proofs.Common.{slice_index_or, arith}
 use Rattle.std.proofs.lemmas.Option.{slice_get-get_or}
 use Rattle.rcv_session.specs.Session.{net_for}
 use Rattle.rcv_fates.specs.Fates.{arrow}

@@ -1,6 +1,5 @@
 -- The place before is marked with none after the place, or isn't marked.
-use Rattle.std.proofs.Common.{◌≡◌, ◌+◌, ◌-◌, ◌<◌, ◌≤◌, ℕ, Bool, true, false, length, slice_index_or, refl, sym, ◌∙◌, ap, subst, ⊎_elim, arith}
-use Rattle.std.specs.Prelude.{Some, slice_get}
+use Rattle.std.proofs.Common.{◌≡◌, ◌+◌, ℕ, false, sym, ◌∙◌, subst, ⊎_elim, arith}
 use Rattle.std.proofs.lemmas.Bool.{cases_lt, false≢true, iff_false}
 use Rattle.std.proofs.lemmas.Option.{slice_get-get_or}
 use Rattle.rcv_model.proofs.Lists.{some_same}

@@ -1,9 +1,8 @@
 -- What is near one recovery more, if it is told.
-use Rattle.std.proofs.Common.{◌≡◌, ◌+◌, ◌≤◌, List, Bool, ℕ, length, refl, sym, ◌∙◌, ap, subst, arith}
+use Rattle.std.proofs.Common.{◌+◌, length, refl, sym, subst, arith}
 use Rattle.std.proofs.lemmas.Bool.{iff_false}
 use Rattle.std.proofs.lemmas.Option.{slice_get-get_or}
-use Rattle.rcv_story.specs.Marks.{AddsMarks, IsFromTo}
-use Rattle.rcv_story.specs.Shown.{ends, IsNear, IsToldOf}
+use Rattle.rcv_story.specs.Marks.{AddsMarks}
 use Rattle.rcv_story.proofs.Showing.{IsPickedTill, picked_start, picked_more, picked_other, picked_end}
 use Rattle.rcv_story.proofs.shown.pick.Goals as goal
 use Rattle.rcv_story.proofs.shown.pick.Goals.{then-is_told, else-is_told}

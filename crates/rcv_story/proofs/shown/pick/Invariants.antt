@@ -1,5 +1,5 @@
 -- What is at the ends, or near the recoveries so far.
-use Rattle.std.specs.Prelude.{◌≡◌, length}
+use Rattle.std.specs.Prelude.{length}
 use Rattle.rcv_story.specs.Marks.{AddsMarks}
 use Rattle.rcv_story.proofs.Showing.{IsPickedTill}
 use Rattle.rcv_story.proofs.shown.pick.Given as goal

@@ -1,5 +1,5 @@
 -- All marks are written.
-use Rattle.std.proofs.Common.{◌≡◌, ℕ, List, Bool, false, length, refl, sym, ◌∙◌, ap, subst, arith}
+use Rattle.std.proofs.Common.{ℕ, false, length, sym, ◌∙◌, ap, subst, arith}
 use Rattle.std.proofs.lemmas.List.{length-replicate}
 use Rattle.rcv_story.specs.Marks.{AddsMarks}
 use Rattle.rcv_story.specs.Shown.{IsPicked, ArePicked}

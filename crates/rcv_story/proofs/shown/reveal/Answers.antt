@@ -1,5 +1,5 @@
 -- One place more is shown; the range ends at its end, or at the end of the marks.
-use Rattle.std.proofs.Common.{◌≡◌, ◌<◌, ◌≤◌, length, refl, inl, inr, ⊎_elim, arith}
+use Rattle.std.proofs.Common.{refl, inl, inr, ⊎_elim, arith}
 use Rattle.std.proofs.lemmas.Bool.{cases_lt}
 use Rattle.rcv_story.proofs.Showing.{range_start, range_next, range_end}
 use Rattle.rcv_story.proofs.shown.reveal.Goals as goal

@@ -1,7 +1,7 @@
 -- The Recover, its Crash, and one first lost event more.
-use Rattle.std.proofs.Common.{◌≡◌, ◌+◌, ◌≤◌, List, Bool, ℕ, ◌⊎◌, length, refl, sym, ◌∙◌, ap, subst, arith}
+use Rattle.std.proofs.Common.{◌+◌, ◌⊎◌, sym, subst, arith}
 use Rattle.rcv_story.specs.Marks.{AddsMarks}
-use Rattle.rcv_story.specs.Shown.{near, far, beside, IsAround}
+use Rattle.rcv_story.specs.Shown.{near, far, IsAround}
 use Rattle.rcv_story.proofs.Showing.{IsNearBy, IsNearCrash, near_start, crash_near, no_crash_near, near_more, near_other, near_end}
 use Rattle.rcv_story.proofs.shown.reveal_recovery.Goals as goal
 use Rattle.rcv_story.proofs.shown.reveal_recovery.Goals.{in-Some, in_default, in-Some-first, in_default-first}

@@ -1,5 +1,5 @@
 -- One place more has its mark.
-use Rattle.std.proofs.Common.{◌≡◌, ◌+◌, ℕ, List, Bool, length, refl, sym, ◌∙◌, ap, subst, arith}
+use Rattle.std.proofs.Common.{◌+◌, ℕ, List, Bool, length, sym, ap, subst, arith}
 use Rattle.rcv_story.specs.declared.story.Recovery.{Recovery}
 use Rattle.rcv_story.specs.Shown.{ArePicked}
 use Rattle.rcv_story.proofs.Showing.{AreShownTo, shown_next}

@@ -1,6 +1,5 @@
 -- One stack more is cut.
-use Rattle.std.proofs.Common.{◌≡◌, ◌<◌, length, sym, ◌∙◌, ap, arith}
-use Rattle.std.specs.Prelude.{slice_index_or}
+use Rattle.std.proofs.Common.{◌≡◌, ◌<◌, length, ◌∙◌, ap, arith}
 use Rattle.std.proofs.lemmas.List.{length-set}
 use Rattle.rcv_story.specs.Stacks.{lists_in, stack_at, left_count}
 use Rattle.rcv_story.proofs.Marking.{own_list, list_cut, lists_length, cut_here, cut_others}

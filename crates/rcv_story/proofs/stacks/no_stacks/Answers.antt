@@ -1,5 +1,4 @@
 -- One role more keeps nothing.
-use Rattle.std.proofs.Common.{◌∙◌, ap, arith}
 use Rattle.rcv_story.proofs.Marking.{one_empty}
 use Rattle.rcv_story.proofs.stacks.no_stacks.Goals as goal
 

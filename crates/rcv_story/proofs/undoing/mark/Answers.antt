@@ -1,7 +1,7 @@
 -- One place more is marked.
-use Rattle.std.proofs.Common.{◌<◌, length, arith}
+use Rattle.std.proofs.Common.{arith}
 use Rattle.std.specs.Prelude.{slice_index_or}
-use Rattle.rcv_story.proofs.Marking.{in_index, mark_next, all_marked}
+use Rattle.rcv_story.proofs.Marking.{in_index, mark_next}
 use Rattle.rcv_story.proofs.undoing.mark.Goals as goal
 
 pub index_mut-requires : goal.index_mut-requires

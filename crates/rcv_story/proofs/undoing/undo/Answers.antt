@@ -1,5 +1,5 @@
 -- What is taken from one role more is marked.
-use Rattle.std.proofs.Common.{◌≡◌, ◌<◌, ◌-◌, List, ℕ, length, take, drop, sym, ◌∙◌, ap, subst, arith}
+use Rattle.std.proofs.Common.{◌≡◌, ◌-◌, List, ℕ, length, take, drop, ◌∙◌, ap, subst, arith}
 use Rattle.rcv_model.specs.Net.{IsIn}
 use Rattle.rcv_story.specs.Stacks.{lists_in, stack_at, left_count, AreMarked}
 use Rattle.rcv_story.proofs.Places.{in_take, in_drop}

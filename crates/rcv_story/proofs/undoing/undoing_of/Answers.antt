@@ -1,10 +1,10 @@
 -- Each entry in turn: an event is put on its role's stack, a Crash is noted, and a Recover cuts the stacks.
-use Rattle.std.proofs.Common.{◌≡◌, ◌+◌, ◌<◌, ◌≤◌, ℕ, Option, Some, None, List, [], ◌∷◌, length, length-append, refl, sym, ◌∙◌, ap, subst, inl, inr, arith}
-use Rattle.std.specs.Prelude.{slice_get, slice_index_or, slice_set}
+use Rattle.std.proofs.Common.{◌≡◌, ◌+◌, ℕ, Option, Some, None, List, [], ◌∷◌, length, length-append, refl, ◌∙◌, ap, subst, inl, inr, arith}
+use Rattle.std.specs.Prelude.{slice_index_or, slice_set}
 use Rattle.std.proofs.lemmas.List.{length-set}
 use Rattle.rcv_model.specs.Net.{IsIn}
 use Rattle.rcv_fates.proofs.Joining.{entry_here}
-use Rattle.rcv_story.specs.Stacks.{lists_in, stack_at, AreMarked, IsTaken}
+use Rattle.rcv_story.specs.Stacks.{lists_in, AreMarked, IsTaken}
 use Rattle.rcv_story.proofs.Keeping.{stands}
 use Rattle.rcv_story.proofs.Marking.{lists_length}
 use Rattle.rcv_story.proofs.Passing.{pass_event, pass_crash, pass_recover, pass_start, all_undone, all_told}

@@ -1,6 +1,5 @@
 -- It goes back if its first lost event is told.
-use Rattle.std.proofs.Common.{◌≡◌, ◌↔◌, ◌<◌, ◌∙◌, sym, ap, subst, arith, true, None}
-use Rattle.std.specs.Prelude.{slice_index_or}
+use Rattle.std.proofs.Common.{◌≡◌, ◌↔◌, subst, arith, true}
 use Rattle.rcv_story.specs.Recoveries.{GoesBack}
 use Rattle.rcv_story.proofs.Going.{goes_is}
 use Rattle.rcv_story.proofs.story.Recovery.goes_back.Goals as goal
