@@ -3,9 +3,11 @@ use Rattle.std.proofs.Common.{◌≡◌, ℕ, zero, suc, ◌+◌, ◌<◌, List,
 use Rattle.rcv_picture.specs.declared.pixels.Pixels.{Pixels}
 use Rattle.rcv_picture.specs.declared.group.Group.{Group}
 use Rattle.rcv_scene.specs.declared.ends.RoleEnd.{RoleEnd}
-use Rattle.rcv_scene.specs.Seen.{Seen, seen}
-use Rattle.rcv_scene.specs.Grid.{Grid}
-use Rattle.rcv_scene.specs.Feet.{AddsFoot, AreFeet, NoFoot, NextFoot, AddsGroup, HasFeet}
+use Rattle.rcv_picture.specs.declared.pixels.At.{At}
+use Rattle.rcv_picture.specs.declared.look.Look.TheVariants as looks
+use Rattle.rcv_scene.specs.Seen.{Seen, Frame, seen}
+use Rattle.rcv_scene.specs.Grid.{Grid, column}
+use Rattle.rcv_scene.specs.Feet.{kept_words, foot_texts, AddsFoot, AreFeet, NoFoot, NextFoot, AddsGroup, HasFeet}
 
 -- one more of these roles
 one_taken : (all : List RoleEnd) (n : ℕ) (x : RoleEnd) → n < length all → slice_index_or all n x ≡ x → take (suc n) all ≡ take n all ++ x ∷ []
@@ -45,4 +47,21 @@ feet_stay grid ends a b drawn has one =
       group = has.group;
       is = one.is ∙ ap (λ (l : List Group). l ++ one.group ∷ []) has.is ∙ append_assoc has.before (has.group ∷ has.after) (one.group ∷ []);
       right = has.right;
+    }
+
+-- a box, and then the texts of a role's foot
+pub foot_is : (grid : Grid) (y x : Pixels) (role : RoleEnd) (kept : List ℕ) (corner : At) (width height round : Pixels) (old mid new : List Seen)
+    → x ≡ column grid role.role → kept ≡ kept_words role.kept role.raw → mid ≡ old ++ Frame corner width height round looks.Box ∷ []
+    → new ≡ mid ++ foot_texts x y role.end kept → AddsFoot grid y role old new
+foot_is grid y x role kept corner width height round old mid new here says box texts =
+    let frame : Seen = Frame corner width height round looks.Box in
+    record {
+      corner = corner;
+      width = width;
+      height = height;
+      round = round;
+      is = texts ∙ ap (λ (d : List Seen). d ++ foot_texts x y role.end kept) box
+          ∙ append_assoc old (frame ∷ []) (foot_texts x y role.end kept)
+          ∙ ap (λ (p : Pixels). old ++ frame ∷ foot_texts p y role.end kept) here
+          ∙ ap (λ (k : List ℕ). old ++ frame ∷ foot_texts (column grid role.role) y role.end k) says;
     }

@@ -61,9 +61,9 @@ pub pill_is : (scene : Scene) (recovery : Recovery) (y : Pixels) (role kept poin
     → AddsPillTexts scene.grid y role lost to next old new → AddsPill scene recovery y role kept old new
 pill_is scene recovery y role kept point lost to next points old new known returns here nexts named adds =
     let shapes : Bool → List Seen = λ (b : Bool).
-        Frame adds.corner adds.width adds.height adds.round (pill_look b)
-        ∷ Words (at (column scene.grid role) (back y 3)) Middle (return_look b) to
-        ∷ Words (at (column scene.grid role) (further y 10)) Middle looks.Note next ∷ [] in
+    Frame adds.corner adds.width adds.height adds.round (pill_look b)
+    ∷ Words (at (column scene.grid role) (back y 3)) Middle (return_look b) to
+    ∷ Words (at (column scene.grid role) (further y 10)) Middle looks.Note next ∷ [] in
     record {
       pill = shapes lost;
       is = adds.is;

@@ -62,8 +62,9 @@ turning scene send receive sender receiver undone again from to turns look drawn
       to = to;
       begins = begins;
       ends = ends;
-      goes = inr
-          (turns,
-          all ∙ more ∙ ap (λ (d : List Seen). d ++ Way (from ∷ turns ++ to ∷ []) look ∷ []) none
-          ∙ ap (λ (l : Look). Way (from ∷ turns ++ to ∷ []) l ∷ []) (look_is scene receive undone again look known is));
+      goes = inr (
+        turns,
+        all ∙ more ∙ ap (λ (d : List Seen). d ++ Way (from ∷ turns ++ to ∷ []) look ∷ []) none
+            ∙ ap (λ (l : Look). Way (from ∷ turns ++ to ∷ []) l ∷ []) (look_is scene receive undone again look known is),
+      );
     }

@@ -30,10 +30,13 @@ abbrev pub kept_words : ℕ → ℕ → List ℕ
 kept_words kept raw = codes "kept " ++ decimal kept ++ codes " of " ++ decimal raw
 
 -- The two texts of a role's foot, in its column under this height.
+abbrev pub foot_texts : Pixels → Pixels → End → List ℕ → List Seen
+foot_texts x y end kept =
+    Words (at x (further y 15)) Middle (end_look end) (end_word end)
+    ∷ Words (at x (further y 29)) Middle looks.Note kept ∷ []
+
 abbrev pub foot_words : Grid → Pixels → RoleEnd → List Seen
-foot_words grid y role =
-    Words (at (column grid role.role) (further y 15)) Middle (end_look role.end) (end_word role.end)
-    ∷ Words (at (column grid role.role) (further y 29)) Middle looks.Note (kept_words role.kept role.raw) ∷ []
+foot_words grid y role = foot_texts (column grid role.role) y role.end (kept_words role.kept role.raw)
 
 -- Something was drawn more: a box, and the texts of a foot.
 pub record AddsFoot (grid : Grid) (y : Pixels) (role : RoleEnd) (old new : List Seen) : Type 0 where

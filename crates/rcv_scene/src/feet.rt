@@ -1,9 +1,9 @@
 // What stands under the columns: how each role ended.
 
-ghost use Rattle.std.specs.Prelude.{◌≡◌, IfOk, OnOk};
+ghost use Rattle.std.specs.Prelude.{◌≡◌, ◌++◌, IfOk, OnOk};
 ghost use Rattle.rcv_scene.specs.Seen.{seen, drawn_in};
-ghost use Rattle.rcv_scene.specs.Grid.{grid_of};
-ghost use Rattle.rcv_scene.specs.Feet.{end_look, end_word, kept_words, AddsFoot, AreFeet};
+ghost use Rattle.rcv_scene.specs.Grid.{column, grid_of};
+ghost use Rattle.rcv_scene.specs.Feet.{end_look, end_word, kept_words, foot_texts, AddsFoot, AreFeet};
 
 use crate::ends::{End, RoleEnd};
 use crate::layout::{FOOT, LABEL, Layout};
@@ -13,6 +13,7 @@ use crate::wording::{Piece, text_of};
 use rcv_picture::look::Look;
 use rcv_picture::pixels::{Pixels, place};
 use rcv_picture::shape::{Anchor, Shape};
+use rcv_tree::role::RoleId;
 use std::alloc::{AllocError, Global};
 
 // How a role's end looks, and the word for it.
@@ -51,18 +52,44 @@ fn kept_text(alloc: Global, kept: u32, raw: u32) -> Result<Vec<u8>, AllocError>
     )
 }
 
+// The middle of a role's column.
+fn column_of(layout: &Layout<'_>, role: RoleId) -> Pixels
+    ensures { result ≡ column (grid_of layout.now) role }
+{
+    layout.x(role.0)
+}
+
+// The texts of a foot.
+fn add_texts(
+    shapes: &mut Shapes,
+    x: Pixels,
+    y: Pixels,
+    end: End,
+    kept: Vec<u8>,
+) -> Result<(), AllocError>
+    ensures { OnOk result (drawn_in shapes.new ≡ drawn_in shapes.old ++ foot_texts x y end kept.items) }
+{
+    let look = look_of(end);
+    shapes.words(at(x, further(y, 15)), Anchor::Middle, look, word_of(end))?;
+    shapes.text(at(x, further(y, 29)), Anchor::Middle, Look::Note, kept)
+}
+
 // The foot of a role.
 fn add_foot(shapes: &mut Shapes, layout: &Layout<'_>, role: &RoleEnd) -> Result<(), AllocError>
     ensures { OnOk result (AddsFoot (grid_of layout.now) layout.now.end role.now (drawn_in shapes.old) (drawn_in shapes.new)) }
 {
-    let x = layout.x(role.role.0);
+    let x = column_of(layout, role.role);
     let y = layout.end;
-    let corner = place(x - layout.column.half() + Pixels(6), y);
-    shapes.rect(corner, layout.column - Pixels(12), FOOT, Pixels(6), Look::Box)?;
-    let look = look_of(role.end);
-    shapes.words(at(x, further(y, 15)), Anchor::Middle, look, word_of(role.end))?;
     let kept = kept_text(layout.alloc, role.kept, role.raw)?;
-    shapes.text(at(x, further(y, 29)), Anchor::Middle, Look::Note, kept)?;
+    let corner = place(x - layout.column.half() + Pixels(6), y);
+    shapes.rect(
+        corner,
+        layout.column - Pixels(12),
+        FOOT,
+        Pixels(6),
+        Look::Box,
+    )?;
+    add_texts(shapes, x, y, role.end, kept)?;
     Ok(())
 }
 

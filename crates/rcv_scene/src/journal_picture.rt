@@ -150,7 +150,16 @@ fn planned<'a>(
 {
     let cast = Cast::of(alloc, record.setup())?;
     let undone = undone_of(alloc, record)?;
-    let mut layout = lay_out(alloc, cast, record.setup(), record.entries(), undone, story, ends, rows)?;
+    let mut layout = lay_out(
+        alloc,
+        cast,
+        record.setup(),
+        record.entries(),
+        undone,
+        story,
+        ends,
+        rows,
+    )?;
     let routes = find_routes(alloc, &layout, wires)?;
     layout.widen(routes.wider())?;
     if layout.is_proper(record.setup().roles()) {

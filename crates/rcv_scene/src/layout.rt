@@ -234,7 +234,12 @@ fn widest_label(
 }
 
 // How far from the middle of its column what a Recv's label says ends, where it stands away from the sender: at most this.
-fn width_of_note(alloc: Global, cast: &Cast<'_>, event: &Event, again: bool) -> Result<Pixels, AllocError> {
+fn width_of_note(
+    alloc: Global,
+    cast: &Cast<'_>,
+    event: &Event,
+    again: bool,
+) -> Result<Pixels, AllocError> {
     let label = label_of(alloc, cast, event)?;
     let more = if again { Pixels(36) } else { Pixels(0) };
     Ok(width_of(label.as_slice(), Letters::Small) + more + Pixels(18))

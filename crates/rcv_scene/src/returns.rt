@@ -164,11 +164,7 @@ fn nothing_text(alloc: Global) -> Result<Vec<u8>, AllocError>
 
 // What is next, in the fullest form that has room.
 #[tactic(auto, using(crate::proofs::Returning::said_all))]
-fn next_that_fits(
-    layout: &Layout<'_>,
-    next: &[Point],
-    room: Pixels,
-) -> Result<Vec<u8>, AllocError>
+fn next_that_fits(layout: &Layout<'_>, next: &[Point], room: Pixels) -> Result<Vec<u8>, AllocError>
     ensures { IfOk result (λ text. IsNextText next.now text.items) }
 {
     if next.is_empty() {

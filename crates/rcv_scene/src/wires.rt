@@ -131,7 +131,10 @@ fn turns_of(layout: &Layout<'_>, route: &Route, down: Pixels) -> Result<Vec<At>,
     let mut turns = Vec::new(layout.alloc);
     let lane = route.side.beside(layout.x(route.receiver), route.lane);
     if layout.is_shown(route.send) {
-        let start = route.side.other().beside(layout.x(route.sender), Pixels(BEGINS));
+        let start = route
+            .side
+            .other()
+            .beside(layout.x(route.sender), Pixels(BEGINS));
         turns.push(place(start, route.from))?;
     }
     turns.push(place(lane, route.from))?;
@@ -140,21 +143,28 @@ fn turns_of(layout: &Layout<'_>, route: &Route, down: Pixels) -> Result<Vec<At>,
 }
 
 // A straight wire from one row to the next.
-fn straight_shapes(
-    layout: &Layout<'_>,
-    wire: &Wire,
-    undone: bool,
-) -> Result<Vec<Shape>, AllocError>
+fn straight_shapes(layout: &Layout<'_>, wire: &Wire, undone: bool) -> Result<Vec<Shape>, AllocError>
     ensures { IfOk result (λ shapes. (send : ℕ) → StandsAt (scene_of layout.now) send wire.now.from
         → StandsAt (scene_of layout.now) wire.now.receive wire.now.to
         → IsWireDrawn (scene_of layout.now) send wire.now.receive wire.now.sender wire.now.receiver undone (seen shapes.items)) }
 {
     let x_from = layout.x(wire.sender);
     let x_to = layout.x(wire.receiver);
-    let wide = if x_from < x_to { x_to - x_from } else { x_from - x_to };
+    let wide = if x_from < x_to {
+        x_to - x_from
+    } else {
+        x_from - x_to
+    };
     let below = lower(BEGINS, wide, wire.high);
     let above = lower(ENDS, wide, wire.high);
-    let from = begin(layout, wire.sender, wire.from, wire.side.other(), wire.lane, below);
+    let from = begin(
+        layout,
+        wire.sender,
+        wire.from,
+        wire.side.other(),
+        wire.lane,
+        below,
+    );
     let to = end(layout, wire.receiver, wire.to, wire.side, wire.lane, above);
     let mut shapes = Shapes::new(layout.alloc);
     shapes.line(from, to, look_of(undone, layout.is_again(wire.receive)))?;
@@ -162,16 +172,19 @@ fn straight_shapes(
 }
 
 // A wire with turns.
-fn turning_shapes(
-    layout: &Layout<'_>,
-    wire: &Wire,
-    undone: bool,
-) -> Result<Vec<Shape>, AllocError>
+fn turning_shapes(layout: &Layout<'_>, wire: &Wire, undone: bool) -> Result<Vec<Shape>, AllocError>
     ensures { IfOk result (λ shapes. (send : ℕ) → StandsAt (scene_of layout.now) send wire.now.from
         → StandsAt (scene_of layout.now) wire.now.receive wire.now.to
         → IsWireDrawn (scene_of layout.now) send wire.now.receive wire.now.sender wire.now.receiver undone (seen shapes.items)) }
 {
-    let from = begin(layout, wire.sender, wire.from, wire.side.other(), wire.lane, 0);
+    let from = begin(
+        layout,
+        wire.sender,
+        wire.from,
+        wire.side.other(),
+        wire.lane,
+        0,
+    );
     let to = end(layout, wire.receiver, wire.to, wire.side, wire.lane, 0);
     let turns = turns_between(layout.alloc, from, to, wire.lane, wire.from, wire.to)?;
     let mut shapes = Shapes::new(layout.alloc);
@@ -300,7 +313,11 @@ pub fn loose_title(alloc: Global, route: &Route) -> Result<Vec<u8>, AllocError> 
 
 /// The wire of a message that isn't received: to a cross where it was dropped, which says so where it is the first of its
 /// recovery; to a ring where it waits at the end. Fails where memory runs out.
-pub fn loose_shapes(layout: &Layout<'_>, route: &Route, first: bool) -> Result<Vec<Shape>, AllocError> {
+pub fn loose_shapes(
+    layout: &Layout<'_>,
+    route: &Route,
+    first: bool,
+) -> Result<Vec<Shape>, AllocError> {
     let mut shapes = Shapes::new(layout.alloc);
     let lane = route.side.beside(layout.x(route.receiver), route.lane);
     match route.fate {
