@@ -1,0 +1,5 @@
+pub mod Rehearsal
+pub mod Losses
+pub mod Sampling
+pub mod Costs
+pub mod Named
