@@ -1,5 +1,5 @@
 -- The lists that grow: points of one role more, costs of one crash more, costs of one role more.
-use Rattle.std.proofs.Common.{◌≡◌, ℕ, zero, suc, ◌+◌, ◌*◌, ◌/◌, ◌<◌, ◌≤◌, List, [], ◌∷◌, ◌++◌, length, length-append, map, get_or, refl, sym, ◌∙◌, ap, subst, ⊎_elim, append_assoc, append-nil, arith}
+use Rattle.std.proofs.Common.{◌≡◌, ℕ, zero, suc, ◌+◌, ◌*◌, ◌/◌, ◌<◌, ◌≤◌, List, [], ◌∷◌, ◌++◌, length, length-append, map, get_or, refl, sym, ◌∙◌, ap, subst, ⊎_elim, append-nil, arith}
 use Rattle.std.specs.Prelude.{flat_map, slice_index_or}
 use Rattle.std.specs.List.{All, sum_by, range_with_len}
 use Rattle.std.specs.declared.alloc.Global.{Global}
@@ -16,8 +16,7 @@ use Rattle.rcv_session.specs.Session.{SessionView, roles_of}
 use Rattle.rcv_costs.specs.declared.numbers.Cost.{Cost}
 use Rattle.rcv_costs.specs.declared.numbers.Costs.{Costs}
 use Rattle.rcv_costs.specs.Rehearsal.{crash_session, DiffersInCrashes}
-use Rattle.rcv_costs.specs.Losses.{sum_over}
-use Rattle.rcv_costs.specs.Sampling.{At, of_role, AreShort, all_counts, step_for, counts_of, counts_in}
+use Rattle.rcv_costs.specs.Sampling.{At, of_role, all_counts, step_for, counts_of, counts_in}
 use Rattle.rcv_costs.specs.Costs.{IsCalmRun, own_points, made_in, AreOwnPoints, AreAllPoints, at, IsCostBy, IsCostOf, IsCostOfRole, HasCosts, AreCosts}
 use Rattle.rcv_costs.proofs.Sessions.{differs_crash, differs_joined, differs_turned, crash_is, own_is}
 use Rattle.rcv_costs.proofs.Sums.{sums_alike}

@@ -1,5 +1,5 @@
 -- What comes of other crash lines: a step that is no crash is a step under them too, if they make no role due.
-use Rattle.std.proofs.Common.{◌≡◌, ℕ, ◌+◌, ◌<◌, ◌≤◌, List, [], ◌∷◌, length, refl, sym, ◌∙◌, ap, subst, arith}
+use Rattle.std.proofs.Common.{◌≡◌, ℕ, ◌<◌, ◌≤◌, List, [], ◌∷◌, refl, sym, ◌∙◌, ap, subst, arith}
 use Rattle.std.specs.Prelude.{slice_index}
 use Rattle.std.specs.List.{All}
 use Rattle.std.proofs.lemmas.List.Elements.{All-head, All-tail}
@@ -7,7 +7,7 @@ use Rattle.rcv_tree.specs.declared.event.Event.{Event}
 use Rattle.rcv_tree.specs.declared.entry.Entry.{Entry}
 use Rattle.rcv_tree.specs.declared.entry.Entry.TheVariants.{Send, Recv, Crash, Recover}
 use Rattle.rcv_model.specs.Plain.{IsSendOrRecv}
-use Rattle.rcv_model.specs.Journal.{Rules, State, events_of, after_event, after, reading_from, IsDue, IsFree, MaySend, MayRecv}
+use Rattle.rcv_model.specs.Journal.{Rules, State, events_of, after_event, reading_from, IsDue, IsFree, MaySend, MayRecv}
 use Rattle.rcv_model.specs.Final.{IsCrashed, IsActOf, CanAct, IsFinal, IsStep, IsOneThreadFrom}
 use Rattle.rcv_model.specs.Transparent.{without_crashes}
 use Rattle.rcv_model.proofs.Keeping.{by_role_other}

@@ -1,8 +1,8 @@
 -- The steps of a book up to its first recovery.
-use Rattle.std.proofs.Common.{◌≡◌, ℕ, None, Some, Option, List, [], ◌∷◌, ◌++◌, refl, sym, ◌∙◌, ap, subst, ◌⊎◌, inl, inr, append_assoc}
+use Rattle.std.proofs.Common.{◌≡◌, None, Some, Option, List, [], ◌∷◌, ◌++◌, ◌∙◌, ap, subst, ◌⊎◌, inl, inr, append_assoc}
 use Rattle.std.specs.List.{All}
 use Rattle.rcv_tree.specs.declared.entry.Entry.{Entry}
-use Rattle.rcv_model.specs.Journal.{Rules, State, start, reading_from, reading}
+use Rattle.rcv_model.specs.Journal.{State, start, reading}
 use Rattle.rcv_model.specs.Final.{IsFinal, IsStep}
 use Rattle.rcv_model.proofs.StableLines.{reading_join}
 use Rattle.rcv_session.specs.Session.{SessionView, roles_of, rules_of}

@@ -8,3 +8,5 @@ pub mod Going
 pub mod Telling
 pub mod Adding
 pub mod Naming
+pub mod Again
+mod Examples

@@ -1,5 +1,5 @@
 -- The costs of a session name roles and points of its protocol.
-use Rattle.std.proofs.Common.{◌≡◌, ℕ, zero, suc, ◌+◌, ◌*◌, ◌<◌, ◌≤◌, Bool, true, false, cond, Option, None, Some, List, [], ◌∷◌, ◌++◌, map, refl, sym, ◌∙◌, ap, subst, arith}
+use Rattle.std.proofs.Common.{◌≡◌, ℕ, zero, suc, ◌+◌, ◌*◌, ◌<◌, ◌≤◌, Bool, true, false, cond, List, [], ◌∷◌, ◌++◌, map, sym, ap, subst, arith}
 use Rattle.std.specs.Prelude.{◌==◌, flat_map, slice_get}
 use Rattle.std.specs.List.{All, range_with_len}
 use Rattle.std.proofs.lemmas.List.Elements.{All-nil, All-cons, All-head, All-tail}
@@ -19,9 +19,8 @@ use Rattle.rcv_transparent.specs.Calm.{calm}
 use Rattle.rcv_transparent.proofs.CalmRules.{calm_rules}
 use Rattle.rcv_core.proofs.Books.{of_next}
 use Rattle.rcv_costs.specs.declared.numbers.Cost.{Cost}
-use Rattle.rcv_costs.specs.declared.numbers.Costs.{Costs}
-use Rattle.rcv_costs.specs.Sampling.{At, counts_of, counts_in}
-use Rattle.rcv_costs.specs.Costs.{points_of, own_points, made_in, point_before, at, IsCostOf, AreCosts}
+use Rattle.rcv_costs.specs.Sampling.{At, counts_of}
+use Rattle.rcv_costs.specs.Costs.{points_of, own_points, made_in, point_before, at, IsCostOf}
 use Rattle.rcv_costs.specs.Named.{IsNamedPoint, IsNamedCost, AreNamedCosts, CostsAreNamed}
 use Rattle.rcv_costs.proofs.Adding.{all_and}
 

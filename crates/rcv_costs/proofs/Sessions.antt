@@ -1,11 +1,11 @@
 -- Sessions that differ in crash lines alone: without those they are one, and with one crash each has the same.
-use Rattle.std.proofs.Common.{◌≡◌, ℕ, ◌+◌, ◌<◌, ◌≤◌, List, [], ◌∷◌, ◌++◌, refl, sym, ◌∙◌, ap, subst}
+use Rattle.std.proofs.Common.{◌≡◌, ℕ, List, [], ◌∷◌, ◌++◌, refl, sym, ◌∙◌, ap, subst}
 use Rattle.std.specs.Prelude.{◌==◌, if◌then◌else◌}
 use Rattle.rcv_tree.specs.declared.protocol.Protocol.{Protocol}
 use Rattle.rcv_tree.specs.declared.entry.Entry.{Entry}
 use Rattle.rcv_model.specs.Plan.{PlanLine, EveryLine, CrashLine, LimitLine, RoomLine, HostLine}
 use Rattle.rcv_model.specs.Script.{Line}
-use Rattle.rcv_model.specs.Journal.{Rules, reading}
+use Rattle.rcv_model.specs.Journal.{reading}
 use Rattle.rcv_model.specs.Final.{IsOneThread}
 use Rattle.rcv_model.specs.Transparent.{without_crashes}
 use Rattle.rcv_session.specs.Session.{SessionView, rules_of}

@@ -1,12 +1,11 @@
 -- What a rehearsed crash tells: the points of a role's events, and what the crash costs.
-use Rattle.std.proofs.Common.{◌≡◌, ℕ, ◌+◌, ◌<◌, ◌≤◌, Option, List, [], ◌∷◌, ◌++◌, length, map, refl, sym, ◌∙◌, ap, subst, arith}
-use Rattle.std.specs.Prelude.{slice_get, slice_index}
+use Rattle.std.proofs.Common.{◌≡◌, ℕ, ◌+◌, ◌<◌, ◌≤◌, Option, List, [], ◌∷◌, ◌++◌, length, map, sym, ◌∙◌, ap, subst, arith}
 use Rattle.std.proofs.lemmas.List.{length-map}
 use Rattle.rcv_tree.specs.declared.event.Event.{Event}
 use Rattle.rcv_tree.specs.declared.role.RoleSet.{RoleSet}
 use Rattle.rcv_tree.specs.declared.entry.Entry.{Entry}
 use Rattle.rcv_tree.specs.declared.entry.Entry.TheVariants.{Recover}
-use Rattle.rcv_model.specs.Journal.{Rules, State, start, reading, events_of, IsLegal}
+use Rattle.rcv_model.specs.Journal.{Rules, start, reading, events_of, IsLegal}
 use Rattle.rcv_model.specs.Final.{IsFinal, IsStep, IsOneThread}
 use Rattle.rcv_model.specs.Transparent.{without_crashes}
 use Rattle.rcv_model.proofs.Bystanders.{as_many}
@@ -20,10 +19,10 @@ use Rattle.rcv_core.proofs.Ranges.{ranges}
 use Rattle.rcv_costs.specs.declared.numbers.Cost.{Cost}
 use Rattle.rcv_costs.specs.Rehearsal.{crash_session, IsBeginningFrom, GoesOnCalmly, ComesToRecovery}
 use Rattle.rcv_costs.specs.Losses.{lost_in, again_in, HaveReceived}
-use Rattle.rcv_costs.specs.Costs.{points_of, AreOwnPoints, point_before, IsRead, IsCostBy}
+use Rattle.rcv_costs.specs.Costs.{points_of, AreOwnPoints, IsRead}
 use Rattle.rcv_costs.proofs.Sessions.{rules_crash}
 use Rattle.rcv_costs.proofs.Runs.{own_events, crash_comes, whose_recovery, whole_journal, calm_run, calm_moves}
-use Rattle.rcv_costs.proofs.Going.{at_first, book_with, FromStart, from_start, ends_so}
+use Rattle.rcv_costs.proofs.Going.{at_first, FromStart, from_start, ends_so}
 
 -- the points of a role that crashes at its end, if at all, are its points without crashes
 pub own_told : (old setup : SessionView) (p : ℕ) → setup ≡ crash_session old p 100000 → IsAcceptedProtocol setup.protocol → IsPlanned (roles_of setup) setup.plan → (book new : BookView) (next : Option Entry) → book ≡ at_first setup → ComesToRecovery book new next → (points : List ℕ) → points ≡ points_of p (state_of new).kept → AreOwnPoints old p points

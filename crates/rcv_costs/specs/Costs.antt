@@ -6,7 +6,7 @@ use Rattle.std.specs.declared.vec.Vec.{Vec}
 use Rattle.rcv_tree.specs.declared.event.Event.{Event}
 use Rattle.rcv_tree.specs.declared.entry.Entry.{Entry}
 use Rattle.rcv_tree.specs.declared.entry.Entry.TheVariants.{Recover}
-use Rattle.rcv_model.specs.Journal.{Rules, State, reading, events_of}
+use Rattle.rcv_model.specs.Journal.{reading, events_of}
 use Rattle.rcv_model.specs.Final.{IsOneThread}
 use Rattle.rcv_session.specs.Session.{SessionView, roles_of, rules_of}
 use Rattle.rcv_transparent.specs.Calm.{calm}

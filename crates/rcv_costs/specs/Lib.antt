@@ -3,3 +3,4 @@ pub mod Losses
 pub mod Sampling
 pub mod Costs
 pub mod Named
+pub mod Laws

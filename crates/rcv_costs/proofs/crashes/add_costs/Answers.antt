@@ -1,5 +1,5 @@
 -- One crash more.
-use Rattle.std.proofs.Common.{◌≡◌, ◌++◌, ◌∷◌, [], List, ◌∙◌, ap, append_assoc}
+use Rattle.std.proofs.Common.{◌++◌, ◌∷◌, [], List, ◌∙◌, ap, append_assoc}
 use Rattle.rcv_costs.specs.declared.numbers.Cost.{Cost}
 use Rattle.rcv_costs.specs.Costs.{IsCostOfRole}
 use Rattle.rcv_costs.proofs.Sessions.{crash_again}

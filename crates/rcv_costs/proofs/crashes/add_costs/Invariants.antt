@@ -2,7 +2,6 @@ use Rattle.std.proofs.Common.{◌≡◌, ◌++◌, ◌*◌, List, map}
 use Rattle.std.specs.List.{All, range_with_len}
 use Rattle.rcv_costs.specs.declared.numbers.Cost.{Cost}
 use Rattle.rcv_costs.specs.Rehearsal.{DiffersInCrashes}
-use Rattle.rcv_costs.specs.Sampling.{At}
 use Rattle.rcv_costs.specs.Costs.{at, IsCostOfRole}
 use Rattle.rcv_costs.proofs.crashes.add_costs.Given as goal
 

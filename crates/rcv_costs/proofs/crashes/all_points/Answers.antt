@@ -1,5 +1,5 @@
 -- One role more.
-use Rattle.std.proofs.Common.{rules, ◌≡◌, ◌≤◌, ◌++◌, ◌∷◌, [], ℕ, length, length-append, sym, ◌∙◌, ap, subst, Vec, Global, List, arith}
+use Rattle.std.proofs.Common.{rules, ◌≡◌, ◌≤◌, ◌∷◌, [], ℕ, length, length-append, sym, ◌∙◌, ap, subst, Vec, Global, List, arith}
 use Rattle.rcv_session.specs.Session.{roles_of}
 use Rattle.rcv_costs.specs.Sampling.{of_role, AreShort}
 use Rattle.rcv_costs.specs.Costs.{AreOwnPoints}

@@ -1,9 +1,9 @@
 -- The role crashes, and what comes next is its recovery.
-use Rattle.std.proofs.Common.{◌≡◌, ◌≤◌, ap, subst, arith}
+use Rattle.std.proofs.Common.{◌≡◌, subst, arith}
 use Rattle.rcv_tree.specs.declared.entry.Entry.{Entry}
 use Rattle.rcv_tree.specs.declared.entry.Entry.TheVariants.{Recover}
 use Rattle.rcv_model.specs.Final.{IsStep}
-use Rattle.rcv_session.specs.Session.{roles_of, net_for, rules_of}
+use Rattle.rcv_session.specs.Session.{rules_of}
 use Rattle.rcv_core.specs.Book.{state_of, with_entry}
 use Rattle.rcv_core.proofs.Alone.{succeeded}
 use Rattle.rcv_costs.proofs.Telling.{must_crash, kept_and_crash, is_read, again_told}

@@ -2,7 +2,6 @@
 use Rattle.std.proofs.Common.{◌≡◌, ◌<◌, List, length, map, sym, ◌∙◌, ap, subst, Vec, Global, ℕ, arith}
 use Rattle.std.specs.List.{All}
 use Rattle.rcv_session.specs.Session.{roles_of}
-use Rattle.rcv_costs.specs.declared.numbers.Cost.{Cost}
 use Rattle.rcv_costs.specs.Sampling.{of_role, all_counts, step_for, counts_in}
 use Rattle.rcv_costs.specs.Costs.{AreOwnPoints, at, HasCosts}
 use Rattle.rcv_costs.proofs.Sessions.{differs_joined}

@@ -1,4 +1,4 @@
-use Rattle.std.proofs.Common.{◌≡◌, ◌<◌, ◌≤◌, ◌*◌, ℕ, length, map}
+use Rattle.std.proofs.Common.{◌≡◌, ◌≤◌, ◌*◌, ℕ, length, map}
 use Rattle.std.specs.List.{All}
 use Rattle.rcv_costs.specs.Rehearsal.{DiffersInCrashes}
 use Rattle.rcv_costs.specs.Sampling.{of_role, counts_in}

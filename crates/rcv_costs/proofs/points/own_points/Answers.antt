@@ -1,6 +1,4 @@
 -- The setup has the one crash; and what the role did up to it is all that it does without crashes.
-use Rattle.std.proofs.Common.{◌≡◌, subst}
-use Rattle.rcv_costs.specs.Rehearsal.{DiffersInCrashes}
 use Rattle.rcv_costs.proofs.Sessions.{differs_self}
 use Rattle.rcv_costs.proofs.Adding.{differs_behind}
 use Rattle.rcv_costs.proofs.Telling.{own_told, few_told}
