@@ -28,6 +28,6 @@ returns c =
     let e3 = push_right c.large_number.new.self c.word-2.new.self (codes ", ") r3 c.in_ok-word-2.ensures.ok in
     let e2 = push_right c.word.new.self c.large_number.new.self (decimal cost.lost) r2 c.in_ok-large_number.ensures.ok in
     let e1 = push_right c.write_where.new.text c.word.new.self (codes ": lost ") r1 c.in_ok-word.ensures.ok in
-    let is : c.write_where.new.text ≡ c.args.text.now ++ (crash_text c.args.setup.now c.args.cost.now ++ (codes "  " ++ between_text c.args.setup.now c.args.cost.now.before c.args.cost.now.after)) = first_of (c.in_ok-write_where.ensures, c.write_where.ensures, search rules) in
+    let is : c.write_where.new.text ≡ c.args.text.now ++ (crash_text c.args.setup.now c.args.cost.now ++ (codes "  " ++ between_text c.args.setup.now c.args.cost.now.before c.args.cost.now.after)) = search rules in
     let e0 = push_right c.args.text.now c.write_where.new.text (crash_text s cost ++ place) r0 is in
     subst (λ (l : List ℕ). OnOk c.large_number-2.result (c.large_number-2.new.self ≡ l)) (e7 ∙ e6 ∙ e5 ∙ e4 ∙ e3 ∙ e2 ∙ e1 ∙ e0 ∙ ap (λ l. c.args.text.now ++ l) (append_assoc (crash_text s cost) place r0 ∙ ap (λ l. crash_text s cost ++ l) (append_assoc (codes "  ") (between_text s cost.before cost.after) r0))) c.large_number-2.ensures.ok
