@@ -41,8 +41,11 @@ abbrev pub cost_line : SessionView → Cost → List ℕ
 cost_line session cost = cost_text session cost ++ codes "\n"
 
 -- Every how many counts are looked at, if not each is.
+abbrev pub sampled_line : ℕ → List ℕ
+sampled_line step = codes "sampled: every " ++ decimal step ++ codes " counts\n"
+
 abbrev pub step_line : ℕ → List ℕ
-step_line step = if step == 1 then [] else codes "sampled: every " ++ decimal step ++ codes " counts\n"
+step_line step = if step == 1 then [] else sampled_line step
 
 -- The worst of a role's crashes: `, worst at 3: undone 5 of 9`.
 abbrev pub worst_text : Option Cost → List ℕ

@@ -6,7 +6,7 @@ ghost use Rattle.rcv_session.specs.Session.{roles_of};
 ghost use Rattle.rcv_costs.specs.Named.{IsNamedPoint, IsNamedCost, AreNamedCosts};
 ghost use Rattle.rcv_losses.specs.Totals.{IsNamedWorst};
 ghost use Rattle.rcv_losses.specs.LossText.{crash_text, between_text, share_text, concerned_text, cost_text, cost_line};
-ghost use Rattle.rcv_losses.specs.LossText.{step_line, worst_text, role_line, worst_line, losses_text};
+ghost use Rattle.rcv_losses.specs.LossText.{sampled_line, step_line, worst_text, role_line, worst_line, losses_text};
 
 use crate::names::name_of;
 use crate::totals::{undone_by, worst_by, worst_of};
@@ -138,16 +138,23 @@ fn write_costs(text: &mut Writer, setup: &Setup, costs: &[Cost]) -> Result<(), A
     Ok(())
 }
 
-// Every how many counts are looked at, if not each is.
+// Every how many counts are looked at.
+fn write_sampled(text: &mut Writer, step: u32) -> Result<(), AllocError>
+    ensures { OnOk result (text.new ≡ text.old ++ sampled_line step) }
+{
+    text.word(b"sampled: every ")?;
+    text.large_number(step as u64)?;
+    text.word(b" counts\n")
+}
+
+// The same, if not each is.
 fn write_step(text: &mut Writer, step: u32) -> Result<(), AllocError>
     ensures { OnOk result (text.new ≡ text.old ++ step_line step) }
 {
     if step == 1 {
         return Ok(());
     }
-    text.word(b"sampled: every ")?;
-    text.large_number(step as u64)?;
-    text.word(b" counts\n")
+    write_sampled(text, step)
 }
 
 // The worst of a role's crashes.
