@@ -29,13 +29,25 @@ share_text cost = codes "undone " ++ decimal cost.undone ++ codes " of " ++ deci
 abbrev pub concerned_text : SessionView → ℕ → ℕ → List ℕ
 concerned_text session set r = if has_bit set r then codes " " ++ name_of session r else []
 
+-- The crash, and where it comes.
+abbrev pub where_text : SessionView → Cost → List ℕ
+where_text session cost = crash_text session cost ++ codes "  " ++ between_text session cost.before cost.after
+
+-- How much is lost and undone.
+abbrev pub loss_text : Cost → List ℕ
+loss_text cost = codes ": lost " ++ decimal cost.lost ++ codes ", " ++ share_text cost
+
+-- Whom it concerns, and what is received again.
+abbrev pub names_text : SessionView → ℕ → List ℕ
+names_text session set = flat_map (concerned_text session set) (range_with_len 0 (roles_of session))
+
+abbrev pub reach_text : SessionView → Cost → List ℕ
+reach_text session cost =
+    codes ", concerned" ++ names_text session cost.concerned.0 ++ codes ", received again " ++ decimal cost.again
+
 -- What one crash costs: `crash B 3  after commit, before ack: lost 2, undone 5 of 9, concerned A B, received again 1`.
 abbrev pub cost_text : SessionView → Cost → List ℕ
-cost_text session cost =
-    crash_text session cost ++ codes "  " ++ between_text session cost.before cost.after ++ codes ": lost " ++ decimal cost.lost
-    ++ codes ", " ++ share_text cost ++ codes ", concerned"
-    ++ flat_map (concerned_text session cost.concerned.0) (range_with_len 0 (roles_of session))
-    ++ codes ", received again " ++ decimal cost.again
+cost_text session cost = where_text session cost ++ loss_text cost ++ reach_text session cost
 
 abbrev pub cost_line : SessionView → Cost → List ℕ
 cost_line session cost = cost_text session cost ++ codes "\n"

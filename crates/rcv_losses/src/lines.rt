@@ -5,7 +5,7 @@ ghost use Rattle.std.specs.List.{range_with_len};
 ghost use Rattle.rcv_session.specs.Session.{roles_of};
 ghost use Rattle.rcv_costs.specs.Named.{IsNamedPoint, IsNamedCost, AreNamedCosts};
 ghost use Rattle.rcv_losses.specs.Totals.{IsNamedWorst};
-ghost use Rattle.rcv_losses.specs.LossText.{crash_text, between_text, share_text, concerned_text, cost_text, cost_line};
+ghost use Rattle.rcv_losses.specs.LossText.{where_text, loss_text, reach_text, crash_text, between_text, share_text, concerned_text, cost_text, cost_line};
 ghost use Rattle.rcv_losses.specs.LossText.{sampled_line, step_line, worst_text, role_line, worst_line, losses_text};
 
 use crate::names::name_of;
@@ -101,12 +101,31 @@ fn write_concerned(text: &mut Writer, setup: &Setup, concerned: RoleSet) -> Resu
 // The first part of a cost's line: the crash, and where it is.
 fn write_where(text: &mut Writer, setup: &Setup, cost: &Cost) -> Result<(), AllocError>
     requires { IsNamedCost setup.now cost.now }
-    ensures { OnOk result (text.new ≡ text.old
-        ++ crash_text setup.now cost.now ++ codes "  " ++ between_text setup.now cost.now.before cost.now.after) }
+    ensures { OnOk result (text.new ≡ text.old ++ where_text setup.now cost.now) }
 {
     write_crash(text, setup, cost)?;
     text.word(b"  ")?;
     write_between(text, setup, cost.before, cost.after)
+}
+
+// The second part: how much is lost and undone.
+fn write_loss(text: &mut Writer, cost: &Cost) -> Result<(), AllocError>
+    ensures { OnOk result (text.new ≡ text.old ++ loss_text cost.now) }
+{
+    text.word(b": lost ")?;
+    text.large_number(cost.lost)?;
+    text.word(b", ")?;
+    write_share(text, cost)
+}
+
+// The third part: whom it concerns, and what is received again.
+fn write_reach(text: &mut Writer, setup: &Setup, cost: &Cost) -> Result<(), AllocError>
+    ensures { OnOk result (text.new ≡ text.old ++ reach_text setup.now cost.now) }
+{
+    text.word(b", concerned")?;
+    write_concerned(text, setup, cost.concerned)?;
+    text.word(b", received again ")?;
+    text.large_number(cost.again)
 }
 
 /// The text goes on with what one crash costs, of a declared role between events at points of the text: without the end of
@@ -116,14 +135,8 @@ pub(crate) fn write_cost(text: &mut Writer, setup: &Setup, cost: &Cost) -> Resul
     ensures { OnOk result (text.new ≡ text.old ++ cost_text setup.now cost.now) }
 {
     write_where(text, setup, cost)?;
-    text.word(b": lost ")?;
-    text.large_number(cost.lost)?;
-    text.word(b", ")?;
-    write_share(text, cost)?;
-    text.word(b", concerned")?;
-    write_concerned(text, setup, cost.concerned)?;
-    text.word(b", received again ")?;
-    text.large_number(cost.again)
+    write_loss(text, cost)?;
+    write_reach(text, setup, cost)
 }
 
 // The lines of some costs.
