@@ -13,7 +13,7 @@ use Rattle.rcv_listing.specs.declared.listing.Listing.{Listing}
 use Rattle.rcv_listing.specs.declared.listing.Listing.TheVariants.{Accepted, RuledOut, HalfRead, Unread}
 use Rattle.rcv_look.specs.declared.status.Status.{Status}
 use Rattle.rcv_look.specs.declared.status.Status.TheVariants as statuses
-use Rattle.rcv_look.specs.Commands.{CommandView, DrawJournal, DrawSession, DrawTold, ReplayJournal, DrawTable, ExportTable, DrawRole, ExportRole, DrawProtocol, ListPoints, ExportPoints, DrawFailures, ListFailures, ExportFailures, Explain}
+use Rattle.rcv_look.specs.Commands.{CommandView, DrawJournal, DrawSession, DrawTold, ReplayJournal, DrawTable, ExportTable, DrawRole, ExportRole, DrawProtocol, ListPoints, ListFailures, Explain}
 use Rattle.rcv_look.specs.Drawing.{ArePoints, ListsAs, IsExplanation, explained, unknown}
 use Rattle.rcv_look.specs.Outcome.{IsVerdict, illegal, misclosed, drawn, IsTextAnswer, malformed, formed, shapeless, decoded, IsBundleAnswer, IsJournalAnswer, IsLaterAnswer, IsSessionAnswer, IsToldTextAnswer, IsToldBundleAnswer, IsToldAnswer, uncut, long, parted, status_of, IsReplayAnswer, IsChartAnswer, Draws, IsAnswer}
 use Rattle.rcv_look.specs.Outcome as outcomes
@@ -104,10 +104,7 @@ draws_end session (DrawSession number) s b draws = absurd draws
 draws_end session DrawTold s b draws = absurd draws
 draws_end session ReplayJournal s b draws = absurd draws
 draws_end session ListPoints s b draws = absurd draws
-draws_end session ExportPoints s b draws = absurd draws
-draws_end session DrawFailures s b draws = absurd draws
 draws_end session ListFailures s b draws = with_drawn s b draws.0
-draws_end session ExportFailures s b draws = absurd draws
 draws_end session (Explain code) s b draws = absurd draws
 
 chart_ends : (command : CommandView) (input : List ℕ) (s : Status) (b : List ℕ) → IsChartAnswer command input s b → EndsSo s b

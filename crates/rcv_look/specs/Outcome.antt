@@ -21,7 +21,7 @@ use Rattle.rcv_diagnosis.specs.declared.written.Written.TheVariants.{Lines, Json
 use Rattle.rcv_diagnosis.specs.Diagnosing.{IsDiagnosis, is_json, IsJsonOf}
 use Rattle.rcv_look.specs.declared.status.Status.{Status}
 use Rattle.rcv_look.specs.declared.status.Status.TheVariants.{Drawn, Usage, Refused, ReadFault, WriteFault, Memory, TooLong, Illegal}
-use Rattle.rcv_look.specs.Commands.{CommandView, DrawJournal, DrawSession, DrawTold, ReplayJournal, DrawTable, ExportTable, DrawRole, ExportRole, DrawProtocol, ListPoints, ExportPoints, DrawFailures, ListFailures, ExportFailures, Explain, IsCommand, IsNoCommand}
+use Rattle.rcv_look.specs.Commands.{CommandView, DrawJournal, DrawSession, DrawTold, ReplayJournal, DrawTable, ExportTable, DrawRole, ExportRole, DrawProtocol, ListPoints, ListFailures, Explain, IsCommand, IsNoCommand}
 use Rattle.rcv_look.specs.Asking.{most_for, most_of_bundle, IsAskedOfSource}
 use Rattle.rcv_replay.specs.Cutting.{cut_of, bundle_of, journal_of, feeds_before, feeds_in, line_of_end}
 use Rattle.rcv_losses.specs.LossText.{IsLossesText}
@@ -207,10 +207,7 @@ Draws session (DrawSession number) status bytes = ⊥
 Draws session DrawTold status bytes = ⊥
 Draws session ReplayJournal status bytes = ⊥
 Draws session ListPoints status bytes = ⊥
-Draws session ExportPoints status bytes = ⊥
-Draws session DrawFailures status bytes = ⊥
 Draws session ListFailures status bytes = (status ≡ Drawn) × IsLossesText session bytes
-Draws session ExportFailures status bytes = ⊥
 Draws session (Explain code) status bytes = ⊥
 
 -- What is answered to them: the first refusal of the input, or what they make of its session.

@@ -38,15 +38,20 @@ abbrev pub loss_text : Cost → List ℕ
 loss_text cost = codes ": lost " ++ decimal cost.lost ++ codes ", " ++ share_text cost
 
 -- Whom it concerns, and what is received again.
-abbrev pub names_text : SessionView → ℕ → List ℕ
+unfoldable pub names_text : SessionView → ℕ → List ℕ
 names_text session set = flat_map (concerned_text session set) (range_with_len 0 (roles_of session))
 
+abbrev pub whom_text : SessionView → ℕ → List ℕ
+whom_text session set = codes ", concerned" ++ names_text session set
+
+abbrev pub again_text : Cost → List ℕ
+again_text cost = codes ", received again " ++ decimal cost.again
+
 abbrev pub reach_text : SessionView → Cost → List ℕ
-reach_text session cost =
-    codes ", concerned" ++ names_text session cost.concerned.0 ++ codes ", received again " ++ decimal cost.again
+reach_text session cost = whom_text session cost.concerned.0 ++ again_text cost
 
 -- What one crash costs: `crash B 3  after commit, before ack: lost 2, undone 5 of 9, concerned A B, received again 1`.
-abbrev pub cost_text : SessionView → Cost → List ℕ
+unfoldable pub cost_text : SessionView → Cost → List ℕ
 cost_text session cost = where_text session cost ++ loss_text cost ++ reach_text session cost
 
 abbrev pub cost_line : SessionView → Cost → List ℕ

@@ -5,7 +5,7 @@ ghost use Rattle.std.specs.List.{range_with_len};
 ghost use Rattle.rcv_session.specs.Session.{roles_of};
 ghost use Rattle.rcv_costs.specs.Named.{IsNamedPoint, IsNamedCost, AreNamedCosts};
 ghost use Rattle.rcv_losses.specs.Totals.{IsNamedWorst};
-ghost use Rattle.rcv_losses.specs.LossText.{where_text, loss_text, reach_text, crash_text, between_text, share_text, concerned_text, cost_text, cost_line};
+ghost use Rattle.rcv_losses.specs.LossText.{where_text, loss_text, names_text, whom_text, again_text, reach_text, crash_text, between_text, share_text, concerned_text, cost_text, cost_line};
 ghost use Rattle.rcv_losses.specs.LossText.{sampled_line, step_line, worst_text, role_line, worst_line, losses_text};
 
 use crate::names::name_of;
@@ -118,18 +118,41 @@ fn write_loss(text: &mut Writer, cost: &Cost) -> Result<(), AllocError>
     write_share(text, cost)
 }
 
-// The third part: whom it concerns, and what is received again.
-fn write_reach(text: &mut Writer, setup: &Setup, cost: &Cost) -> Result<(), AllocError>
-    ensures { OnOk result (text.new ≡ text.old ++ reach_text setup.now cost.now) }
+// The names of the concerned roles.
+#[tactic(auto, unfolding(crate::specs::LossText::names_text))]
+fn write_names(text: &mut Writer, setup: &Setup, concerned: RoleSet) -> Result<(), AllocError>
+    ensures { OnOk result (text.new ≡ text.old ++ names_text setup.now concerned.0) }
+{
+    write_concerned(text, setup, concerned)
+}
+
+// Whom it concerns.
+fn write_whom(text: &mut Writer, setup: &Setup, concerned: RoleSet) -> Result<(), AllocError>
+    ensures { OnOk result (text.new ≡ text.old ++ whom_text setup.now concerned.0) }
 {
     text.word(b", concerned")?;
-    write_concerned(text, setup, cost.concerned)?;
+    write_names(text, setup, concerned)
+}
+
+// What is received again.
+fn write_again(text: &mut Writer, cost: &Cost) -> Result<(), AllocError>
+    ensures { OnOk result (text.new ≡ text.old ++ again_text cost.now) }
+{
     text.word(b", received again ")?;
     text.large_number(cost.again)
 }
 
+// The third part: whom it concerns, and what is received again.
+fn write_reach(text: &mut Writer, setup: &Setup, cost: &Cost) -> Result<(), AllocError>
+    ensures { OnOk result (text.new ≡ text.old ++ reach_text setup.now cost.now) }
+{
+    write_whom(text, setup, cost.concerned)?;
+    write_again(text, cost)
+}
+
 /// The text goes on with what one crash costs, of a declared role between events at points of the text: without the end of
 /// the line. Fails if memory runs out.
+#[tactic(auto, unfolding(crate::specs::LossText::cost_text))]
 pub(crate) fn write_cost(text: &mut Writer, setup: &Setup, cost: &Cost) -> Result<(), AllocError>
     requires { IsNamedCost setup.now cost.now }
     ensures { OnOk result (text.new ≡ text.old ++ cost_text setup.now cost.now) }
