@@ -49,6 +49,7 @@ module _ (old new : SessionView) (same : new.protocol ≡ old.protocol) where
       (named_there costs (All-tail (IsNamedCost old) cost costs all))
 
   pub text_there : (step : ℕ) (costs : List Cost) → losses_text new step costs ≡ losses_text old step costs
+  unfolding Rattle.rcv_losses.specs.LossText.cost_text Rattle.rcv_losses.specs.LossText.names_text
   text_there step costs = ap (λ (x : Protocol). losses_text (record old { protocol = x }) step costs) same
 
 -- a piece more goes in front of the rest
