@@ -9,7 +9,7 @@ pub returns-in_ok-picture-in-Ok : goal.returns-in_ok-picture-in-Ok
 returns-in_ok-picture-in-Ok c =
     let made = c.in-Ok.ensures in
     let m = told (terms_for c.args.setup.now) c.args.front.now.entries.items in
-    drawn_said c.args.setup.now c.args.text.now c.args.feeds c.args.front.now.entries.items c.guide-2 c.in-Ok.record c.in_ok-picture-in-Ok.field-0.items
+    drawn_said c.args.setup.now c.args.text.now c.args.feeds c.args.front.now.entries.items c.judge.new.guide c.in-Ok.record c.in_ok-picture-in-Ok.field-0.items
     made.told made.setup made.entries made.protocol (c.in_ok-picture-in-Ok.ensures m m.held made.memory made.kept)
 
 pub returns-in-Err-Line : goal.returns-in-Err-Line
