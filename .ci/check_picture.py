@@ -13,7 +13,9 @@ each fault, and ends with 1 where there is one. `.ci/pictures` runs it on each e
   messages that a Recover drops, and those that wait at the end, are drawn as such, and no others.
 - Marks and folds stand below those before them, and nothing stands outside the picture.
 - No two texts stand on each other.
-- No upright piece of a message's way lies on one of another message."""
+- No upright piece of a message's way lies on one of another message.
+
+Of the picture of a protocol or of a role's machine `.ci/pictures` checks what `protocol_faults` and `role_faults` say."""
 import re
 import sys
 import xml.etree.ElementTree as tree
@@ -281,6 +283,75 @@ def chart_faults(picture):
     """Returns what is wrong with a picture that isn't one of a journal."""
     root, found = document(picture)
     return found if root is None else found + list(layout_faults(root))
+
+
+def first_box(group):
+    """Returns the ends of the first shape of a group."""
+    return next(box(element) for element in group if element.tag != SVG + "title")
+
+
+def reach(title):
+    """Returns the points that the title of a frame or a block says that it holds."""
+    numbers = [int(number) for number in re.findall(r"\d+", title.rpartition(":")[2])]
+    return list(range(numbers[0], numbers[-1] + 1)) if numbers else []
+
+
+def protocol_faults(picture):
+    """Returns what is wrong with the picture of a protocol: its messages stand in the order of their points, each frame stands
+    around just the messages that its title says, and each `continue` stands in a frame of its `rec`."""
+    root, found = document(picture)
+    if root is None:
+        return found
+    groups = [(title_of(group), first_box(group)) for group in root.iter(SVG + "g") if title_of(group)]
+    messages = [(int(title[6 : title.index(":")]), ends) for title, ends in groups if title.startswith("point ")]
+    if [point for point, _ in messages] != list(range(1, len(messages) + 1)):
+        found.append(f"messages in the order {[point for point, _ in messages]}")
+    frames = [(title, ends) for title, ends in groups if re.match("choice at|rec |par:", title)]
+    for title, (left, top, right, bottom) in frames:
+        held = [point for point, (x, y, x2, _) in messages if left <= x and x2 <= right and top < y < bottom]
+        if held != reach(title):
+            found.append(f"{title!r} holds {held}")
+    for title, (left, top, right, bottom) in groups:
+        if title.startswith("continue "):
+            around = [ends for frame, ends in frames if frame.startswith(f"rec {title[9:]}: ")]
+            if not any(x <= left and y < top and bottom < y2 for x, y, _, y2 in around):
+                found.append(f"{title!r} stands in none of its frames")
+        elif not re.match(r"point \d+: |choice at |rec |par: |or: |and: ", title):
+            found.append(f"a title {title!r}")
+    return found + list(layout_faults(root))
+
+
+def role_faults(picture):
+    """Returns what is wrong with the picture of a role's machine: each place stands in one box, and from each step one wire leads
+    from its box to the one that has the place behind its point."""
+    root, found = document(picture)
+    if root is None:
+        return found
+    boxes, steps, wires = {}, [], []
+    for group in root.iter(SVG + "g"):
+        title = title_of(group) or ""
+        if title.startswith("places "):
+            words = [text.text for text in group.iter(SVG + "text")]
+            boxes[title] = first_box(group)
+            steps += [(title, re.match(r"\d+", word)[0]) for word in words if re.match(r"\d+ [!?] ", word)]
+        elif title.startswith("from "):
+            start, _, point = title[5:].rpartition(" by point ")
+            way = next(element for element in group if element.tag == SVG + "path")
+            wires.append((start, point, [float(number) for number in re.findall(r"[\d.]+", way.get("d"))]))
+        elif title:
+            found.append(f"a title {title!r}")
+    places = [place for title in boxes for place in title[7:].split(", ")]
+    if len(places) != len(set(places)) or "0" not in places:
+        found.append(f"boxes of places {places}")
+    if sorted(steps) != sorted((start, point) for start, point, _ in wires):
+        found.append("not one wire for each step")
+    for start, point, way in wires:
+        goal = next((title for title in boxes if point in title[7:].split(", ")), None)
+        for title, (x, y) in ((start, way[:2]), (goal, way[-2:])):
+            left, top, right, bottom = boxes.get(title, (0, 0, 0, 0))
+            if x not in (left, right) or not top <= y <= bottom:
+                found.append(f"the wire of point {point} from {start} isn't at {title}")
+    return found + list(layout_faults(root))
 
 
 def journal_faults(picture, text):

@@ -1,5 +1,10 @@
 mod Counted
 mod Examples
-mod Growing
+mod Growth
+mod Holding
 mod Lines
 mod Ranges
+mod Reached
+mod Showing
+mod Stepping
+mod Together

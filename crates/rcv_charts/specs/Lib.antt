@@ -1,5 +1,11 @@
+pub mod Chart
+pub mod Drawn
 pub mod Laws
+pub mod Machine
 pub mod MessageTitles
 pub mod RowTitles
 pub mod StateTitles
+pub mod States
+pub mod Statements
 pub mod Titles
+pub mod Wires

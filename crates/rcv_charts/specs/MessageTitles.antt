@@ -1,8 +1,7 @@
 -- What the messages of a protocol's picture are called.
-use Rattle.std.specs.Prelude.{ℕ, List, ◌++◌, map, codes, decimal}
+use Rattle.std.specs.Prelude.{ℕ, List, ◌++◌, codes, decimal}
 use Rattle.std.specs.List.{join_by}
-use Rattle.rcv_model.specs.Text.{Body, Bodies}
-use Rattle.rcv_model.specs.Places.{SingleMessage, singles, singles_of}
+use Rattle.rcv_model.specs.Places.{SingleMessage}
 use Rattle.rcv_tables.specs.TableText.{name_of}
 
 -- Names with commas between.
@@ -14,10 +13,3 @@ abbrev pub message_title : List (List ℕ) → ℕ × SingleMessage → List ℕ
 message_title roles m =
     codes "point " ++ decimal m.0 ++ codes ": " ++ m.1.label ++ codes "(" ++ names_text m.1.sorts
     ++ codes ") from " ++ name_of roles m.1.sender ++ codes " to " ++ name_of roles m.1.receiver
-
--- Those of the messages of a body, and of bodies beside each other, in text order.
-abbrev pub message_titles : List (List ℕ) → Body → List (List ℕ)
-message_titles roles body = map (message_title roles) (singles body)
-
-abbrev pub titles_beside : List (List ℕ) → Bodies → List (List ℕ)
-titles_beside roles bodies = map (message_title roles) (singles_of bodies)

@@ -1,32 +1,41 @@
--- What the states of a machine's picture are called.
-use Rattle.std.specs.Prelude.{◌≡◌, ℕ, ◌+◌, ◌==◌, if◌then◌else◌, List, [], ◌∷◌, ◌++◌, map, codes, decimal}
+-- What the boxes of a machine's picture are called, and what stands in them.
+use Rattle.std.specs.Prelude.{◌≡◌, ℕ, ◌-◌, nat_lt, if◌then◌else◌, List, [], ◌∷◌, ◌++◌, map, length, take, drop, codes, decimal}
 use Rattle.std.specs.List.{join_by}
+use Rattle.rcv_picture.specs.declared.group.Group.{Group}
 use Rattle.rcv_model.specs.Net.{Net}
-use Rattle.rcv_project.specs.LocalText.{places_to}
+use Rattle.rcv_project.specs.Act.{ActView, Sending, Receiving, Ended}
+use Rattle.rcv_project.specs.LocalText.{name_of}
+use Rattle.rcv_charts.specs.States.{StateView, next_in}
+use Rattle.rcv_charts.specs.Titles.{texts_in}
 
 -- A state, by its places: `places 0, 5`
 abbrev pub places_title : List ℕ → List ℕ
 places_title places = codes "places " ++ join_by decimal (codes ", ") places
 
--- How often a place stands among these, and how often in these states.
-abbrev pub times : ℕ → List ℕ → ℕ
-times k [] = 0
-times k (place ∷ places) = (if place == k then 1 else 0) + times k places
+-- What the role does in it, in a word.
+abbrev pub act_word : ActView → List ℕ
+act_word (Sending points) = codes "sends"
+act_word (Receiving from points) = codes "waits"
+act_word Ended = codes "done"
 
-abbrev pub times_in : ℕ → List (List ℕ) → ℕ
-times_in k [] = 0
-times_in k (state ∷ states) = times k state + times_in k states
+-- A label as it is shown: a long one by its first ten bytes, three dots and its last five.
+abbrev pub shown_label : List ℕ → List ℕ
+shown_label label = if nat_lt 16 (length label) then take 10 label ++ (226 ∷ 128 ∷ 166 ∷ []) ++ drop (length label - 5) label else label
 
--- The places of the role as far as point n are the places of these states: each stands in one state, once.
-abbrev pub AreStatesTo : Net → ℕ → ℕ → List (List ℕ) → Type 0
-AreStatesTo net r n states = (k : ℕ) → times_in k states ≡ times k (places_to net r n)
+-- A step of a state: `3 ! pack to Store`, or `2 ? order from Buyer`.
+abbrev pub step_text : List (List ℕ) → Net → ActView → ℕ → List ℕ
+step_text names net (Sending points) z =
+    decimal z ++ codes " ! " ++ shown_label (net.label z) ++ codes " to " ++ name_of names (net.receiver z)
+step_text names net (Receiving from points) z =
+    decimal z ++ codes " ? " ++ shown_label (net.label z) ++ codes " from " ++ name_of names from
+step_text names net Ended z = []
 
--- These states have one place more.
-abbrev pub HasMore : List (List ℕ) → ℕ → List (List ℕ) → Type 0
-HasMore before place after = (k : ℕ) → times_in k after ≡ times_in k before + times k (place ∷ [])
+-- The steps of a state, one for each next point, in order.
+abbrev pub step_texts : List (List ℕ) → Net → ActView → List (List ℕ)
+step_texts names net act = map (step_text names net act) (next_in act)
 
--- The titles are those of states that hold each place of the role once. Which places share a state is free.
-pub record AreTitlesOf (net : Net) (r : ℕ) (titles : List (List ℕ)) : Type 0 where
-  pub states : List (List ℕ)
-  pub are_states : AreStatesTo net r net.count states
-  pub are_titles : titles ≡ map places_title states
+-- The group is the box of the state: its places are its title, and in it stand what the role does, a head, and the steps.
+pub record IsBox (names : List (List ℕ)) (net : Net) (state : StateView) (group : Group) : Type 0 where
+  pub titled : group.title.items ≡ places_title state.places
+  pub head : List ℕ
+  pub words : texts_in group.shapes.items ≡ act_word state.act ∷ head ∷ step_texts names net state.act

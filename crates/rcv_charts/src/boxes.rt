@@ -1,78 +1,40 @@
 // The boxes of a machine's states: what the role does there, with a line for each step.
 
-ghost use Rattle.std.specs.Prelude.{◌≡◌, [], ◌∷◌, ◌++◌, OnOk, IfOk, IsTrue, map, codes, decimal};
-ghost use Rattle.std.specs.List.{join_by};
-ghost use Rattle.rcv_charts.specs.StateTitles.{places_title};
-ghost use Rattle.rcv_charts.specs.Titles.{is_titled};
+ghost use Rattle.std.specs.Prelude.{◌≡◌, ◌≤◌, [], ◌∷◌, ◌++◌, OnOk, IfOk, IsTrue, length, codes, decimal};
+ghost use Rattle.std.specs.List.{All, join_by};
+ghost use Rattle.rcv_points.specs.Follow.{net_in};
+ghost use Rattle.rcv_project.specs.Act.{AreInText, owned_view};
+ghost use Rattle.rcv_charts.specs.States.{StateView, next_in};
+ghost use Rattle.rcv_charts.specs.StateTitles.{IsBox, places_title, act_word, step_text, step_texts};
+ghost use Rattle.rcv_charts.specs.Machine.{Adds, ShowsBox};
+ghost use Rattle.rcv_charts.specs.Titles.{has_title, is_titled, texts_in, lists_in};
 
-use crate::drawing::Drawing;
-use crate::letters::{HEAD as HEAD_LETTER, PLAIN, cut, pixels, widest, width};
+use crate::drawing::{Drawing, titled};
+use crate::letters::{HEAD as HEAD_LETTER, PLAIN, cut, widest, width};
+use crate::messages::name_of;
 use crate::shapes::{end_text, line, rect, text};
-use crate::states::{Kind, State};
-use crate::wires::{Frame, HEAD, STEP, frame_of};
-use crate::words::label;
+use crate::stand::{Frame, HEAD, STEP, frame_of};
+use crate::states::State;
+use rcv_picture::group::Group;
 use rcv_picture::look::Look;
 use rcv_picture::pixels::{Pixels, place};
 use rcv_picture::shape::Shape;
 use rcv_points::points::Points;
+use rcv_project::local::OwnedAct;
 use rcv_text::writer::Writer;
+use rcv_tree::name::Names;
 use rcv_tree::point::Point;
-use rcv_tree::protocol::Protocol;
-use rcv_tree::role::RoleId;
 use std::alloc::{AllocError, Global};
-
-// How far a box is from the one above it.
-const GAP: Pixels = Pixels(22);
 
 // How many places a head lists.
 const LISTED: usize = 6;
 
-// How high the box of a state is.
-fn height(state: &State) -> Pixels {
-    let steps = state.next().len();
-    if steps == 0 {
-        HEAD
-    } else {
-        HEAD + pixels(steps) * 20 + Pixels(6)
-    }
-}
-
-/// Where the boxes of these states stand: below each other in order, the one where the part ends last. Fails where
-/// memory runs out.
-pub fn frames_of(alloc: Global, states: &[State], top: Pixels) -> Result<Vec<Frame>, AllocError> {
-    let mut all = Pixels(0);
-    for state in states {
-        if !state.is_done() {
-            all = all + height(state) + GAP;
-        }
-    }
-    let mut frames = Vec::new(alloc);
-    let mut next = top;
-    for state in states {
-        let height = height(state);
-        if state.is_done() {
-            let top = top + all;
-            frames.push(Frame { top, height })?;
-        } else {
-            frames.push(Frame { top: next, height })?;
-            next = next + height + GAP;
-        }
-    }
-    Ok(frames)
-}
-
-/// The boxes of a role's machine.
-#[derive(Drop)]
-pub struct Boxes {
-    // By state.
-    boxes: Vec<Words>,
-}
-
-// What stands in a box: its head, and its steps.
-#[derive(Drop)]
-struct Words {
-    head: Vec<u8>,
-    steps: Vec<Vec<u8>>,
+/// Whose boxes are drawn: the names of the roles, and the points of the text.
+#[derive(Clone, Copy, Drop)]
+pub struct Source<'a> {
+    pub alloc: Global,
+    pub roles: &'a Names,
+    pub points: &'a Points,
 }
 
 // The head of a state: the points behind which it stands.
@@ -100,101 +62,67 @@ fn head_of(alloc: Global, state: &State) -> Result<Vec<u8>, AllocError> {
     Ok(head.finish())
 }
 
-// A step as its line says it.
-fn step_of(
-    alloc: Global,
-    protocol: &Protocol,
-    points: &Points,
-    role: RoleId,
-    point: Point,
-) -> Result<Vec<u8>, AllocError> {
-    let mut words = Writer::new(alloc);
-    words.number(point.0)?;
-    if point.0 < 1 || points.count() < point.0 {
-        return Ok(words.finish());
-    }
-    let sends = points.sender(point) == role;
-    let other = if sends {
-        points.receiver(point)
-    } else {
-        points.sender(point)
-    };
-    words.word(if sends { b" ! " } else { b" ? " })?;
-    words.word(cut(alloc, label(points, point))?.as_slice())?;
-    if let Some(name) = protocol.roles.as_slice().get(other.0 as usize) {
-        words.word(if sends { b" to " } else { b" from " })?;
-        words.word(name.as_slice())?;
+// A step as its line says it. Fails where memory runs out.
+fn step_of(source: &Source<'_>, act: &OwnedAct, point: Point) -> Result<Vec<u8>, AllocError>
+    requires first { 1 ≤ point }
+    requires last { point ≤ length source.now.points.now.messages }
+    ensures { IfOk result (λ step. step.items
+        ≡ step_text source.now.roles.now (net_in source.now.points.now) (owned_view act.now) point) }
+{
+    let mut words = Writer::new(source.alloc);
+    let label = cut(source.alloc, source.points.label(point))?;
+    match act {
+        OwnedAct::Sends(_) => {
+            words.number(point.0)?;
+            words.word(b" ! ")?;
+            words.word(label.as_slice())?;
+            words.word(b" to ")?;
+            words.word(name_of(source.roles, source.points.receiver(point)))?;
+        }
+        OwnedAct::Receives(from, _) => {
+            words.number(point.0)?;
+            words.word(b" ? ")?;
+            words.word(label.as_slice())?;
+            words.word(b" from ")?;
+            words.word(name_of(source.roles, *from))?;
+        }
+        OwnedAct::Done => (),
     }
     Ok(words.finish())
 }
 
-impl Boxes {
-    /// The boxes of these states. Fails where memory runs out.
-    pub fn of(
-        alloc: Global,
-        protocol: &Protocol,
-        points: &Points,
-        role: RoleId,
-        states: &[State],
-    ) -> Result<Boxes, AllocError> {
-        let mut boxes = Vec::new(alloc);
-        for state in states {
-            let mut steps = Vec::new(alloc);
-            for point in state.next() {
-                steps.push(step_of(alloc, protocol, points, role, *point)?)?;
-            }
-            boxes.push(Words {
-                head: head_of(alloc, state)?,
-                steps,
-            })?;
-        }
-        Ok(Boxes { boxes })
+// The steps of a state. Fails where memory runs out.
+fn steps_of(source: &Source<'_>, state: &State) -> Result<Vec<Vec<u8>>, AllocError>
+    requires { AreInText (net_in source.now.points.now) (next_in state.now.act) }
+    ensures { IfOk result (λ steps. lists_in steps.items
+        ≡ step_texts source.now.roles.now (net_in source.now.points.now) state.now.act) }
+{
+    let mut steps = Vec::new(source.alloc);
+    for point in state.next() {
+        steps.push(step_of(source, state.act(), *point)?)?;
     }
-
-    /// How wide each is.
-    pub fn width(&self) -> Pixels {
-        let mut most = Pixels(120);
-        for words in self.boxes.as_slice() {
-            most = most.max(width(words.head.as_slice(), HEAD_LETTER) + Pixels(40));
-            most = most.max(widest(words.steps.as_slice(), PLAIN));
-        }
-        most + Pixels(28)
-    }
-
-    // What stands in the box of a state.
-    fn words(&self, state: usize) -> Option<&Words> {
-        self.boxes.get(state)
-    }
-
-    /// Draws the boxes. Fails where memory runs out.
-    pub fn draw(
-        &self,
-        alloc: Global,
-        drawing: &mut Drawing,
-        states: &[State],
-        frames: &[Frame],
-        left: Pixels,
-    ) -> Result<(), AllocError>
-        ensures { OnOk result (drawing.new ≡ drawing.old ++ map places_title states.now) }
-    {
-        let wide = self.width();
-        for (index, state) in states.iter().enumerate() {
-            let frame = frame_of(frames, index);
-            draw_state(alloc, drawing, state, frame, self.words(index), left, wide)?;
-        }
-        Ok(())
-    }
+    Ok(steps)
 }
 
-// The title of a state: its places. Fails where memory runs out.
-fn title_of(alloc: Global, state: &State) -> Result<Vec<u8>, AllocError>
-    ensures value { IfOk result (λ title. title.items ≡ places_title state.now) }
-    ensures titled { IfOk result (λ title. IsTrue (is_titled title.items)) }
+/// How wide the box of each of these states is. Fails where memory runs out.
+pub fn width_of(source: &Source<'_>, states: &[State]) -> Result<Pixels, AllocError>
+    requires { All (λ (state : StateView). AreInText (net_in source.now.points.now) (next_in state.act)) states.now }
 {
-    let mut title = Writer::new(alloc);
-    title.word(b"places ")?;
-    write_places(&mut title, state.places())?;
-    Ok(title.finish())
+    let mut most = Pixels(120);
+    for state in states {
+        let head = head_of(source.alloc, state)?;
+        most = most.max(width(head.as_slice(), HEAD_LETTER) + Pixels(40));
+        most = most.max(widest(steps_of(source, state)?.as_slice(), PLAIN));
+    }
+    Ok(most + Pixels(28))
+}
+
+/// Writes places as the title of their state.
+pub fn write_title(text: &mut Writer, places: &[u16]) -> Result<(), AllocError>
+    ensures { OnOk result (text.new ≡ text.old ++ places_title places.now) }
+{
+    text.word(b"places ")?;
+    write_places(text, places)
 }
 
 // Places, with commas between.
@@ -212,84 +140,119 @@ fn write_places(text: &mut Writer, places: &[u16]) -> Result<(), AllocError>
     Ok(())
 }
 
-// Draws the box of a state. Fails where memory runs out.
-fn draw_state(
-    alloc: Global,
-    drawing: &mut Drawing,
-    state: &State,
-    frame: Frame,
-    words: Option<&Words>,
-    left: Pixels,
-    wide: Pixels,
-) -> Result<(), AllocError>
-    ensures { OnOk result (drawing.new ≡ drawing.old ++ places_title state.now ∷ []) }
+// The title of a state: its places. Fails where memory runs out.
+fn title_of(alloc: Global, state: &State) -> Result<Vec<u8>, AllocError>
+    ensures value { IfOk result (λ title. title.items ≡ places_title state.now.places) }
+    ensures titled { IfOk result (λ title. IsTrue (is_titled title.items)) }
 {
-    let mut shapes = box_of(alloc, state.kind(), frame, left, wide)?;
-    if let Some(words) = words {
-        draw_words(alloc, &mut shapes, words, left, frame.top)?;
-    }
-    drawing.put_group(title_of(alloc, state)?, shapes)?;
-    let down = drawing.down();
-    drawing.skip(frame.top + frame.height - down);
-    Ok(())
+    let mut title = Writer::new(alloc);
+    write_title(&mut title, state.places())?;
+    Ok(title.finish())
 }
 
-// How the box of a state looks by what the role does there: how round it is, and the word on its right, with its look.
-fn look_of(kind: Kind) -> (u32, Look, &'static [u8]) {
-    match kind {
-        Kind::Sends => (7, Look::Note, b"sends"),
-        Kind::Receives => (7, Look::Note, b"waits"),
-        Kind::Done => (13, Look::NoteGood, b"done"),
+// How round the box of a state is, and how the word on its right looks.
+fn look_of(state: &State) -> (u32, Look) {
+    if state.is_done() {
+        (13, Look::NoteGood)
+    } else {
+        (7, Look::Note)
     }
 }
 
-// The shapes of the box of a state. Fails where memory runs out.
+// What parts the head of a box from the rest, or the inner edge of the box where the part ends.
+fn seam(state: &State, frame: Frame, left: Pixels, wide: Pixels) -> Shape
+    ensures { texts_in (result ∷ []) ≡ [] }
+{
+    let y = frame.top;
+    if state.is_done() {
+        let corner = place(left + Pixels(3), y + Pixels(3));
+        let height = frame.height - Pixels(6);
+        return rect(corner, wide - Pixels(6), height, 10, Look::Grid);
+    }
+    let under = y + HEAD - Pixels(1);
+    let right = left + wide;
+    line(place(left, under), place(right, under), Look::Grid)
+}
+
+// The box of a state with the word for what the role does there. Fails where memory runs out.
 fn box_of(
     alloc: Global,
-    kind: Kind,
+    state: &State,
     frame: Frame,
     left: Pixels,
     wide: Pixels,
-) -> Result<Vec<Shape>, AllocError> {
-    let right = left + wide;
+) -> Result<Vec<Shape>, AllocError>
+    ensures { IfOk result (λ shapes. texts_in shapes.items ≡ act_word state.now.act ∷ []) }
+{
     let y = frame.top;
-    let (round, note, word) = look_of(kind);
+    let (round, look) = look_of(state);
+    let word = Vec::from_slice(alloc, state.word())?;
     let mut shapes = Vec::new(alloc);
     shapes.push(rect(place(left, y), wide, frame.height, round, Look::Box))?;
-    if kind == Kind::Done {
-        let corner = place(left + Pixels(3), y + Pixels(3));
-        let inner = rect(
-            corner,
-            wide - Pixels(6),
-            frame.height - Pixels(6),
-            10,
-            Look::Grid,
-        );
-        shapes.push(inner)?;
-    } else {
-        let under = y + HEAD - Pixels(1);
-        shapes.push(line(place(left, under), place(right, under), Look::Grid))?;
-    }
-    let word = Vec::from_slice(alloc, word)?;
-    shapes.push(end_text(right - Pixels(12), y + Pixels(17), note, word))?;
+    shapes.push(seam(state, frame, left, wide))?;
+    shapes.push(end_text(left + wide - Pixels(12), y + Pixels(17), look, word))?;
     Ok(shapes)
 }
 
-// Adds the head of a state and its steps. Fails where memory runs out.
-fn draw_words(
+// Adds a line for each step of a state below its head. Fails where memory runs out.
+fn add_steps(
     alloc: Global,
     shapes: &mut Vec<Shape>,
-    words: &Words,
+    steps: &[Vec<u8>],
     left: Pixels,
     top: Pixels,
-) -> Result<(), AllocError> {
-    let head = Vec::from_slice(alloc, words.head.as_slice())?;
-    shapes.push(text(left + Pixels(12), top + Pixels(17), Look::Head, head))?;
+) -> Result<(), AllocError>
+    ensures { OnOk result (texts_in shapes.new.items
+        ≡ texts_in shapes.old.items ++ lists_in steps.now) }
+{
     let mut base = top + Pixels(40);
-    for step in words.steps.as_slice() {
-        let step = Vec::from_slice(alloc, step.as_slice())?;
-        shapes.push(text(left + Pixels(14), base, Look::Plain, step))?;
+    for step in steps {
+        let words = Vec::from_slice(alloc, step.as_slice())?;
+        shapes.push(text(left + Pixels(14), base, Look::Plain, words))?;
         base = base + STEP;
+    }
+    Ok(())
+}
+
+// The box of a state. Fails where memory runs out.
+fn group_of(
+    source: &Source<'_>,
+    state: &State,
+    frame: Frame,
+    left: Pixels,
+    wide: Pixels,
+) -> Result<Group, AllocError>
+    requires { AreInText (net_in source.now.points.now) (next_in state.now.act) }
+    ensures shown { IfOk result (λ group. IsBox source.now.roles.now (net_in source.now.points.now) state.now group) }
+    ensures titled { IfOk result (λ group. IsTrue (has_title group)) }
+{
+    let mut shapes = box_of(source.alloc, state, frame, left, wide)?;
+    let head = head_of(source.alloc, state)?;
+    shapes.push(text(left + Pixels(12), frame.top + Pixels(17), Look::Head, head))?;
+    let steps = steps_of(source, state)?;
+    add_steps(source.alloc, &mut shapes, steps.as_slice(), left, frame.top)?;
+    Ok(titled(title_of(source.alloc, state)?, shapes))
+}
+
+/// Draws the boxes of these states in their frames. Fails where memory runs out.
+pub fn draw_boxes(
+    source: &Source<'_>,
+    drawing: &mut Drawing,
+    states: &[State],
+    frames: &[Frame],
+    left: Pixels,
+    wide: Pixels,
+) -> Result<(), AllocError>
+    requires { All (λ (state : StateView). AreInText (net_in source.now.points.now) (next_in state.act)) states.now }
+    ensures { OnOk result (Adds (length states.now)
+        (ShowsBox source.now.roles.now (net_in source.now.points.now) states.now) drawing.old drawing.new) }
+{
+    for (index, state) in states.iter().enumerate() {
+        let frame = frame_of(frames, index);
+        let group = group_of(source, state, frame, left, wide)?;
+        drawing.put_group(group)?;
+        let down = drawing.down();
+        drawing.skip(frame.top + frame.height - down);
     }
     Ok(())
 }

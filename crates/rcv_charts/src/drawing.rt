@@ -1,7 +1,9 @@
 // A drawing that grows: groups with titles, and shapes below and above them.
 
-ghost use Rattle.std.specs.Prelude.{◌≡◌, [], ◌∷◌, ◌++◌, IfOk, OnOk, IsTrue};
-ghost use Rattle.rcv_charts.specs.Titles.{is_titled, titles_of};
+ghost use Rattle.std.specs.Prelude.{◌≡◌, ◌≤◌, ◌<◌, [], ◌∷◌, ◌++◌, IfOk, OnOk, IsTrue};
+ghost use Rattle.rcv_charts.specs.Titles.{is_titled, has_title, titled_of};
+ghost use Rattle.rcv_charts.specs.Drawn.{DrawingView, with_groups};
+ghost use Rattle.rcv_charts.specs.Chart.{IsBelow, Moves};
 
 use rcv_picture::group::{Group, Says};
 use rcv_picture::picture::Picture;
@@ -10,7 +12,7 @@ use rcv_picture::shape::Shape;
 use std::alloc::{AllocError, Global};
 use std::marker::Model;
 
-/// What was drawn so far, and how far down. Contracts see the titles.
+/// What was drawn so far, and how far down. Contracts see the groups with a title, and how far down.
 #[derive(Drop)]
 pub struct Drawing {
     below: Vec<Shape>,
@@ -20,18 +22,18 @@ pub struct Drawing {
 }
 
 impl Model for Drawing {
-    ghost use Rattle.std.specs.Prelude.{List, ℕ};
-    ghost use Rattle.rcv_charts.specs.Titles.{titles_in};
+    ghost use Rattle.rcv_charts.specs.Drawn.{DrawingView};
+    ghost use Rattle.rcv_charts.specs.Titles.{titled_in};
 
-    ghost Value = { List (List ℕ) };
+    ghost Value = { DrawingView };
 
-    ghost view = { λ a. titles_in a.groups.items };
+    ghost view = { λ a. record { groups = titled_in a.groups.items; down = a.down.0 } };
 }
 
 impl Drawing {
     /// The empty drawing. It takes no memory.
     pub fn new(alloc: Global) -> Drawing
-        ensures { result ≡ [] }
+        ensures { result ≡ record { groups = []; down = 0 } }
     {
         Drawing {
             below: Vec::new(alloc),
@@ -41,21 +43,33 @@ impl Drawing {
         }
     }
 
+    /// An empty drawing that begins as far down as this one has come. It takes no memory.
+    pub fn inner(&self, alloc: Global) -> Drawing
+        ensures { result ≡ record { groups = []; down = self.now.down } }
+    {
+        let mut inner = Drawing::new(alloc);
+        inner.down = self.down;
+        inner
+    }
+
     /// How far down it goes.
-    pub fn down(&self) -> Pixels {
+    pub fn down(&self) -> Pixels
+        ensures { result.0 ≡ self.now.down }
+    {
         self.down
     }
 
     /// It goes on so far further down.
     pub fn skip(&mut self, more: Pixels)
-        ensures { self.new ≡ self.old }
+        ensures moves { Moves self.old self.new }
+        ensures below { 0 < more.0 → IsBelow self.old.down self.new.down }
     {
-        self.down = self.down + more;
+        self.down = Pixels(self.down.0.saturating_add(more.0));
     }
 
     /// It goes on so far down, which may be further up than it has come.
     pub fn go_to(&mut self, down: Pixels)
-        ensures { self.new ≡ self.old }
+        ensures { self.new ≡ record { groups = self.old.groups; down = down.0 } }
     {
         self.down = down;
     }
@@ -83,16 +97,23 @@ impl Drawing {
         Ok(())
     }
 
-    /// Adds a group of this title. Fails where memory runs out.
-    pub fn put_group(&mut self, title: Vec<u8>, shapes: Vec<Shape>) -> Result<(), AllocError>
-        requires { IsTrue (is_titled title.items) }
-        ensures { OnOk result (self.new ≡ self.old ++ title.items ∷ []) }
+    /// Adds a group that has a title. Fails where memory runs out.
+    pub fn put_group(&mut self, group: Group) -> Result<(), AllocError>
+        requires { IsTrue (has_title group) }
+        ensures { OnOk result (self.new ≡ with_groups self.old (group ∷ [])) }
     {
-        self.groups.push(Group {
-            says: Says::Nothing,
-            title,
-            shapes,
-        })?;
+        self.groups.push(group)?;
+        Ok(())
+    }
+
+    /// Adds what was drawn inside a frame behind the frame, and goes on as far down as this. Fails where memory runs out.
+    pub fn put_inner(&mut self, mut inner: Drawing, down: Pixels) -> Result<(), AllocError>
+        ensures { OnOk result (self.new ≡ record { groups = self.old.groups ++ inner.groups; down = down.0 }) }
+    {
+        self.below.append(&mut inner.below)?;
+        self.groups.append(&mut inner.groups)?;
+        self.above.append(&mut inner.above)?;
+        self.down = down;
         Ok(())
     }
 
@@ -106,7 +127,8 @@ impl Drawing {
         description: Vec<u8>,
         ground: Vec<Shape>,
     ) -> Result<Picture, AllocError>
-        ensures { IfOk result (λ picture. titles_of picture ≡ self) }
+        ensures groups { IfOk result (λ picture. titled_of picture ≡ self.groups) }
+        ensures height { IfOk result (λ picture. picture.height.0 ≡ self.down) }
     {
         let mut groups = Vec::new(alloc);
         groups.push(untitled(alloc, ground))?;
@@ -120,6 +142,20 @@ impl Drawing {
             description,
             groups,
         })
+    }
+}
+
+/// Shapes of this title.
+pub fn titled(title: Vec<u8>, shapes: Vec<Shape>) -> Group
+    requires { IsTrue (is_titled title.items) }
+    ensures title { result.title ≡ title }
+    ensures shapes { result.shapes ≡ shapes }
+    ensures titled { IsTrue (has_title result) }
+{
+    Group {
+        says: Says::Nothing,
+        title,
+        shapes,
     }
 }
 

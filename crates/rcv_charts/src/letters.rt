@@ -1,6 +1,7 @@
 // Texts in a picture: how wide they are, how they are cut, and how they are broken into lines.
 
-ghost use Rattle.std.specs.Prelude.{◌≤◌, ◌<◌, length};
+ghost use Rattle.std.specs.Prelude.{◌≡◌, ◌≤◌, ◌<◌, IfOk, length};
+ghost use Rattle.rcv_charts.specs.StateTitles.{shown_label};
 
 use rcv_picture::pixels::Pixels;
 use std::alloc::{AllocError, Global};
@@ -42,12 +43,14 @@ pub fn is_cut(label: &[u8]) -> bool {
 }
 
 /// A label as it is shown: its first ten letters, three dots and its last five where it is long.
-pub fn cut(alloc: Global, label: &[u8]) -> Result<Vec<u8>, AllocError> {
+pub fn cut(alloc: Global, label: &[u8]) -> Result<Vec<u8>, AllocError>
+    ensures { IfOk result (λ shown. shown.items ≡ shown_label label.now) }
+{
     if label.len() <= LONGEST {
         return Vec::from_slice(alloc, label);
     }
     let mut short = Vec::from_slice(alloc, &label[..10])?;
-    short.extend_from_slice("…".as_bytes())?;
+    short.extend_from_slice(b"\xe2\x80\xa6")?;
     short.extend_from_slice(&label[label.len() - 5..])?;
     Ok(short)
 }

@@ -14,13 +14,17 @@ mod lanes;
 mod letters;
 mod messages;
 pub mod protocol;
+mod reach;
 pub mod role;
 mod row_title;
 mod rows;
 mod sequence;
 mod shapes;
+mod stand;
 mod states;
 pub mod table;
+mod titles;
+mod ways;
 mod wires;
 mod words;
 

@@ -1,16 +1,19 @@
 // The messages of a protocol's picture: their words, and how they are drawn.
 
-ghost use Rattle.std.specs.Prelude.{◌≡◌, [], ◌∷◌, ◌++◌, IfOk, OnOk, IsTrue};
+ghost use Rattle.std.specs.Prelude.{◌≡◌, ◌++◌, IfOk, OnOk, IsTrue};
 ghost use Rattle.rcv_tables.specs.TableText.{name_of};
 ghost use Rattle.rcv_charts.specs.MessageTitles.{names_text, message_title};
-ghost use Rattle.rcv_charts.specs.Titles.{is_titled};
+ghost use Rattle.rcv_charts.specs.Titles.{has_title, is_titled};
+ghost use Rattle.rcv_charts.specs.Chart.{AddsOne, first_upper, first_lower, upper, lower};
 
 use crate::columns::Columns;
-use crate::drawing::Drawing;
+use crate::drawing::{Drawing, titled};
 use crate::letters::{cut, is_cut};
 use crate::shapes::{circle, end_text, line, middle_text, text};
+use rcv_picture::group::Group;
 use rcv_picture::look::Look;
-use rcv_picture::pixels::{Pixels, place};
+use rcv_picture::pixels::{At, Pixels};
+use rcv_picture::shape::Shape;
 use rcv_text::writer::Writer;
 use rcv_tree::name::{Name, Names};
 use rcv_tree::point::Point;
@@ -125,15 +128,54 @@ fn number_of(alloc: Global, point: Point) -> Result<Vec<u8>, AllocError> {
     Ok(number.finish())
 }
 
-/// Draws a message: an arrow, with its point at the sender and its label above. Fails where memory runs out.
-pub fn draw_message(
+// An arrow at this height, with the point at the sender and the label above. Fails where memory runs out.
+fn arrow(
     alloc: Global,
-    drawing: &mut Drawing,
+    columns: Columns,
+    message: &Message<'_>,
+    y: Pixels,
+) -> Result<Vec<Shape>, AllocError>
+    ensures upper { IfOk result (λ shapes. first_upper shapes.items ≡ y.0) }
+    ensures lower { IfOk result (λ shapes. first_lower shapes.items ≡ y.0) }
+{
+    let from = columns.middle(message.sender);
+    let to = columns.middle(message.receiver);
+    let goes_right = from < to;
+    let start = if goes_right {
+        from + Pixels(9)
+    } else {
+        from - Pixels(9)
+    };
+    let end = if goes_right {
+        to - Pixels(1)
+    } else {
+        to + Pixels(1)
+    };
+    let words = message.shown(alloc)?;
+    let above = y - Pixels(4);
+    let label = if goes_right {
+        text(from + Pixels(14), above, Look::Label, words)
+    } else {
+        end_text(from - Pixels(14), above, Look::Label, words)
+    };
+    let mut shapes = Vec::new(alloc);
+    shapes.push(line(At { x: start, y }, At { x: end, y }, Look::Wire))?;
+    shapes.push(label)?;
+    shapes.push(circle(At { x: from, y }, 8, Look::Send))?;
+    let number = number_of(alloc, message.point)?;
+    shapes.push(middle_text(from, y + Pixels(3), Look::PointOnSend, number))?;
+    Ok(shapes)
+}
+
+// A message at this height. Fails where memory runs out.
+fn group_of(
+    alloc: Global,
     roles: &Names,
     columns: Columns,
     message: &Message<'_>,
-) -> Result<(), AllocError>
-    ensures { OnOk result (drawing.new ≡ drawing.old ++ message_title roles.now (
+    y: Pixels,
+) -> Result<Group, AllocError>
+    ensures title { IfOk result (λ group. group.title.items ≡ message_title roles.now (
       message.now.point,
       record {
         label = message.now.label.now;
@@ -141,26 +183,34 @@ pub fn draw_message(
         sender = message.now.sender;
         receiver = message.now.receiver;
       },
-    ) ∷ []) }
+    )) }
+    ensures upper { IfOk result (λ group. upper group ≡ y.0) }
+    ensures lower { IfOk result (λ group. lower group ≡ y.0) }
+    ensures titled { IfOk result (λ group. IsTrue (has_title group)) }
+{
+    let shapes = arrow(alloc, columns, message, y)?;
+    Ok(titled(title_of(alloc, roles, message)?, shapes))
+}
+
+/// Draws a message. Fails where memory runs out.
+pub fn draw_message(
+    alloc: Global,
+    drawing: &mut Drawing,
+    roles: &Names,
+    columns: Columns,
+    message: &Message<'_>,
+) -> Result<(), AllocError>
+    ensures { OnOk result (AddsOne (message_title roles.now (
+      message.now.point,
+      record {
+        label = message.now.label.now;
+        sorts = message.now.sorts.now;
+        sender = message.now.sender;
+        receiver = message.now.receiver;
+      },
+    )) drawing.old drawing.new) }
 {
     drawing.skip(Pixels(30));
-    let y = drawing.down();
-    let from = columns.middle(message.sender);
-    let to = columns.middle(message.receiver);
-    let words = message.shown(alloc)?;
-    let above = y - Pixels(4);
-    let mut shapes = Vec::new(alloc);
-    if from < to {
-        let end = place(to - Pixels(1), y);
-        shapes.push(line(place(from + Pixels(9), y), end, Look::Wire))?;
-        shapes.push(text(from + Pixels(14), above, Look::Label, words))?;
-    } else {
-        let end = place(to + Pixels(1), y);
-        shapes.push(line(place(from - Pixels(9), y), end, Look::Wire))?;
-        shapes.push(end_text(from - Pixels(14), above, Look::Label, words))?;
-    }
-    shapes.push(circle(place(from, y), 8, Look::Send))?;
-    let number = number_of(alloc, message.point)?;
-    shapes.push(middle_text(from, y + Pixels(3), Look::PointOnSend, number))?;
-    drawing.put_group(title_of(alloc, roles, message)?, shapes)
+    let group = group_of(alloc, roles, columns, message, drawing.down())?;
+    drawing.put_group(group)
 }

@@ -1,9 +1,10 @@
 // The picture of a protocol.
 
-ghost use Rattle.std.specs.Prelude.{◌≡◌, IfOk};
+ghost use Rattle.std.specs.Prelude.{◌≡◌, ◌≤◌, IfOk};
 ghost use Rattle.rcv_model.specs.Text.{body_of};
-ghost use Rattle.rcv_charts.specs.MessageTitles.{message_titles};
-ghost use Rattle.rcv_charts.specs.Titles.{titles_of};
+ghost use Rattle.rcv_charts.specs.Statements.{statement_titles};
+ghost use Rattle.rcv_charts.specs.Chart.{IsChart, DrawsAll};
+ghost use Rattle.rcv_charts.specs.Titles.{titled_of, titles_of};
 
 use crate::calls::Calls;
 use crate::columns::{Columns, Headings};
@@ -90,7 +91,7 @@ fn draw_roles(
 
 // The messages and frames, drawn below the roles. Fails where memory runs out.
 fn drawn(chart: &Chart<'_>, protocol: &Protocol, top: Pixels) -> Result<Drawing, AllocError>
-    ensures { IfOk result (λ drawing. drawing ≡ message_titles chart.now.roles.now (body_of protocol.now.body)) }
+    ensures { IfOk result (λ drawing. DrawsAll chart.now.roles.now (body_of protocol.now.body) drawing) }
 {
     let mut drawing = Drawing::new(chart.alloc);
     drawing.skip(top);
@@ -117,7 +118,8 @@ fn finished(
     extent: &Extent,
     wide: Pixels,
 ) -> Result<Picture, AllocError>
-    ensures { IfOk result (λ picture. titles_of picture ≡ drawing) }
+    ensures groups { IfOk result (λ picture. titled_of picture ≡ drawing.groups) }
+    ensures height { IfOk result (λ picture. drawing.down ≤ picture.height.0) }
 {
     let title = joined(alloc, b"protocol ", name)?;
     ground.push(text(MARGIN, Pixels(26), Look::Big, title))?;
@@ -133,15 +135,17 @@ fn finished(
 /// The picture of an expansion: a column for each role, an arrow for each message, and a frame for each choice, for each
 /// loop, with a way back to it from each `continue`, for lanes beside each other, and for what came through a call, with the
 /// name of the protocol that it names. The points come from there, and each call stands in so many inner blocks of its
-/// protocol's text. The titles of the messages say their points, in order. Fails where memory runs out.
+/// protocol's text. Each statement is drawn once, in order and in its frames, and has a title; that of a frame says which
+/// points it holds. Fails where memory runs out.
 pub fn protocol_picture(
     alloc: Global,
     protocol: &Protocol,
     origins: &Origins,
     depths: &[u8],
 ) -> Result<Picture, AllocError>
-    ensures { IfOk result (λ picture. titles_of picture
-        ≡ message_titles protocol.now.roles (body_of protocol.now.body)) }
+    ensures chart { IfOk result (λ picture. IsChart protocol.now.roles (body_of protocol.now.body) picture) }
+    ensures titles { IfOk result (λ picture. titles_of picture
+        ≡ statement_titles protocol.now.roles (body_of protocol.now.body)) }
 {
     let calls = Calls { origins, depths };
     let headings = Headings::of(alloc, &protocol.roles)?;

@@ -1,23 +1,29 @@
 // The picture of the machine of a role.
 
-ghost use Rattle.std.specs.Prelude.{◌≡◌, IfOk, map};
+ghost use Rattle.std.specs.Prelude.{◌≡◌, IfOk};
+ghost use Rattle.std.specs.List.{All};
+ghost use Rattle.rcv_points.specs.Follow.{net_in};
 ghost use Rattle.rcv_accept.specs.Accepted.{net_for};
+ghost use Rattle.rcv_project.specs.Act.{AreInText};
 ghost use Rattle.rcv_project.specs.Local.{IsLocalOf};
-ghost use Rattle.rcv_charts.specs.StateTitles.{AreTitlesOf, places_title};
-ghost use Rattle.rcv_charts.specs.Titles.{titles_of};
+ghost use Rattle.rcv_charts.specs.States.{StateView, next_in};
+ghost use Rattle.rcv_charts.specs.Wires.{AreClosed, AreWires};
+ghost use Rattle.rcv_charts.specs.Machine.{ShowsStates, IsMachine};
+ghost use Rattle.rcv_charts.specs.Titles.{titled_of};
 
-use crate::boxes::{Boxes, frames_of};
+use crate::boxes::{Source, draw_boxes, width_of};
 use crate::drawing::Drawing;
 use crate::letters::{BIG, width};
 use crate::shapes::text;
+use crate::stand::{Frame, frames_of};
 use crate::states::{State, states_of};
-use crate::wires::{Frame, Wires};
+use crate::ways::Ways;
+use crate::wires::{Wire, wires_of};
 use crate::words::{Notes, joined};
 use rcv_accept::accepted::Accepted;
 use rcv_picture::look::Look;
 use rcv_picture::picture::Picture;
 use rcv_picture::pixels::Pixels;
-use rcv_picture::shape::Shape;
 use rcv_points::points::Points;
 use rcv_project::local::Local;
 use rcv_text::writer::Writer;
@@ -54,18 +60,31 @@ fn title_of(alloc: Global, protocol: &Protocol, role: RoleId) -> Result<Vec<u8>,
     Ok(title.finish())
 }
 
-// The boxes of the states, drawn from this edge on. Fails where memory runs out.
+// The ways of the wires and the boxes of the states, drawn from this edge on. Fails where memory runs out.
 fn drawn(
-    alloc: Global,
-    boxes: &Boxes,
+    source: &Source<'_>,
     states: &[State],
+    wires: &[Wire],
     frames: &[Frame],
+    ways: &Ways,
     left: Pixels,
+    wide: Pixels,
 ) -> Result<Drawing, AllocError>
-    ensures { IfOk result (λ drawing. drawing ≡ map places_title states.now) }
+    requires in_text { All (λ (state : StateView). AreInText (net_in source.now.points.now) (next_in state.act)) states.now }
+    requires wires { AreWires states.now wires.now }
+    ensures { IfOk result (λ drawing. ShowsStates source.now.roles.now (net_in source.now.points.now) states.now drawing.groups) }
 {
-    let mut drawing = Drawing::new(alloc);
-    boxes.draw(alloc, &mut drawing, states, frames, left)?;
+    let mut drawing = Drawing::new(source.alloc);
+    ways.draw(
+        source.alloc,
+        &mut drawing,
+        states,
+        frames,
+        wires,
+        left,
+        left + wide,
+    )?;
+    draw_boxes(source, &mut drawing, states, frames, left, wide)?;
     Ok(drawing)
 }
 
@@ -73,13 +92,13 @@ fn drawn(
 fn finished(
     alloc: Global,
     mut drawing: Drawing,
-    mut ground: Vec<Shape>,
     title: &[u8],
     notes: &Notes,
     wide: Pixels,
 ) -> Result<Picture, AllocError>
-    ensures { IfOk result (λ picture. titles_of picture ≡ drawing) }
+    ensures { IfOk result (λ picture. titled_of picture ≡ drawing.groups) }
 {
+    let mut ground = Vec::new(alloc);
     let big = Vec::from_slice(alloc, title)?;
     ground.push(text(MARGIN, Pixels(26), Look::Big, big))?;
     let hint = Vec::from_slice(alloc, HINT)?;
@@ -102,41 +121,53 @@ fn states_picture(
     role: RoleId,
     states: &[State],
 ) -> Result<Picture, AllocError>
-    ensures { IfOk result (λ picture. titles_of picture ≡ map places_title states.now) }
+    requires in_text { All (λ (state : StateView). AreInText (net_in points.now) (next_in state.act)) states.now }
+    requires closed { AreClosed states.now }
+    ensures { IfOk result (λ picture. ShowsStates protocol.now.roles (net_in points.now) states.now (titled_of picture)) }
 {
+    let source = Source {
+        alloc,
+        roles: &protocol.roles,
+        points,
+    };
+    let wires = wires_of(alloc, states)?;
     let frames = frames_of(alloc, states, Pixels(56))?;
-    let wires = Wires::of(alloc, states, frames.as_slice())?;
-    let boxes = Boxes::of(alloc, protocol, points, role, states)?;
-    let left = MARGIN + wires.left();
-    let right = left + boxes.width();
-    let mut ground = Vec::new(alloc);
-    wires.draw(alloc, &mut ground, left, right)?;
+    let ways = Ways::of(alloc, frames.as_slice(), wires.as_slice())?;
+    let wide = width_of(&source, states)?;
+    let left = MARGIN + ways.left();
+    let drawing = drawn(
+        &source,
+        states,
+        wires.as_slice(),
+        frames.as_slice(),
+        &ways,
+        left,
+        wide,
+    )?;
     let title = title_of(alloc, protocol, role)?;
     let notes = notes_of(alloc, points, role)?;
-    let drawing = drawn(alloc, &boxes, states, frames.as_slice(), left)?;
-    let wide = right + wires.right();
-    finished(alloc, drawing, ground, title.as_slice(), &notes, wide)
+    let right = left + wide + ways.right();
+    finished(alloc, drawing, title.as_slice(), &notes, right)
 }
 
 /// The picture of the machine of a declared role of an accepted protocol: a box for each state, with the role's steps
-/// there, and a wire from each step to the state that it leads to. The titles of the boxes say the states' places: each
-/// place of the role is in one of them, once. No clause says that a box has just the places at which the role does the
-/// same. Fails where memory runs out.
+/// there, and a wire from each step to the state that it leads to. Two places stand in one box exactly if the role does
+/// the same at both. Fails where memory runs out.
 pub fn role_picture(
     alloc: Global,
     local: &Local,
     accepted: &Accepted,
 ) -> Result<Picture, AllocError>
     requires { IsLocalOf (net_for accepted.now) local.now.role local.now }
-    ensures { IfOk result (λ picture. AreTitlesOf (net_for accepted.now) local.now.role (titles_of picture)) }
+    ensures { IfOk result (λ picture. IsMachine accepted.now.protocol.roles
+        (net_for accepted.now) local.now.role picture) }
 {
     let states = states_of(alloc, local, accepted)?;
-    let role = local.role();
     let picture = states_picture(
         alloc,
         accepted.protocol(),
         accepted.points(),
-        role,
+        local.role(),
         states.as_slice(),
     )?;
     Ok(picture)

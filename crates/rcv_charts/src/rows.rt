@@ -4,10 +4,11 @@ ghost use Rattle.std.specs.Prelude.{◌≡◌, ◌<◌, ◌≤◌, [], ◌∷◌
 ghost use Rattle.rcv_points.specs.Follow.{net_in};
 ghost use Rattle.rcv_accept.specs.Accepted.{roles_of};
 ghost use Rattle.rcv_tables.specs.Rows.{IsTable, rows_at, row_at};
+ghost use Rattle.rcv_charts.specs.Titles.{titles_in};
 ghost use Rattle.rcv_charts.specs.RowTitles.{row_title, start_titles, role_titles, table_titles};
 
 use crate::columns::{Columns, Headings};
-use crate::drawing::Drawing;
+use crate::drawing::{Drawing, titled};
 use crate::letters::{cut, pixels};
 use crate::row_title::row_title;
 use crate::shapes::{line, middle_text, rect, text};
@@ -163,7 +164,7 @@ fn draw_row(
     requires point { point < length (rows_at table.now role) }
     requires row { length (row_at table.now role point).restarts ≡ 8 }
     requires few { roles_of accepted.now ≤ 8 }
-    ensures { OnOk result (drawing.new ≡ drawing.old
+    ensures { OnOk result (titles_in drawing.new.groups ≡ titles_in drawing.old.groups
         ++ row_title accepted.now.protocol.roles role point (row_at table.now role point) ∷ []) }
 {
     let top = drawing.down();
@@ -184,7 +185,8 @@ fn draw_row(
         top,
         height,
     )?;
-    drawing.put_group(row_title(alloc, accepted, table, role, point)?, shapes)?;
+    let title = row_title(alloc, accepted, table, role, point)?;
+    drawing.put_group(titled(title, shapes))?;
     drawing.skip(height);
     Ok(())
 }
@@ -205,7 +207,7 @@ fn draw_start(
     requires first { 1 ≤ point }
     requires last { point ≤ length points.now.messages }
     requires table { IsTable (net_in points.now) (roles_of accepted.now) table.now }
-    ensures { OnOk result (drawing.new ≡ drawing.old
+    ensures { OnOk result (titles_in drawing.new.groups ≡ titles_in drawing.old.groups
         ++ start_titles (net_in points.now) accepted.now.protocol.roles table.now role point) }
 {
     if owns(points, role, point) {
@@ -226,7 +228,7 @@ fn draw_heading(
     roles: u8,
     role: RoleId,
 ) -> Result<(), AllocError>
-    ensures { OnOk result (drawing.new ≡ drawing.old) }
+    ensures { OnOk result (titles_in drawing.new.groups ≡ titles_in drawing.old.groups) }
 {
     drawing.skip(Pixels(8));
     let top = drawing.down();
@@ -280,7 +282,7 @@ fn draw_starts(
     requires role { role < roles_of accepted.now }
     requires few { roles_of accepted.now ≤ 8 }
     requires table { IsTable (net_in points.now) (roles_of accepted.now) table.now }
-    ensures { OnOk result (drawing.new ≡ drawing.old
+    ensures { OnOk result (titles_in drawing.new.groups ≡ titles_in drawing.old.groups
         ++ role_titles (net_in points.now) accepted.now.protocol.roles table.now role) }
 {
     for before in 0..points.count() {
@@ -317,7 +319,7 @@ fn draw_role(
     requires role { role < roles_of accepted.now }
     requires few { roles_of accepted.now ≤ 8 }
     requires table { IsTable (net_in points.now) (roles_of accepted.now) table.now }
-    ensures { OnOk result (drawing.new ≡ drawing.old
+    ensures { OnOk result (titles_in drawing.new.groups ≡ titles_in drawing.old.groups
         ++ role_titles (net_in points.now) accepted.now.protocol.roles table.now role) }
 {
     if has_any(points, role) {
@@ -338,7 +340,7 @@ pub fn draw_rows(
 ) -> Result<(), AllocError>
     requires few { roles_of accepted.now ≤ 8 }
     requires table { IsTable (net_in points.now) (roles_of accepted.now) table.now }
-    ensures { OnOk result (drawing.new ≡ drawing.old
+    ensures { OnOk result (titles_in drawing.new.groups ≡ titles_in drawing.old.groups
         ++ table_titles (net_in points.now) accepted.now.protocol.roles table.now) }
 {
     for number in 0..accepted.roles() {

@@ -1,60 +1,55 @@
 // The states of a role's machine: places at which the role does the same are one state.
 
-ghost use Rattle.std.specs.Prelude.{◌≡◌, ◌<◌, ◌≤◌, [], ◌∷◌, ◌++◌, OnOk, IfOk, length};
+ghost use Rattle.std.specs.Prelude.{◌≡◌, ◌==◌, ◌<◌, ◌≤◌, OnOk, IfOk, IfSome, length, position};
+ghost use Rattle.std.specs.List.{list_any};
+ghost use Rattle.rcv_model.specs.Net.{IsIn};
 ghost use Rattle.rcv_accept.specs.Accepted.{net_for};
-ghost use Rattle.rcv_project.specs.Local.{IsLocalOf};
+ghost use Rattle.rcv_project.specs.Act.{owned_view};
+ghost use Rattle.rcv_project.specs.Local.{IsLocalOf, act_at};
 ghost use Rattle.rcv_project.specs.LocalText.{is_own};
-ghost use Rattle.rcv_charts.specs.StateTitles.{AreStatesTo, HasMore};
+ghost use Rattle.rcv_charts.specs.States.{AreMadeTo, next_in, same_act, alone, grown, with_place};
+ghost use Rattle.rcv_charts.specs.StateTitles.{act_word};
+ghost use Rattle.rcv_charts.specs.Wires.{Holds, state_at};
 
 use crate::words::owns;
 use rcv_accept::accepted::Accepted;
 use rcv_project::act::Act;
-use rcv_project::local::Local;
+use rcv_project::local::{Local, OwnedAct};
 use rcv_tree::point::Point;
 use rcv_tree::role::RoleId;
 use std::alloc::{AllocError, Global};
 use std::marker::Model;
 
-/// What a role does in a state.
-#[derive(Clone, Copy, Debug, PartialEq, Eq)]
-pub enum Kind {
-    Sends,
-    Receives,
-    Done,
-}
-
-/// A state: what the role does there, and the points that can come next. Contracts see the places that are one in it,
-/// ascending.
+/// A state: what the role does there. Contracts see that, and the places that are one in it, ascending.
 #[derive(Drop)]
 pub struct State {
-    kind: Kind,
-    next: Vec<Point>,
+    act: OwnedAct,
     places: Vec<u16>,
 }
 
 impl Model for State {
-    ghost use Rattle.std.specs.Prelude.{List, ℕ};
+    ghost use Rattle.rcv_project.specs.Act.{owned_view};
+    ghost use Rattle.rcv_charts.specs.States.{StateView};
 
-    ghost Value = { List ℕ };
+    ghost Value = { StateView };
 
-    ghost view = { λ a. a.places.items };
+    ghost view = { λ a. record { act = owned_view a.act; places = a.places.items } };
 }
 
 impl State {
     // A state of one place. Fails where memory runs out.
-    fn new(alloc: Global, kind: Kind, next: &[Point], place: u16) -> Result<State, AllocError>
-        ensures { IfOk result (λ state. state ≡ place ∷ []) }
+    fn new(alloc: Global, act: OwnedAct, place: u16) -> Result<State, AllocError>
+        ensures { IfOk result (λ state. state ≡ alone (owned_view act) place) }
     {
         Ok(State {
-            kind,
-            next: Vec::from_slice(alloc, next)?,
+            act,
             places: vec![in alloc; place]?,
         })
     }
 
     // Adds a place. Fails where memory runs out.
     fn push(&mut self, place: u16) -> Result<(), AllocError>
-        ensures { OnOk result (self.new ≡ self.old ++ place ∷ []) }
+        ensures { OnOk result (self.new ≡ grown self.old place) }
     {
         self.places.push(place)?;
         Ok(())
@@ -62,40 +57,91 @@ impl State {
 
     /// The places.
     pub fn places(&self) -> &[u16]
-        ensures { result.now ≡ self.now }
+        ensures { result.now ≡ self.now.places }
     {
         self.places.as_slice()
     }
 
     /// What the role does.
-    pub fn kind(&self) -> Kind {
-        self.kind
+    pub fn act(&self) -> &OwnedAct
+        ensures { owned_view result.now ≡ self.now.act }
+    {
+        &self.act
+    }
+
+    /// The same in a word.
+    pub fn word(&self) -> &'static [u8]
+        ensures { result.now ≡ act_word self.now.act }
+    {
+        match &self.act {
+            OwnedAct::Sends(_) => b"sends",
+            OwnedAct::Receives(_, _) => b"waits",
+            OwnedAct::Done => b"done",
+        }
     }
 
     /// The points that can come next.
-    pub fn next(&self) -> &[Point] {
-        self.next.as_slice()
+    pub fn next(&self) -> &[Point]
+        ensures { result.now ≡ next_in self.now.act }
+    {
+        match &self.act {
+            OwnedAct::Sends(points) => points.as_slice(),
+            OwnedAct::Receives(_, points) => points.as_slice(),
+            OwnedAct::Done => &[],
+        }
     }
 
     /// Whether the role's part ends here.
     pub fn is_done(&self) -> bool {
-        self.kind == Kind::Done
+        matches!(&self.act, OwnedAct::Done)
     }
 
     // Whether the role does this here.
-    fn does(&self, kind: Kind, next: &[Point]) -> bool {
-        self.kind == kind && self.next.as_slice() == next
+    fn does(&self, act: &OwnedAct) -> bool
+        ensures { result ≡ same_act self.now.act (owned_view act.now) }
+    {
+        match (&self.act, act) {
+            (OwnedAct::Sends(own), OwnedAct::Sends(other)) => own.as_slice() == other.as_slice(),
+            (OwnedAct::Receives(from, own), OwnedAct::Receives(other_from, other)) => {
+                *from == *other_from && own.as_slice() == other.as_slice()
+            }
+            (OwnedAct::Done, OwnedAct::Done) => true,
+            _ => false,
+        }
     }
 
     // Whether the place is one of its.
-    fn has(&self, place: u16) -> bool {
+    fn has(&self, place: u16) -> bool
+        ensures { result ≡ list_any (λ other. other == place) self.now.places }
+    {
         self.places.as_slice().iter().any(|other| *other == place)
     }
 }
 
-/// Which state has a place.
-pub fn state_with(states: &[State], place: u16) -> Option<usize> {
+// The first state that has the place.
+fn holding(states: &[State], place: u16) -> Option<usize>
+    ensures { result ≡ position (λ state. list_any (λ other. other == place) state.places) states.now }
+{
     states.iter().position(|state| state.has(place))
+}
+
+/// Which of these states has a place that one of them has.
+pub fn state_with(states: &[State], place: u16) -> usize
+    requires { Holds states.now place }
+    ensures { IsIn place (state_at states.now result).places }
+{
+    match holding(states, place) {
+        Some(index) => index,
+        None => 0,
+    }
+}
+
+// The first state in which the role does this.
+fn doing(states: &[State], act: &OwnedAct) -> Option<usize>
+    ensures value { result ≡ position (λ state. same_act state.act (owned_view act.now)) states.now }
+    ensures bound { IfSome result (λ index. index < length states.now) }
+{
+    states.iter().position(|state| state.does(act))
 }
 
 // Adds a place at which the role does this: to the state in which it does so, or as a state of its own. Fails where
@@ -103,35 +149,41 @@ pub fn state_with(states: &[State], place: u16) -> Option<usize> {
 fn add_place(
     alloc: Global,
     states: &mut Vec<State>,
-    kind: Kind,
-    next: &[Point],
+    act: OwnedAct,
     place: u16,
 ) -> Result<(), AllocError>
-    ensures { OnOk result (HasMore states.old.items place states.new.items) }
+    ensures { OnOk result (states.new.items ≡ with_place (owned_view act) place states.old.items) }
 {
-    let found = states
-        .as_slice()
-        .iter()
-        .position(|state| state.does(kind, next));
-    match found {
-        Some(index) if index < states.len() => states[index].push(place),
-        _ => {
-            states.push(State::new(alloc, kind, next, place)?)?;
+    match doing(states.as_slice(), &act) {
+        Some(index) => states[index].push(place),
+        None => {
+            states.push(State::new(alloc, act, place)?)?;
             Ok(())
         }
     }
 }
 
-// The same, by what the machine says of the place.
-fn add(alloc: Global, states: &mut Vec<State>, local: &Local, place: u16) -> Result<(), AllocError>
+// What the machine says of the place.
+fn act_of(alloc: Global, local: &Local, place: u16) -> Result<OwnedAct, AllocError>
     requires { place < length local.now.acts }
-    ensures { OnOk result (HasMore states.old.items place states.new.items) }
+    ensures { IfOk result (λ act. owned_view act ≡ act_at local.now place) }
 {
     match local.next(place) {
-        Act::Sends(points) => add_place(alloc, states, Kind::Sends, points, place),
-        Act::Receives(_, points) => add_place(alloc, states, Kind::Receives, points, place),
-        Act::Done => add_place(alloc, states, Kind::Done, &[], place),
+        Act::Sends(points) => Ok(OwnedAct::Sends(Vec::from_slice(alloc, points)?)),
+        Act::Receives(from, points) => {
+            Ok(OwnedAct::Receives(from, Vec::from_slice(alloc, points)?))
+        }
+        Act::Done => Ok(OwnedAct::Done),
     }
+}
+
+// Adds a place, by what the machine says of it. Fails where memory runs out.
+fn add(alloc: Global, states: &mut Vec<State>, local: &Local, place: u16) -> Result<(), AllocError>
+    requires { place < length local.now.acts }
+    ensures { OnOk result (states.new.items ≡ with_place (act_at local.now place) place states.old.items) }
+{
+    let act = act_of(alloc, local, place)?;
+    add_place(alloc, states, act, place)
 }
 
 // How many points the text has.
@@ -161,9 +213,11 @@ pub fn states_of(
     accepted: &Accepted,
 ) -> Result<Vec<State>, AllocError>
     requires { IsLocalOf (net_for accepted.now) local.now.role local.now }
-    ensures { IfOk result (λ states. AreStatesTo (net_for accepted.now) local.now.role
+    ensures { IfOk result (λ states. AreMadeTo (net_for accepted.now) local.now.role
         (net_for accepted.now).count states.items) }
 {
+    // Tells the proof that the protocol is accepted.
+    let _protocol = accepted.protocol();
     let role = local.role();
     let mut states = Vec::new(alloc);
     add(alloc, &mut states, local, 0)?;

@@ -5,7 +5,7 @@ ghost use Rattle.rcv_points.specs.Follow.{net_in};
 ghost use Rattle.rcv_accept.specs.Accepted.{roles_of, net_for};
 ghost use Rattle.rcv_tables.specs.Rows.{IsTable};
 ghost use Rattle.rcv_charts.specs.RowTitles.{table_titles};
-ghost use Rattle.rcv_charts.specs.Titles.{titles_of};
+ghost use Rattle.rcv_charts.specs.Titles.{titles_in, titles_of};
 
 use crate::columns::{Columns, Headings};
 use crate::drawing::Drawing;
@@ -66,7 +66,7 @@ fn draw_legend(alloc: Global, shapes: &mut Vec<Shape>, y: Pixels) -> Result<(), 
     let fails = Vec::from_slice(alloc, b"the role that fails")?;
     shapes.push(text(Pixels(44), base, Look::Note, fails))?;
     shapes.push(pill(190, Look::LostPill))?;
-    let concerned = Vec::from_slice(alloc, b"also goes back")?;
+    let concerned = Vec::from_slice(alloc, b"may go back")?;
     shapes.push(text(Pixels(218), base, Look::Note, concerned))?;
     let from = place(Pixels(330), top);
     let to = place(Pixels(330), y + Pixels(5));
@@ -88,7 +88,7 @@ fn drawn(
 ) -> Result<Drawing, AllocError>
     requires few { roles_of accepted.now ≤ 8 }
     requires table { IsTable (net_in points.now) (roles_of accepted.now) table.now }
-    ensures { IfOk result (λ drawing. drawing
+    ensures { IfOk result (λ drawing. titles_in drawing.groups
         ≡ table_titles (net_in points.now) accepted.now.protocol.roles table.now) }
 {
     let mut drawing = Drawing::new(alloc);
@@ -114,7 +114,7 @@ fn finished(
     notes: &Notes,
     right: Pixels,
 ) -> Result<Picture, AllocError>
-    ensures { IfOk result (λ picture. titles_of picture ≡ drawing) }
+    ensures { IfOk result (λ picture. titles_of picture ≡ titles_in drawing.groups) }
 {
     let title = joined(alloc, name, b": who goes back when a role fails")?;
     let wide = right

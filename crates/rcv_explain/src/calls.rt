@@ -5,7 +5,7 @@ use crate::explanation::Explanation;
 /// Code 52.
 pub const ARITY: Explanation = Explanation {
     name: b"Arity",
-    rule: b"A `do` names as many roles as the protocol that it calls declares: they stand for these, in order.",
+    rule: b"A `do` names as many roles as the called protocol declares: they stand for these, in order.",
     example: b"    module m;
     global protocol P(role A, role B, role C) {
       do Tell(A, B, C);
@@ -29,8 +29,8 @@ pub const ARITY: Explanation = Explanation {
 /// Code 53.
 pub const RECURSIVE: Explanation = Explanation {
     name: b"Recursive",
-    rule: b"No protocol calls itself, nor one that comes back to it by calls: what such a call stands for would have no end. Refused
-is a call within such a ring, and not one that only leads into it.",
+    rule: b"No protocol calls itself, neither directly nor through other protocols: what such a call stands for would have no end.
+A call within such a ring is refused; a call that only leads into it is not.",
     example: b"    module m;
     global protocol P(role A, role B) {
       m() from A to B;
@@ -38,7 +38,7 @@ is a call within such a ring, and not one that only leads into it.",
     }
 ",
     refusal: b"refused 53 Recursive line 4",
-    repair: b"write a loop by `rec` and `continue`. Where the call exchanges roles, write the turns into the loop, until each
+    repair: b"write a loop by `rec` and `continue`. If the call exchanges roles, write the turns into the loop, until each
 role is in its first place again.",
     repaired: b"    module m;
     global protocol P(role A, role B) {
@@ -53,7 +53,7 @@ role is in its first place again.",
 /// Code 54.
 pub const EMPTY_DO: Explanation = Explanation {
     name: b"EmptyDo",
-    rule: b"A protocol that is called has a statement; else the call would stand for nothing.",
+    rule: b"A protocol that is called has a statement. Otherwise the call would stand for nothing.",
     example: b"    module m;
     global protocol P(role A, role B) {
       m() from A to B;

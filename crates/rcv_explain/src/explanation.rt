@@ -9,11 +9,11 @@ use std::alloc::{AllocError, Global};
 /// What a code says. Its parts are pieces of Markdown, which docs/LANGUAGE.md has word for word.
 #[derive(Clone, Copy, Debug, PartialEq, Eq)]
 pub struct Explanation {
-    /// The name that stands behind the code in a refusal's line.
+    /// The name that stands after the code in a refusal's line.
     pub name: &'static [u8],
     /// The rule, as a sentence or two in lines of at most 120 columns, without the last line end.
     pub rule: &'static [u8],
-    /// An input that breaks it, or words with the input behind them, in lines that four spaces indent.
+    /// An input that breaks it, or words with the input after them, in lines that four spaces indent.
     pub example: &'static [u8],
     /// The refusal's line for it, without the line end.
     pub refusal: &'static [u8],

@@ -5,15 +5,16 @@ use crate::explanation::Explanation;
 /// Code 40.
 pub const TOKEN: Explanation = Explanation {
     name: b"Token",
-    rule: b"The items of a plan are `every R n`, `crash R n`, `limit n`, `room n` and `host h = R, R`, with a role for R and digits
-for n.",
+    rule: b"The items of a plan are `every R n`, `crash R n`, `limit n`, `room n` and `host h = R, R`, with a role for R and
+digits for n.",
     example: b"    module m;
     global protocol P(role A, role B) { m() from A to B; }
     %% plan
     crash 1 A
 ",
     refusal: b"refused 40 Token line 4",
-    repair: b"write the item so. The role stands before the number, a number has no sign, and a host has two roles at least.",
+    repair: b"write the item so; `rcv-show points` says what was found and what may stand there. The role stands before the
+number, a number has no sign, and a host has at least two roles.",
     repaired: b"    module m;
     global protocol P(role A, role B) { m() from A to B; }
     %% plan
@@ -42,8 +43,8 @@ pub const ROLE: Explanation = Explanation {
 /// Code 42.
 pub const TWICE: Explanation = Explanation {
     name: b"Twice",
-    rule: b"A plan says each thing once: there is one `every` for a role, one `limit` and one `room`, the crashes of a role have
-different numbers, hosts have different names, and a role stands in one host at most, once.",
+    rule: b"A plan says each thing once. A role has one `every`, and the plan has one `limit` and one `room`. The crashes of a
+role have different numbers. Hosts have different names. A role stands in at most one host, and only once.",
     example: b"    module m;
     global protocol P(role A, role B) { m() from A to B; }
     %% plan
@@ -62,7 +63,7 @@ different numbers, hosts have different names, and a role stands in one host at 
 /// Code 43.
 pub const RANGE: Explanation = Explanation {
     name: b"Range",
-    rule: b"The number of `every` or `limit` is 1 to 100,000, that of `crash` 0 to 100,000, that of `room` 1 to 1,024.",
+    rule: b"The number of `every` or `limit` is 1 to 100,000, that of `crash` 0 to 100,000, and that of `room` 1 to 1,024.",
     example: b"    module m;
     global protocol P(role A, role B) { m() from A to B; }
     %% plan

@@ -5,7 +5,7 @@ use crate::explanation::Explanation;
 /// Code 20.
 pub const SUBJECT: Explanation = Explanation {
     name: b"Subject",
-    rule: b"The role that a choice is at sends the first message of each of its blocks; else another role would decide.",
+    rule: b"The role that a choice is at sends the first message of each of its blocks. Otherwise another role would decide.",
     example: b"    module m;
     global protocol P(role A, role B) {
       choice at A {
@@ -16,7 +16,7 @@ pub const SUBJECT: Explanation = Explanation {
     }
 ",
     refusal: b"refused 20 Subject A 1",
-    repair: b"that role speaks first in each block.",
+    repair: b"let that role speak first in each block.",
     repaired: b"    module m;
     global protocol P(role A, role B) {
       choice at A {
@@ -32,8 +32,8 @@ pub const SUBJECT: Explanation = Explanation {
 /// Code 21.
 pub const MIXED: Explanation = Explanation {
     name: b"Mixed",
-    rule: b"A role's next points, which are the first of its messages on each way that goes on, are all to send or all to receive;
-else it couldn't tell whether to wait.",
+    rule: b"A role's next points are the first of its messages on each way that goes on. It sends all of them, or it receives all
+of them. Otherwise it couldn't tell whether to wait.",
     example: b"    module m;
     global protocol P(role A, role B, role C) {
       choice at A {
@@ -46,7 +46,7 @@ else it couldn't tell whether to wait.",
     }
 ",
     refusal: b"refused 21 Mixed C 0",
-    repair: b"the role hears first on each way.",
+    repair: b"let the role hear first on each way.",
     repaired: b"    module m;
     global protocol P(role A, role B, role C) {
       choice at A {
@@ -64,7 +64,7 @@ else it couldn't tell whether to wait.",
 /// Code 22.
 pub const SENDERS: Explanation = Explanation {
     name: b"Senders",
-    rule: b"The next points that a role receives are all from one role; else it couldn't tell whom to wait for.",
+    rule: b"All next points that a role receives come from one role. Otherwise it couldn't tell whom to wait for.",
     example: b"    module m;
     global protocol P(role A, role B, role C) {
       choice at A {
@@ -77,7 +77,7 @@ pub const SENDERS: Explanation = Explanation {
     }
 ",
     refusal: b"refused 22 Senders C 0",
-    repair: b"one and the same role tells it in each block: the one that decides, or one that was told itself.",
+    repair: b"let one and the same role tell it in each block: the one that decides, or one that was told itself.",
     repaired: b"    module m;
     global protocol P(role A, role B, role C) {
       choice at A {
@@ -95,8 +95,8 @@ pub const SENDERS: Explanation = Explanation {
 /// Code 23.
 pub const LABELS: Explanation = Explanation {
     name: b"Labels",
-    rule: b"The next points that a role receives have different labels, and so have those that it sends to one role; else it
-couldn't tell which way was taken. One label in two blocks is refused where both go on alike, too.",
+    rule: b"The next points that a role receives have different labels, and so have those that it sends to one role. Otherwise it
+couldn't tell which way was taken. One label in two blocks is refused even if both blocks go on alike.",
     example: b"    module m;
     global protocol P(role A, role B, role C) {
       choice at A {
@@ -109,7 +109,7 @@ couldn't tell which way was taken. One label in two blocks is refused where both
     }
 ",
     refusal: b"refused 23 Labels C 0",
-    repair: b"put the common message behind the choice, as here; or give it a label of its own in each block.",
+    repair: b"put the common message after the choice, as here; or give it a label of its own in each block.",
     repaired: b"    module m;
     global protocol P(role A, role B, role C) {
       choice at A {
@@ -125,9 +125,9 @@ couldn't tell which way was taken. One label in two blocks is refused where both
 /// Code 24.
 pub const NOT_ENABLED: Explanation = Explanation {
     name: b"NotEnabled",
-    rule: b"Between a role's last message, or the start, and its next send there is no choice of others; else it would send into a
-way that isn't decided, also where it sends the same either way. Where there are lanes (`par`), those in which it has no
-part don't count.",
+    rule: b"Between a role's last message, or the start, and its next send stands no choice of others. Otherwise it would send
+before the way is decided, and that is refused even if it sends the same either way. If there are lanes (`par`), those
+in which it has no part don't count.",
     example: b"    module m;
     global protocol P(role A, role B, role C) {
       choice at A {
@@ -139,9 +139,9 @@ part don't count.",
     }
 ",
     refusal: b"refused 24 NotEnabled C 0",
-    repair: b"tell the role, as here: the one that decides sends it a message in each block, with a label of its own in each.
-Or let one message with a number stand in the place of the choice; or let the role hear from somebody behind the choice
-before it sends; or put its message in front of the choice.",
+    repair: b"tell the role, as here: the one that decides sends it a message in each block, with a label of its own in
+each. Or replace the choice by one message with a number. Or let the role hear from somebody after the choice before
+it sends. Or put its message before the choice.",
     repaired: b"    module m;
     global protocol P(role A, role B, role C) {
       choice at A {
@@ -157,7 +157,8 @@ before it sends; or put its message in front of the choice.",
 /// Code 25.
 pub const MAYBE_DONE: Explanation = Explanation {
     name: b"MaybeDone",
-    rule: b"A role that has a next point comes to one on each way to the end; else it would wait for a message that may never come.",
+    rule: b"A role that has a next point comes to one on each way to the end. Otherwise it would wait for a message that may never
+come.",
     example: b"    module m;
     global protocol P(role A, role B, role C) {
       choice at A {
@@ -169,7 +170,7 @@ pub const MAYBE_DONE: Explanation = Explanation {
     }
 ",
     refusal: b"refused 25 MaybeDone C 0",
-    repair: b"tell the role of the other way, too.",
+    repair: b"tell the role on the other way, too.",
     repaired: b"    module m;
     global protocol P(role A, role B, role C) {
       choice at A {
@@ -186,7 +187,7 @@ pub const MAYBE_DONE: Explanation = Explanation {
 /// Code 26.
 pub const UNREACHABLE: Explanation = Explanation {
     name: b"Unreachable",
-    rule: b"A way from the start comes to each point; else its message could never be sent.",
+    rule: b"A way from the start leads to each point. Otherwise its message could never be sent.",
     example: b"    module m;
     global protocol P(role A, role B) {
       rec X {
@@ -197,7 +198,7 @@ pub const UNREACHABLE: Explanation = Explanation {
     }
 ",
     refusal: b"refused 26 Unreachable A 2",
-    repair: b"give the loop a block that leaves it. What stands behind a loop comes only on a way without its `continue`.",
+    repair: b"give the loop a block that leaves it. What follows a loop comes only on a way without its `continue`.",
     repaired: b"    module m;
     global protocol P(role A, role B) {
       rec X {
@@ -215,7 +216,7 @@ pub const UNREACHABLE: Explanation = Explanation {
 /// Code 27.
 pub const NO_ROLE: Explanation = Explanation {
     name: b"NoRole",
-    rule: b"The role that the words name is declared in the protocol.",
+    rule: b"The role that the command names is declared in the protocol.",
     example: b"    $ rcv project --role C
     module m;
     global protocol P(role A, role B) {
@@ -235,8 +236,8 @@ pub const NO_ROLE: Explanation = Explanation {
 /// Code 28.
 pub const LANE_END: Explanation = Explanation {
     name: b"LaneEnd",
-    rule: b"A way comes to what stands behind a `par` only where each of its blocks is at its end, and to a `par` only where what
-stands in front of it is. So from each message there a way leads to the end: of its block, or of what stands in front.",
+    rule: b"What follows a `par` comes only when each of its blocks is at its end. A `par` comes only when what stands before it
+is at its end. So from each message there a way leads to the end: of its block, or of what stands before the `par`.",
     example: b"    module m;
     global protocol P(role A, role B, role C, role D) {
       choice at A {
@@ -256,7 +257,7 @@ stands in front of it is. So from each message there a way leads to the end: of 
     }
 ",
     refusal: b"refused 28 LaneEnd A 1",
-    repair: b"give the loop a block that leaves it, or put nothing behind it.",
+    repair: b"give the loop a block that leaves it, or put nothing after it.",
     repaired: b"    module m;
     global protocol P(role A, role B, role C, role D) {
       choice at A {

@@ -5,17 +5,17 @@ use crate::explanation::Explanation;
 /// Code 10.
 pub const LETTER: Explanation = Explanation {
     name: b"Letter",
-    rule: b"Each word, number, text, mark and comment is whole, and no other letter stands among them. A word, and a text between
-its quotes, has at most 64 bytes; a text ends on its line, and a comment at its `*/`. A bad letter in the scripts or in
-the plan has this code, too: only the line tells.",
+    rule: b"Each word, number, text, mark and comment is whole, and no other letter stands between them. A word has at most 64
+bytes, and so has a text between its quotes. A text ends on its line, and a comment at its `*/`. A bad letter in the
+scripts or in the plan has this code too: only the line tells which part it is in.",
     example: b"    module m;
     global protocol P(role A, role B) {
       m(x: Int) from A to B;
     }
 ",
     refusal: b"refused 10 Letter line 3",
-    repair: b"take the letter out, end the comment by `*/` or the text by `\"` on its line, and shorten a word or a text that
-is too long. Payloads have no names, and there is no `/`, no `&&` and no `||`. The lines that begin scripts and plan are
+    repair: b"take the letter out. End a comment by `*/`, and a text by `\"` on its line. Shorten a word or a text that is
+too long. Payloads have no names, and there is no `/`, no `&&` and no `||`. The lines that begin scripts and plan are
 exactly `%% scripts` and `%% plan`.",
     repaired: b"    module m;
     global protocol P(role A, role B) {
@@ -27,16 +27,16 @@ exactly `%% scripts` and `%% plan`.",
 /// Code 11.
 pub const TOKEN: Explanation = Explanation {
     name: b"Token",
-    rule: b"Words and marks of a protocol stand as the grammar has them, up to its last `}`.",
+    rule: b"The words and marks of a protocol stand in the order of the grammar, up to its last `}`.",
     example: b"    module m;
     global protocol P(role A, role B) {
       m() of A to B;
     }
 ",
     refusal: b"refused 11 Token line 3",
-    repair: b"compare the line with the grammar (docs/FORMATS.md). Where a `;` is missing, the line is that of the next word,
-maybe lines below. Where the end is refused, something is missing, mostly a `}`; the line is then that behind the last
-line end, where nothing stands.",
+    repair: b"compare the line with the grammar (docs/FORMATS.md); `rcv-show points` says what was found and what may stand
+there. If a `;` is missing, the line is that of the next word, which may stand lines below. If the end is refused,
+something is missing, mostly a `}`; the line is then the one after the last line end, and nothing stands on it.",
     repaired: b"    module m;
     global protocol P(role A, role B) {
       m() from A to B;
@@ -47,8 +47,8 @@ line end, where nothing stands.",
 /// Code 12.
 pub const DEEP: Explanation = Explanation {
     name: b"Deep",
-    rule: b"Blocks stand in each other at most 32 deep, the protocol's own included. Where a call brings the 33rd, the line is that
-of the `do`, in the first protocol; a called protocol's own block doesn't count there.",
+    rule: b"Blocks stand inside each other at most 32 deep, and the protocol's own block counts. If a call brings the 33rd block,
+the line is that of the `do` in the first protocol; the called protocol's own block doesn't count there.",
     example: b"    module m;
     global protocol P(role A, role B) {
       rec X { rec X { rec X { rec X { rec X { rec X { rec X { rec X {
@@ -59,7 +59,7 @@ of the `do`, in the first protocol; a called protocol's own block doesn't count 
     }
 ",
     refusal: b"refused 12 Deep line 6",
-    repair: b"take blocks out of each other.",
+    repair: b"nest fewer blocks.",
     repaired: b"    module m;
     global protocol P(role A, role B) {
       rec X { rec X { rec X { rec X { rec X { rec X { rec X { rec X {
@@ -74,8 +74,8 @@ of the `do`, in the first protocol; a called protocol's own block doesn't count 
 /// Code 13.
 pub const NAME: Explanation = Explanation {
     name: b"Name",
-    rule: b"A role that a statement names is declared in the head of its protocol, a `continue` names a `rec` of it that encloses
-the `continue`, and a `do` names a protocol of the module.",
+    rule: b"A role that a statement names is declared in the head of its protocol. A `continue` names a `rec` of its protocol that
+encloses the `continue`. A `do` names a protocol of the module.",
     example: b"    module m;
     global protocol P(role A, role B) {
       m() from A to C;
@@ -93,8 +93,8 @@ the `continue`, and a `do` names a protocol of the module.",
 /// Code 14.
 pub const TWICE: Explanation = Explanation {
     name: b"Twice",
-    rule: b"No role is declared twice in a protocol, no alias and no protocol twice in a module, and a list of receivers, or of the
-roles of a `do`, names each of them once.",
+    rule: b"No role is declared twice in a protocol, and no alias and no protocol twice in a module. A list of receivers names
+each of them once, and so does the list of roles of a `do`.",
     example: b"    module m;
     global protocol P(role A, role B) {
       m() from A to B, B;
@@ -130,14 +130,14 @@ pub const SELF_MESSAGE: Explanation = Explanation {
 /// Code 16.
 pub const AFTER_CONTINUE: Explanation = Explanation {
     name: b"AfterContinue",
-    rule: b"Nothing stands behind a `continue` in its block: no way would come to it.",
+    rule: b"Nothing follows a `continue` in its block: no way would lead to it.",
     example: b"    module m;
     global protocol P(role A, role B) {
       rec X { m() from A to B; continue X; n() from A to B; }
     }
 ",
     refusal: b"refused 16 AfterContinue line 3",
-    repair: b"take it out, put it in front of the `continue`, or into a block that leaves the `rec`.",
+    repair: b"take it out, put it before the `continue`, or put it into a block that leaves the `rec`.",
     repaired: b"    module m;
     global protocol P(role A, role B) {
       rec X { choice at A { m() from A to B; continue X; } or { n() from A to B; } }
@@ -148,7 +148,7 @@ pub const AFTER_CONTINUE: Explanation = Explanation {
 /// Code 17.
 pub const UNGUARDED: Explanation = Explanation {
     name: b"Unguarded",
-    rule: b"On each way from the `{` of a `rec` to a `continue` of it there is a message, or a `do`, which brings one; else the
+    rule: b"Each way from the `{` of a `rec` to a `continue` of it has a message, or a `do`, which brings one. Otherwise the
 session would go round for ever and do nothing.",
     example: b"    module m;
     global protocol P(role A, role B) {
@@ -167,9 +167,9 @@ session would go round for ever and do nothing.",
 /// Code 18.
 pub const TOO_MANY: Explanation = Explanation {
     name: b"TooMany",
-    rule: b"A protocol has at most 8 roles and 256 points, which are its messages, counted for each receiver, and a module has at
-most 64 protocols. Where calls bring the 257th point, the line is that of the `do`, in the first protocol, up to whose
-end it comes; behind the last `do` it is that of the last.",
+    rule: b"A protocol has at most 8 roles and 256 points. Its points are its messages, counted for each receiver. A module has at
+most 64 protocols. If calls bring the 257th point, the line is that of the `do` in the first protocol by whose end the
+point has come. If the point comes after the last `do`, the line is that of the last one.",
     example: b"    module m;
     global protocol P(role A, role B, role C, role D, role E, role F, role G, role H, role I) {
       m() from A to B;
@@ -187,14 +187,14 @@ end it comes; behind the last `do` it is that of the last.",
 /// Code 19.
 pub const NOT_YET: Explanation = Explanation {
     name: b"NotYet",
-    rule: b"`par` stands in the first protocol's own block; in other blocks it isn't built yet.",
+    rule: b"`par` stands in the first protocol's own block. In other blocks it isn't built yet.",
     example: b"    module m;
     global protocol P(role A, role B, role C, role D) {
       rec X { par { m() from A to B; } and { n() from C to D; } continue X; }
     }
 ",
     refusal: b"refused 19 NotYet line 3",
-    repair: b"write the messages out in one order; each role waits for its own messages alone. Or write the `par` in the
+    repair: b"write the messages out in one order; each role waits only for its own messages. Or write the `par` in the
 first protocol's own block; its blocks may have calls.",
     repaired: b"    module m;
     global protocol P(role A, role B, role C, role D) {
@@ -206,15 +206,15 @@ first protocol's own block; its blocks may have calls.",
 /// Code 29.
 pub const SHARED: Explanation = Explanation {
     name: b"Shared",
-    rule: b"A role stands in one block of a `par` alone; among the roles of a `do` it stands there, too.",
+    rule: b"A role stands in only one block of a `par`. A role that a `do` names stands there, too.",
     example: b"    module m;
     global protocol P(role A, role B, role C) {
       par { m() from A to B; } and { n() from B to C; }
     }
 ",
     refusal: b"refused 29 Shared line 3",
-    repair: b"write the messages of the role into one block, or one behind the other; each role waits for its own messages
-alone.",
+    repair: b"write the messages of the role into one block, or write the blocks one after the other; each role waits only
+for its own messages.",
     repaired: b"    module m;
     global protocol P(role A, role B, role C) {
       m() from A to B; n() from B to C;

@@ -3,3 +3,6 @@ mod Ruled
 pub mod Texts
 mod Receiving
 mod Sourced
+pub mod Forking
+pub mod Unreading
+mod Going

@@ -1,6 +1,7 @@
 -- What a refusal by a rule gives: its code has a rule, and its number stands in the text.
 use Rattle.std.proofs.Common.{◌≡◌, ℕ, zero, suc, true, false, ◌<◌, codes, List, [], ◌∷◌, ◌++◌, length, get_or, refl, sym, ◌∙◌, ap, subst, inl, inr, ⊎_elim, arith}
-use Rattle.std.specs.Prelude.{Result, Ok, Err, MatchResult, not}
+use Rattle.std.specs.Prelude.{Result, Ok, Err, IfOk, not}
+use Rattle.std.specs.declared.alloc.AllocError.{AllocError}
 use Rattle.rcv_tree.specs.declared.protocol.Protocol.{Protocol}
 use Rattle.rcv_tree.specs.declared.refusal.Refusal.{Refusal}
 use Rattle.rcv_tree.specs.declared.refusal.Refusal.TheVariants as refusals
@@ -13,18 +14,17 @@ use Rattle.rcv_model.specs.Accept.{Fails, subject, mixed, senders, labels, not_e
 use Rattle.rcv_lexer.specs.declared.token.TextError.TheVariants as errors
 use Rattle.rcv_points.specs.Follow.{PointsView, ChoiceView, IsChosen, ArePointsOf, net_in}
 use Rattle.rcv_points.proofs.Whole.{same_net}
-use Rattle.rcv_accept.specs.Accepted.{IsRefusedBy}
+use Rattle.rcv_accept.specs.Accepted.{IsAcceptedProtocol, IsRefusedBy}
 use Rattle.rcv_accept.specs.Faults.{AreOf}
 use Rattle.rcv_accept.specs.Lists.{IsInText}
 use Rattle.rcv_accept.proofs.Unsent.{no_choice}
 use Rattle.rcv_accept.proofs.Choices.{choice_in_text}
-use Rattle.rcv_input.specs.declared.refused.InputError.{InputError}
-use Rattle.rcv_input.specs.declared.refused.InputError.TheVariants as causes
 use Rattle.rcv_explain.specs.Explained.{HasRule}
 use Rattle.rcv_listing.specs.declared.listing.Listing.{Listing}
+use Rattle.rcv_listing.specs.declared.listing.Listing.TheVariants.{Accepted, RuledOut, HalfRead, Unread}
 use Rattle.rcv_listing.specs.declared.written.PointLines.{PointLines}
 use Rattle.rcv_listing.specs.Lines.{all_text, is_at_place, IsNumberIn, IsRuleIn, AddsRefusal}
-use Rattle.rcv_listing.specs.Listing.{IsSourceOf, IsUnreadable, points_of, IsRuledOut, IsListingOf, IsListing}
+use Rattle.rcv_listing.specs.Listing.{IsSourceOf, points_of, IsRuledOut, IsListedAs, IsListingOf, IsListing}
 
 rule_of : (body : Body) (roles c r n : ℕ) → Fails body roles c r n → HasRule c
 rule_of body roles c r n (subject first unsent) = (codes "Subject", inr (inr (inr (inr (inr (inr (inr (inr (inr (inr (inl (refl, refl))))))))))))
@@ -90,6 +90,30 @@ ruled p points names lines given before after text r form are named same h told 
       is ∙ a.4.2 ∙ ap (λ t. t ++ a.4.0) (all_told p points names lines given before form are named same told),
     )
 
-pub listed_as : (input : List ℕ) (p : Protocol) (lines : List PointLines) (result : Result Listing InputError) → IsSourceOf input p lines → MatchResult result (IsListingOf p lines) (λ e. e ≡ causes.Memory) → MatchResult result (IsListing input) (IsUnreadable input)
-listed_as input p lines (Ok l) source h = (p, lines, source, h)
-listed_as input p lines (Err e) source h = subst (IsUnreadable input) (sym h) tt
+pub listed_of : (input : List ℕ) (p q : Protocol) (lines : List PointLines) (text : List ℕ) (listing : Listing) → q ≡ p → IsAcceptedProtocol q
+    → text ≡ points_of p lines → IsListedAs input q text listing → IsListingOf input p lines listing
+listed_of input p q lines text (Accepted x) same accepted told h =
+    let there : IsListedAs input q (points_of p lines) (Accepted x) = subst (λ t. IsListedAs input q t (Accepted x)) told h in
+    (subst IsAcceptedProtocol same accepted, subst (λ (r : Protocol). IsListedAs input r (points_of p lines) (Accepted x)) same there)
+listed_of input p q lines text (HalfRead x) same accepted told h =
+    let there : IsListedAs input q (points_of p lines) (HalfRead x) = subst (λ t. IsListedAs input q t (HalfRead x)) told h in
+    (subst IsAcceptedProtocol same accepted, subst (λ (r : Protocol). IsListedAs input r (points_of p lines) (HalfRead x)) same there)
+listed_of input p q lines text (RuledOut x) same accepted told h = absurd h
+listed_of input p q lines text (Unread x) same accepted told h = absurd h
+
+pub if_listed_of : (input : List ℕ) (p q : Protocol) (lines : List PointLines) (text : List ℕ) (result : Result Listing AllocError) → q ≡ p
+    → IsAcceptedProtocol q → text ≡ points_of p lines → IfOk result (IsListedAs input q text) → IfOk result (IsListingOf input p lines)
+if_listed_of input p q lines text (Ok l) same accepted told h = listed_of input p q lines text l same accepted told h
+if_listed_of input p q lines text (Err e) same accepted told h = tt
+
+pub listing_is : (input : List ℕ) (p : Protocol) (lines : List PointLines) (listing : Listing) → IsSourceOf input p lines
+    → IsListingOf input p lines listing → IsListing input listing
+listing_is input p lines (Accepted x) source h = (p, lines, source, h)
+listing_is input p lines (RuledOut x) source h = (p, lines, source, h)
+listing_is input p lines (HalfRead x) source h = (p, lines, source, h)
+listing_is input p lines (Unread x) source h = absurd h.1
+
+pub if_listed : (input : List ℕ) (p : Protocol) (lines : List PointLines) (result : Result Listing AllocError) → IsSourceOf input p lines
+    → IfOk result (IsListingOf input p lines) → IfOk result (IsListing input)
+if_listed input p lines (Ok l) source h = listing_is input p lines l source h
+if_listed input p lines (Err e) source h = tt

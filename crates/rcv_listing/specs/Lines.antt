@@ -10,6 +10,7 @@ use Rattle.rcv_input.specs.declared.refused.Refused.TheVariants.{Rule}
 use Rattle.rcv_explain.specs.declared.explanation.Explanation.{Explanation}
 use Rattle.rcv_explain.specs.Explained.{HasRule, IsNamed}
 use Rattle.rcv_listing.specs.declared.written.PointLines.{PointLines}
+use Rattle.rcv_listing.specs.Way.{IsInTheWay}
 
 -- The name of a role; and the line of a point, which counts from 1, and those of the calls through which it came.
 abbrev pub name_of : List (List ℕ) → ℕ → List ℕ
@@ -49,10 +50,10 @@ all_text roles net lines = points_text roles net lines (range_with_len 1 net.cou
 abbrev pub is_at_place : ℕ → Bool
 is_at_place code = nat_le 21 code && nat_le code 25
 
--- Where a role is: at the start, or behind a point.
+-- Where a role is: at the start, or after a point.
 abbrev pub stand_text : List PointLines → ℕ → List ℕ
 stand_text lines place =
-    if place == 0 then codes " is at the start" else codes " is behind its point " ++ decimal place ++ codes ", line " ++ decimal (line_of lines place)
+    if place == 0 then codes " is at the start" else codes " is after its point " ++ decimal place ++ codes ", line " ++ decimal (line_of lines place)
 
 abbrev pub place_text : List (List ℕ) → List PointLines → ℕ → ℕ → List ℕ
 place_text roles lines role place = name_of roles role ++ stand_text lines place ++ codes ". Its next points there:\n"
@@ -83,19 +84,36 @@ pub record AreShown (net : Net) (code role number : ℕ) (shown : List ℕ) : Ty
 abbrev pub rule_text : Explanation → List ℕ
 rule_text e = e.rule.now ++ codes "\n" ++ codes "Repair: " ++ e.repair.now ++ codes "\n"
 
--- What a refusal says: its line, the place with its points, the rule and the repair.
-abbrev pub told_text : List (List ℕ) → Net → List PointLines → ℕ → ℕ → ℕ → List ℕ → Explanation → List ℕ
-told_text roles net lines code role number shown e =
+-- The choice with this first message, which stands in the way of a role's next send; its sender decides there.
+abbrev pub first_text : List PointLines → ℕ → List ℕ
+first_text lines p = codes "The choice whose first message is point " ++ decimal p ++ codes ", line " ++ decimal (line_of lines p)
+
+abbrev pub decides_text : List (List ℕ) → ℕ → List ℕ
+decides_text roles role = codes ", stands in its way. There " ++ name_of roles role ++ codes " decides.\n"
+
+abbrev pub choice_text : List (List ℕ) → Net → List PointLines → ℕ → List ℕ
+choice_text roles net lines p = first_text lines p ++ decides_text roles (net.sender p)
+
+-- Which choice stands in the way is said for the code of a send that isn't enabled, if there is one; of other codes nothing.
+pub data IsWay (roles : List (List ℕ)) (net : Net) (lines : List PointLines) : ℕ → ℕ → ℕ → List ℕ → Type 0 where
+  choice : {role number : ℕ} (p : ℕ) → IsInTheWay net role number p → IsWay roles net lines 24 role number (choice_text roles net lines p)
+  nothing : {code role number : ℕ} → (code ≡ 24 → (p : ℕ) → IsInTheWay net role number p → ⊥) → IsWay roles net lines code role number []
+
+-- What a refusal says: its line, the place with its points, the choice in the way, the rule and the repair.
+abbrev pub told_text : List (List ℕ) → Net → List PointLines → ℕ → ℕ → ℕ → List ℕ → List ℕ → Explanation → List ℕ
+told_text roles net lines code role number shown way e =
     codes "\n" ++ refusal_line (Rule code (name_of roles role) number) ++ where_text roles lines code role number
-    ++ points_text roles net lines shown ++ rule_text e
+    ++ points_text roles net lines shown ++ way ++ rule_text e
 
 -- This is said of a refusal by a rule.
 pub record IsTold (roles : List (List ℕ)) (net : Net) (lines : List PointLines) (code role number : ℕ) (told : List ℕ) : Type 0 where
   pub shown : List ℕ
+  pub way : List ℕ
   pub explanation : Explanation
   pub are_shown : AreShown net code role number shown
+  pub is_way : IsWay roles net lines code role number way
   pub explains : IsNamed code explanation.name.now
-  pub text : told ≡ told_text roles net lines code role number shown explanation
+  pub text : told ≡ told_text roles net lines code role number shown way explanation
 
 -- The number of a refusal is a place of the text, or a point of it.
 abbrev pub IsNumberIn : Net → ℕ → ℕ → Type 0

@@ -1,14 +1,19 @@
 // The points of a module with their lines, and what a refusal by a rule of acceptance says.
 #![tactic(auto)]
 
+ghost use Rattle.rcv_listing.specs.Going.{ListedGoOn};
 ghost use Rattle.rcv_listing.specs.Laws.{LinesAreThoseOfReceivers};
 
+mod found;
 mod listing;
+mod parts;
 mod read;
 mod receivers;
 mod shown;
 mod table;
 mod told;
+mod unread;
+mod way;
 mod written;
 
 pub use listing::{Listing, points_text};
@@ -20,6 +25,12 @@ pub use std::alloc::AllocError as Memory;
 /// first bytes of the words `do`.
 pub fn lines_are_those_of_receivers()
     ensures { LinesAreThoseOfReceivers }
+{}
+
+/// If the reader refuses a protocol part at a token that the grammar doesn't have there: some module begins with the tokens
+/// before and any word, mark or kind that the listing has; and none begins with them and one that it leaves out.
+pub fn listed_go_on()
+    ensures { ListedGoOn }
 {}
 
 #[cfg(test)]

@@ -1,41 +1,75 @@
 // The text of a protocol's points.
 
-ghost use Rattle.std.specs.Prelude.{◌≡◌, ◌+◌, ◌^◌, ◌<◌, length, IfOk, MatchResult};
+ghost use Rattle.std.specs.Prelude.{◌≡◌, ◌+◌, ◌^◌, ◌<◌, length, IfOk};
 ghost use Rattle.rcv_model.specs.Text.{body_of};
 ghost use Rattle.rcv_model.specs.Form.{HasForm};
 ghost use Rattle.rcv_model.specs.Places.{IsFullText};
 ghost use Rattle.rcv_model.specs.Names.{HasNames};
-ghost use Rattle.rcv_listing.specs.Listing.{IsListing, IsListingOf, IsUnreadable};
+ghost use Rattle.rcv_input.specs.Input.{IsAcceptedOf};
+ghost use Rattle.rcv_input.specs.Refusals.{IsFirstRefusal};
+ghost use Rattle.rcv_input.specs.declared.refused.Refused.TheVariants.{Line};
+ghost use Rattle.rcv_listing.specs.Listing.{IsSourceOf, IsListedAs, IsListing, IsListingOf};
 
+use crate::parts::{unread_protocol, unread_rest};
 use crate::read::{Source, read_source};
 use crate::table::Table;
 use crate::told::write_refusal;
+use crate::unread::write_unread;
 use rcv_accept::accept;
-use rcv_input::InputError;
+use rcv_accept::accepted::Accepted;
+use rcv_input::{InputError, Refused};
 use rcv_lexer::token::TextError;
 use rcv_points::filling::points_of;
 use rcv_text::writer::Writer;
 use rcv_tree::name::Names;
-use std::alloc::Global;
+use std::alloc::{AllocError, Global};
 
 /// The points of a protocol as text: a line for each, in text order.
 #[derive(Drop)]
 pub enum Listing {
-    /// No rule of acceptance refuses the protocol.
+    /// No rule of acceptance refuses the protocol, and its scripts and its plan are read.
     Accepted(Vec<u8>),
-    /// A rule does: what its refusal says stands behind the points.
+    /// A rule does: what its refusal says stands after the points.
     RuledOut(Vec<u8>),
+    /// The scripts or the plan are refused: what the refusal says stands after the points.
+    HalfRead(Vec<u8>),
+    /// The protocol isn't read: there are no points, and only what the refusal says.
+    Unread(Vec<u8>),
+}
+
+// The listing of an accepted protocol, of which this text has the points.
+fn listed(
+    alloc: Global,
+    input: &[u8],
+    text: Writer,
+    accepted: &Accepted,
+) -> Result<Listing, AllocError>
+    requires short { length input.now + 8 < 2 ^ 32 }
+    requires accepted { IsAcceptedOf input.now accepted.now.protocol }
+    ensures { IfOk result (IsListedAs input.now accepted.now.protocol text) }
+{
+    let mut text = text;
+    match unread_rest(alloc, input, accepted)? {
+        Some(unread) => {
+            text.word(b"\n")?;
+            write_unread(alloc, &mut text, input, &unread)?;
+            Ok(Listing::HalfRead(text.finish()))
+        }
+        None => Ok(Listing::Accepted(text.finish())),
+    }
 }
 
 // The listing of a protocol that was read.
-fn listing_of(alloc: Global, source: Source) -> Result<Listing, InputError>
+fn listing_of(alloc: Global, input: &[u8], source: Source) -> Result<Listing, AllocError>
+    requires short { length input.now + 8 < 2 ^ 32 }
+    requires source { IsSourceOf input.now source.protocol source.lines.items }
     requires form { HasForm (body_of source.protocol.body) (length source.protocol.roles) }
     requires full { IsFullText (body_of source.protocol.body) }
     requires names { HasNames source.protocol.roles (body_of source.protocol.body) }
-    ensures { MatchResult result (IsListingOf source.protocol source.lines.items) (λ e. e ≡ InputError.Memory) }
+    ensures { IfOk result (IsListingOf input.now source.protocol source.lines.items) }
 {
     let Source { protocol, lines } = source;
-    // The protocol is gone where it isn't accepted.
+    // The protocol is gone if it isn't accepted.
     let roles = protocol.roles.share()?;
     let points = points_of(alloc, &protocol)?;
     let table = Table {
@@ -49,27 +83,41 @@ fn listing_of(alloc: Global, source: Source) -> Result<Listing, InputError>
         Ok(accepted) => {
             // Tells the proof that the protocol is accepted.
             let _protocol = accepted.protocol();
-            Ok(Listing::Accepted(text.finish()))
+            listed(alloc, input, text, &accepted)
         }
         Err(TextError::Refused(refusal)) => {
             write_refusal(alloc, &mut text, &table, refusal)?;
             Ok(Listing::RuledOut(text.finish()))
         }
-        Err(TextError::Memory) => Err(InputError::Memory),
+        Err(TextError::Memory) => Err(AllocError),
     }
 }
 
-/// The points of the input's protocol, calls expanded, with their lines and those of the calls through which they came; the
-/// scripts and the plan are left as they are. The input has fewer than 2^32 - 1 bytes.
-///
-/// Refused where the protocol part isn't read: by 10 at a bad letter, by 11 to 19 and 29 where the reader refuses it; or
-/// isn't expanded: by 13 and 52 to 54, and by 12 and 18, at a call. `Memory` where no memory is left.
-pub fn points_text(alloc: Global, input: &[u8]) -> Result<Listing, InputError>
-    requires { length input.now + 1 < 2 ^ 32 }
-    ensures { MatchResult result (IsListing input.now) (IsUnreadable input.now) }
+// What is said of a protocol that isn't read, at this line, by this code.
+fn unread_listing(alloc: Global, input: &[u8], code: u8, line: u32) -> Result<Listing, AllocError>
+    requires short { length input.now + 8 < 2 ^ 32 }
+    requires first { IsFirstRefusal input.now (Line code line) }
+    ensures { IfOk result (IsListing input.now) }
+{
+    let unread = unread_protocol(alloc, input, code, line)?;
+    let mut text = Writer::new(alloc);
+    write_unread(alloc, &mut text, input, &unread)?;
+    Ok(Listing::Unread(text.finish()))
+}
+
+/// The points of the input's protocol, calls expanded, with their lines and those of the calls through which they came; and
+/// what the input's first refusal says, if there is one: of a rule of acceptance with the points at which it fails, of any
+/// other with what was found and what may stand there. The input has fewer than 2^32 - 8 bytes. Fails if memory runs out.
+pub fn points_text(alloc: Global, input: &[u8]) -> Result<Listing, AllocError>
+    requires { length input.now + 8 < 2 ^ 32 }
+    ensures { IfOk result (IsListing input.now) }
 {
     match read_source(alloc, input) {
-        Ok(source) => listing_of(alloc, source),
-        Err(error) => Err(error),
+        Ok(source) => listing_of(alloc, input, source),
+        Err(InputError::Refused(Refused::Line { code, line })) => {
+            unread_listing(alloc, input, code, line)
+        }
+        Err(InputError::Refused(_)) => unreachable!(),
+        Err(InputError::Memory) => Err(AllocError),
     }
 }

@@ -1,18 +1,20 @@
-// Listings of a protocol that is accepted and of one that a rule refuses.
+// Listings of a protocol that is accepted, of one that a rule refuses, and of inputs that aren't read.
 
-use crate::{InputError, Listing, Refused, points_text};
+use crate::{Listing, points_text};
 use std::alloc::Global;
 use std::test::Fail;
 
-// The listing of an input: whether a rule refuses it, and the text.
+// The listing of an input: whether it is refused, and the text.
 fn listed(alloc: Global, input: &[u8]) -> Result<(bool, Vec<u8>), Fail> {
     if input.len() > 4096 {
         return Err(Fail::new("too long"));
     }
     match points_text(alloc, input) {
         Ok(Listing::Accepted(text)) => Ok((false, text)),
-        Ok(Listing::RuledOut(text)) => Ok((true, text)),
-        Err(_error) => Err(Fail::new("not read")),
+        Ok(Listing::RuledOut(text) | Listing::HalfRead(text) | Listing::Unread(text)) => Ok((
+            true, text,
+        )),
+        Err(_error) => Err(Fail::new("no memory")),
     }
 }
 
@@ -20,7 +22,7 @@ fn listed(alloc: Global, input: &[u8]) -> Result<(bool, Vec<u8>), Fail> {
 fn each_receiver_has_its_line(rt: HostRuntime) -> Result<(), Fail> {
     let input =
         b"module m;\ntype <s> \"to\" from \"to B;\" as T; // to B\nglobal protocol P(role A, role B, role C) {\n  \
-m(T, T) from A to B,\n    C; n() from B to A;\n}\n%% plan\nnot looked at";
+m(T, T) from A to B,\n    C; n() from B to A;\n}\n%% plan\ncrash A 1";
     let (refused, text) = listed(rt.alloc(), input)?;
     assert!(rt; !refused);
     assert!(rt;
@@ -52,10 +54,55 @@ global protocol Once(role X, role Y) {\n  ping() from X to\n    Y;\n}\n";
 fn a_refused_call_is_not_listed(rt: HostRuntime) -> Result<(), Fail> {
     let input = b"module m;\nglobal protocol Main(role A, role B) {\n  do Half(A);\n}\n\
 global protocol Half(role X, role Y) {\n  ping() from X to Y;\n}\n";
-    match points_text(rt.alloc(), input) {
-        Err(InputError::Refused(Refused::Line { code: 52, line: 3 })) => Ok(()),
-        _ => Err(Fail::new("another answer")),
-    }
+    let (refused, text) = listed(rt.alloc(), input)?;
+    assert!(rt; refused);
+    assert!(rt;
+        text.as_slice()
+            .starts_with(b"refused 52 Arity line 3\nA `do` names as many roles")
+    );
+    Ok(())
+}
+
+#[test]
+fn a_wrong_word_is_named(rt: HostRuntime) -> Result<(), Fail> {
+    let input = b"module m;\nglobal protocol P(role A, role B) {\n  m(Int) form A to B;\n}\n";
+    let (refused, text) = listed(rt.alloc(), input)?;
+    assert!(rt; refused);
+    assert!(rt;
+        text.as_slice().starts_with(
+            b"refused 11 Token line 3\nfound \"form\" at line 3, column 10\nmay stand here: \"from\"\n"
+        )
+    );
+    Ok(())
+}
+
+#[test]
+fn the_end_is_named(rt: HostRuntime) -> Result<(), Fail> {
+    let input = b"module m;\nglobal protocol P(role A, role B) {\n  m(Int) from A to B;\n";
+    let (refused, text) = listed(rt.alloc(), input)?;
+    assert!(rt; refused);
+    assert!(rt;
+        text.as_slice().starts_with(
+            b"refused 11 Token line 4\nfound the end of the text at line 4, column 1\n\
+may stand here: a name, \"choice\", \"rec\", \"continue\", \"par\", \"do\", \"}\"\n"
+        )
+    );
+    Ok(())
+}
+
+#[test]
+fn a_plan_is_refused_after_the_points(rt: HostRuntime) -> Result<(), Fail> {
+    let input =
+        b"module m;\nglobal protocol P(role A, role B) { m(Int) from A to B; }\n%% plan\ncrash 1 A\n";
+    let (refused, text) = listed(rt.alloc(), input)?;
+    assert!(rt; refused);
+    assert!(rt;
+        text.as_slice().starts_with(
+            b"1 line 2 m from A to B\n\nrefused 40 Token line 4\nfound \"1\" at line 4, column 7\n\
+may stand here: a name\n"
+        )
+    );
+    Ok(())
 }
 
 #[test]
@@ -68,7 +115,8 @@ x() from A to B;\n  } or {\n    y() from A to B;\n  }\n  z() from C to B;\n}\n";
     assert!(rt;
         text.as_slice().starts_with(
             b"1 line 3 a from C to A\n2 line 5 x from A to B\n3 line 7 y from A to B\n4 line 9 z from C to B\n\n\
-refused 24 NotEnabled C 1\nC is behind its point 1, line 3. Its next points there:\n4 line 9 z from C to B\nBetween a "
+refused 24 NotEnabled C 1\nC is after its point 1, line 3. Its next points there:\n4 line 9 z from C to B\n\
+The choice whose first message is point 2, line 5, stands in its way. There A decides.\nBetween a "
         )
     );
     Ok(())

@@ -1,17 +1,18 @@
 // What a refusal by a rule of acceptance says.
 
-ghost use Rattle.std.specs.Prelude.{◌≡◌, ◌++◌, codes, decimal, IfOk, OnOk};
+ghost use Rattle.std.specs.Prelude.{◌≡◌, ◌++◌, ◌≤◌, ℕ, List, length, codes, decimal, IfOk, OnOk};
 ghost use Rattle.rcv_points.specs.Follow.{net_in};
 ghost use Rattle.rcv_input.specs.Line.{refusal_line};
 ghost use Rattle.rcv_input.specs.declared.refused.Refused.TheVariants.{Rule};
 ghost use Rattle.rcv_explain.specs.Explained.{HasRule};
 ghost use Rattle.rcv_listing.specs.Lines.{name_of, rule_text, stand_text, place_text, subject_text, unreached_text, endless_text};
-ghost use Rattle.rcv_listing.specs.Lines.{where_text};
+ghost use Rattle.rcv_listing.specs.Lines.{where_text, first_text, decides_text, choice_text, IsWay};
 ghost use Rattle.rcv_listing.specs.Lines as lines;
 ghost use Rattle.rcv_listing.specs.Lines.{IsNumberIn, IsRuleIn, AddsTold, AddsRefusal};
 
 use crate::shown::{is_at_place, shown};
 use crate::table::Table;
+use crate::way::choice_in_way;
 use rcv_explain::{Explanation, explain};
 use rcv_input::{Refused, refusal_line};
 use rcv_text::writer::Writer;
@@ -21,13 +22,13 @@ use rcv_tree::refusal::Refusal;
 use rcv_tree::role::RoleId;
 use std::alloc::{AllocError, Global};
 
-// Where a role is that stands behind a point.
+// Where a role is that stands after a point.
 fn write_behind(text: &mut Writer, table: &Table<'_>, point: Point) -> Result<(), AllocError>
     ensures { OnOk result (text.new ≡ text.old
-        ++ (codes " is behind its point " ++ decimal point ++ codes ", line "
+        ++ (codes " is after its point " ++ decimal point ++ codes ", line "
         ++ decimal (lines.line_of table.now.lines.now point))) }
 {
-    text.word(b" is behind its point ")?;
+    text.word(b" is after its point ")?;
     text.number(point.0)?;
     text.word(b", line ")?;
     text.large_number(table.line(point) as u64)
@@ -123,8 +124,8 @@ fn line_of(
     refusal_line(alloc, &refused)
 }
 
-// The rule and its repair.
-fn write_rule(text: &mut Writer, explanation: &Explanation) -> Result<(), AllocError>
+/// The rule and its repair. Fails if memory runs out.
+pub fn write_rule(text: &mut Writer, explanation: &Explanation) -> Result<(), AllocError>
     ensures { OnOk result (text.new ≡ text.old ++ rule_text explanation.now) }
 {
     text.word(explanation.rule)?;
@@ -132,6 +133,63 @@ fn write_rule(text: &mut Writer, explanation: &Explanation) -> Result<(), AllocE
     text.word(b"Repair: ")?;
     text.word(explanation.repair)?;
     text.word(b"\n")
+}
+
+// A choice, by its first message.
+fn write_first(text: &mut Writer, table: &Table<'_>, point: Point) -> Result<(), AllocError>
+    ensures { OnOk result (text.new ≡ text.old ++ first_text table.now.lines.now point) }
+{
+    text.word(b"The choice whose first message is point ")?;
+    text.number(point.0)?;
+    text.word(b", line ")?;
+    text.large_number(table.line(point) as u64)?;
+    Ok(())
+}
+
+// Who decides there.
+fn write_decides(text: &mut Writer, table: &Table<'_>, role: RoleId) -> Result<(), AllocError>
+    ensures { OnOk result (text.new ≡ text.old ++ decides_text table.now.roles.now role) }
+{
+    text.word(b", stands in its way. There ")?;
+    text.word(table.name(role))?;
+    text.word(b" decides.\n")?;
+    Ok(())
+}
+
+// The choice with this first message, which stands in the way.
+fn write_choice(text: &mut Writer, table: &Table<'_>, point: Point) -> Result<(), AllocError>
+    requires first { 1 ≤ point }
+    requires last { point ≤ length table.now.points.now.messages }
+    ensures { OnOk result (text.new ≡ text.old
+        ++ choice_text table.now.roles.now (net_in table.now.points.now) table.now.lines.now point) }
+{
+    write_first(text, table, point)?;
+    write_decides(text, table, table.points.sender(point))
+}
+
+// Writes which choice stands in the way, for the code of a role's send that isn't enabled.
+#[tactic(auto, using(crate::proofs::Forking::way_told, crate::proofs::Forking::no_way_told))]
+fn write_way(
+    text: &mut Writer,
+    table: &Table<'_>,
+    code: u8,
+    role: RoleId,
+    number: u16,
+) -> Result<(), AllocError>
+    requires { number ≤ length table.now.points.now.messages }
+    ensures { OnOk result ((way : List ℕ) × IsWay table.now.roles.now (net_in table.now.points.now) table.now.lines.now
+        code role number way × (text.new ≡ text.old ++ way)) }
+{
+    if code != 24 {
+        return Ok(());
+    }
+    match choice_in_way(table.points, role, number) {
+        Some(point) => {
+            write_choice(text, table, point)?;
+            Ok(())
+        }
+        None => Ok(()),
+    }
 }
 
 // Writes what the refusal by the rule with this code says.
@@ -157,6 +215,7 @@ fn write_told(
     text.word(line.as_slice())?;
     write_where(text, table, code, role, number)?;
     table.write_points(text, points.as_slice())?;
+    write_way(text, table, code, role, number)?;
     write_rule(text, &explanation)?;
     Ok(())
 }

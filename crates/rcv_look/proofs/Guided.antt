@@ -1,5 +1,5 @@
 -- What is answered to a told journal, from what its parts are.
-use Rattle.std.proofs.Common.{◌≡◌, ℕ, ◌+◌, ◌<◌, ◌≤◌, List, [], Some, None, sym, ◌∙◌, ap, subst}
+use Rattle.std.proofs.Common.{◌≡◌, ℕ, ◌+◌, ◌<◌, ◌≤◌, List, [], map, length, Some, None, sym, ◌∙◌, ap, subst}
 use Rattle.std.specs.Prelude.{Result, IfOk}
 use Rattle.rcv_tree.specs.declared.entry.Entry.{Entry}
 use Rattle.rcv_tree.specs.declared.event.Event.{Event}
@@ -22,7 +22,12 @@ use Rattle.rcv_replay.specs.Cutting.{cut_of, bundle_of, journal_of, feeds_before
 use Rattle.rcv_fates.specs.Record.{RecordView, HasKept}
 use Rattle.rcv_look.specs.declared.output.Output.{Output}
 use Rattle.rcv_look.specs.declared.status.Status.TheVariants as statuses
-use Rattle.rcv_look.specs.Drawing.{IsDrawing}
+use Rattle.rcv_model.specs.Text.{Body, body_of}
+use Rattle.rcv_model.specs.Net.{Net}
+use Rattle.rcv_model.specs.Places.{net_of}
+use Rattle.rcv_retold.specs.Closing.{AreStates}
+use Rattle.rcv_look.specs.Drawing.{IsDrawing, told_end}
+use Rattle.rcv_look.specs.Guided.{IsPictureOf}
 use Rattle.rcv_look.specs.Outcome.{IsToldTextAnswer, IsToldBundleAnswer, IsToldAnswer, no_journal_line, illegal_line, uncut, long, parted, wrong, drawn}
 use Rattle.rcv_look.specs.Outcome as outcomes
 use Rattle.rcv_look.proofs.Making.{Makes, made, widen, refused}
@@ -69,13 +74,18 @@ pub long_said : (input : List ℕ) (cut : Cut) (bytes : List ℕ) → cut_of inp
 long_said input cut bytes is more empty = subst (IsToldAnswer input statuses.TooLong) (sym empty) (long cut is more)
 
 -- a told journal that is drawn
-pub drawn_said : (session : SessionView) (text : List ℕ) (feeds : ℕ) (entries : List Entry) (r : RecordView) (bytes : List ℕ) → IsToldText session text entries
-    → r.setup ≡ session → r.entries ≡ entries → HasKept r (told (terms_for session) entries).held
-    → ((kept : List Event) → HasKept r kept → IsDrawing r.setup r.entries kept bytes) → IsToldTextAnswer session text feeds statuses.Drawn bytes
-drawn_said session text feeds entries r bytes is setup same has draws =
-    drawn entries is
-    (subst (λ (es : List Entry). IsDrawing session es (told (terms_for session) entries).held bytes) same
-    (subst (λ (s : SessionView). IsDrawing s r.entries (told (terms_for session) entries).held bytes) setup (draws (told (terms_for session) entries).held has)))
+pub drawn_said : (session : SessionView) (text : List ℕ) (feeds : ℕ) (entries : List Entry) (g : GuideView) (r : RecordView) (bytes : List ℕ) → IsToldText session text entries
+    → r.setup ≡ session → r.entries ≡ entries → HasSameText g.protocol session.protocol
+    → IsPictureOf g (told (terms_for session) entries) r (told (terms_for session) entries).held bytes → IsToldTextAnswer session text feeds statuses.Drawn bytes
+drawn_said session text feeds entries g r bytes is setup same one of =
+    let m = told (terms_for session) entries in
+    drawn entries is (record {
+      states = of.states;
+      are_states = subst (λ (n : Net). AreStates n (length session.protocol.roles) m of.states) (ap (λ (b : Body). net_of b) one.bodies)
+          (subst (λ (n : ℕ). AreStates (net_of (body_of g.protocol.body)) n m of.states) (ap length one.names) of.are_states);
+      drawing = subst (λ (es : List Entry). IsDrawing session es m.held (map told_end of.states) bytes) same
+          (subst (λ (s : SessionView). IsDrawing s r.entries m.held (map told_end of.states) bytes) setup of.drawing);
+    })
 
 -- A guide of another reading of a session's bundle is one of the session.
 module _ (bundle : List ℕ) (setup other : SessionView) (is_taken : IsTaken bundle setup) (also : IsTaken bundle other) (room : ℕ) (g : GuideView) (is : g ≡ opened other.protocol other.plan room) where

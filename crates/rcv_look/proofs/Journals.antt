@@ -107,7 +107,7 @@ long_said input cut bytes is more empty = subst (IsJournalAnswer input statuses.
 
 -- a journal that is drawn
 pub drawn_said : (session : SessionView) (j : JournalView) (entries : List Entry) (written : Written) (bytes : List ℕ) → entries ≡ j.entries → IsLegal (rules_of session) entries
-    → ClosesRight session entries j.roles j.limited → IsJournalDrawing session entries bytes → IsVerdict session j written statuses.Drawn bytes
+    → ClosesRight session entries j.roles j.limited → IsJournalDrawing session entries j.roles bytes → IsVerdict session j written statuses.Drawn bytes
 drawn_said session j entries written bytes same legal closes drawing =
     drawn (subst (IsLegal (rules_of session)) same legal) (subst (λ (es : List Entry). ClosesRight session es j.roles j.limited) same closes)
-    (subst (λ (es : List Entry). IsJournalDrawing session es bytes) same drawing)
+    (subst (λ (es : List Entry). IsJournalDrawing session es j.roles bytes) same drawing)

@@ -13,15 +13,13 @@ use Rattle.rcv_input.specs.Line.{refusal_line}
 use Rattle.std.specs.declared.alloc.Global.{Global}
 use Rattle.std.specs.declared.vec.Vec.{Vec}
 use Rattle.rcv_explain.specs.Explained.{IsToldOf}
-use Rattle.rcv_listing.specs.Listing.{IsUnreadable}
 use Rattle.rcv_accept.specs.Accepted.{net_for}
-use Rattle.rcv_charts.specs.StateTitles.{AreTitlesOf}
-use Rattle.rcv_charts.specs.Titles.{titles_of}
+use Rattle.rcv_charts.specs.Machine.{IsMachine}
 use Rattle.rcv_picture.specs.declared.picture.Picture.{Picture}
 use Rattle.rcv_look.specs.declared.output.Output.{Output}
 use Rattle.rcv_look.specs.declared.status.Status.TheVariants as statuses
 use Rattle.rcv_look.specs.Commands.{CommandView}
-use Rattle.rcv_look.specs.Drawing.{IsTextOf, IsRoleAnswer, IsRoleDrawing, accepted_as, place_of, ArePoints, unread, IsExplanation, explained, unknown, no_rule_line}
+use Rattle.rcv_look.specs.Drawing.{IsTextOf, IsRoleAnswer, IsRoleDrawing, accepted_as, place_of, IsExplanation, explained, unknown, no_rule_line}
 use Rattle.rcv_look.specs.Outcome.{IsChartAnswer, Draws}
 use Rattle.rcv_look.specs.Outcome as outcomes
 use Rattle.rcv_look.proofs.Making.{Makes, made, widen, refused}
@@ -46,23 +44,17 @@ module _ {E : Type 0} (result : Result Output E) where
       go (Err e) status text = tt
 
   -- a role's picture, or the line for one that isn't declared
-  pub role_drawn : (protocol : Protocol) (name : List ℕ) (role : ℕ) (picture : Picture) → place_of protocol.roles name ≡ Some role → AreTitlesOf (net_for (accepted_as protocol)) role (titles_of picture)
+  pub role_drawn : (protocol : Protocol) (name : List ℕ) (role : ℕ) (picture : Picture) → place_of protocol.roles name ≡ Some role → IsMachine protocol.roles (net_for (accepted_as protocol)) role picture
       → IfOk result (λ output. output.status ≡ statuses.Drawn) → IfOk result (λ output. IsTextOf picture output.bytes.items) → Makes (IsRoleAnswer (IsRoleDrawing protocol) protocol name) result
-  role_drawn protocol name role picture is titled status text = go result status text
+  role_drawn protocol name role picture is machine status text = go result status text
     where
       go : (r : Result Output E) → IfOk r (λ output. output.status ≡ statuses.Drawn) → IfOk r (λ output. IsTextOf picture output.bytes.items) → Makes (IsRoleAnswer (IsRoleDrawing protocol) protocol name) r
-      go (Ok output) status text = inl (role, is, status, record { picture = picture; titled = titled; is_text = text })
+      go (Ok output) status text = inl (role, is, status, record { picture = picture; machine = machine; is_text = text })
       go (Err e) status text = tt
 
   pub no_role : (IsShown : ℕ → List ℕ → Type 0) (protocol : Protocol) (name : List ℕ) → place_of protocol.roles name ≡ None
       → IfOk result (λ output. output.status ≡ statuses.Refused) → IfOk result (λ output. output.bytes.items ≡ refusal_line NoRole) → Makes (IsRoleAnswer IsShown protocol name) result
   no_role IsShown protocol name none status bytes = made (IsRoleAnswer IsShown protocol name) result statuses.Refused (refusal_line NoRole) status bytes (inr (none, refl, refl))
-
-  -- a protocol that isn't read
-  pub points_unread : (input : List ℕ) (error : InputError) → IsUnreadable input error
-      → IfOk result (λ output. (refusal : refusals.Refused) × (error ≡ causes.Refused refusal) × (output.status ≡ statuses.Refused) × (output.bytes.items ≡ refusal_line refusal))
-      → Makes (ArePoints input) result
-  points_unread input error is said = refused (ArePoints input) error result said (λ refusal same. unread refusal (subst (IsUnreadable input) same is))
 
   -- no rule has this code
   pub no_rule_said : (code number : ℕ) (told : Option (Vec ℕ Global)) → number ≡ code → told ≡ None → IsToldOf number told

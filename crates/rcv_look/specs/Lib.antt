@@ -4,6 +4,7 @@ pub mod Asked
 pub mod Asking
 pub mod Inputs
 pub mod Drawing
+pub mod Guided
 pub mod Outcome
 pub mod Writing
 pub mod Calls

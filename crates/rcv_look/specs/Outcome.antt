@@ -12,8 +12,6 @@ use Rattle.rcv_form.specs.Form as form
 use Rattle.rcv_form.specs.Journal.{JournalView, bare}
 use Rattle.rcv_judge.specs.Closing.{ClosesRight, IsFirstWrongClosing}
 use Rattle.rcv_judge.specs.Judged.{IsFirstWrong as IsFirstIllegal}
-use Rattle.rcv_told.specs.Told.{told}
-use Rattle.rcv_retold.specs.Retold.{terms_for}
 use Rattle.rcv_retold.specs.Text.{IsToldText, IsFirstWrong}
 use Rattle.rcv_replay.specs.declared.cut.Cut.{Cut}
 use Rattle.rcv_diagnosis.specs.declared.diagnosis.Finding.{Finding}
@@ -23,13 +21,14 @@ use Rattle.rcv_diagnosis.specs.declared.written.Written.TheVariants.{Lines, Json
 use Rattle.rcv_diagnosis.specs.Diagnosing.{IsDiagnosis, is_json, IsJsonOf}
 use Rattle.rcv_look.specs.declared.status.Status.{Status}
 use Rattle.rcv_look.specs.declared.status.Status.TheVariants.{Drawn, Usage, Refused, ReadFault, WriteFault, Memory, TooLong, Illegal}
-use Rattle.rcv_look.specs.Commands.{CommandView, DrawJournal, DrawSession, DrawTold, ReplayJournal, DrawTable, ExportTable, DrawRole, ExportRole, DrawProtocol, ListPoints, ExportPoints, DrawFailures, ListFailures, ExportFailures, Explain, IsCommand, IsNoCommand}
+use Rattle.rcv_look.specs.Commands.{CommandView, DrawJournal, DrawSession, DrawTold, ReplayJournal, DrawTable, ExportTable, DrawRole, ExportRole, DrawProtocol, ListPoints, ListFailures, Explain, IsCommand, IsNoCommand}
 use Rattle.rcv_look.specs.Asking.{most_for, most_of_bundle, IsAskedOfSource}
 use Rattle.rcv_replay.specs.Cutting.{cut_of, bundle_of, journal_of, feeds_before, feeds_in, line_of_end}
+use Rattle.rcv_losses.specs.LossText.{IsLossesText}
 use Rattle.rcv_section.specs.declared.section.Section.{Section}
 use Rattle.rcv_section.specs.Sections.{IsSection, HasNoSection, section_text}
 use Rattle.rcv_later.specs.Later.{IsLaterOf}
-use Rattle.rcv_look.specs.Drawing.{IsDrawing, IsJournalDrawing, IsTableDrawing, IsTableJson, IsRoleAnswer, IsRoleDrawing, IsRoleJson}
+use Rattle.rcv_look.specs.Drawing.{IsJournalDrawing, IsToldDrawing, IsTableDrawing, IsTableJson, IsRoleAnswer, IsRoleDrawing, IsRoleJson}
 use Rattle.rcv_look.specs.Drawing.{IsProtocolDrawing, ArePoints, IsExplanation}
 
 -- The number of a status, with which the process ends.
@@ -82,7 +81,7 @@ pub data IsVerdict (session : SessionView) (j : JournalView) (written : Written)
       → IsVerdict session j written Illegal (illegal_closing_line written (length j.entries) k)
   drawn :
       {bytes : List ℕ} → IsLegal (rules_of session) j.entries → ClosesRight session j.entries j.roles j.limited
-      → IsJournalDrawing session j.entries bytes → IsVerdict session j written Drawn bytes
+      → IsJournalDrawing session j.entries j.roles bytes → IsVerdict session j written Drawn bytes
 
 -- What is answered to the text behind so many line feeds of the input. Of lines: the first at which it isn't a journal of the
 -- form, counted over the whole input, or what the journal's verdict is. Of JSON: that it is no journal of the form, by its
@@ -160,7 +159,7 @@ pub data IsToldTextAnswer (session : SessionView) (text : List ℕ) (feeds : ℕ
   wrong : (k : ℕ) → IsFirstWrong session text k → IsToldTextAnswer session text feeds Illegal (illegal_line (feeds + k))
   drawn :
       {bytes : List ℕ} (entries : List Entry) → IsToldText session text entries
-      → IsDrawing session entries (told (terms_for session) entries).held bytes
+      → IsToldDrawing session entries bytes
       → IsToldTextAnswer session text feeds Drawn bytes
 
 -- What is answered to a bundle with such a text behind so many line feeds of the input: the bundle's first refusal, or what
@@ -208,10 +207,7 @@ Draws session (DrawSession number) status bytes = ⊥
 Draws session DrawTold status bytes = ⊥
 Draws session ReplayJournal status bytes = ⊥
 Draws session ListPoints status bytes = ⊥
-Draws session ExportPoints status bytes = ⊥
-Draws session DrawFailures status bytes = ⊥
-Draws session ListFailures status bytes = ⊥
-Draws session ExportFailures status bytes = ⊥
+Draws session ListFailures status bytes = (status ≡ Drawn) × IsLossesText session bytes
 Draws session (Explain code) status bytes = ⊥
 
 -- What is answered to them: the first refusal of the input, or what they make of its session.
@@ -234,6 +230,7 @@ IsAnswer (DrawRole name) input status bytes = IsChartAnswer (DrawRole name) inpu
 IsAnswer (ExportRole name) input status bytes = IsChartAnswer (ExportRole name) input status bytes
 IsAnswer DrawProtocol input status bytes = IsChartAnswer DrawProtocol input status bytes
 IsAnswer ListPoints input status bytes = ArePoints input status bytes
+IsAnswer ListFailures input status bytes = IsChartAnswer ListFailures input status bytes
 IsAnswer (Explain code) input status bytes = IsExplanation code status bytes
 
 -- The words are this command, and its input isn't too long.

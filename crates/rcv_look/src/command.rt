@@ -25,14 +25,8 @@ pub enum Command {
     Protocol,
     /// Lists the protocol's points with their lines, and explains what refuses the input.
     Points,
-    /// Says the same as JSON.
-    PointsJson,
-    /// Draws what each failure would cost.
-    Failures,
-    /// Lists the same, a line for each.
+    /// Lists what each crash would cost, a line for each.
     FailuresText,
-    /// Says the same as JSON.
-    FailuresJson,
     /// Explains the rule with this code.
     Explain { code: u32 },
 }

@@ -13,20 +13,8 @@ use rcv_rows::tell;
 use rcv_scene::ends::{RoleEnd, ends_of};
 use rcv_scene::journal_picture::journal_picture;
 use rcv_story::shown::shown_entries;
-use rcv_story::story::{Story, story_of};
+use rcv_story::story::story_of;
 use std::alloc::{AllocError, Global};
-
-// For each entry whether it is shown.
-fn marks(alloc: Global, record: &Record<'_>, story: &Story) -> Result<Vec<bool>, AllocError>
-    ensures { IfOk result (λ marks. length marks.items ≡ length record.now.entries) }
-{
-    let shown = shown_entries(alloc, record.entries(), story)?;
-    let mut marks = Vec::new(alloc);
-    for place in 0..record.entries().len() {
-        marks.push(shown.get(place).copied().unwrap_or(true))?;
-    }
-    Ok(marks)
-}
 
 // How many bytes a picture of so many entries may have.
 fn most_drawn(entries: usize) -> usize
@@ -47,14 +35,14 @@ fn short(text: Vec<u8>, entries: usize) -> Result<Vec<u8>, AllocError>
     Ok(text)
 }
 
-/// The text of a picture of a journal, whose roles ended so. Fails where memory runs out.
+/// The text of a picture of a journal, whose roles ended so. Fails if memory runs out.
 pub fn draw(alloc: Global, record: &Record<'_>, ends: &[RoleEnd]) -> Result<Vec<u8>, AllocError>
     ensures { IfOk result (λ text. (kept : List Event) → HasKept record.now kept
-        → IsDrawing record.now.setup record.now.entries kept text.items) }
+        → IsDrawing record.now.setup record.now.entries kept ends.now text.items) }
 {
-    let story = story_of(alloc, record.setup().points(), record.entries())?;
-    let marks = marks(alloc, record, &story)?;
-    let told = tell(alloc, record, marks.as_slice())?;
+    let story = story_of(alloc, record)?;
+    let shown = shown_entries(alloc, record, &story)?;
+    let told = tell(alloc, record, shown.as_slice())?;
     let picture = journal_picture(
         alloc,
         record,
@@ -67,9 +55,9 @@ pub fn draw(alloc: Global, record: &Record<'_>, ends: &[RoleEnd]) -> Result<Vec<
     short(text, record.entries().len())
 }
 
-/// The text of a picture of a book's journal, whose roles ended as these lines say. Fails where memory runs out.
+/// The text of a picture of a book's journal, whose roles ended as these lines say. Fails if memory runs out.
 pub fn draw_book(alloc: Global, book: &Book<'_>, lines: &[RoleLine]) -> Result<Vec<u8>, AllocError>
-    ensures { IfOk result (λ text. IsJournalDrawing book.now.setup book.now.entries text.items) }
+    ensures { IfOk result (λ text. IsJournalDrawing book.now.setup book.now.entries lines.now text.items) }
 {
     let record = Record::of_book(alloc, book)?;
     let ends = ends_of(alloc, lines)?;

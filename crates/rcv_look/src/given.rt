@@ -159,7 +159,7 @@ impl<'a> Given<'a> {
         }
     }
 
-    // Says a table, a role, points or failures in the form that the flags say.
+    // A table in the form that the flags say.
     fn table(&self) -> Option<Command>
         requires { (given_of self.now).command ≡ Some (codes "table") }
         ensures some { IfSome result (λ command. Says (given_of self.now) (view_of command)) }
@@ -172,32 +172,7 @@ impl<'a> Given<'a> {
         }
     }
 
-    fn points(&self) -> Option<Command>
-        requires { (given_of self.now).command ≡ Some (codes "points") }
-        ensures some { IfSome result (λ command. Says (given_of self.now) (view_of command)) }
-        ensures none { IfNone result (Says (given_of self.now) (asked (given_of self.now)) → ⊥) }
-    {
-        if self.json {
-            self.as_json(Command::PointsJson)
-        } else {
-            self.alone(Command::Points)
-        }
-    }
-
-    fn failures(&self) -> Option<Command>
-        requires { (given_of self.now).command ≡ Some (codes "failures") }
-        ensures some { IfSome result (λ command. Says (given_of self.now) (view_of command)) }
-        ensures none { IfNone result (Says (given_of self.now) (asked (given_of self.now)) → ⊥) }
-    {
-        if self.json {
-            self.as_json(Command::FailuresJson)
-        } else if self.text {
-            self.as_text(Command::FailuresText)
-        } else {
-            self.alone(Command::Failures)
-        }
-    }
-
+    // What a role does, in the form that the flags say.
     fn of_role(&self, alloc: Global) -> Result<Command, WordsError>
         requires { (given_of self.now).command ≡ Some (codes "role") }
         ensures command { IfOk result (λ command. Says (given_of self.now) (view_of command)) }
@@ -229,8 +204,8 @@ impl<'a> Given<'a> {
             "table" => self.table().ok_or(WordsError::Usage),
             "role" => self.of_role(alloc),
             "protocol" => self.alone(Command::Protocol).ok_or(WordsError::Usage),
-            "points" => self.points().ok_or(WordsError::Usage),
-            "failures" => self.failures().ok_or(WordsError::Usage),
+            "points" => self.alone(Command::Points).ok_or(WordsError::Usage),
+            "failures" => self.as_text(Command::FailuresText).ok_or(WordsError::Usage),
             "explain" => Ok(Command::Explain {
                 code: self.code().ok_or(WordsError::Usage)?,
             }),

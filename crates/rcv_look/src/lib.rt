@@ -9,6 +9,7 @@ mod charts;
 mod command;
 mod draw;
 mod exports;
+mod failures;
 mod given;
 mod input;
 mod journal;

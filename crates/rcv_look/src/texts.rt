@@ -3,23 +3,20 @@
 ghost use Rattle.std.specs.Prelude.{◌≡◌, ◌≤◌, length, IfOk};
 ghost use Rattle.rcv_look.specs.Drawing.{ArePoints, IsExplanation, ListsAs};
 
-use crate::lines::{no_rule, refuse};
+use crate::lines::no_rule;
 use crate::output::Output;
 use crate::status::Status;
 use rcv_explain::explanation_text;
 use rcv_listing::{Listing, points_text};
 use std::alloc::{AllocError, Global};
 
-/// The points of the input's protocol; where a rule refuses it, with what that says, and as a refusal; or the first
-/// refusal of a protocol that isn't read. The input has at most 1,048,576 bytes. Fails where memory runs out.
+/// The points of the input's protocol, and what the input's first refusal says, if there is one: then it is a refusal. The
+/// input has at most 1,048,576 bytes. Fails if memory runs out.
 pub fn points_answer(alloc: Global, input: &[u8]) -> Result<Output, AllocError>
     requires { length input.now ≤ 1048576 }
     ensures { IfOk result (λ output. ArePoints input.now output.status output.bytes.items) }
 {
-    match points_text(alloc, input) {
-        Ok(listing) => Ok(listed(listing)),
-        Err(error) => refuse(alloc, error),
-    }
+    Ok(listed(points_text(alloc, input)?))
 }
 
 // What is written of a listing.
@@ -31,7 +28,7 @@ fn listed(listing: Listing) -> Output
             status: Status::Drawn,
             bytes,
         },
-        Listing::RuledOut(bytes) => Output {
+        Listing::RuledOut(bytes) | Listing::HalfRead(bytes) | Listing::Unread(bytes) => Output {
             status: Status::Refused,
             bytes,
         },

@@ -1,13 +1,15 @@
 // What is answered to `told`.
 
-ghost use Rattle.std.specs.Prelude.{◌≡◌, ◌≤◌, ◌<◌, ◌^◌, List, Some, drop, length, IfOk};
+ghost use Rattle.std.specs.Prelude.{◌≡◌, ◌≤◌, ◌<◌, ◌^◌, List, map, Some, drop, length, IfOk};
 ghost use Rattle.rcv_input.specs.Input.{IsTaken};
-ghost use Rattle.rcv_guide.specs.Guide.{opened, roles_of};
+ghost use Rattle.rcv_guide.specs.Guide.{opened, IsMemory};
 ghost use Rattle.rcv_tree.specs.declared.event.Event.{Event};
 ghost use Rattle.rcv_fates.specs.Record.{HasKept};
 ghost use Rattle.rcv_retold.specs.Retold.{HasSameText};
 ghost use Rattle.rcv_retold.specs.Text.{AreFirst};
-ghost use Rattle.rcv_look.specs.Drawing.{IsDrawing};
+ghost use Rattle.rcv_told.specs.Told.{Remembered};
+ghost use Rattle.rcv_look.specs.Drawing.{end_as, short_count, told_end};
+ghost use Rattle.rcv_look.specs.Guided.{IsPictureOf};
 ghost use Rattle.rcv_replay.specs.Cutting.{cut_of};
 ghost use Rattle.rcv_look.specs.Outcome.{IsToldTextAnswer, IsToldBundleAnswer, IsToldAnswer};
 
@@ -22,9 +24,10 @@ use rcv_guide::guide::Guide;
 use rcv_input::read_input;
 use rcv_lexer::line_feeds;
 use rcv_replay::cut::{Cut, cut_of};
+use rcv_dialogue::answer::{RoleState, State};
+use rcv_retold::closing::states_of;
 use rcv_retold::text::{Front, ToldError, judge, read_front};
 use rcv_scene::ends::{End, RoleEnd};
-use rcv_tree::role::RoleId;
 use std::alloc::{AllocError, Global};
 
 /// The picture of the journal that a guide was told, which stands behind the input's bundle, or why there is none. The
@@ -93,45 +96,58 @@ fn guide_of(alloc: Global, setup: &Setup, bundle: &[u8], room: u32) -> Result<Gu
     }
 }
 
-// How a declared role stands.
-fn end_of(guide: &Guide, role: RoleId) -> End
-    requires { role < roles_of guide.now }
+// How a role stands, as a picture says it.
+fn end_as(state: State) -> End
+    ensures { result ≡ end_as state }
 {
-    if guide.is_down(role) {
-        End::Down
-    } else if guide.is_over(role) {
-        End::Done
-    } else {
-        End::Waits
+    match state {
+        State::Down => End::Down,
+        State::Done => End::Done,
+        State::Waits => End::Waits,
     }
 }
 
-// The count, or the greatest where it is greater.
-fn short(count: u64) -> u32 {
-    u32::try_from(count).unwrap_or(u32::MAX)
+// The count, or the greatest that a picture says, if it is greater.
+fn short(count: u64) -> u32
+    ensures { result ≡ short_count count }
+{
+    if count < 4_294_967_296 {
+        count as u32
+    } else {
+        u32::MAX
+    }
 }
 
-// Where each role is. Fails where memory runs out.
-fn ends_of(alloc: Global, guide: &Guide) -> Result<Vec<RoleEnd>, AllocError> {
+// The same of a role.
+fn told_end(own: &RoleState) -> RoleEnd
+    ensures { result ≡ told_end own.now }
+{
+    RoleEnd {
+        role: own.role,
+        kept: short(own.kept),
+        raw: short(own.raw),
+        end: end_as(own.state),
+    }
+}
+
+// The same of each role. Fails if memory runs out.
+fn told_ends(alloc: Global, states: &[RoleState]) -> Result<Vec<RoleEnd>, AllocError>
+    ensures { IfOk result (λ ends. ends.items ≡ map told_end states.now) }
+{
     let mut ends = Vec::new(alloc);
-    for role in 0..guide.roles() {
-        let role = RoleId(role);
-        ends.push(RoleEnd {
-            role,
-            kept: short(guide.made(role)),
-            raw: short(guide.raw(role)),
-            end: end_of(guide, role),
-        })?;
+    for own in states {
+        ends.push(told_end(own))?;
     }
     Ok(ends)
 }
 
-// The picture of a told journal whose record this is, with its roles where the guide has them. Fails where memory runs out.
+// The picture of a told journal whose record this is, with its roles where the guide has them. Fails if memory runs out.
 fn picture(alloc: Global, record: &Record<'_>, guide: &Guide) -> Result<Vec<u8>, AllocError>
-    ensures { IfOk result (λ text. (kept : List Event) → HasKept record.now kept
-        → IsDrawing record.now.setup record.now.entries kept text.items) }
+    ensures { IfOk result (λ text. (m : Remembered) (kept : List Event) → IsMemory guide.now m → HasKept record.now kept
+        → IsPictureOf guide.now m record.now kept text.items) }
 {
-    let ends = ends_of(alloc, guide)?;
+    let states = states_of(alloc, guide)?;
+    let ends = told_ends(alloc, states.as_slice())?;
     draw(alloc, record, ends.as_slice())
 }
 

@@ -1,3 +1,10 @@
 pub mod Lines
 pub mod Places
 pub mod Telling
+pub mod Seeing
+pub mod Wiring
+pub mod Returning
+pub mod Counting
+pub mod Footing
+pub mod Planning
+pub mod Apart

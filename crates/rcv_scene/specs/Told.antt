@@ -6,6 +6,8 @@ use Rattle.rcv_tree.specs.declared.entry.Entry.TheVariants.{Send, Recv, Crash, R
 use Rattle.rcv_session.specs.Session.{SessionView, roles_of}
 use Rattle.rcv_core.specs.Book.{BookView}
 use Rattle.rcv_journal.specs.JournalText.{name_of, event_text, kept_text, entry_line}
+use Rattle.rcv_scene.specs.Grid.{Scene}
+use Rattle.rcv_scene.specs.Drawn.{AreDrawn}
 use Rattle.rcv_picture.specs.declared.group.Group.{Group}
 use Rattle.rcv_picture.specs.declared.group.Says.{Says}
 use Rattle.rcv_picture.specs.declared.group.Says.TheVariants.{Nothing, Entry, Fold, Arrow}
@@ -42,9 +44,10 @@ abbrev pub AreTitled : BookView → List Group → Type 0
 AreTitled book groups = All (λ g. IsTitle book g.says g.title.items) groups
 
 -- The groups have grown by some that say these, or nothing.
-pub record Adds (book : BookView) (old new : List Group) (says : List Says) : Type 0 where
+pub record Adds (book : BookView) (scene : Scene) (old new : List Group) (says : List Says) : Type 0 where
   pub tell : told new ≡ told old ++ said says
   pub titled : AreTitled book old → AreTitled book new
+  pub drawn : AreDrawn scene old → AreDrawn scene new
 
 -- The line of an entry but for its line feed.
 abbrev pub bare_line : SessionView → entries.Entry → List ℕ

@@ -28,7 +28,7 @@ fn share(of: u32, number: u32, whole: u32) -> u32 {
 
 // Where an entry stands along the bar.
 fn along(layout: &Layout<'_>, at: u32) -> Pixels {
-    layout.left + Pixels(share(layout.columns().0, at, layout.count()))
+    layout.left + Pixels(share(layout.width_of_columns().0, at, layout.count()))
 }
 
 // How high a slice is marked as undone: by the share of its events that are undone.
@@ -39,7 +39,7 @@ fn undone_height(layout: &Layout<'_>, first: u32, end: u32) -> Pixels {
         if layout.event(at).is_some() {
             events = events.saturating_add(1);
         }
-        if layout.story.undone_by(at).is_some() {
+        if layout.is_undone(at) {
             undone = undone.saturating_add(1);
         }
     }
@@ -93,7 +93,7 @@ fn add_crashes(shapes: &mut Shapes, layout: &Layout<'_>) -> Result<(), AllocErro
         if let Some(Entry::Crash(_)) = layout.entry(at) {
             let part = share(SLICES, at, layout.count());
             if before != Some(part) {
-                shapes.cross(place(along(layout, at), TOP + Pixels(8)), Pixels(4))?;
+                shapes.cross(place(along(layout, at), TOP + Pixels(8)), 4)?;
             }
             before = Some(part);
         }

@@ -1,7 +1,7 @@
 // What a picture asks of a protocol and its plan.
 
-ghost use Rattle.std.specs.Prelude.{◌≡◌, true};
-ghost use Rattle.rcv_model.specs.Next.{IsPlaceOf};
+ghost use Rattle.std.specs.Prelude.{◌≡◌, true, IfSome};
+ghost use Rattle.rcv_model.specs.Next.{IsPlaceOf, AreNext};
 ghost use Rattle.rcv_points.specs.Follow.{net_in};
 ghost use Rattle.rcv_session.specs.Session.{net_for};
 
@@ -11,11 +11,11 @@ use rcv_tree::point::Point;
 use rcv_tree::role::RoleId;
 use std::alloc::{AllocError, Global};
 
-/// A role: its name, and the number of its host where it shares one.
+/// A role: its name, and that of its host, if the plan puts it on one.
 #[derive(Clone, Copy)]
 pub struct Role<'a> {
     pub name: &'a [u8],
-    pub host: Option<u32>,
+    pub host: Option<&'a [u8]>,
 }
 
 /// The message of a point: its label, its ends, and whether a value comes with it.
@@ -33,37 +33,6 @@ pub struct Cast<'a> {
     pub name: &'a [u8],
     pub roles: Vec<Role<'a>>,
     pub messages: Vec<Message<'a>>,
-    // For each role what is next for it at the start and behind each point.
-    next: Vec<Vec<&'a [Point]>>,
-}
-
-// The lowest role that shares a host with a role; none where none does.
-fn leader_of(setup: &Setup, role: u8) -> Option<u8> {
-    if role >= 8 {
-        return None;
-    }
-    let group = setup.plan().group(RoleId(role));
-    let mut others = false;
-    let mut least = role;
-    for number in 0..8 {
-        if number != role && group.has(RoleId(number)) {
-            others = true;
-            least = least.min(number);
-        }
-    }
-    if others { Some(least) } else { None }
-}
-
-// The number of a role's host, from 1, where hosts are counted by their lowest roles.
-fn host_of(setup: &Setup, role: u8) -> Option<u32> {
-    let leader = leader_of(setup, role)?;
-    let mut number: u32 = 1;
-    for before in 0..leader {
-        if leader_of(setup, before) == Some(before) {
-            number = number.saturating_add(1);
-        }
-    }
-    Some(number)
 }
 
 // The roles.
@@ -73,7 +42,7 @@ fn roles_of(alloc: Global, setup: &Setup) -> Result<Vec<Role<'_>>, AllocError> {
     for name in setup.protocol().roles.as_slice() {
         roles.push(Role {
             name: name.as_slice(),
-            host: host_of(setup, number),
+            host: setup.plan().host(RoleId(number)),
         })?;
         number = number.saturating_add(1);
     }
@@ -116,40 +85,26 @@ fn is_place_in(setup: &Setup, role: RoleId, at: u16) -> bool
     is_place(setup.points(), role, at)
 }
 
-// What is next for a role behind a point of its own, or at the start where that is 0; else nothing.
-fn next_at(setup: &Setup, role: RoleId, at: u16) -> &[Point] {
+/// What is next for a role after a point of its own, or at the start if that is 0; none if it isn't a place of the role.
+pub fn next_at(setup: &Setup, role: RoleId, at: u16) -> Option<&[Point]>
+    ensures { IfSome result (λ next. AreNext (net_for setup.now) role at next.now) }
+{
     if role.0 >= setup.roles() {
-        return &[];
+        return None;
     }
-    if is_place_in(setup, role, at) {
-        setup.next(role, at)
-    } else {
-        &[]
+    if !is_place_in(setup, role, at) {
+        return None;
     }
-}
-
-// What is next for a role at each place.
-fn next_of(alloc: Global, setup: &Setup, role: RoleId) -> Result<Vec<&[Point]>, AllocError> {
-    let mut next = Vec::new(alloc);
-    next.push(next_at(setup, role, 0))?;
-    for before in 0..setup.points().count() {
-        next.push(next_at(setup, role, before + 1))?;
-    }
-    Ok(next)
+    Some(setup.next(role, at))
 }
 
 impl<'a> Cast<'a> {
     /// The cast of a setup. Fails where memory runs out.
     pub fn of(alloc: Global, setup: &'a Setup) -> Result<Cast<'a>, AllocError> {
-        let mut next = Vec::new(alloc);
-        for role in 0..setup.roles() {
-            next.push(next_of(alloc, setup, RoleId(role))?)?;
-        }
         Ok(Cast {
             name: setup.protocol().name.as_slice(),
             roles: roles_of(alloc, setup)?,
             messages: messages_of(alloc, setup.points())?,
-            next,
         })
     }
 
@@ -167,8 +122,8 @@ impl<'a> Cast<'a> {
         }
     }
 
-    /// The number of a role's host, where it shares one.
-    pub fn host_of(&self, role: u8) -> Option<u32> {
+    /// The name of a role's host, if the plan puts it on one.
+    pub fn host_of(&self, role: u8) -> Option<&'a [u8]> {
         self.roles.get(role as usize)?.host
     }
 
@@ -182,17 +137,6 @@ impl<'a> Cast<'a> {
                 receiver: 0,
                 has_value: false,
             },
-        }
-    }
-
-    /// What is next for a role behind a point, or at the start where that is 0.
-    pub fn next(&self, role: u8, at: u16) -> &'a [Point] {
-        let Some(next) = self.next.get(role as usize) else {
-            return &[];
-        };
-        match next.get(at as usize) {
-            Some(points) => *points,
-            None => &[],
         }
     }
 }

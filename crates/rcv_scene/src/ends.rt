@@ -1,5 +1,8 @@
 // How the roles of a journal ended.
 
+ghost use Rattle.std.specs.Prelude.{◌≡◌, IfOk};
+ghost use Rattle.rcv_scene.specs.Ends.{end_in, ends_in};
+
 use rcv_journal::line::{RoleLine, RoleWord};
 use rcv_tree::role::RoleId;
 use std::alloc::{AllocError, Global};
@@ -11,6 +14,7 @@ pub enum End {
     Done,
     /// It made as many events as the limit allows.
     Limit,
+    /// Neither: it waits for a message, or for room in a channel.
     Waits,
     /// It crashed, and didn't recover.
     Down,
@@ -26,7 +30,9 @@ pub struct RoleEnd {
 }
 
 // What a line of a journal says.
-fn end_of(line: &RoleLine) -> RoleEnd {
+fn end_of(line: &RoleLine) -> RoleEnd
+    ensures { result ≡ end_in line.now }
+{
     RoleEnd {
         role: line.role,
         kept: line.kept,
@@ -40,7 +46,9 @@ fn end_of(line: &RoleLine) -> RoleEnd {
 }
 
 /// What these lines of a journal say. Fails where memory runs out.
-pub fn ends_of(alloc: Global, lines: &[RoleLine]) -> Result<Vec<RoleEnd>, AllocError> {
+pub fn ends_of(alloc: Global, lines: &[RoleLine]) -> Result<Vec<RoleEnd>, AllocError>
+    ensures { IfOk result (λ ends. ends.items ≡ ends_in lines.now) }
+{
     let mut ends = Vec::new(alloc);
     for line in lines {
         ends.push(end_of(line))?;

@@ -1,8 +1,12 @@
 // The groups of a picture, each of which says one thing.
 
-ghost use Rattle.std.specs.Prelude.{[], ◌∷◌, IfOk, OnOk};
+ghost use Rattle.std.specs.Prelude.{◌≡◌, [], ◌∷◌, IfOk, OnOk};
 ghost use Rattle.rcv_core.specs.Book.{BookView};
 ghost use Rattle.rcv_fates.specs.Record.{journal_of};
+ghost use Rattle.rcv_scene.specs.Seen.{seen};
+ghost use Rattle.rcv_scene.specs.Grid.{Scene, scene_of};
+ghost use Rattle.rcv_scene.specs.Feet.{AddsGroup};
+ghost use Rattle.rcv_scene.specs.Drawn.{IsDrawn};
 ghost use Rattle.rcv_scene.specs.Told.{Adds, IsTitle};
 
 use crate::folds::fold_shapes;
@@ -22,11 +26,17 @@ fn shapes_of(
     routes: &Routes,
     number: usize,
     says: &Says,
-) -> Result<Vec<Shape>, AllocError> {
+) -> Result<Vec<Shape>, AllocError>
+    ensures { IfOk result (λ shapes. IsDrawn (scene_of layout.now) says.now (seen shapes.items)) }
+{
     match says {
         Says::Entry { place, undone } => mark_shapes(layout, routes, *place, *undone),
         Says::Fold { first, end, counts } => fold_shapes(layout, *first, *end, counts),
-        Says::Arrow { undone, .. } => wire_shapes(layout, routes.route(number), *undone),
+        Says::Arrow {
+            send,
+            receive,
+            undone,
+        } => wire_shapes(layout, *send, *receive, routes.lane(number), *undone),
         Says::Nothing => Ok(Vec::new(layout.alloc)),
     }
 }
@@ -43,7 +53,6 @@ fn title_of(alloc: Global, record: &Record<'_>, says: &Says) -> Result<Vec<u8>, 
 }
 
 // Adds what says this.
-#[tactic(auto, using(crate::proofs::Telling::one_more))]
 fn add_one(
     groups: &mut Vec<Group>,
     alloc: Global,
@@ -51,7 +60,8 @@ fn add_one(
     says: &Says,
     shapes: Vec<Shape>,
 ) -> Result<(), AllocError>
-    ensures { OnOk result (Adds (journal_of record.now) groups.old.items groups.new.items (says.now ∷ [])) }
+    ensures { OnOk result ((scene : Scene) → IsDrawn scene says.now (seen shapes.items)
+        → Adds (journal_of record.now) scene groups.old.items groups.new.items (says.now ∷ [])) }
 {
     let title = title_of(alloc, record, says)?;
     groups.push(Group {
@@ -71,7 +81,7 @@ pub fn add_all(
     routes: &Routes,
     all: &[Says],
 ) -> Result<(), AllocError>
-    ensures { OnOk result (Adds (journal_of record.now) groups.old.items groups.new.items all.now) }
+    ensures { OnOk result (Adds (journal_of record.now) (scene_of layout.now) groups.old.items groups.new.items all.now) }
 {
     for (number, says) in all.iter().enumerate() {
         let shapes = shapes_of(layout, routes, number, says)?;
@@ -81,13 +91,13 @@ pub fn add_all(
 }
 
 /// Adds a group that says nothing of its own. Fails where memory runs out.
-#[tactic(auto, using(crate::proofs::Telling::one_silent))]
 pub fn add_silent(
     groups: &mut Vec<Group>,
     title: Vec<u8>,
     shapes: Vec<Shape>,
 ) -> Result<(), AllocError>
-    ensures { OnOk result ((book : BookView) → Adds book groups.old.items groups.new.items []) }
+    ensures silent { OnOk result ((book : BookView) (scene : Scene) → Adds book scene groups.old.items groups.new.items []) }
+    ensures grown { OnOk result (AddsGroup groups.old.items groups.new.items (seen shapes.items)) }
 {
     groups.push(Group {
         says: Says::Nothing,

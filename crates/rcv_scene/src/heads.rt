@@ -2,11 +2,14 @@
 
 use crate::layout::{HEAD_LINE, Layout};
 use crate::shapes::Shapes;
-use crate::wording::{Piece, text_of};
+use crate::wording::{Piece, shortened, text_of};
 use rcv_picture::look::Look;
 use rcv_picture::pixels::{Pixels, place};
 use rcv_picture::shape::{Anchor, Shape};
 use std::alloc::AllocError;
+
+// The most letters of a host's name in a head.
+const HOST: usize = 16;
 
 // The head of a role: its name in lines, and its host.
 fn add_head(shapes: &mut Shapes, layout: &Layout<'_>, role: u8) -> Result<(), AllocError> {
@@ -26,9 +29,10 @@ fn add_head(shapes: &mut Shapes, layout: &Layout<'_>, role: u8) -> Result<(), Al
         }
     }
     if let Some(host) = layout.cast.host_of(role) {
+        let host = shortened(layout.alloc, host, HOST)?;
         let text = text_of(
             layout.alloc,
-            &[Piece::Word(b"on host "), Piece::Number(host)],
+            &[Piece::Word(b"on "), Piece::Word(host.as_slice())],
         )?;
         shapes.text(place(x, y - Pixels(3)), Anchor::Middle, Look::Note, text)?;
     }

@@ -3,6 +3,9 @@
 ghost use Rattle.std.specs.Prelude.{◌≡◌, ◌++◌, [], IfOk, OnOk};
 ghost use Rattle.rcv_core.specs.Book.{BookView};
 ghost use Rattle.rcv_fates.specs.Record.{journal_of};
+ghost use Rattle.rcv_scene.specs.Grid.{Scene, grid_of, scene_of};
+ghost use Rattle.rcv_scene.specs.Feet.{HasFeet};
+ghost use Rattle.rcv_scene.specs.Drawn.{AreMarks, IsPlanOf, IsDrawnOnGrid};
 ghost use Rattle.rcv_scene.specs.Told.{told, said, Adds, AreTitled};
 
 use crate::bar::bar;
@@ -29,7 +32,7 @@ use std::alloc::{AllocError, Global};
 
 // What lies behind all: the undone parts, and the lines of life.
 fn add_background(groups: &mut Vec<Group>, layout: &Layout<'_>) -> Result<(), AllocError>
-    ensures { OnOk result ((book : BookView) → Adds book groups.old.items groups.new.items []) }
+    ensures { OnOk result ((book : BookView) (scene : Scene) → Adds book scene groups.old.items groups.new.items []) }
 {
     add_silent(groups, Vec::new(layout.alloc), zones(layout)?)?;
     add_silent(groups, Vec::new(layout.alloc), lives(layout)?)?;
@@ -43,7 +46,7 @@ fn add_loose(
     routes: &Routes,
     wires: usize,
 ) -> Result<(), AllocError>
-    ensures { OnOk result ((book : BookView) → Adds book groups.old.items groups.new.items []) }
+    ensures { OnOk result ((book : BookView) (scene : Scene) → Adds book scene groups.old.items groups.new.items []) }
 {
     for (number, route) in routes.routes.iter().enumerate().skip(wires) {
         let title = loose_title(layout.alloc, route)?;
@@ -55,7 +58,7 @@ fn add_loose(
 
 // What stands above the columns: the title, the heads, and the bar.
 fn add_above(groups: &mut Vec<Group>, layout: &Layout<'_>) -> Result<(), AllocError>
-    ensures { OnOk result ((book : BookView) → Adds book groups.old.items groups.new.items []) }
+    ensures { OnOk result ((book : BookView) (scene : Scene) → Adds book scene groups.old.items groups.new.items []) }
 {
     add_silent(groups, Vec::new(layout.alloc), heads(layout)?)?;
     add_silent(groups, Vec::new(layout.alloc), bar(layout)?)?;
@@ -69,7 +72,8 @@ fn add_below(
     ends: &[RoleEnd],
     shapes: Vec<Shape>,
 ) -> Result<(), AllocError>
-    ensures { OnOk result ((book : BookView) → Adds book groups.old.items groups.new.items []) }
+    ensures silent { OnOk result ((book : BookView) (scene : Scene) → Adds book scene groups.old.items groups.new.items []) }
+    ensures feet { OnOk result (HasFeet (grid_of layout.now) ends.now groups.new.items) }
 {
     add_silent(groups, Vec::new(layout.alloc), feet(layout, ends)?)?;
     add_silent(groups, Vec::new(layout.alloc), shapes)?;
@@ -106,7 +110,8 @@ fn groups_of(
     wires: &[Says],
     rows: &[Says],
 ) -> Result<(Vec<Group>, Pixels), AllocError>
-    ensures { IfOk result (λ made. Adds (journal_of record.now) [] made.0.items (wires.now ++ rows.now)) }
+    ensures adds { IfOk result (λ made. Adds (journal_of record.now) (scene_of layout.now) [] made.0.items (wires.now ++ rows.now)) }
+    ensures feet { IfOk result (λ made. HasFeet (grid_of layout.now) ends.now made.0.items) }
 {
     let mut groups = Vec::new(alloc);
     add_background(&mut groups, layout)?;
@@ -121,10 +126,52 @@ fn groups_of(
     Ok((groups, end))
 }
 
+// For each entry whether its event isn't kept at the end.
+fn undone_of(alloc: Global, record: &Record<'_>) -> Result<Vec<bool>, AllocError>
+    ensures { IfOk result (λ undone. AreMarks record.now undone.items) }
+{
+    let mut undone = Vec::new(alloc);
+    for place in 0..record.entries().len() {
+        undone.push(record.is_undone(place))?;
+    }
+    Ok(undone)
+}
+
+// Where everything stands, and the ways of the messages. What has no room on a grid counts as want of memory.
+fn planned<'a>(
+    alloc: Global,
+    record: &'a Record<'_>,
+    ends: &[RoleEnd],
+    story: &'a Story,
+    wires: &[Says],
+    rows: &'a [Says],
+) -> Result<(Layout<'a>, Routes), AllocError>
+    ensures { IfOk result (λ made. IsPlanOf record.now story.now rows.now made.0) }
+{
+    let cast = Cast::of(alloc, record.setup())?;
+    let undone = undone_of(alloc, record)?;
+    let mut layout = lay_out(
+        alloc,
+        cast,
+        record.setup(),
+        record.entries(),
+        undone,
+        story,
+        ends,
+        rows,
+    )?;
+    let routes = find_routes(alloc, &layout, wires)?;
+    layout.widen(routes.wider())?;
+    if layout.is_proper(record.setup().roles()) {
+        return Ok((layout, routes));
+    }
+    Err(AllocError)
+}
+
 /// The picture of a journal: what its roles did, from above to below, with an arrow for each of these wires and
 /// a row for each of these entries and folds. `ends` says how the roles ended, and `story` is that of the journal.
 /// Fails where memory runs out.
-#[tactic(auto, using(crate::proofs::Telling::from_none, crate::proofs::Telling::titled_from_none))]
+#[tactic(auto, using(crate::proofs::Telling::from_none, crate::proofs::Telling::titled_from_none, crate::proofs::Planning::on_grid))]
 pub fn journal_picture(
     alloc: Global,
     record: &Record<'_>,
@@ -135,11 +182,9 @@ pub fn journal_picture(
 ) -> Result<Picture, AllocError>
     ensures told { IfOk result (λ picture. told picture.groups.items ≡ said (wires.now ++ rows.now)) }
     ensures titled { IfOk result (λ picture. AreTitled (journal_of record.now) picture.groups.items) }
+    ensures drawn { IfOk result (λ picture. IsDrawnOnGrid record.now story.now ends.now rows.now picture.groups.items) }
 {
-    let cast = Cast::of(alloc, record.setup())?;
-    let mut layout = lay_out(alloc, cast, record.entries(), story, ends, rows)?;
-    let routes = find_routes(alloc, &layout, wires)?;
-    layout.widen(routes.wider());
+    let (layout, routes) = planned(alloc, record, ends, story, wires, rows)?;
     let (groups, end) = groups_of(alloc, record, &layout, &routes, ends, wires, rows)?;
     Ok(Picture {
         width: layout.width,

@@ -1,10 +1,16 @@
 // Where the columns and the rows of a picture stand.
 
+ghost use Rattle.std.specs.Prelude.{◌≡◌, ◌↔◌, IsTrue, IfOk, OnOk, IfSome, IfNone, slice_get};
+ghost use Rattle.rcv_scene.specs.Wires.{again_at};
+ghost use Rattle.rcv_scene.specs.Folds.{undone_at};
+ghost use Rattle.rcv_scene.specs.Grid.{AreBeside, AreBelow, IsBelow, PutsAt, IsLayoutOf, IsProper, StandsAt, IsOwnHeight, column, grid_of, scene_of};
+
 use crate::cast::{Cast, Role};
 use crate::ends::{End, RoleEnd};
 use crate::notes::width_of_notes;
 use crate::text_width::{Letters, wide, width_of};
 use crate::wording::{Piece, lines_of_name, shortened, text_of};
+use rcv_core::setup::Setup;
 use rcv_picture::group::Says;
 use rcv_picture::pixels::Pixels;
 use rcv_story::story::Story;
@@ -41,15 +47,17 @@ const BAR: Pixels = Pixels(78);
 #[derive(Clone, Copy)]
 pub struct Row {
     pub top: Pixels,
+    /// The height at which its mark stands.
+    pub middle: Pixels,
     pub bottom: Pixels,
     pub shown: bool,
 }
 
-impl Row {
-    /// The height at which its mark stands.
-    pub fn middle(self) -> Pixels {
-        self.top + (self.bottom - self.top).half()
-    }
+/// Where an entry stands: at the middle of a row of its own, or in the row of a fold.
+#[derive(Clone, Copy)]
+pub enum Stand {
+    Own(Pixels),
+    Folded(Row),
 }
 
 /// Where everything stands.
@@ -57,8 +65,13 @@ impl Row {
 pub struct Layout<'a> {
     pub alloc: Global,
     pub cast: Cast<'a>,
+    pub setup: &'a Setup,
     pub entries: &'a [Entry],
     pub story: &'a Story,
+    /// What each row says.
+    pub says: &'a [Says],
+    /// For each entry whether its event isn't kept at the end.
+    pub undone: Vec<bool>,
     /// The lines of the name of each role.
     pub names: Vec<Vec<&'a [u8]>>,
     /// What stands above all.
@@ -77,6 +90,8 @@ pub struct Layout<'a> {
     pub top: Pixels,
     pub first: Pixels,
     pub end: Pixels,
+    /// The middle of each role's column.
+    columns: Vec<Pixels>,
     /// The rows, and for each entry the number of its row.
     rows: Vec<Row>,
     row_of: Vec<u32>,
@@ -98,6 +113,11 @@ pub fn label_of(alloc: Global, cast: &Cast<'_>, event: &Event) -> Result<Vec<u8>
         ],
     )
 }
+
+// How wide a mark is, and how high a row on each side of its middle, at least.
+const MARK_WIDTH: u64 = 40;
+
+const HALF_ROW: u64 = 10;
 
 // How many digits a number has.
 fn digits(number: u32) -> u32 {
@@ -214,7 +234,12 @@ fn widest_label(
 }
 
 // How far from the middle of its column what a Recv's label says ends, where it stands away from the sender: at most this.
-fn width_of_note(alloc: Global, cast: &Cast<'_>, event: &Event, again: bool) -> Result<Pixels, AllocError> {
+fn width_of_note(
+    alloc: Global,
+    cast: &Cast<'_>,
+    event: &Event,
+    again: bool,
+) -> Result<Pixels, AllocError> {
     let label = label_of(alloc, cast, event)?;
     let more = if again { Pixels(36) } else { Pixels(0) };
     Ok(width_of(label.as_slice(), Letters::Small) + more + Pixels(18))
@@ -339,16 +364,99 @@ fn rows_from(
                 (height, true)
             }
             Says::Fold { .. } => (FOLD_ROW, false),
-            Says::Arrow { .. } | Says::Nothing => (Pixels(0), false),
+            Says::Arrow { .. } | Says::Nothing => (ENTRY_ROW, false),
         };
         placed.push(Row {
             top: at,
+            middle: at + height.half(),
             bottom: at + height,
             shown,
         })?;
         at = at + height;
     }
     Ok(placed)
+}
+
+// The middles of so many columns of this width, from here to the right.
+fn columns_from(
+    alloc: Global,
+    count: u32,
+    left: Pixels,
+    column: Pixels,
+) -> Result<Vec<Pixels>, AllocError> {
+    let mut columns = Vec::new(alloc);
+    for role in 0..count {
+        columns.push(left + column * role + column.half())?;
+    }
+    Ok(columns)
+}
+
+// Whether each of these columns stands to the right of the one before it by the width of a mark at least.
+fn are_beside(columns: &[Pixels]) -> bool
+    ensures { IsTrue result → AreBeside 0 columns.now }
+{
+    let mut least: u64 = 0;
+    for x in columns {
+        if u64::from(x.0) < least {
+            return false;
+        }
+        least = u64::from(x.0) + MARK_WIDTH;
+    }
+    true
+}
+
+// Whether a row begins here or lower, and its middle is between its edges.
+fn is_below(row: &Row, least: u32) -> bool
+    ensures { IsTrue result ↔ IsBelow least row.now }
+{
+    let top = u64::from(row.top.0);
+    let middle = u64::from(row.middle.0);
+    least <= row.top.0 && top + HALF_ROW <= middle && middle + HALF_ROW <= u64::from(row.bottom.0)
+}
+
+// Whether each of these rows stands under the one before it.
+fn are_below(rows: &[Row]) -> bool
+    ensures { IsTrue result → AreBelow 0 rows.now }
+{
+    let mut least = 0;
+    for row in rows {
+        if !is_below(row, least) {
+            return false;
+        }
+        least = row.bottom.0;
+    }
+    true
+}
+
+// The mark of the entry at a place, if there is one.
+fn mark_in(marks: &[bool], at: usize) -> Option<&bool>
+    ensures none { IfNone result (slice_get marks.now at ≡ None) }
+    ensures some { IfSome result (λ found. slice_get marks.now at ≡ Some found.now) }
+{
+    marks.get(at)
+}
+
+// Where an entry stands that this row holds; none if the row doesn't hold it.
+fn stand_in(says: &Says, row: &Row, at: u32) -> Option<Stand>
+    ensures { IfSome result (λ stand. PutsAt says.now row.now at stand) }
+{
+    match says {
+        Says::Entry { place, .. } => {
+            if *place == at {
+                Some(Stand::Own(row.middle))
+            } else {
+                None
+            }
+        }
+        Says::Fold { first, end, .. } => {
+            if *first <= at && at < *end {
+                Some(Stand::Folded(*row))
+            } else {
+                None
+            }
+        }
+        Says::Arrow { .. } | Says::Nothing => None,
+    }
 }
 
 // Where the last of these rows ends.
@@ -363,11 +471,15 @@ fn end_of(rows: &[Row], top: Pixels) -> Pixels {
 pub fn lay_out<'a>(
     alloc: Global,
     cast: Cast<'a>,
+    setup: &'a Setup,
     entries: &'a [Entry],
+    undone: Vec<bool>,
     story: &'a Story,
     ends: &[RoleEnd],
-    rows: &[Says],
-) -> Result<Layout<'a>, AllocError> {
+    rows: &'a [Says],
+) -> Result<Layout<'a>, AllocError>
+    ensures { IfOk result (λ l. IsLayoutOf setup.now rows.now entries.now undone.items story.now l) }
+{
     let names = names_of(alloc, cast.roles.as_slice())?;
     let (widest_name, most_lines) = sizes_of(names.as_slice());
     let fold = longest_fold(rows);
@@ -407,11 +519,15 @@ pub fn lay_out<'a>(
     let start = first + Pixels(10);
     let placed = rows_from(alloc, entries, rows, start)?;
     let end = end_of(placed.as_slice(), start) + Pixels(8);
+    let columns = columns_from(alloc, cast.count(), left, column)?;
     Ok(Layout {
         alloc,
         cast,
+        setup,
         entries,
         story,
+        says: rows,
+        undone,
         names,
         title,
         folded: fold > 0,
@@ -423,27 +539,123 @@ pub fn lay_out<'a>(
         top,
         first,
         end,
+        columns,
         rows: placed,
         row_of: rows_of_entries(alloc, entries, rows)?,
     })
 }
 
 impl<'a> Layout<'a> {
-    /// Makes each column so much wider.
-    pub fn widen(&mut self, more: Pixels) {
+    /// Makes each column so much wider. Fails where memory runs out.
+    pub fn widen(&mut self, more: Pixels) -> Result<(), AllocError>
+        ensures { OnOk result (IsLayoutOf self.old.setup.now self.old.says.now self.old.entries.now self.old.undone.items self.old.story.now self.new) }
+    {
         let all = more * self.cast.count();
         self.column = self.column + more;
         self.notes = self.notes + all;
         self.width = self.width + all;
+        self.columns = columns_from(self.alloc, self.cast.count(), self.left, self.column)?;
+        Ok(())
+    }
+
+    /// Whether each of so many roles has a column, and all that is said a row, and no two of them meet.
+    pub fn is_proper(&self, roles: u8) -> bool
+        ensures { IsTrue result → IsProper roles self.now.says.now (grid_of self.now) }
+    {
+        self.columns.len() == roles as usize
+            && self.rows.len() == self.says.len()
+            && are_beside(self.columns.as_slice())
+            && are_below(self.rows.as_slice())
+    }
+
+    // The middle of a role's column, if it has one.
+    fn column_at(&self, role: usize) -> Option<&Pixels>
+        ensures none { IfNone result (slice_get self.now.columns.items role ≡ None) }
+        ensures some { IfSome result (λ x. slice_get self.now.columns.items role ≡ Some x.now) }
+    {
+        self.columns.as_slice().get(role)
+    }
+
+    // The row with a number, if there is one, and what it says.
+    fn row_at(&self, number: usize) -> Option<&Row>
+        ensures { IfSome result (λ row. slice_get self.now.rows.items number ≡ Some row.now) }
+    {
+        self.rows.as_slice().get(number)
+    }
+
+    fn said_at(&self, number: usize) -> Option<&Says>
+        ensures { IfSome result (λ says. slice_get self.now.says.now number ≡ Some says.now) }
+    {
+        self.says.get(number)
+    }
+
+    /// Where the entry at a place stands. A place that no row holds counts as want of memory.
+    pub fn stand(&self, at: u32) -> Result<Stand, AllocError>
+        ensures { IfOk result (λ stand. StandsAt (scene_of self.now) at stand) }
+    {
+        let number = self.row_number(at) as usize;
+        let Some(says) = self.said_at(number) else {
+            return Err(AllocError);
+        };
+        let Some(row) = self.row_at(number) else {
+            return Err(AllocError);
+        };
+        match stand_in(says, row, at) {
+            Some(stand) => Ok(stand),
+            None => Err(AllocError),
+        }
+    }
+
+    /// The height of the row that the entry at a place has of its own. One that has none counts as want of memory.
+    pub fn own_height(&self, at: u32) -> Result<Pixels, AllocError>
+        ensures { IfOk result (λ y. IsOwnHeight (scene_of self.now) at y) }
+    {
+        match self.stand(at)? {
+            Stand::Own(y) => Ok(y),
+            Stand::Folded(_) => Err(AllocError),
+        }
     }
 
     /// The middle of a role's column.
-    pub fn x(&self, role: u8) -> Pixels {
-        self.left + self.column * u32::from(role) + self.column.half()
+    pub fn x(&self, role: u8) -> Pixels
+        ensures { result ≡ column (grid_of self.now) role }
+    {
+        match self.column_at(role as usize) {
+            Some(x) => *x,
+            None => Pixels(0),
+        }
+    }
+
+    /// The entry at a place, if there is one.
+    pub fn entry_at(&self, at: u32) -> Option<&Entry>
+        ensures none { IfNone result (slice_get self.now.entries.now at ≡ None) }
+        ensures some { IfSome result (λ entry. slice_get self.now.entries.now at ≡ Some entry.now) }
+    {
+        self.entries.get(at as usize)
+    }
+
+    /// Whether the entry at a place is an event that isn't kept at the end.
+    pub fn is_undone(&self, at: u32) -> bool
+        ensures { result ≡ undone_at (scene_of self.now) at }
+    {
+        match mark_in(self.undone.as_slice(), at as usize) {
+            Some(undone) => *undone,
+            None => false,
+        }
+    }
+
+    /// Whether the Recv at a place takes a message that had been received before.
+    pub fn is_again(&self, at: u32) -> bool
+        ensures { result ≡ again_at (scene_of self.now) at }
+    {
+        match mark_in(self.story.again.as_slice(), at as usize) {
+            Some(again) => *again,
+            None => false,
+        }
     }
 
     /// How wide all columns are.
-    pub fn columns(&self) -> Pixels {
+    pub fn width_of_columns(&self) -> Pixels {
         self.column * self.cast.count()
     }
 
@@ -482,6 +694,7 @@ impl<'a> Layout<'a> {
             Some(row) => *row,
             None => Row {
                 top: self.first,
+                middle: self.first,
                 bottom: self.first,
                 shown: false,
             },
@@ -490,7 +703,13 @@ impl<'a> Layout<'a> {
 
     /// The height of the mark of the entry at a place; the middle of its fold where it is folded.
     pub fn y(&self, at: u32) -> Pixels {
-        self.row(at).middle()
+        self.row(at).middle
+    }
+
+    /// Whether two entries have rows of their own, one right under the other.
+    pub fn are_neighbours(&self, above: u32, below: u32) -> bool {
+        let next = self.row_number(above).saturating_add(1);
+        self.is_shown(above) && self.is_shown(below) && self.row_number(below) == next
     }
 
     /// Whether the entry at a place has a row of its own.

@@ -100,7 +100,7 @@ impl Symbol {
                 shapes.line(right(16), right(40), Look::WireUndone)
             }
             Symbol::Again => shapes.line(at, right(26), Look::WireAgain),
-            Symbol::Crash => shapes.cross(right(8), Pixels(5)),
+            Symbol::Crash => shapes.cross(right(8), 5),
             Symbol::Zone => {
                 let corner = place(at.x + Pixels(2), at.y - Pixels(7));
                 shapes.rect(corner, Pixels(14), Pixels(14), Pixels(0), Look::Zone)?;
@@ -110,7 +110,7 @@ impl Symbol {
             Symbol::Cut => shapes.line(at, right(26), Look::Cut),
             Symbol::Dropped => {
                 shapes.line(at, right(14), Look::Gone)?;
-                shapes.cross(right(16), Pixels(4))
+                shapes.cross(right(16), 4)
             }
             Symbol::Waits => {
                 shapes.line(at, right(12), Look::WirePlain)?;
@@ -147,7 +147,7 @@ fn find_occurring(layout: &Layout<'_>) -> Occurring {
     };
     for at in 0..layout.count() {
         if layout.is_shown(at) {
-            found.undone = found.undone || story.undone_by(at).is_some();
+            found.undone = found.undone || layout.is_undone(at);
             found.again = found.again || story.is_again(at);
             found.crash = found.crash || matches!(layout.entry(at), Some(Entry::Crash(_)));
         }

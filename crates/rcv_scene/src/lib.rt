@@ -1,8 +1,11 @@
 // The picture of a journal: where everything stands, and how it looks.
 #![tactic(auto)]
 
+ghost use Rattle.rcv_scene.specs.Laws.{ColumnsStandApart, RowsStandApart};
+
 mod bar;
 mod cast;
+mod counts;
 pub mod ends;
 mod feet;
 mod folds;
@@ -16,8 +19,20 @@ mod line;
 mod marks;
 mod notes;
 mod recoveries;
+mod returns;
 mod routes;
 mod shapes;
+mod spans;
 mod text_width;
 mod wires;
 mod wording;
+
+/// On a proper grid the columns of two roles are apart by the width of a mark at least.
+pub fn columns_stand_apart()
+    ensures { ColumnsStandApart }
+{}
+
+/// On a proper grid the middles of two rows are apart by a row's least height.
+pub fn rows_stand_apart()
+    ensures { RowsStandApart }
+{}

@@ -1,9 +1,18 @@
 // The marks of entries that have rows of their own.
 
+ghost use Rattle.std.specs.Prelude.{◌≡◌, [], ◌∷◌, ◌++◌, IfOk, OnOk, slice_get};
+ghost use Rattle.rcv_tree.specs.declared.entry.Entry.{Entry as TheEntry};
+ghost use Rattle.rcv_tree.specs.declared.event.Dir.TheVariants.{Sent, Got};
+ghost use Rattle.rcv_scene.specs.Seen.{seen, drawn_in};
+ghost use Rattle.rcv_scene.specs.Grid.{grid_of, scene_of};
+ghost use Rattle.rcv_scene.specs.Marks.{number_words, mark_look, point_look, event_disc, crash_cross, AddsEvent};
+ghost use Rattle.rcv_scene.specs.Drawn.{AddsEntry, IsEntryDrawn};
+
 use crate::layout::{ENTRY_ROW, Layout, label_of};
-use crate::recoveries::add_recover;
+use crate::returns::add_recover;
 use crate::routes::{Routes, Side};
-use crate::shapes::Shapes;
+use crate::shapes::{Label, Shapes};
+use crate::spans::{self, further};
 use crate::text_width::{Letters, width_of};
 use crate::wording::{Piece, text_of};
 use rcv_picture::look::Look;
@@ -13,42 +22,51 @@ use rcv_tree::entry::Entry;
 use rcv_tree::event::{Dir, Event};
 use std::alloc::AllocError;
 
-// The radius of a mark.
-const RADIUS: Pixels = Pixels(8);
-
 // A message that goes over so many rows is labelled at its Recv too.
 const LONG: u32 = 8;
 
 // The number of an entry, beside the columns.
-fn add_number(shapes: &mut Shapes, layout: &Layout<'_>, at: u32) -> Result<(), AllocError> {
-    let number = text_of(layout.alloc, &[Piece::Number(at.saturating_add(1))])?;
-    let end = place(layout.numbers, layout.y(at) + Pixels(4));
-    shapes.text(end, Anchor::End, Look::Note, number)
-}
-
-// The circle of an event, with the number of its point.
-fn add_circle(
+fn add_number(
     shapes: &mut Shapes,
     layout: &Layout<'_>,
     at: u32,
-    event: &Event,
-    undone: bool,
-) -> Result<(), AllocError> {
-    let center = place(layout.x(event.role.0), layout.y(at));
-    let (circle, number) = match (event.dir, undone) {
+    y: Pixels,
+) -> Result<(), AllocError>
+    ensures { OnOk result (drawn_in shapes.new ≡ drawn_in shapes.old ++ number_words (grid_of layout.now) at y ∷ []) }
+{
+    let number = text_of(layout.alloc, &[Piece::Place(at)])?;
+    let end = spans::at(layout.numbers, further(y, 4));
+    shapes.text(end, Anchor::End, Look::Note, number)
+}
+
+// How the disc of an event looks, and the number on it.
+fn looks_of(dir: Dir, undone: bool) -> (Look, Look)
+    ensures { (result.0 ≡ mark_look dir undone) × (result.1 ≡ point_look dir undone) }
+{
+    match (dir, undone) {
         (Dir::Sent, false) => (Look::Send, Look::PointOnSend),
         (Dir::Sent, true) => (Look::SendUndone, Look::PointOnSend),
         (Dir::Got, false) => (Look::Receive, Look::PointOnReceive),
         (Dir::Got, true) => (Look::ReceiveUndone, Look::PointUndone),
-    };
-    shapes.circle(center, RADIUS, circle)?;
-    let text = text_of(layout.alloc, &[Piece::Number(u32::from(event.point.0))])?;
-    shapes.text(
-        place(center.x, center.y + Pixels(3)),
-        Anchor::Middle,
-        number,
-        text,
-    )
+    }
+}
+
+// The disc of an event, with the number of its point.
+fn add_disc(
+    shapes: &mut Shapes,
+    layout: &Layout<'_>,
+    y: Pixels,
+    event: &Event,
+    dir: Dir,
+    undone: bool,
+) -> Result<(), AllocError>
+    ensures { OnOk result (drawn_in shapes.new ≡ drawn_in shapes.old ++ event_disc (grid_of layout.now) y event.now dir undone) }
+{
+    let x = layout.x(event.role.0);
+    let looks = looks_of(dir, undone);
+    shapes.circle(spans::at(x, y), Pixels(8), looks.0)?;
+    let point = text_of(layout.alloc, &[Piece::Number(u32::from(event.point.0))])?;
+    shapes.text(spans::at(x, further(y, 3)), Anchor::Middle, looks.1, point)
 }
 
 // The side of an event's column at which the other end of its message stands.
@@ -61,44 +79,48 @@ fn side_of(layout: &Layout<'_>, event: &Event) -> Side {
     Side::towards(layout.x(event.role.0), layout.x(other))
 }
 
-// A line through a text that begins here, at this side.
-fn add_strike(
-    shapes: &mut Shapes,
+// A label of this look beside a column, at this side of it and so high, with a line through it if it is of an undone event.
+fn label_at(
     side: Side,
     x: Pixels,
     y: Pixels,
-    width: Pixels,
-) -> Result<(), AllocError> {
-    shapes.line(place(x, y), place(side.beside(x, width), y), Look::Strike)
+    look: Look,
+    text: Vec<u8>,
+    strike: Option<(Pixels, Pixels)>,
+) -> Label {
+    Label {
+        place: place(x, y),
+        anchor: side.anchor(),
+        look,
+        text,
+        strike: match strike {
+            Some((y, width)) => Some((place(x, y), place(side.beside(x, width), y))),
+            None => None,
+        },
+    }
 }
 
 // The label of a Send, at the receiver's side.
-fn add_label(
-    shapes: &mut Shapes,
+fn label_of_send(
     layout: &Layout<'_>,
     routes: &Routes,
-    at: u32,
+    y: Pixels,
     event: &Event,
     undone: bool,
-) -> Result<(), AllocError> {
+) -> Result<Label, AllocError> {
     let side = side_of(layout, event);
-    let y = layout.y(at);
     let x = side.beside(
         layout.x(event.role.0),
         routes.text_from(event.role.0, side, y),
     );
     let label = label_of(layout.alloc, &layout.cast, event)?;
     let width = width_of(label.as_slice(), Letters::Plain);
-    let look = if undone {
-        Look::LabelUndone
+    let (look, strike) = if undone {
+        (Look::LabelUndone, Some((y - Pixels(7), width)))
     } else {
-        Look::Label
+        (Look::Label, None)
     };
-    shapes.text(place(x, y - Pixels(3)), side.anchor(), look, label)?;
-    if undone {
-        add_strike(shapes, side, x, y - Pixels(7), width)?;
-    }
-    Ok(())
+    Ok(label_at(side, x, y - Pixels(3), look, label, strike))
 }
 
 // Whether the Recv at a place is far from its Send, or its Send is folded.
@@ -110,20 +132,19 @@ fn is_far(layout: &Layout<'_>, at: u32) -> bool {
 }
 
 // The label of a Recv, away from the sender, where it was received before or is far from its Send.
-fn add_note(
-    shapes: &mut Shapes,
+fn label_of_recv(
     layout: &Layout<'_>,
     routes: &Routes,
     at: u32,
+    y: Pixels,
     event: &Event,
     undone: bool,
-) -> Result<(), AllocError> {
-    let again = layout.story.is_again(at);
+) -> Result<Option<Label>, AllocError> {
+    let again = layout.is_again(at);
     if !again && !is_far(layout, at) {
-        return Ok(());
+        return Ok(None);
     }
     let side = side_of(layout, event).other();
-    let y = layout.y(at);
     let x = side.beside(
         layout.x(event.role.0),
         routes.text_from(event.role.0, side, y),
@@ -138,24 +159,60 @@ fn add_note(
         (false, true) => Look::NoteAgain,
         (false, false) => Look::Note,
     };
-    shapes.text(place(x, y + Pixels(4)), side.anchor(), look, label)?;
-    if undone {
-        add_strike(shapes, side, x, y + Pixels(1), width)?;
-    }
-    Ok(())
+    let strike = if undone {
+        Some((y + Pixels(1), width))
+    } else {
+        None
+    };
+    Ok(Some(label_at(side, x, y + Pixels(4), look, label, strike)))
 }
 
 // The cross of a Crash.
 fn add_crash(
     shapes: &mut Shapes,
     layout: &Layout<'_>,
-    at: u32,
+    y: Pixels,
     role: u8,
-) -> Result<(), AllocError> {
-    let center = place(layout.x(role), layout.y(at));
-    shapes.cross(center, RADIUS)?;
-    let text = place(center.x + Pixels(14), center.y + Pixels(4));
+) -> Result<(), AllocError>
+    ensures { OnOk result (drawn_in shapes.new ≡ drawn_in shapes.old ++ crash_cross (grid_of layout.now) y role) }
+{
+    let x = layout.x(role);
+    shapes.cross(spans::at(x, y), 8)?;
+    let text = spans::at(further(x, 14), further(y, 4));
     shapes.words(text, Anchor::Start, Look::Failed, b"crash")
+}
+
+// The disc of a Send, and its label.
+fn add_send(
+    shapes: &mut Shapes,
+    layout: &Layout<'_>,
+    routes: &Routes,
+    y: Pixels,
+    event: &Event,
+    undone: bool,
+) -> Result<(), AllocError>
+    ensures { OnOk result (AddsEvent (grid_of layout.now) y event.now Sent undone (drawn_in shapes.old) (drawn_in shapes.new)) }
+{
+    add_disc(shapes, layout, y, event, Dir::Sent, undone)?;
+    let label = label_of_send(layout, routes, y, event, undone)?;
+    shapes.label(Some(label))
+}
+
+// The disc of a Recv, and its label, if it has one.
+fn add_recv(
+    shapes: &mut Shapes,
+    layout: &Layout<'_>,
+    routes: &Routes,
+    at: u32,
+    y: Pixels,
+    event: &Event,
+    undone: bool,
+) -> Result<(), AllocError>
+    ensures { OnOk result (AddsEvent (grid_of layout.now) y event.now Got undone (drawn_in shapes.old) (drawn_in shapes.new)) }
+{
+    add_disc(shapes, layout, y, event, Dir::Got, undone)?;
+    let label = label_of_recv(layout, routes, at, y, event, undone)?;
+    shapes.label(label)
 }
 
 // The mark of an entry.
@@ -164,20 +221,22 @@ fn add_entry(
     layout: &Layout<'_>,
     routes: &Routes,
     at: u32,
+    y: Pixels,
     entry: &Entry,
     undone: bool,
-) -> Result<(), AllocError> {
+) -> Result<(), AllocError>
+    ensures { OnOk result (AddsEntry (scene_of layout.now) at y entry.now undone (drawn_in shapes.old) (drawn_in shapes.new)) }
+{
     match entry {
-        Entry::Send(event) => {
-            add_circle(shapes, layout, at, event, undone)?;
-            add_label(shapes, layout, routes, at, event, undone)
-        }
-        Entry::Recv(event) => {
-            add_circle(shapes, layout, at, event, undone)?;
-            add_note(shapes, layout, routes, at, event, undone)
-        }
-        Entry::Crash(role) => add_crash(shapes, layout, at, role.0),
-        Entry::Recover { .. } => add_recover(shapes, layout, at, entry),
+        Entry::Send(event) => add_send(shapes, layout, routes, y, event, undone),
+        Entry::Recv(event) => add_recv(shapes, layout, routes, at, y, event, undone),
+        Entry::Crash(role) => add_crash(shapes, layout, y, role.0),
+        Entry::Recover {
+            role,
+            concerned,
+            kept,
+            undone: removed,
+        } => add_recover(shapes, layout, at, y, role.0, *concerned, kept, *removed),
     }
 }
 
@@ -188,11 +247,16 @@ pub fn mark_shapes(
     routes: &Routes,
     at: u32,
     undone: bool,
-) -> Result<Vec<Shape>, AllocError> {
+) -> Result<Vec<Shape>, AllocError>
+    ensures { IfOk result (λ shapes. (e : TheEntry) → slice_get layout.now.entries.now at ≡ Some e
+        → IsEntryDrawn (scene_of layout.now) at undone e (seen shapes.items)) }
+{
+    let y = layout.own_height(at)?;
     let mut shapes = Shapes::new(layout.alloc);
-    add_number(&mut shapes, layout, at)?;
-    if let Some(entry) = layout.entry(at) {
-        add_entry(&mut shapes, layout, routes, at, &entry, undone)?;
-    }
+    add_number(&mut shapes, layout, at, y)?;
+    let Some(entry) = layout.entry_at(at) else {
+        return Ok(shapes.finish());
+    };
+    add_entry(&mut shapes, layout, routes, at, y, entry, undone)?;
     Ok(shapes.finish())
 }

@@ -130,7 +130,7 @@ fn route_of(layout: &Layout<'_>, send: u32, fate: Fate) -> Route {
     };
     let row = layout.row(send);
     let from = if row.shown {
-        row.middle()
+        row.middle
     } else {
         row.bottom - Pixels(4)
     };
@@ -138,10 +138,9 @@ fn route_of(layout: &Layout<'_>, send: u32, fate: Fate) -> Route {
     let to = match fate {
         Fate::Received(receive) => {
             let row_to = layout.row(receive);
-            let next = layout.row_number(send).saturating_add(1);
-            straight = row.shown && row_to.shown && layout.row_number(receive) == next;
+            straight = layout.are_neighbours(send, receive);
             if row_to.shown {
-                row_to.middle()
+                row_to.middle
             } else {
                 row_to.top + Pixels(4)
             }
@@ -302,6 +301,14 @@ impl Routes {
             }
         }
         true
+    }
+
+    /// How far the lane of the way with this number is from the middle of the receiver's column.
+    pub fn lane(&self, number: usize) -> Pixels {
+        match self.route(number) {
+            Some(route) => route.lane,
+            None => NEAREST,
+        }
     }
 
     /// The way with this number.

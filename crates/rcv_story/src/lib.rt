@@ -1,8 +1,14 @@
-// What the drawing of a journal needs beside what it tells: which entries were undone and by which recovery, which Send
-// each Recv takes, what a recovery drops, and which entries are shown where a journal is too long. Nothing is claimed
-// of it but that it ends and can't fail otherwise than by want of memory.
+// The story of a journal that is drawn: which events each Recover undoes, what became of the messages, and which entries
+// are shown.
 #![tactic(auto)]
 
-mod pass;
+pub mod laws;
+mod messages;
+mod met;
+mod receipts;
 pub mod shown;
+mod stacks;
 pub mod story;
+#[cfg(test)]
+mod tests;
+mod undoing;

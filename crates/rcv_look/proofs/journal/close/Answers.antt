@@ -1,5 +1,8 @@
 -- By the first closing line that is wrong, or the picture.
-use Rattle.std.proofs.Common.{rules, length}
+use Rattle.std.proofs.Common.{rules, List, length, ap, ◌∙◌, subst}
+use Rattle.rcv_journal.specs.declared.line.RoleLine.{RoleLine}
+use Rattle.rcv_form.specs.Journal.{JournalView}
+use Rattle.rcv_look.specs.Drawing.{IsJournalDrawing}
 use Rattle.rcv_model.specs.Journal.{reading}
 use Rattle.rcv_session.specs.Session.{rules_of}
 use Rattle.rcv_judge.specs.Closing.{IsFirstWrongClosing}
@@ -17,4 +20,5 @@ returns-in-Some c =
     c.illegal_closing.ensures.status c.illegal_closing.ensures.bytes
 
 pub returns-in_ok-draw_book-in-None : goal.returns-in_ok-draw_book-in-None
-returns-in_ok-draw_book-in-None c = drawn_said c.args.book.now.setup c.args.journal.now c.args.book.now.entries c.args.written c.in_ok-draw_book-in-None.field-0.items c.requires.entries c.requires.legal (at_none c.in_ok-wrong.wrong c.in-None.is c.in_ok-wrong.ensures.right) c.in_ok-draw_book-in-None.ensures
+returns-in_ok-draw_book-in-None c = drawn_said c.args.book.now.setup c.args.journal.now c.args.book.now.entries c.args.written c.in_ok-draw_book-in-None.field-0.items c.requires.entries c.requires.legal (at_none c.in_ok-wrong.wrong c.in-None.is c.in_ok-wrong.ensures.right)
+    (subst (λ (l : List RoleLine). IsJournalDrawing c.args.book.now.setup c.args.book.now.entries l c.in_ok-draw_book-in-None.field-0.items) (c.as_slice.ensures.value ∙ ap (λ (v : JournalView). v.roles) c.journal.view_is) c.in_ok-draw_book-in-None.ensures)

@@ -1,0 +1,8 @@
+pub mod Little
+pub mod Numbering
+pub mod Trying
+pub mod Columns
+pub mod Counting
+pub mod Listing
+pub mod Lining
+mod Examples

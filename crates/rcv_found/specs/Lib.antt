@@ -1,0 +1,9 @@
+pub mod Things
+pub mod Tables
+pub mod Grammars
+pub mod Stops
+pub mod May
+pub mod Trial
+pub mod Seen
+pub mod Spots
+pub mod Findings

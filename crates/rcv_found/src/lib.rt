@@ -1,0 +1,13 @@
+// What is found where a text is refused, and what may stand there.
+#![tactic(auto)]
+
+pub mod finding;
+pub mod grammar;
+pub mod may;
+pub mod spot;
+pub mod stop;
+mod tables;
+pub mod thing;
+pub mod wrong;
+
+pub use std::alloc::AllocError as Memory;

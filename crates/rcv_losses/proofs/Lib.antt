@@ -1,0 +1,3 @@
+pub mod Worst
+pub mod Summing
+pub mod Saying

@@ -1,0 +1,13 @@
+-- One role more.
+use Rattle.rcv_scene.specs.Seen.{drawn_in}
+use Rattle.rcv_scene.specs.Grid.{scene_of}
+use Rattle.rcv_scene.proofs.Returning.{no_roles, next_role}
+use Rattle.rcv_scene.proofs.returns.add_roles.Goals as goal
+
+pub loop-role-init : goal.loop-role-init
+loop-role-init c = no_roles (scene_of c.args.layout.now) c.args.recovery.now c.args.y c.args.concerned c.args.kept.now (drawn_in c.args.shapes.now)
+
+pub loop-role-preserved : goal.loop-role-preserved
+loop-role-preserved c =
+    next_role (scene_of c.args.layout.now) c.args.recovery.now c.args.y c.loop-role.role c.args.concerned c.args.kept.now (drawn_in c.args.shapes.now)
+    (drawn_in c.loop-role.shapes) (drawn_in c.add_role.new.shapes) c.loop-role.invariant c.in_ok-add_role.ensures

@@ -1,0 +1,61 @@
+-- The marks of events and crashes.
+use Rattle.std.specs.Prelude.{◌≡◌, ℕ, ◌+◌, Bool, true, false, List, [], ◌∷◌, ◌++◌, codes, decimal}
+use Rattle.rcv_tree.specs.declared.event.Event.{Event}
+use Rattle.rcv_tree.specs.declared.event.Dir.{Dir}
+use Rattle.rcv_tree.specs.declared.event.Dir.TheVariants.{Sent, Got}
+use Rattle.rcv_picture.specs.declared.pixels.Pixels.{Pixels}
+use Rattle.rcv_picture.specs.declared.look.Look.{Look}
+use Rattle.rcv_picture.specs.declared.look.Look.TheVariants as looks
+use Rattle.rcv_picture.specs.declared.shape.Anchor.TheVariants.{Start, Middle, End}
+use Rattle.rcv_scene.specs.Seen.{Seen, Disc, Words, at, pixels, further, cross, marks}
+use Rattle.rcv_scene.specs.Grid.{Grid, Scene, column, IsOwnHeight}
+
+-- A Send is dark and a Recv is light, both otherwise if they are undone; so is the number on them.
+abbrev pub mark_look : Dir → Bool → Look
+mark_look Sent false = looks.Send
+mark_look Sent true = looks.SendUndone
+mark_look Got false = looks.Receive
+mark_look Got true = looks.ReceiveUndone
+
+abbrev pub point_look : Dir → Bool → Look
+point_look Sent false = looks.PointOnSend
+point_look Sent true = looks.PointOnSend
+point_look Got false = looks.PointOnReceive
+point_look Got true = looks.PointUndone
+
+-- The number of the entry at a place, counted from 1, beside the columns at this height.
+abbrev pub number_words : Grid → ℕ → Pixels → Seen
+number_words grid place y = Words (at grid.numbers (further y 4)) End looks.Note (decimal (place + 1))
+
+-- The mark of an event: a disc in its role's column at this height, and on it the number of its point.
+abbrev pub event_disc : Grid → Pixels → Event → Dir → Bool → List Seen
+event_disc grid y event dir undone =
+    Disc (at (column grid event.role) y) (pixels 8) (mark_look dir undone)
+    ∷ Words (at (column grid event.role) (further y 3)) Middle (point_look dir undone) (decimal event.point)
+    ∷ []
+
+-- The mark of a Crash: a cross in its role's column at this height, and beside it the word.
+abbrev pub crash_cross : Grid → Pixels → ℕ → List Seen
+crash_cross grid y role =
+    cross (at (column grid role) y) 8
+    ++ Words (at (further (column grid role) 14) (further y 4)) Start looks.Failed (codes "crash") ∷ []
+
+-- Something was drawn more: the mark of an event, and then no other mark.
+pub record AddsEvent (grid : Grid) (y : Pixels) (event : Event) (dir : Dir) (undone : Bool) (old new : List Seen) : Type 0 where
+  pub rest : List Seen
+  pub is : new ≡ old ++ (event_disc grid y event dir undone ++ rest)
+  pub plain : marks rest ≡ []
+
+-- The group of an event: the entry's number, its mark, and then no other mark.
+pub record IsEventDrawn (scene : Scene) (place : ℕ) (event : Event) (dir : Dir) (undone : Bool) (drawn : List Seen) : Type 0 where
+  pub y : Pixels
+  pub height : IsOwnHeight scene place y
+  pub rest : List Seen
+  pub is : drawn ≡ number_words scene.grid place y ∷ event_disc scene.grid y event dir undone ++ rest
+  pub plain : marks rest ≡ []
+
+-- The group of a Crash: the entry's number, and its mark.
+pub record IsCrashDrawn (scene : Scene) (place role : ℕ) (drawn : List Seen) : Type 0 where
+  pub y : Pixels
+  pub height : IsOwnHeight scene place y
+  pub is : drawn ≡ number_words scene.grid place y ∷ crash_cross scene.grid y role
