@@ -21,8 +21,8 @@ _rcv_complete() {
     journal) COMPREPLY=($(compgen -W "--session" -- "$current")) ;;
     project) COMPREPLY=($(compgen -W "--role" -- "$current")) ;;
     role) COMPREPLY=($(compgen -W "--role --json" -- "$current")) ;;
-    table | points) COMPREPLY=($(compgen -W "--json" -- "$current")) ;;
-    failures) COMPREPLY=($(compgen -W "--text --json" -- "$current")) ;;
+    table) COMPREPLY=($(compgen -W "--json" -- "$current")) ;;
+    failures) COMPREPLY=($(compgen -W "--text" -- "$current")) ;;
     gen) COMPREPLY=($(compgen -W "--number" -- "$current")) ;;
     explain) COMPREPLY=($(compgen -W "--code" -- "$current")) ;;
     *) COMPREPLY=() ;;
