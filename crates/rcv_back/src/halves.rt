@@ -61,7 +61,7 @@ fn part<T: Drop>(
 }
 
 /// Takes all cells out, of which there are at most eight: the concerned ones into the first half, the others into the
-/// second. The list keeps its room, so that they can be put back. Fails where memory runs out, before a cell is moved.
+/// second. The list keeps its room, so that they can be put back. Fails if memory runs out, before a cell is moved.
 pub fn split<'a>(
     alloc: Global,
     cells: &mut Vec<Cell<'a>>,

@@ -62,7 +62,7 @@ fn head_of(alloc: Global, state: &State) -> Result<Vec<u8>, AllocError> {
     Ok(head.finish())
 }
 
-// A step as its line says it. Fails where memory runs out.
+// A step as its line says it. Fails if memory runs out.
 fn step_of(source: &Source<'_>, act: &OwnedAct, point: Point) -> Result<Vec<u8>, AllocError>
     requires first { 1 ≤ point }
     requires last { point ≤ length source.now.points.now.messages }
@@ -91,7 +91,7 @@ fn step_of(source: &Source<'_>, act: &OwnedAct, point: Point) -> Result<Vec<u8>,
     Ok(words.finish())
 }
 
-// The steps of a state. Fails where memory runs out.
+// The steps of a state. Fails if memory runs out.
 fn steps_of(source: &Source<'_>, state: &State) -> Result<Vec<Vec<u8>>, AllocError>
     requires { AreInText (net_in source.now.points.now) (next_in state.now.act) }
     ensures { IfOk result (λ steps. lists_in steps.items
@@ -104,7 +104,7 @@ fn steps_of(source: &Source<'_>, state: &State) -> Result<Vec<Vec<u8>>, AllocErr
     Ok(steps)
 }
 
-/// How wide the box of each of these states is. Fails where memory runs out.
+/// How wide the box of each of these states is. Fails if memory runs out.
 pub fn width_of(source: &Source<'_>, states: &[State]) -> Result<Pixels, AllocError>
     requires { All (λ (state : StateView). AreInText (net_in source.now.points.now) (next_in state.act)) states.now }
 {
@@ -140,7 +140,7 @@ fn write_places(text: &mut Writer, places: &[u16]) -> Result<(), AllocError>
     Ok(())
 }
 
-// The title of a state: its places. Fails where memory runs out.
+// The title of a state: its places. Fails if memory runs out.
 fn title_of(alloc: Global, state: &State) -> Result<Vec<u8>, AllocError>
     ensures value { IfOk result (λ title. title.items ≡ places_title state.now.places) }
     ensures titled { IfOk result (λ title. IsTrue (is_titled title.items)) }
@@ -174,7 +174,7 @@ fn seam(state: &State, frame: Frame, left: Pixels, wide: Pixels) -> Shape
     line(place(left, under), place(right, under), Look::Grid)
 }
 
-// The box of a state with the word for what the role does there. Fails where memory runs out.
+// The box of a state with the word for what the role does there. Fails if memory runs out.
 fn box_of(
     alloc: Global,
     state: &State,
@@ -194,7 +194,7 @@ fn box_of(
     Ok(shapes)
 }
 
-// Adds a line for each step of a state below its head. Fails where memory runs out.
+// Adds a line for each step of a state below its head. Fails if memory runs out.
 fn add_steps(
     alloc: Global,
     shapes: &mut Vec<Shape>,
@@ -214,7 +214,7 @@ fn add_steps(
     Ok(())
 }
 
-// The box of a state. Fails where memory runs out.
+// The box of a state. Fails if memory runs out.
 fn group_of(
     source: &Source<'_>,
     state: &State,
@@ -234,7 +234,7 @@ fn group_of(
     Ok(titled(title_of(source.alloc, state)?, shapes))
 }
 
-/// Draws the boxes of these states in their frames. Fails where memory runs out.
+/// Draws the boxes of these states in their frames. Fails if memory runs out.
 pub fn draw_boxes(
     source: &Source<'_>,
     drawing: &mut Drawing,

@@ -70,7 +70,7 @@ impl Columns {
 }
 
 impl Headings {
-    /// The headings of these roles. Fails where memory runs out.
+    /// The headings of these roles. Fails if memory runs out.
     pub fn of(alloc: Global, roles: &Names) -> Result<Headings, AllocError> {
         let mut items = Vec::new(alloc);
         for name in roles.as_slice() {
@@ -107,7 +107,7 @@ impl Headings {
         }
     }
 
-    /// Adds the shapes of the heading of a role, below this line. Fails where memory runs out.
+    /// Adds the shapes of the heading of a role, below this line. Fails if memory runs out.
     pub fn draw(
         &self,
         alloc: Global,

@@ -74,7 +74,7 @@ impl Drawing {
         self.down = down;
     }
 
-    /// Adds a shape below the groups. Fails where memory runs out.
+    /// Adds a shape below the groups. Fails if memory runs out.
     pub fn put_below(&mut self, shape: Shape) -> Result<(), AllocError>
         ensures { self.new ≡ self.old }
     {
@@ -82,14 +82,14 @@ impl Drawing {
         Ok(())
     }
 
-    /// Adds shapes below the groups. Fails where memory runs out.
+    /// Adds shapes below the groups. Fails if memory runs out.
     pub fn put_all_below(&mut self, mut shapes: Vec<Shape>) -> Result<(), AllocError>
         ensures { self.new ≡ self.old }
     {
         self.below.append(&mut shapes)
     }
 
-    /// Adds a shape above the groups. Fails where memory runs out.
+    /// Adds a shape above the groups. Fails if memory runs out.
     pub fn put_above(&mut self, shape: Shape) -> Result<(), AllocError>
         ensures { self.new ≡ self.old }
     {
@@ -97,7 +97,7 @@ impl Drawing {
         Ok(())
     }
 
-    /// Adds a group that has a title. Fails where memory runs out.
+    /// Adds a group that has a title. Fails if memory runs out.
     pub fn put_group(&mut self, group: Group) -> Result<(), AllocError>
         requires { IsTrue (has_title group) }
         ensures { OnOk result (self.new ≡ with_groups self.old (group ∷ [])) }
@@ -106,7 +106,7 @@ impl Drawing {
         Ok(())
     }
 
-    /// Adds what was drawn inside a frame behind the frame, and goes on as far down as this. Fails where memory runs out.
+    /// Adds what was drawn inside a frame behind the frame, and goes on as far down as this. Fails if memory runs out.
     pub fn put_inner(&mut self, mut inner: Drawing, down: Pixels) -> Result<(), AllocError>
         ensures { OnOk result (self.new ≡ record { groups = self.old.groups ++ inner.groups; down = down.0 }) }
     {
@@ -118,7 +118,7 @@ impl Drawing {
     }
 
     /// The picture of what was drawn, so wide and as high as the drawing goes down, with some shapes below it all.
-    /// Fails where memory runs out.
+    /// Fails if memory runs out.
     pub fn picture(
         mut self,
         alloc: Global,

@@ -75,7 +75,7 @@ impl Within {
 }
 
 impl Extent {
-    /// What a block needs that stands there, whose points came through these calls. Fails where memory runs out.
+    /// What a block needs that stands there, whose points came through these calls. Fails if memory runs out.
     pub fn of(
         alloc: Global,
         roles: &Names,

@@ -71,7 +71,7 @@ fn around(chart: &Chart<'_>, inset: Pixels, top: Pixels, bottom: Pixels) -> Shap
     rect(At { x: left, y: top }, width, height, 4, Look::Grid)
 }
 
-// The tag of a frame, at its upper left corner: its ground, and its words. Fails where memory runs out.
+// The tag of a frame, at its upper left corner: its ground, and its words. Fails if memory runs out.
 fn tag_of(
     chart: &Chart<'_>,
     inset: Pixels,
@@ -95,7 +95,7 @@ fn tag_of(
     ))
 }
 
-// A frame between these heights, with its tag. Fails where memory runs out.
+// A frame between these heights, with its tag. Fails if memory runs out.
 fn group_of(
     chart: &Chart<'_>,
     inset: Pixels,
@@ -141,7 +141,7 @@ pub fn put_frame(
     drawing.put_inner(inner, bottom)
 }
 
-// Ends a frame of a call that began here, and draws it with its tag. Fails where memory runs out.
+// Ends a frame of a call that began here, and draws it with its tag. Fails if memory runs out.
 fn close_frame(
     chart: &Chart<'_>,
     drawing: &mut Drawing,
@@ -179,7 +179,7 @@ fn common(frames: &[CallFrame], calls: &[Called]) -> usize {
     frames.len()
 }
 
-// Ends frames, the innermost first, until so many are left. Fails where memory runs out.
+// Ends frames, the innermost first, until so many are left. Fails if memory runs out.
 fn close_calls(
     chart: &Chart<'_>,
     drawing: &mut Drawing,
@@ -199,7 +199,7 @@ fn close_calls(
 
 /// Goes on behind these frames of calls, which stand in a block, with what came into the block through these calls: ends
 /// the frames in which that doesn't stand, and begins those of the others of its calls. Answers where it stands. Fails
-/// where memory runs out.
+/// if memory runs out.
 pub fn go_into(
     chart: &Chart<'_>,
     drawing: &mut Drawing,

@@ -55,7 +55,7 @@ fn write_names(text: &mut Writer, names: &[Name]) -> Result<(), AllocError>
     Ok(())
 }
 
-// The title of a message. Fails where memory runs out.
+// The title of a message. Fails if memory runs out.
 fn title_of(alloc: Global, roles: &Names, message: &Message<'_>) -> Result<Vec<u8>, AllocError>
     ensures value { IfOk result (λ title. title.items ≡ message_title roles.now (
       message.now.point,
@@ -90,14 +90,14 @@ impl Message<'_> {
         Ok(text.finish())
     }
 
-    /// Its label and its sorts, cut where they are long. Fails where memory runs out.
+    /// Its label and its sorts, cut where they are long. Fails if memory runs out.
     pub fn shown(&self, alloc: Global) -> Result<Vec<u8>, AllocError> {
         let label = cut(alloc, self.label.as_slice())?;
         let sorts = cut(alloc, self.sorts(alloc)?.as_slice())?;
         with_sorts(alloc, label.as_slice(), sorts.as_slice())
     }
 
-    /// Its label and its sorts in full, if they are cut. Fails where memory runs out.
+    /// Its label and its sorts in full, if they are cut. Fails if memory runs out.
     pub fn whole_if_cut(&self, alloc: Global) -> Result<Option<Vec<u8>>, AllocError> {
         let sorts = self.sorts(alloc)?;
         if is_cut(self.label.as_slice()) || is_cut(sorts.as_slice()) {
@@ -128,7 +128,7 @@ fn number_of(alloc: Global, point: Point) -> Result<Vec<u8>, AllocError> {
     Ok(number.finish())
 }
 
-// An arrow at this height, with the point at the sender and the label above. Fails where memory runs out.
+// An arrow at this height, with the point at the sender and the label above. Fails if memory runs out.
 fn arrow(
     alloc: Global,
     columns: Columns,
@@ -167,7 +167,7 @@ fn arrow(
     Ok(shapes)
 }
 
-// A message at this height. Fails where memory runs out.
+// A message at this height. Fails if memory runs out.
 fn group_of(
     alloc: Global,
     roles: &Names,
@@ -192,7 +192,7 @@ fn group_of(
     Ok(titled(title_of(alloc, roles, message)?, shapes))
 }
 
-/// Draws a message. Fails where memory runs out.
+/// Draws a message. Fails if memory runs out.
 pub fn draw_message(
     alloc: Global,
     drawing: &mut Drawing,

@@ -68,7 +68,7 @@ fn columns_of(headings: &Headings, extent: &Extent) -> Columns {
     }
 }
 
-// Adds the line of life and the box of each role. Fails where memory runs out.
+// Adds the line of life and the box of each role. Fails if memory runs out.
 fn draw_roles(
     alloc: Global,
     shapes: &mut Vec<Shape>,
@@ -89,7 +89,7 @@ fn draw_roles(
     Ok(())
 }
 
-// The messages and frames, drawn below the roles. Fails where memory runs out.
+// The messages and frames, drawn below the roles. Fails if memory runs out.
 fn drawn(chart: &Chart<'_>, protocol: &Protocol, top: Pixels) -> Result<Drawing, AllocError>
     ensures { IfOk result (λ drawing. DrawsAll chart.now.roles.now (body_of protocol.now.body) drawing) }
 {
@@ -109,7 +109,7 @@ fn wide_of(roles: u8, columns: Columns, extent: &Extent, title: &[u8]) -> Pixels
         .max(MARGIN * 2 + extent.notes.width())
 }
 
-// Adds the title, the notes and the name to a drawing on its ground. Fails where memory runs out.
+// Adds the title, the notes and the name to a drawing on its ground. Fails if memory runs out.
 fn finished(
     alloc: Global,
     mut drawing: Drawing,
@@ -136,7 +136,7 @@ fn finished(
 /// loop, with a way back to it from each `continue`, for lanes beside each other, and for what came through a call, with the
 /// name of the protocol that it names. The points come from there, and each call stands in so many inner blocks of its
 /// protocol's text. Each statement is drawn once, in order and in its frames, and has a title; that of a frame says which
-/// points it holds. Fails where memory runs out.
+/// points it holds. Fails if memory runs out.
 pub fn protocol_picture(
     alloc: Global,
     protocol: &Protocol,

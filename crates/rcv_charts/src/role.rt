@@ -60,7 +60,7 @@ fn title_of(alloc: Global, protocol: &Protocol, role: RoleId) -> Result<Vec<u8>,
     Ok(title.finish())
 }
 
-// The ways of the wires and the boxes of the states, drawn from this edge on. Fails where memory runs out.
+// The ways of the wires and the boxes of the states, drawn from this edge on. Fails if memory runs out.
 fn drawn(
     source: &Source<'_>,
     states: &[State],
@@ -88,7 +88,7 @@ fn drawn(
     Ok(drawing)
 }
 
-// Adds the title, the notes and their shapes to the boxes. Fails where memory runs out.
+// Adds the title, the notes and their shapes to the boxes. Fails if memory runs out.
 fn finished(
     alloc: Global,
     mut drawing: Drawing,
@@ -113,7 +113,7 @@ fn finished(
     drawing.picture(alloc, wide + MARGIN, whole, hint, ground)
 }
 
-// The picture of these states. Fails where memory runs out.
+// The picture of these states. Fails if memory runs out.
 fn states_picture(
     alloc: Global,
     protocol: &Protocol,
@@ -152,7 +152,7 @@ fn states_picture(
 
 /// The picture of the machine of a declared role of an accepted protocol: a box for each state, with the role's steps
 /// there, and a wire from each step to the state that it leads to. Two places stand in one box exactly if the role does
-/// the same at both. Fails where memory runs out.
+/// the same at both. Fails if memory runs out.
 pub fn role_picture(
     alloc: Global,
     local: &Local,

@@ -84,7 +84,7 @@ fn write_roles(
     Ok(())
 }
 
-/// The title of the row of a start. Fails where memory runs out.
+/// The title of the row of a start. Fails if memory runs out.
 pub fn row_title(
     alloc: Global,
     accepted: &Accepted,

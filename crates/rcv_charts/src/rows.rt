@@ -27,7 +27,7 @@ use std::alloc::{AllocError, Global};
 /// How far the rows are from the left edge.
 pub const MARGIN: Pixels = Pixels(16);
 
-/// What a role does at a point of the text, as the row says it. Fails where memory runs out.
+/// What a role does at a point of the text, as the row says it. Fails if memory runs out.
 pub fn deed(
     alloc: Global,
     accepted: &Accepted,
@@ -60,7 +60,7 @@ pub fn deed(
     Ok(words.finish())
 }
 
-// Adds the points at which a concerned role restarts. Fails where memory runs out.
+// Adds the points at which a concerned role restarts. Fails if memory runs out.
 fn draw_restarts(
     alloc: Global,
     shapes: &mut Vec<Shape>,
@@ -146,7 +146,7 @@ fn draw_cells(
     Ok(())
 }
 
-// Draws the row of a start. Fails where memory runs out.
+// Draws the row of a start. Fails if memory runs out.
 fn draw_row(
     alloc: Global,
     drawing: &mut Drawing,
@@ -219,7 +219,7 @@ fn draw_start(
     }
 }
 
-// Draws the heading of the rows of a role: that it fails, and the names of all roles. Fails where memory runs out.
+// Draws the heading of the rows of a role: that it fails, and the names of all roles. Fails if memory runs out.
 fn draw_heading(
     alloc: Global,
     drawing: &mut Drawing,
@@ -250,7 +250,7 @@ fn draw_heading(
     Ok(())
 }
 
-// Adds that the role with this name fails. Fails where memory runs out.
+// Adds that the role with this name fails. Fails if memory runs out.
 fn draw_name(
     alloc: Global,
     shapes: &mut Vec<Shape>,
@@ -269,7 +269,7 @@ fn draw_name(
     Ok(())
 }
 
-// Draws the rows of a role, by its points. Fails where memory runs out.
+// Draws the rows of a role, by its points. Fails if memory runs out.
 fn draw_starts(
     alloc: Global,
     drawing: &mut Drawing,
@@ -305,7 +305,7 @@ fn has_any(points: &Points, role: RoleId) -> bool {
     !points.of_role(role).is_empty()
 }
 
-// Draws the rows of a role, below their heading where it has any. Fails where memory runs out.
+// Draws the rows of a role, below their heading where it has any. Fails if memory runs out.
 fn draw_role(
     alloc: Global,
     drawing: &mut Drawing,
@@ -328,7 +328,7 @@ fn draw_role(
     draw_starts(alloc, drawing, accepted, points, table, columns, role)
 }
 
-/// Draws the rows of all roles, each role's below its heading. Fails where memory runs out.
+/// Draws the rows of all roles, each role's below its heading. Fails if memory runs out.
 pub fn draw_rows(
     alloc: Global,
     drawing: &mut Drawing,

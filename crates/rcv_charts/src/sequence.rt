@@ -31,7 +31,7 @@ pub struct Loop<'t> {
     end: Pixels,
 }
 
-// The line between two blocks of a frame at this height, with this word below it. Fails where memory runs out.
+// The line between two blocks of a frame at this height, with this word below it. Fails if memory runs out.
 fn divider(
     chart: &Chart<'_>,
     inset: Pixels,
@@ -54,7 +54,7 @@ fn divider(
     Ok(titled(title, shapes))
 }
 
-// Draws the line between two blocks of a frame, with this word. Fails where memory runs out.
+// Draws the line between two blocks of a frame, with this word. Fails if memory runs out.
 fn draw_divider(
     chart: &Chart<'_>,
     drawing: &mut Drawing,
@@ -107,7 +107,7 @@ fn draw_sides(
 }
 
 // The word at this height beside the line to the left of a lane behind the first one of the text. That of the leftmost lane
-// stands beside the line of the first. Fails where memory runs out.
+// stands beside the line of the first. Fails if memory runs out.
 fn and_word(
     chart: &Chart<'_>,
     blocks: &Blocks,
@@ -133,7 +133,7 @@ fn and_word(
     Ok(titled(title, shapes))
 }
 
-// Draws the word that stands beside a lane behind the first one of the text. Fails where memory runs out.
+// Draws the word that stands beside a lane behind the first one of the text. Fails if memory runs out.
 fn draw_and(
     chart: &Chart<'_>,
     drawing: &mut Drawing,
@@ -181,7 +181,7 @@ fn way_back(
     Ok(titled(continue_title(chart.alloc, name)?, shapes))
 }
 
-// Draws a way back. Fails where memory runs out.
+// Draws a way back. Fails if memory runs out.
 fn draw_continue(
     chart: &Chart<'_>,
     drawing: &mut Drawing,
@@ -218,7 +218,7 @@ pub fn draw_block<'t>(
     Ok(())
 }
 
-// Draws blocks in a frame, with a line and a word between them. Fails where memory runs out.
+// Draws blocks in a frame, with a line and a word between them. Fails if memory runs out.
 #[cycle(draw)]
 fn draw_blocks<'t>(
     chart: &Chart<'_>,
@@ -243,7 +243,7 @@ fn draw_blocks<'t>(
 }
 
 // Draws a lane in its own columns, from here on. Answers how far down it goes, or this if that is further down. Fails
-// where memory runs out.
+// if memory runs out.
 #[cycle(draw)]
 fn draw_lane<'t>(
     chart: &Chart<'_>,
@@ -265,7 +265,7 @@ fn draw_lane<'t>(
     Ok(down)
 }
 
-// Draws lanes beside each other, each in its own columns. Fails where memory runs out.
+// Draws lanes beside each other, each in its own columns. Fails if memory runs out.
 #[cycle(draw)]
 fn draw_beside<'t>(
     chart: &Chart<'_>,
@@ -310,7 +310,7 @@ fn draw_lanes<'t>(
     }
 }
 
-// Draws a choice. Fails where memory runs out.
+// Draws a choice. Fails if memory runs out.
 #[cycle(draw)]
 fn draw_choice<'t>(
     chart: &Chart<'_>,
@@ -330,7 +330,7 @@ fn draw_choice<'t>(
     put_frame(chart, drawing, inner, within.inset, title, tag)
 }
 
-// Draws a loop. Fails where memory runs out.
+// Draws a loop. Fails if memory runs out.
 #[cycle(draw)]
 fn draw_loop<'t>(
     chart: &Chart<'_>,
@@ -357,7 +357,7 @@ fn draw_loop<'t>(
     put_frame(chart, drawing, inner, within.inset, title, tag)
 }
 
-// Draws a `par`. Fails where memory runs out.
+// Draws a `par`. Fails if memory runs out.
 #[cycle(draw)]
 fn draw_par<'t>(
     chart: &Chart<'_>,
@@ -376,7 +376,7 @@ fn draw_par<'t>(
     put_frame(chart, drawing, inner, within.inset, title, tag)
 }
 
-// Draws a statement. Fails where memory runs out.
+// Draws a statement. Fails if memory runs out.
 #[cycle(draw)]
 fn draw_stmt<'t>(
     chart: &Chart<'_>,

@@ -75,7 +75,7 @@ pub fn circle(center: At, radius: u32, look: Look) -> Shape
     }
 }
 
-/// Lines along these places. Fails where memory runs out.
+/// Lines along these places. Fails if memory runs out.
 pub fn path(alloc: Global, places: &[At], look: Look) -> Result<Shape, AllocError>
     ensures { IfOk result (λ shape. IsWay places.now shape) }
 {

@@ -37,7 +37,7 @@ impl Model for State {
 }
 
 impl State {
-    // A state of one place. Fails where memory runs out.
+    // A state of one place. Fails if memory runs out.
     fn new(alloc: Global, act: OwnedAct, place: u16) -> Result<State, AllocError>
         ensures { IfOk result (λ state. state ≡ alone (owned_view act) place) }
     {
@@ -47,7 +47,7 @@ impl State {
         })
     }
 
-    // Adds a place. Fails where memory runs out.
+    // Adds a place. Fails if memory runs out.
     fn push(&mut self, place: u16) -> Result<(), AllocError>
         ensures { OnOk result (self.new ≡ grown self.old place) }
     {
@@ -177,7 +177,7 @@ fn act_of(alloc: Global, local: &Local, place: u16) -> Result<OwnedAct, AllocErr
     }
 }
 
-// Adds a place, by what the machine says of it. Fails where memory runs out.
+// Adds a place, by what the machine says of it. Fails if memory runs out.
 fn add(alloc: Global, states: &mut Vec<State>, local: &Local, place: u16) -> Result<(), AllocError>
     requires { place < length local.now.acts }
     ensures { OnOk result (states.new.items ≡ with_place (act_at local.now place) place states.old.items) }
@@ -206,7 +206,7 @@ fn is_own_place(accepted: &Accepted, role: RoleId, point: Point) -> bool
     owns(accepted.points(), role, point)
 }
 
-/// The states of a machine, by their first places. Fails where memory runs out.
+/// The states of a machine, by their first places. Fails if memory runs out.
 pub fn states_of(
     alloc: Global,
     local: &Local,

@@ -57,7 +57,7 @@ fn notes_of(alloc: Global, points: &Points) -> Result<Notes, AllocError> {
     Ok(notes)
 }
 
-// Adds what the cells mean. Fails where memory runs out.
+// Adds what the cells mean. Fails if memory runs out.
 fn draw_legend(alloc: Global, shapes: &mut Vec<Shape>, y: Pixels) -> Result<(), AllocError> {
     let top = y - Pixels(8);
     let base = y + Pixels(2);
@@ -77,7 +77,7 @@ fn draw_legend(alloc: Global, shapes: &mut Vec<Shape>, y: Pixels) -> Result<(), 
         .map_err(AllocError::from)
 }
 
-// The rows, drawn below the title. Fails where memory runs out.
+// The rows, drawn below the title. Fails if memory runs out.
 fn drawn(
     alloc: Global,
     accepted: &Accepted,
@@ -106,7 +106,7 @@ fn drawn(
     Ok(drawing)
 }
 
-// Adds the title, what the cells mean, and the notes to the rows. Fails where memory runs out.
+// Adds the title, what the cells mean, and the notes to the rows. Fails if memory runs out.
 fn finished(
     alloc: Global,
     mut drawing: Drawing,
@@ -135,7 +135,7 @@ fn finished(
 }
 
 /// The picture of the table of an accepted protocol: a row for each point of each role, with the points at which each
-/// concerned role restarts. The titles of its rows are the lines of the table's text. Fails where memory runs out.
+/// concerned role restarts. The titles of its rows are the lines of the table's text. Fails if memory runs out.
 pub fn table_picture(
     alloc: Global,
     table: &Table,

@@ -13,7 +13,7 @@ use rcv_tree::role::RoleId;
 use rcv_tree::statement::{Block, Blocks};
 use std::alloc::{AllocError, Global};
 
-/// `choice at B: points 2 to 5`. Fails where memory runs out.
+/// `choice at B: points 2 to 5`. Fails if memory runs out.
 pub fn choice_title(
     alloc: Global,
     roles: &Names,
@@ -31,7 +31,7 @@ pub fn choice_title(
     Ok(title.finish())
 }
 
-/// `rec Try: points 1 to 7`. Fails where memory runs out.
+/// `rec Try: points 1 to 7`. Fails if memory runs out.
 pub fn rec_title(alloc: Global, name: &Name, body: &Block) -> Result<Vec<u8>, AllocError>
     ensures value { IfOk result (λ title. title.items ≡ rec_title name.now (body_of body.now)) }
     ensures titled { IfOk result (λ title. IsTrue (is_titled title.items)) }
@@ -44,7 +44,7 @@ pub fn rec_title(alloc: Global, name: &Name, body: &Block) -> Result<Vec<u8>, Al
     Ok(title.finish())
 }
 
-/// `continue Try`. Fails where memory runs out.
+/// `continue Try`. Fails if memory runs out.
 pub fn continue_title(alloc: Global, name: &Name) -> Result<Vec<u8>, AllocError>
     ensures value { IfOk result (λ title. title.items ≡ continue_title name.now) }
     ensures titled { IfOk result (λ title. IsTrue (is_titled title.items)) }
@@ -55,7 +55,7 @@ pub fn continue_title(alloc: Global, name: &Name) -> Result<Vec<u8>, AllocError>
     Ok(title.finish())
 }
 
-/// `par: points 4 to 9`. Fails where memory runs out.
+/// `par: points 4 to 9`. Fails if memory runs out.
 pub fn par_title(alloc: Global, blocks: &Blocks) -> Result<Vec<u8>, AllocError>
     ensures value { IfOk result (λ title. title.items ≡ par_title (bodies_of blocks.now)) }
     ensures titled { IfOk result (λ title. IsTrue (is_titled title.items)) }
@@ -66,7 +66,7 @@ pub fn par_title(alloc: Global, blocks: &Blocks) -> Result<Vec<u8>, AllocError>
     Ok(title.finish())
 }
 
-/// The title of a block with this word in front: `or: points 4 to 5`. Fails where memory runs out.
+/// The title of a block with this word in front: `or: points 4 to 5`. Fails if memory runs out.
 pub fn block_title(alloc: Global, word: &[u8], block: &Block) -> Result<Vec<u8>, AllocError>
     ensures value { IfOk result (λ title. title.items ≡ block_title word.now (body_of block.now)) }
     ensures titled { IfOk result (λ title. IsTrue (is_titled title.items)) }

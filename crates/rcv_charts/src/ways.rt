@@ -60,7 +60,7 @@ pub struct Ways {
     back: Lanes,
 }
 
-// Ways of these wires, the short ones first. Fails where memory runs out.
+// Ways of these wires, the short ones first. Fails if memory runs out.
 fn short_first(
     alloc: Global,
     frames: &[Frame],
@@ -77,7 +77,7 @@ fn short_first(
     Ok(ways)
 }
 
-// The title of a wire. Fails where memory runs out.
+// The title of a wire. Fails if memory runs out.
 fn title_of(alloc: Global, states: &[State], wire: &Wire) -> Result<Vec<u8>, AllocError>
     requires { wire.now.from < length states.now }
     ensures value { IfOk result (λ title. title.items ≡ wire_title states.now wire.now) }
@@ -92,7 +92,7 @@ fn title_of(alloc: Global, states: &[State], wire: &Wire) -> Result<Vec<u8>, All
 }
 
 impl Ways {
-    /// The ways between boxes that stand there. The short ones take their lanes first. Fails where memory runs out.
+    /// The ways between boxes that stand there. The short ones take their lanes first. Fails if memory runs out.
     pub fn of(alloc: Global, frames: &[Frame], wires: &[Wire]) -> Result<Ways, AllocError> {
         let mut lanes = Vec::new(alloc);
         for _ in wires {
@@ -120,7 +120,7 @@ impl Ways {
         pixels(self.forth.count()) * 12 + Pixels(14)
     }
 
-    // The way of the wire with this number, beside boxes between these edges. Fails where memory runs out.
+    // The way of the wire with this number, beside boxes between these edges. Fails if memory runs out.
     fn group(
         &self,
         alloc: Global,
@@ -155,7 +155,7 @@ impl Ways {
         Ok(titled(title_of(alloc, states, wire)?, shapes))
     }
 
-    /// Draws the ways of the wires, beside boxes between these edges. Fails where memory runs out.
+    /// Draws the ways of the wires, beside boxes between these edges. Fails if memory runs out.
     pub fn draw(
         &self,
         alloc: Global,

@@ -18,7 +18,7 @@ pub struct Wire {
     pub to: usize,
 }
 
-// Adds the wires of the steps of a state. Fails where memory runs out.
+// Adds the wires of the steps of a state. Fails if memory runs out.
 fn add_steps(
     wires: &mut Vec<Wire>,
     states: &[State],
@@ -40,7 +40,7 @@ fn add_steps(
     Ok(())
 }
 
-/// The wires of these states: one for each of their steps, in order. Fails where memory runs out.
+/// The wires of these states: one for each of their steps, in order. Fails if memory runs out.
 pub fn wires_of(alloc: Global, states: &[State]) -> Result<Vec<Wire>, AllocError>
     requires { AreClosed states.now }
     ensures { IfOk result (λ wires. AreWires states.now wires.items) }

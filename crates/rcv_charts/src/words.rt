@@ -33,7 +33,7 @@ pub fn label(points: &Points, point: Point) -> &[u8] {
     }
 }
 
-/// A point with its label, as it is shown. Fails where memory runs out.
+/// A point with its label, as it is shown. Fails if memory runs out.
 pub fn point_label(alloc: Global, points: &Points, point: Point) -> Result<Vec<u8>, AllocError> {
     let mut words = Writer::new(alloc);
     words.number(point.0)?;
@@ -42,7 +42,7 @@ pub fn point_label(alloc: Global, points: &Points, point: Point) -> Result<Vec<u
     Ok(words.finish())
 }
 
-/// Words, one behind the other. Fails where memory runs out.
+/// Words, one behind the other. Fails if memory runs out.
 pub fn joined(alloc: Global, first: &[u8], second: &[u8]) -> Result<Vec<u8>, AllocError> {
     let mut words = Vec::from_slice(alloc, first)?;
     words.extend_from_slice(second)?;
@@ -63,7 +63,7 @@ impl Notes {
         }
     }
 
-    /// Adds what stands behind a point, in full. Fails where memory runs out.
+    /// Adds what stands behind a point, in full. Fails if memory runs out.
     pub fn add(&mut self, alloc: Global, point: Point, words: &[u8]) -> Result<(), AllocError> {
         let mut line = Writer::new(alloc);
         line.word(b"point ")?;
@@ -76,7 +76,7 @@ impl Notes {
         Ok(())
     }
 
-    /// Adds the label of a point where it is cut elsewhere. Fails where memory runs out.
+    /// Adds the label of a point where it is cut elsewhere. Fails if memory runs out.
     pub fn add_cut(
         &mut self,
         alloc: Global,
@@ -100,7 +100,7 @@ impl Notes {
         pixels(self.lines.len()) * 14
     }
 
-    /// Adds the shapes of the lines, below this. Fails where memory runs out.
+    /// Adds the shapes of the lines, below this. Fails if memory runs out.
     pub fn draw(
         &self,
         alloc: Global,

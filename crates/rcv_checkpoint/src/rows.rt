@@ -31,7 +31,7 @@ pub struct Rows {
 }
 
 impl Rows {
-    /// Room for so many events, whatever they change, and the state before the first. Fails where memory runs out.
+    /// Room for so many events, whatever they change, and the state before the first. Fails if memory runs out.
     pub fn new(alloc: Global, first: State, room: u32) -> Result<Rows, AllocError>
         ensures rows { IfOk result (λ rows. AreRows (lists_of rows)) }
         ensures states { IfOk result (λ rows. states_of (lists_of rows) ≡ first ∷ []) }
@@ -51,7 +51,7 @@ impl Rows {
         Ok(rows)
     }
 
-    /// Room for one event more. Within the room for so many events it is there; else it fails where memory runs out.
+    /// Room for one event more. Within the room for so many events it is there; else it fails if memory runs out.
     pub fn make_room(&mut self, room: u32) -> Result<(), AllocError>
         requires rows { AreRows (lists_of self.old) }
         requires room { HasRoom self.old room }

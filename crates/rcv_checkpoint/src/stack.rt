@@ -36,7 +36,7 @@ impl Model for Stack {
 
 impl Stack {
     /// The stack of this state alone, where `every` is at least 1; with room for so many
-    /// events, any number. Fails where memory runs out.
+    /// events, any number. Fails if memory runs out.
     pub fn new(alloc: Global, first: State, every: u32, room: u32) -> Result<Stack, AllocError>
         requires { 1 ≤ every }
         ensures { IfOk result (λ stack. stack ≡ record { states = first ∷ []; every = every; room = room }) }
@@ -51,7 +51,7 @@ impl Stack {
 
     /// Adds the state after one event more, of at most 2^32 - 1: the event's point, and the variables behind it, which
     /// differ from those before it as `change` says. Within the room of the stack it takes no memory and succeeds. Else
-    /// it fails where memory runs out; then the stack is as before.
+    /// it fails if memory runs out; then the stack is as before.
     #[inline(always)]
     pub fn save(&mut self, k: u16, vars: &Vars, change: Changed) -> Result<(), AllocError>
         requires few { held self.old + 1 < 2 ^ 32 }

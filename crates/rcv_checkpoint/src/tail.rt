@@ -60,7 +60,7 @@ impl Tail {
 
     /// Adds the state after one event more, of at most 2^32 - 1: the event's point, and the variables behind it, which
     /// differ from those before it as `change` says. Within the room it takes no memory and succeeds. Else it fails
-    /// where memory runs out; then all is as before.
+    /// if memory runs out; then all is as before.
     #[inline(always)]
     pub fn save(&mut self, k: u16, vars: &Vars, change: Changed) -> Result<(), AllocError>
         requires few { made self.old + 1 < 2 ^ 32 }

@@ -35,7 +35,7 @@ fn journal(alloc: Global, accepted: &Accepted, value: &Value) -> Result<Journal,
 /// counts. It takes memory linear in the text.
 ///
 /// `Shape` where no journal of the form is read: the text isn't UTF-8 or no JSON, nests deeper than 127 levels, has
-/// another key or lacks one, or a name, a label, a number or an order isn't the form's. `Memory` where memory runs out.
+/// another key or lacks one, or a name, a label, a number or an order isn't the form's. `Memory` if memory runs out.
 pub fn read_json(alloc: Global, text: &[u8], accepted: &Accepted) -> Result<Journal, JsonError>
     ensures ok { IfOk result (λ j. IsReadAs accepted.now.protocol text.now j) }
     ensures shape { IfErr result (λ e. e ≡ Shape → (j : JournalView) → IsReadAs accepted.now.protocol text.now j → ⊥) }

@@ -400,7 +400,7 @@ fn recovered(
     flights(text, accepted, flight)
 }
 
-/// The text goes on with the answer to a line that isn't one of the dialogue. Fails where memory runs out.
+/// The text goes on with the answer to a line that isn't one of the dialogue. Fails if memory runs out.
 pub fn write_unread(text: &mut Writer, error: LineError) -> Result<(), AllocError>
     ensures { OnOk result (text.new ≡ text.old ++ unread_text error) }
 {
@@ -410,7 +410,7 @@ pub fn write_unread(text: &mut Writer, error: LineError) -> Result<(), AllocErro
     }
 }
 
-/// The text goes on with an answer, which names declared roles and points. Fails where memory runs out.
+/// The text goes on with an answer, which names declared roles and points. Fails if memory runs out.
 pub fn write(text: &mut Writer, accepted: &Accepted, answer: &Answer<'_>) -> Result<(), AllocError>
     requires { IsNamed accepted.now answer.now }
     ensures { OnOk result (text.new ≡ text.old ++ answer_text accepted.now answer.now) }

@@ -57,7 +57,7 @@ fn add_stmt(depth: u8, stmt: &Stmt, depths: &mut Vec<u8>) -> Result<(), AllocErr
 }
 
 /// For each call of a module, in text order, in how many inner blocks of its protocol's text it stands, counted up to
-/// 255. Fails where memory runs out.
+/// 255. Fails if memory runs out.
 pub fn call_depths(alloc: Global, whole: &Module) -> Result<Vec<u8>, AllocError>
     ensures { IfOk result (λ depths. depths.items ≡ call_depths (parts_of whole.now)) }
 {

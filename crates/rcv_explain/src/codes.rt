@@ -55,7 +55,7 @@ pub fn explain(code: u8) -> Option<Explanation>
     }
 }
 
-/// The explanation of a code as text; none where there is no such code. Fails where memory runs out.
+/// The explanation of a code as text; none where there is no such code. Fails if memory runs out.
 pub fn explanation_text(alloc: Global, code: u8) -> Result<Option<Vec<u8>>, AllocError>
     ensures { IfOk result (IsToldOf code) }
 {

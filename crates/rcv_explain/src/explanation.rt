@@ -24,7 +24,7 @@ pub struct Explanation {
 }
 
 impl Explanation {
-    /// The explanation as text, with its code in front. Fails where memory runs out.
+    /// The explanation as text, with its code in front. Fails if memory runs out.
     pub fn text(&self, alloc: Global, code: u8) -> Result<Vec<u8>, AllocError>
         ensures { IfOk result (λ text. text.items ≡ spelled code self.now) }
     {

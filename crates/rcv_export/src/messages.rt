@@ -10,7 +10,7 @@ use rcv_tree::name::Names;
 use rcv_tree::statement::{Block, Blocks, Stmt};
 use std::alloc::{AllocError, Global};
 
-/// The sorts of each message of the text, in text order: those of point p stand at p - 1. Fails where memory runs out.
+/// The sorts of each message of the text, in text order: those of point p stand at p - 1. Fails if memory runs out.
 pub fn sorts_of(alloc: Global, accepted: &Accepted) -> Result<Vec<Names>, AllocError>
     ensures { IfOk result (λ sorts. sorts.items ≡ sorts_in (text_of accepted.now)) }
 {
@@ -19,7 +19,7 @@ pub fn sorts_of(alloc: Global, accepted: &Accepted) -> Result<Vec<Names>, AllocE
     Ok(sorts)
 }
 
-// Adds those of a block. Fails where memory runs out.
+// Adds those of a block. Fails if memory runs out.
 #[cycle(sorts)]
 fn add_block(sorts: &mut Vec<Names>, block: &Block) -> Result<(), AllocError>
     ensures { OnOk result (sorts.new.items ≡ sorts.old.items ++ sorts_in (body_of block.now)) }
@@ -30,7 +30,7 @@ fn add_block(sorts: &mut Vec<Names>, block: &Block) -> Result<(), AllocError>
     Ok(())
 }
 
-// Adds those of blocks beside each other. Fails where memory runs out.
+// Adds those of blocks beside each other. Fails if memory runs out.
 #[cycle(sorts)]
 fn add_blocks(sorts: &mut Vec<Names>, blocks: &Blocks) -> Result<(), AllocError>
     ensures { OnOk result (sorts.new.items ≡ sorts.old.items ++ sorts_beside (bodies_of blocks.now)) }
@@ -41,7 +41,7 @@ fn add_blocks(sorts: &mut Vec<Names>, blocks: &Blocks) -> Result<(), AllocError>
     Ok(())
 }
 
-// Adds those of a statement. Fails where memory runs out.
+// Adds those of a statement. Fails if memory runs out.
 #[cycle(sorts)]
 fn add_stmt(all: &mut Vec<Names>, stmt: &Stmt) -> Result<(), AllocError>
     ensures { OnOk result ((rest : Body) → all.new.items ++ sorts_in rest

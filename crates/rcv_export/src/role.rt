@@ -24,7 +24,7 @@ use rcv_tree::role::RoleId;
 use serde_json::{Value, json};
 use std::alloc::{AllocError, Global};
 
-// A place of the role, with what the role does there. Fails where memory runs out.
+// A place of the role, with what the role does there. Fails if memory runs out.
 fn place_value(
     alloc: Global,
     accepted: &Accepted,
@@ -54,7 +54,7 @@ fn place_value(
     }
 }
 
-// Adds a point of the text as a place, where it is the role's. Fails where memory runs out.
+// Adds a point of the text as a place, where it is the role's. Fails if memory runs out.
 fn push_place(
     list: &mut Vec<Value>,
     alloc: Global,
@@ -77,7 +77,7 @@ fn push_place(
     Ok(())
 }
 
-// The places of the role, ascending. Fails where memory runs out.
+// The places of the role, ascending. Fails if memory runs out.
 fn places(
     alloc: Global,
     accepted: &Accepted,
@@ -97,7 +97,7 @@ fn places(
     Ok(list)
 }
 
-// The machine as a value. Fails where memory runs out.
+// The machine as a value. Fails if memory runs out.
 fn machine_value(
     alloc: Global,
     accepted: &Accepted,
@@ -117,7 +117,7 @@ fn machine_value(
 
 /// The machine of a role as JSON, on one line: an object without spaces, its keys in order, with an element for the
 /// start and for each point of the role, ascending, that says what the role does there and what can come next. The
-/// machine is one of the protocol's. Fails where memory runs out.
+/// machine is one of the protocol's. Fails if memory runs out.
 pub fn role_json(alloc: Global, accepted: &Accepted, local: &Local) -> Result<Vec<u8>, AllocError>
     requires { IsLocalOf (net_for accepted.now) local.now.role local.now }
     ensures { IfOk result (λ text. text.items ≡ role_json accepted.now local.now) }

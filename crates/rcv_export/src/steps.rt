@@ -29,7 +29,7 @@ fn sorts_at<'a>(accepted: &Accepted, sorts: &'a [Names], point: Point) -> &'a [N
     sorts[point.0 as usize - 1].as_slice()
 }
 
-// A point that the role sends or receives. Fails where memory runs out.
+// A point that the role sends or receives. Fails if memory runs out.
 fn step_value(
     alloc: Global,
     accepted: &Accepted,
@@ -54,7 +54,7 @@ fn step_value(
     json!(in alloc; {"label": label, "peer": peer, "point": point.0, "sorts": names, "value": value})
 }
 
-/// The points that a role sends or receives, in order. Fails where memory runs out.
+/// The points that a role sends or receives, in order. Fails if memory runs out.
 pub fn steps_value(
     alloc: Global,
     accepted: &Accepted,

@@ -17,7 +17,7 @@ use rcv_tree::role::RoleId;
 use serde_json::{Value, json};
 use std::alloc::{AllocError, Global};
 
-// Another role with the points at which it restarts. Fails where memory runs out.
+// Another role with the points at which it restarts. Fails if memory runs out.
 fn restarts_value(
     alloc: Global,
     accepted: &Accepted,
@@ -38,7 +38,7 @@ fn restarts_value(
     json!(in alloc; {"restarts": restarts, "role": name})
 }
 
-// Adds another role, where it is concerned. Fails where memory runs out.
+// Adds another role, where it is concerned. Fails if memory runs out.
 fn push_concerned(
     list: &mut Vec<Value>,
     alloc: Global,
@@ -61,7 +61,7 @@ fn push_concerned(
     Ok(())
 }
 
-// The concerned roles of a start, in order. Fails where memory runs out.
+// The concerned roles of a start, in order. Fails if memory runs out.
 fn concerned(
     alloc: Global,
     accepted: &Accepted,
@@ -91,7 +91,7 @@ fn concerned(
     Ok(list)
 }
 
-// A start: a role and its point, with the concerned roles. Fails where memory runs out.
+// A start: a role and its point, with the concerned roles. Fails if memory runs out.
 fn failure_value(
     alloc: Global,
     accepted: &Accepted,
@@ -111,7 +111,7 @@ fn failure_value(
     json!(in alloc; {"concerned": concerned, "point": point.0, "role": name})
 }
 
-// Adds a start, where the point is the role's. Fails where memory runs out.
+// Adds a start, where the point is the role's. Fails if memory runs out.
 fn push_start(
     list: &mut Vec<Value>,
     alloc: Global,
@@ -134,7 +134,7 @@ fn push_start(
     Ok(())
 }
 
-// Adds the starts of a role, by its points. Fails where memory runs out.
+// Adds the starts of a role, by its points. Fails if memory runs out.
 fn push_starts(
     list: &mut Vec<Value>,
     alloc: Global,
@@ -154,7 +154,7 @@ fn push_starts(
     Ok(())
 }
 
-// The starts of all roles. Fails where memory runs out.
+// The starts of all roles. Fails if memory runs out.
 fn failures(alloc: Global, accepted: &Accepted, table: &Table) -> Result<Vec<Value>, AllocError>
     requires few { roles_of accepted.now ≤ 8 }
     requires table { IsTable (net_for accepted.now) (roles_of accepted.now) table.now }
@@ -168,7 +168,7 @@ fn failures(alloc: Global, accepted: &Accepted, table: &Table) -> Result<Vec<Val
     Ok(list)
 }
 
-// The table as a value. Fails where memory runs out.
+// The table as a value. Fails if memory runs out.
 fn table_value(alloc: Global, accepted: &Accepted, table: &Table) -> Result<Value, AllocError>
     requires few { roles_of accepted.now ≤ 8 }
     requires table { IsTable (net_for accepted.now) (roles_of accepted.now) table.now }
@@ -184,7 +184,7 @@ fn table_value(alloc: Global, accepted: &Accepted, table: &Table) -> Result<Valu
 /// The recovery table of a protocol as JSON, on one line: an object without spaces, its keys in order, with an element
 /// for each role in order and each of its points, ascending. The element says which roles go back if that role fails
 /// and this point is the first that it lost, and at which points each may restart. The table is the protocol's. Fails
-/// where memory runs out.
+/// if memory runs out.
 pub fn table_json(alloc: Global, accepted: &Accepted, table: &Table) -> Result<Vec<u8>, AllocError>
     requires { IsTable (net_for accepted.now) (roles_of accepted.now) table.now }
     ensures { IfOk result (λ text. text.items ≡ table_json accepted.now table.now) }

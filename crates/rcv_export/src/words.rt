@@ -13,7 +13,7 @@ use serde_json::Value;
 use std::alloc::{AllocError, Global};
 use std::str::from_utf8;
 
-// The ASCII bytes of a name, which are all of a word's. Fails where memory runs out.
+// The ASCII bytes of a name, which are all of a word's. Fails if memory runs out.
 fn ascii_of(alloc: Global, name: &[u8]) -> Result<Vec<u8>, AllocError>
     ensures { IfOk result (λ kept. kept.items ≡ ascii_of name.now) }
 {
@@ -34,7 +34,7 @@ fn text_of(bytes: &[u8]) -> &str
     from_utf8(bytes).unwrap()
 }
 
-/// A name. Fails where memory runs out.
+/// A name. Fails if memory runs out.
 pub fn word_value(alloc: Global, name: &[u8]) -> Result<Value, AllocError>
     ensures { IfOk result (λ value. view value ≡ word_data name.now) }
 {
@@ -42,7 +42,7 @@ pub fn word_value(alloc: Global, name: &[u8]) -> Result<Value, AllocError>
     Value::try_from_str(alloc, text_of(kept.as_slice()))
 }
 
-/// Names, in order. Fails where memory runs out.
+/// Names, in order. Fails if memory runs out.
 pub fn words_value(alloc: Global, names: &[Name]) -> Result<Value, AllocError>
     ensures { IfOk result (λ value. view value ≡ words_data names.now) }
 {
@@ -53,7 +53,7 @@ pub fn words_value(alloc: Global, names: &[Name]) -> Result<Value, AllocError>
     Ok(Value::Array(list))
 }
 
-/// Points, in order. Fails where memory runs out.
+/// Points, in order. Fails if memory runs out.
 pub fn points_value(alloc: Global, points: &[Point]) -> Result<Value, AllocError>
     ensures { IfOk result (λ value. view value ≡ list_of (map count points.now)) }
 {
@@ -74,7 +74,7 @@ fn name_of(roles: &Names, role: RoleId) -> &[u8]
     }
 }
 
-/// The name of a role. Fails where memory runs out.
+/// The name of a role. Fails if memory runs out.
 pub fn role_value(alloc: Global, roles: &Names, role: RoleId) -> Result<Value, AllocError>
     ensures { IfOk result (λ value. view value ≡ word_data (name_of roles.now role)) }
 {

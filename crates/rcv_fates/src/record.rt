@@ -50,7 +50,7 @@ impl<'a> Record<'a> {
         }
     }
 
-    /// The record of a book's journal: what it doesn't keep is undone. Fails where memory runs out.
+    /// The record of a book's journal: what it doesn't keep is undone. Fails if memory runs out.
     pub fn of_book(alloc: Global, book: &'a Book<'_>) -> Result<Record<'a>, AllocError>
         ensures setup { IfOk result (λ made. made.setup ≡ book.now.setup) }
         ensures entries { IfOk result (λ made. made.entries ≡ book.now.entries) }

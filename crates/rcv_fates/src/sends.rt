@@ -17,7 +17,7 @@ pub struct Sent {
 /// For each role its Sends, in order.
 pub type SendLists = Vec<Vec<Sent>>;
 
-/// So many roles without Sends. Fails where memory runs out.
+/// So many roles without Sends. Fails if memory runs out.
 pub fn no_sends(alloc: Global, roles: u8) -> Result<SendLists, AllocError>
     ensures { IfOk result (λ lists. lists_in lists.items ≡ replicate roles []) }
 {
@@ -28,7 +28,7 @@ pub fn no_sends(alloc: Global, roles: u8) -> Result<SendLists, AllocError>
     Ok(lists)
 }
 
-/// Adds a Send of a role. Fails where memory runs out.
+/// Adds a Send of a role. Fails if memory runs out.
 pub fn note(lists: &mut SendLists, role: RoleId, sent: Sent) -> Result<(), AllocError>
     requires { role < length lists.old.items }
     ensures { OnOk result (lists_in lists.new.items ≡ with_sent (lists_in lists.old.items) role sent) }

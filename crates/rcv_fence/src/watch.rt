@@ -120,7 +120,7 @@ fn pair_of(word: u64) -> Option<(RoleId, Point)>
     Some((RoleId(role), Point(point)))
 }
 
-/// Makes a new fence with nothing raised, and so many watches of it, 1 to 9. Fails where memory runs out.
+/// Makes a new fence with nothing raised, and so many watches of it, 1 to 9. Fails if memory runs out.
 pub fn fence(alloc: Global, count: u32) -> Result<Vec<Watch>, AllocError>
     requires { (1 ≤ count) × (count ≤ 9) }
     ensures count { IfOk result (λ watches. vec_len watches ≡ count) }

@@ -101,7 +101,7 @@ fn push_number(text: &mut String, word: &str, number: u64) -> Result<(), AllocEr
 
 /// The summary of the session of the generated input with this number: how many roles and points its protocol has, how
 /// many entries there are of each kind, how many events are kept, and the last line of the journal with its line end.
-/// It fails where memory runs out.
+/// It fails if memory runs out.
 pub fn summary(
     alloc: Global,
     number: u32,

@@ -24,7 +24,7 @@ fn puts(points: &Points, from: RoleId, to: RoleId, event: &Event) -> bool
 }
 
 /// The messages that a role with a log put on its channel to another, in order, but for the first so many. It goes once
-/// over the role's kept events. Fails where memory runs out.
+/// over the role's kept events. Fails if memory runs out.
 pub fn flying(
     alloc: Global,
     ledger: &Ledger,

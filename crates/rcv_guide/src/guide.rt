@@ -78,7 +78,7 @@ impl Model for Guide {
 impl Guide {
     /// A session before its first event, with a plan that was read for the protocol's roles: of its lines those on
     /// hosts count. Reserves room for so many events until what is stable is forgotten; none of it is written before it
-    /// is used. Fails where memory runs out.
+    /// is used. Fails if memory runs out.
     pub fn new(
         alloc: Global,
         accepted: Accepted,
@@ -266,7 +266,7 @@ impl Guide {
     }
 
     /// The messages in flight from one declared role to another, the oldest first. It goes once over the sender's
-    /// remembered events. Fails where memory runs out.
+    /// remembered events. Fails if memory runs out.
     pub fn messages(
         &self,
         alloc: Global,
@@ -615,7 +615,7 @@ impl Guide {
     }
 
     /// Forgets so many more of each role's events: they can't be lost any more. Makes room for so many events in all, at
-    /// least those that are remembered. Fails where memory runs out.
+    /// least those that are remembered. Fails if memory runs out.
     pub fn forget(&mut self, alloc: Global, counts: &[u32; 8], room: u32) -> Result<(), AllocError>
         requires counts { MayForget self.old counts.now }
         requires room { room < 2 ^ 31 }

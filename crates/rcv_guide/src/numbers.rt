@@ -45,7 +45,7 @@ impl Numbers {
     }
 }
 
-/// The numbers of so many roles before their first event. Fails where memory runs out.
+/// The numbers of so many roles before their first event. Fails if memory runs out.
 pub fn fresh(alloc: Global, roles: u8) -> Result<Vec<Numbers>, AllocError>
     ensures { IfOk result (λ numbers. numbers.items ≡ replicate roles at_start) }
 {

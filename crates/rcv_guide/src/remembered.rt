@@ -35,7 +35,7 @@ impl Guide {
     }
 
     /// The Sends that are forgotten, and whose messages weren't received by what is forgotten: role by role, the oldest first.
-    /// Fails where memory runs out.
+    /// Fails if memory runs out.
     pub fn seeds(&self, alloc: Global) -> Result<Vec<Event>, AllocError>
         ensures value { IfOk result (λ seeds. seeds.items ≡ seeds_of self.now) }
         ensures declared { IfOk result (λ seeds. All (IsDeclaredIn self.now) seeds.items) }
@@ -43,7 +43,7 @@ impl Guide {
         seeds_in(alloc, self.numbers.as_slice(), &self.ledger)
     }
 
-    /// All events that are remembered, in the order of their stamps: each Recv behind its Send. Fails where memory runs out.
+    /// All events that are remembered, in the order of their stamps: each Recv behind its Send. Fails if memory runs out.
     pub fn remembered(&self, alloc: Global) -> Result<Vec<Event>, AllocError>
         ensures { IfOk result (λ events. AreRemembered self.now events.items) }
     {
@@ -52,7 +52,7 @@ impl Guide {
     }
 }
 
-// Adds the first events of a role with a log. Fails where memory runs out.
+// Adds the first events of a role with a log. Fails if memory runs out.
 fn add_first(
     events: &mut Vec<Event>,
     ledger: &Ledger,
@@ -69,7 +69,7 @@ fn add_first(
     Ok(())
 }
 
-// The seeds of all roles. Fails where memory runs out.
+// The seeds of all roles. Fails if memory runs out.
 fn seeds_in(alloc: Global, numbers: &[Numbers], ledger: &Ledger) -> Result<Vec<Event>, AllocError>
     requires few { length numbers.now ≤ 8 }
     requires same { length ledger.now.logs ≡ length numbers.now }
@@ -89,7 +89,7 @@ fn seeds_in(alloc: Global, numbers: &[Numbers], ledger: &Ledger) -> Result<Vec<E
     Ok(seeds)
 }
 
-// The events of all roles, of each from a place of its log on, in the order of their stamps. Fails where memory runs out.
+// The events of all roles, of each from a place of its log on, in the order of their stamps. Fails if memory runs out.
 fn merged(alloc: Global, ledger: &Ledger, starts: &[usize; ROLES]) -> Result<Vec<Event>, AllocError>
     requires { AreInOrder ledger.now.logs }
     ensures { IfOk result (λ events. IsMerge ledger.now.logs starts.now events.items) }

@@ -189,7 +189,7 @@ fn first_of(former: Option<Front>, latter: Front) -> Front
     }
 }
 
-/// Adds an event of a role with a log. Within the ledger's room it succeeds. Else it fails where memory runs out.
+/// Adds an event of a role with a log. Within the ledger's room it succeeds. Else it fails if memory runs out.
 pub fn add_event(fresh: &mut Ledger, points: &Points, event: &Event) -> Result<(), AllocError>
     requires role { event.now.role < length fresh.old.logs }
     requires sound { IsSound (net_in points.now) event.now.role event.now }
@@ -217,7 +217,7 @@ pub fn add_event(fresh: &mut Ledger, points: &Points, event: &Event) -> Result<(
     }
 }
 
-// Goes over the next event of a role, and adds it if it stays. Fails where memory runs out.
+// Goes over the next event of a role, and adds it if it stays. Fails if memory runs out.
 fn go_over(
     fresh: &mut Ledger,
     passed: &mut Passed,
@@ -246,7 +246,7 @@ fn go_over(
     Ok(())
 }
 
-/// A ledger without events, for so many roles, with room for so many events. Fails where memory runs out.
+/// A ledger without events, for so many roles, with room for so many events. Fails if memory runs out.
 pub fn empty(alloc: Global, roles: usize, room: u32) -> Result<Ledger, AllocError>
     requires { roles ≤ 8 }
     ensures { IfOk result (λ fresh. IsStart (replicate roles (replicate 16 (pos 0))) (replicate roles 1) room room fresh) }
@@ -268,7 +268,7 @@ pub fn empty(alloc: Global, roles: usize, room: u32) -> Result<Ledger, AllocErro
 
 /// A ledger with room for so many events, which holds what stays where so many of each role are forgotten: the events
 /// behind these, and of these the Sends whose messages aren't received among them. They are added in the order of their
-/// stamps. Fails where memory runs out.
+/// stamps. Fails if memory runs out.
 pub fn renewed(
     alloc: Global,
     ledger: &Ledger,

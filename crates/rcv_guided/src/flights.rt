@@ -11,7 +11,7 @@ use rcv_guide::guide::Guide;
 use rcv_tree::role::{RoleId, RoleSet};
 use std::alloc::{AllocError, Global};
 
-// Adds those from one declared role to another, oldest first. Fails where memory runs out.
+// Adds those from one declared role to another, oldest first. Fails if memory runs out.
 fn add_flights_between(
     alloc: Global,
     guide: &Guide,
@@ -35,7 +35,7 @@ fn add_flights_between(
     Ok(())
 }
 
-/// Adds those to a declared role, by sender. Fails where memory runs out.
+/// Adds those to a declared role, by sender. Fails if memory runs out.
 pub fn add_flights(
     alloc: Global,
     guide: &Guide,
@@ -52,7 +52,7 @@ pub fn add_flights(
     Ok(())
 }
 
-/// Those to the declared roles of a set, by receiver. Fails where memory runs out.
+/// Those to the declared roles of a set, by receiver. Fails if memory runs out.
 pub fn flights(alloc: Global, guide: &Guide, to: RoleSet) -> Result<Vec<Flight>, AllocError>
     ensures value { IfOk result (λ found. found.items
         ≡ flights_to_all guide.now (filter (has_bit to.0) (range_with_len 0 (roles_of guide.now)))) }

@@ -11,7 +11,7 @@ use rcv_text::writer::Writer;
 use std::alloc::{AllocError, Global};
 
 impl GuidedSession {
-    /// Hears a line of the session's protocol, and the text goes on with its answer. Fails where memory runs out for
+    /// Hears a line of the session's protocol, and the text goes on with its answer. Fails if memory runs out for
     /// that: then nothing is said of the session.
     pub fn hear(&mut self, alloc: Global, line: &Line, text: &mut Writer) -> Result<(), AllocError>
         requires { IsLine (accepted_of self.old) line.now }

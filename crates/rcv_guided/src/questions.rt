@@ -30,7 +30,7 @@ fn lines_in(text: &[u8]) -> u64
     text.iter().filter(|byte| **byte == b'\n').count() as u64
 }
 
-// The messages that are on their way to all roles, by receiver. Fails where memory runs out.
+// The messages that are on their way to all roles, by receiver. Fails if memory runs out.
 fn all_flights(alloc: Global, guide: &Guide) -> Result<Vec<Flight>, AllocError>
     ensures value { IfOk result (λ found. found.items ≡ flights_to_all guide.now (range_with_len 0 (roles_of guide.now))) }
     ensures declared { IfOk result (λ found. All (IsFlight guide.now) found.items) }

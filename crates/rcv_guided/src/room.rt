@@ -27,7 +27,7 @@ fn forget_saves(saves: &mut Saves, guide: &Guide)
 }
 
 impl GuidedSession {
-    // Forgets what no failure takes back. Fails where memory runs out.
+    // Forgets what no failure takes back. Fails if memory runs out.
     fn forget_stable(&mut self, alloc: Global) -> Result<(), AllocError>
         ensures same { OnOk result (IsSameSession self.old self.new) }
         ensures history { OnOk result (GoesOnBy self.old [] self.new) }
@@ -54,7 +54,7 @@ impl GuidedSession {
         let _forgotten = self.forget_stable(alloc);
     }
 
-    // Doubles the room. Fails where memory runs out, and above 2^31 events.
+    // Doubles the room. Fails if memory runs out, and above 2^31 events.
     fn grow(&mut self, alloc: Global) -> Result<(), AllocError>
         requires { MayForget self.old.guide (replicate 8 0) }
         ensures grown { OnOk result (HasGrown self.old self.new) }
@@ -73,7 +73,7 @@ impl GuidedSession {
     }
 
     // Makes room for one event, where none is left: what is stable is forgotten, and the room is doubled where it is
-    // half full still. Fails where memory runs out.
+    // half full still. Fails if memory runs out.
     pub(crate) fn make_room(&mut self, alloc: Global) -> Result<(), AllocError>
         ensures judging { IsJudging self.old self.new }
         ensures history { GoesOnBy self.old [] self.new }

@@ -48,7 +48,7 @@ impl Model for GuidedSession {
 
 impl GuidedSession {
     /// A session before its first line, with a plan that was read for the protocol's roles: of its lines those on hosts
-    /// count, and, where roles save by their plan, those that say how often. Fails where memory runs out.
+    /// count, and, where roles save by their plan, those that say how often. Fails if memory runs out.
     pub fn new(
         alloc: Global,
         accepted: Accepted,
@@ -81,7 +81,7 @@ impl GuidedSession {
         self.guide.accepted()
     }
 
-    // The text goes on with an answer. Fails where memory runs out.
+    // The text goes on with an answer. Fails if memory runs out.
     pub(crate) fn say(&self, text: &mut Writer, said: &Answer<'_>) -> Result<(), AllocError>
         requires { IsNamed (accepted_of self.now) said.now }
         ensures { OnOk result (text.new ≡ text.old ++ answer_text (accepted_of self.now) said.now) }
@@ -89,7 +89,7 @@ impl GuidedSession {
         write(text, self.accepted(), said)
     }
 
-    // The text goes on with an answer, or with `memory`, where there was none for it. Fails where memory runs out.
+    // The text goes on with an answer, or with `memory`, where there was none for it. Fails if memory runs out.
     pub(crate) fn say_found(
         &self,
         text: &mut Writer,

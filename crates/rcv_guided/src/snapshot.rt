@@ -67,7 +67,7 @@ impl GuidedSession {
         })
     }
 
-    // Adds where each role stands. Fails where memory runs out, as all that follows.
+    // Adds where each role stands. Fails if memory runs out, as all that follows.
     fn add_roles(&self, lines: &mut Vec<Again>) -> Result<(), AllocError>
         ensures value { OnOk result (lines.new.items ≡ lines.old.items ++ map (role_again self.now) (range_with_len 0 (roles_in self.now))) }
         ensures named { OnOk result (All (NamesInAgain (accepted_of self.now)) lines.old.items

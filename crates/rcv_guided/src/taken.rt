@@ -59,7 +59,7 @@ impl Taken {
     }
 }
 
-/// The roles of the set among so many, with these counts. Fails where memory runs out.
+/// The roles of the set among so many, with these counts. Fails if memory runs out.
 pub fn keeping(
     alloc: Global,
     roles: u8,
@@ -81,7 +81,7 @@ pub fn keeping(
     Ok(kept)
 }
 
-/// The roles of the set, with these counts and incarnations. Fails where memory runs out.
+/// The roles of the set, with these counts and incarnations. Fails if memory runs out.
 pub fn backs(
     alloc: Global,
     set: RoleSet,

@@ -54,7 +54,7 @@ pub fn read_part(alloc: Global, input: &[u8], part: Span) -> Result<Source, Text
     })
 }
 
-// The name of a role, copied. Fails where memory runs out.
+// The name of a role, copied. Fails if memory runs out.
 fn name_of(alloc: Global, names: &Names, role: RoleId) -> Result<Name, AllocError>
     requires { role < length names.now }
     ensures { IfOk result (λ name. slice_get names.now role ≡ Some name) }
@@ -62,7 +62,7 @@ fn name_of(alloc: Global, names: &Names, role: RoleId) -> Result<Name, AllocErro
     Name::of(alloc, names.as_slice()[role.0 as usize].as_slice())
 }
 
-// The refusal by a rule, with the name of its role. Fails where memory runs out.
+// The refusal by a rule, with the name of its role. Fails if memory runs out.
 fn ruled_out(alloc: Global, roles: &Names, refusal: Refusal) -> Result<Refused, AllocError>
     requires { IsRule roles.now refusal }
     ensures { IfOk result (SaysRule roles.now refusal) }

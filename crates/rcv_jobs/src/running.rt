@@ -51,7 +51,7 @@ impl<'a> Model for Running<'a> {
 }
 
 impl<'a> Running<'a> {
-    /// The session before its first entry, with all room that its entries may need. It fails where memory runs out.
+    /// The session before its first entry, with all room that its entries may need. It fails if memory runs out.
     pub fn new(alloc: Global, setup: &'a Setup) -> Result<Running<'a>, AllocError>
         ensures { IfOk result (λ running. running ≡ record { setup = setup.now; entries = [] }) }
     {
@@ -108,7 +108,7 @@ impl<'a> Running<'a> {
         self.skip = self.book.skip_behind(&entry);
     }
 
-    /// Whether a session at its end completed, and its journal, as JSON or as lines. It fails where memory runs out.
+    /// Whether a session at its end completed, and its journal, as JSON or as lines. It fails if memory runs out.
     pub fn write(&self, alloc: Global, json: bool) -> Result<(bool, Vec<u8>), AllocError>
         requires { IsAtEnd self.now }
         ensures text { IfOk result (λ written. IsAloneText self.now.setup json written.0 written.1.items) }
@@ -123,7 +123,7 @@ impl<'a> Running<'a> {
     }
 }
 
-// The journal of a book at its end, as JSON or as lines. It fails where memory runs out.
+// The journal of a book at its end, as JSON or as lines. It fails if memory runs out.
 fn bytes_of(alloc: Global, book: &Book<'_>, json: bool) -> Result<Vec<u8>, AllocError>
     requires { IsAtEnd book.now }
     ensures { IfOk result (λ bytes. IsWritten json book.now.setup book.now.entries bytes.items) }

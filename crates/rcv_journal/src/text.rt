@@ -62,7 +62,7 @@ pub fn write_text<K: Sink>(alloc: Global, book: &Book<'_>, sink: &mut K) -> Resu
 }
 
 /// The text of a final journal: a line for each entry, a line for each role, and a last one that says whether the
-/// session is completed. It fails where memory runs out.
+/// session is completed. It fails if memory runs out.
 pub fn text_of(alloc: Global, book: &Book<'_>) -> Result<Vec<u8>, AllocError>
     requires { IsFinal (rules_of book.now.setup) (state_of book.now) }
     ensures { IfOk result (λ text. IsTextOf book.now.setup book.now.entries text.items) }
@@ -74,7 +74,7 @@ pub fn text_of(alloc: Global, book: &Book<'_>) -> Result<Vec<u8>, AllocError>
     }
 }
 
-/// The last line of a journal's text alone, from what is said of the roles. It fails where memory runs out.
+/// The last line of a journal's text alone, from what is said of the roles. It fails if memory runs out.
 pub fn last_line_of(alloc: Global, setup: &Setup, lines: &[RoleLine]) -> Result<Vec<u8>, AllocError>
     requires { HaveRoles setup.now lines.now }
     ensures { IfOk result (λ line. line.items ≡ last_line setup.now lines.now) }
@@ -88,7 +88,7 @@ pub fn last_line_of(alloc: Global, setup: &Setup, lines: &[RoleLine]) -> Result<
     }
 }
 
-/// The line of an entry alone, whose role and point are declared. It fails where memory runs out.
+/// The line of an entry alone, whose role and point are declared. It fails if memory runs out.
 pub fn entry_line_of(alloc: Global, setup: &Setup, entry: &Entry) -> Result<Vec<u8>, AllocError>
     requires { IsDeclared setup.now entry.now }
     ensures { IfOk result (λ line. line.items ≡ entry_line setup.now entry.now) }
@@ -102,7 +102,7 @@ pub fn entry_line_of(alloc: Global, setup: &Setup, entry: &Entry) -> Result<Vec<
     }
 }
 
-/// The lines behind a journal's entries alone, from what is said of the roles. It fails where memory runs out.
+/// The lines behind a journal's entries alone, from what is said of the roles. It fails if memory runs out.
 pub fn closing_of(alloc: Global, setup: &Setup, lines: &[RoleLine]) -> Result<Vec<u8>, AllocError>
     requires { HaveRoles setup.now lines.now }
     ensures { IfOk result (λ text. text.items ≡ closing_text setup.now lines.now) }

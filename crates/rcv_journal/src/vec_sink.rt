@@ -6,7 +6,7 @@ use rcv_io::{Failed, Sink};
 use std::alloc::{AllocError, Global};
 use std::marker::Model;
 
-/// A sink that keeps all that is written. A call fails where memory runs out.
+/// A sink that keeps all that is written. A call fails if memory runs out.
 #[derive(Drop)]
 pub struct VecSink {
     bytes: Vec<u8>,

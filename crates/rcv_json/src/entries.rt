@@ -116,7 +116,7 @@ fn write_more(
 }
 
 /// The text goes on with the entries, with commas between them. The roles and points that they name are declared, and
-/// the ends of a point make its events. Fails where memory runs out.
+/// the ends of a point make its events. Fails if memory runs out.
 pub fn write_entries(
     alloc: Global,
     text: &mut Writer,

@@ -31,7 +31,7 @@ impl Model for Head {
     ghost view = { λ a. record { send = a.send.items; recv = a.recv.items } };
 }
 
-// How a list of this kind begins where it tells of a declared role at a point of the text. Fails where memory runs out.
+// How a list of this kind begins where it tells of a declared role at a point of the text. Fails if memory runs out.
 fn beginning(
     alloc: Global,
     setup: &Setup,
@@ -58,7 +58,7 @@ fn beginning(
 }
 
 impl Head {
-    // The head of a point of the text. Fails where memory runs out.
+    // The head of a point of the text. Fails if memory runs out.
     fn of(alloc: Global, setup: &Setup, point: Point) -> Result<Head, AllocError>
         requires first { 1 ≤ point }
         requires last { point ≤ (net_for setup.now).count }
@@ -73,7 +73,7 @@ impl Head {
     }
 }
 
-/// The heads of all points, in order. Fails where memory runs out.
+/// The heads of all points, in order. Fails if memory runs out.
 pub fn heads(alloc: Global, setup: &Setup) -> Result<Vec<Head>, AllocError>
     ensures { IfOk result (λ heads. AreHeads setup.now heads.items) }
 {

@@ -46,7 +46,7 @@ fn write_journal(
 
 /// The JSON of a final journal, on one line: an object without spaces with a list for each entry, the names of the
 /// roles at the limit, and a list for each role. It is written entry by entry, and holds no value of the whole. It
-/// fails where memory runs out.
+/// fails if memory runs out.
 pub fn json_of(alloc: Global, book: &Book<'_>) -> Result<Vec<u8>, AllocError>
     requires { IsFinal (rules_of book.now.setup) (state_of book.now) }
     ensures { IfOk result (λ text. IsJsonOf book.now.setup book.now.entries text.items) }

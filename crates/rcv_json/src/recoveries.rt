@@ -12,7 +12,7 @@ use rcv_tree::role::{RoleId, RoleSet};
 use serde_json::{Value, json};
 use std::alloc::{AllocError, Global};
 
-/// A declared role's crash: `["crash",ROLE]`. Fails where memory runs out.
+/// A declared role's crash: `["crash",ROLE]`. Fails if memory runs out.
 pub fn crash_value(alloc: Global, setup: &Setup, role: RoleId) -> Result<Value, AllocError>
     requires { role < roles_of setup.now }
     ensures { IfOk result (λ value. view value ≡ entry_data setup.now (Crash role)) }
@@ -61,7 +61,7 @@ fn cuts(
 }
 
 /// A recovery of a declared role: `["recover",ROLE,UNDONE,[[ROLE,KEPT],..]]`, with a pair for each concerned role.
-/// Fails where memory runs out.
+/// Fails if memory runs out.
 pub fn recovery_value(
     alloc: Global,
     setup: &Setup,

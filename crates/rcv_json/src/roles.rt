@@ -31,7 +31,7 @@ fn line_value(alloc: Global, setup: &Setup, line: &RoleLine) -> Result<Value, Al
     json!(in alloc; [role_text(setup, line.role), line.kept, line.raw, text_of_word(line.word)])
 }
 
-/// The lines of declared roles: `[ROLE,KEPT,RAW,WORD]` for each. Fails where memory runs out.
+/// The lines of declared roles: `[ROLE,KEPT,RAW,WORD]` for each. Fails if memory runs out.
 pub fn lines_value(alloc: Global, setup: &Setup, lines: &[RoleLine]) -> Result<Value, AllocError>
     requires { HaveRoles setup.now lines.now }
     ensures { IfOk result (λ value. view value ≡ list_of (map (line_data setup.now) lines.now)) }
@@ -43,7 +43,7 @@ pub fn lines_value(alloc: Global, setup: &Setup, lines: &[RoleLine]) -> Result<V
     Ok(Value::Array(list))
 }
 
-/// The names of those of these roles that are at the limit. Fails where memory runs out.
+/// The names of those of these roles that are at the limit. Fails if memory runs out.
 pub fn limited_value(alloc: Global, setup: &Setup, lines: &[RoleLine]) -> Result<Value, AllocError>
     requires { HaveRoles setup.now lines.now }
     ensures { IfOk result (λ value. view value ≡ list_of (limited_data setup.now lines.now)) }

@@ -39,7 +39,7 @@ fn first_other(lines: &[RoleLine], found: &[RoleLine]) -> Option<u32>
     None
 }
 
-// Adds the role of a line that says that the role is at the limit. Fails where memory runs out.
+// Adds the role of a line that says that the role is at the limit. Fails if memory runs out.
 fn add_limited(limited: &mut Vec<RoleId>, line: &RoleLine) -> Result<(), AllocError>
     ensures { OnOk result (limited.new.items ≡ limited.old.items ++ limited_in (line.now ∷ [])) }
 {
@@ -51,7 +51,7 @@ fn add_limited(limited: &mut Vec<RoleId>, line: &RoleLine) -> Result<(), AllocEr
     Ok(())
 }
 
-// The roles whose lines say that they are at the limit. Fails where memory runs out.
+// The roles whose lines say that they are at the limit. Fails if memory runs out.
 fn limited_of(alloc: Global, lines: &[RoleLine]) -> Result<Vec<RoleId>, AllocError>
     ensures { IfOk result (λ roles. roles.items ≡ limited_in lines.now) }
 {

@@ -171,7 +171,7 @@ fn cells_at<'a>(
     Ok(cells)
 }
 
-/// The cells of all roles before their first events, at home with the empty book. Fails where memory runs out.
+/// The cells of all roles before their first events, at home with the empty book. Fails if memory runs out.
 pub fn cells<'a>(alloc: Global, setup: &'a Setup) -> Result<Vec<Cell<'a>>, AllocError>
     ensures home { IfOk result (λ cells. AreHome (record { setup = setup.now; entries = [] }) cells.items) }
     ensures bases { IfOk result (λ cells. HaveBases (roles_of setup.now) [] cells.items) }

@@ -77,7 +77,7 @@ fn go_and_return<'a, G: Gate + Sync, R: Threads + Sync>(
 }
 
 /// With the fence lowered, the cells go out on the crew's workers, meet, and come home with their entries in the book.
-/// The answer says how much they moved side by side. Fails where memory runs out: then the book is as it was, and the
+/// The answer says how much they moved side by side. Fails if memory runs out: then the book is as it was, and the
 /// cells aren't at home.
 pub fn make_round<'a, G: Gate + Sync, R: Threads + Sync>(
     crew: &Crew<R, G>,

@@ -133,7 +133,7 @@ fn stage_of(alloc: Global, input: &[u8], by: u32) -> Stage
     }
 }
 
-// The setup of session `by` of the input, which is read. Fails where memory runs out.
+// The setup of session `by` of the input, which is read. Fails if memory runs out.
 fn setup_of(alloc: Global, input: &[u8], by: u32) -> Result<Setup, AllocError>
     requires input { IsShortInput input.now }
     requires few { by ≤ 63 }

@@ -34,7 +34,7 @@ pub fn prepare<'a, R: Threads + Sync>(
     Ok(all)
 }
 
-// The preparations of so many sessions, none of which has begun. Fails where memory runs out.
+// The preparations of so many sessions, none of which has begun. Fails if memory runs out.
 #[tactic(auto, using(crate::proofs::Preparing::one_more))]
 fn unread<'a>(
     alloc: Global,

@@ -5,7 +5,7 @@ ghost use Rattle.rcv_lines.specs.Cutting.{fields_of, texts};
 
 use std::alloc::{AllocError, Global};
 
-// What stands between the spaces of a text. Fails where memory runs out.
+// What stands between the spaces of a text. Fails if memory runs out.
 pub fn fields_of<'a>(alloc: Global, text: &'a [u8]) -> Result<Vec<&'a [u8]>, AllocError>
     ensures { IfOk result (λ fields. texts fields.items ≡ fields_of text.entry.now) }
 {

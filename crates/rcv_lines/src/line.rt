@@ -23,7 +23,7 @@ pub enum Line {
 }
 
 /// What a line of a journal of this protocol says, which is given with its line feed; none where no line of the form
-/// has this text. It fails where memory runs out.
+/// has this text. It fails if memory runs out.
 #[tactic(auto, using(crate::proofs::Texts::other_end, crate::proofs::Texts::no_end))]
 pub fn read_line(
     alloc: Global,

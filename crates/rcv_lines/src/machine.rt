@@ -78,7 +78,7 @@ impl Reading {
     }
 
     /// Reads a line of the journal of a protocol with so many roles, where it may come next; else it answers that it
-    /// didn't. Fails where memory runs out.
+    /// didn't. Fails if memory runs out.
     pub fn take(&mut self, roles: usize, line: Line) -> Result<bool, AllocError>
         ensures { IfOk result (λ taken. Takes roles self.old (view_of line) taken self.new) }
     {

@@ -23,7 +23,7 @@ pub fn role(names: &[Name], field: &[u8]) -> Option<RoleId>
     Some(RoleId(place as u8))
 }
 
-// The roles whose names the fields are. Fails where memory runs out.
+// The roles whose names the fields are. Fails if memory runs out.
 fn roles(alloc: Global, names: &[Name], fields: &[&[u8]]) -> Result<Option<Vec<RoleId>>, AllocError>
     requires { length names.now ≤ 8 }
     ensures declared { IfOk result (λ read. IfSome read (λ roles. HaveNames names.now roles.items)) }
@@ -56,7 +56,7 @@ fn is_ascending(roles: &[RoleId]) -> bool
     true
 }
 
-// The roles whose names the fields are, in order, each once. Fails where memory runs out.
+// The roles whose names the fields are, in order, each once. Fails if memory runs out.
 pub fn roles_in_order(
     alloc: Global,
     names: &[Name],

@@ -88,7 +88,7 @@ fn is_completed(fields: &[&[u8]]) -> bool
     is_same(fields[0], b"completed")
 }
 
-// The roles at the limit that the fields say, at least one. Fails where memory runs out.
+// The roles at the limit that the fields say, at least one. Fails if memory runs out.
 fn limited(
     alloc: Global,
     accepted: &Accepted,

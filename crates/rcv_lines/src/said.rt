@@ -13,7 +13,7 @@ use crate::roles::{end, role_line};
 use rcv_accept::accepted::Accepted;
 use std::alloc::{AllocError, Global};
 
-// What the fields say. Fails where memory runs out.
+// What the fields say. Fails if memory runs out.
 #[tactic(auto, using(crate::proofs::Saying::no_line))]
 pub fn said(
     alloc: Global,

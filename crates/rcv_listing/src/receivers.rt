@@ -86,7 +86,7 @@ fn lines_up_to_next(alloc: Global, input: &[u8], tokens: &[Token]) -> Result<Lin
     Ok(lines)
 }
 
-// Adds the lines of the receivers of the protocol that begins at this token, if one does. Fails where memory runs out.
+// Adds the lines of the receivers of the protocol that begins at this token, if one does. Fails if memory runs out.
 #[tactic(auto, using(crate::proofs::Texts::protocol_begins, crate::proofs::Texts::protocol_goes_on))]
 fn add_lines(
     alloc: Global,
@@ -107,7 +107,7 @@ fn add_lines(
 }
 
 /// For each protocol of a module with these tokens, in text order, the lines of its receivers, in order: one for each of
-/// the points of its text. Fails where memory runs out.
+/// the points of its text. Fails if memory runs out.
 pub fn receiver_lines(
     alloc: Global,
     input: &[u8],

@@ -19,7 +19,7 @@ pub fn is_at_place(code: u8) -> bool
 }
 
 /// The next points of the role at the place where the rule with this code fails, or the point that is wrong. Fails
-/// where memory runs out.
+/// if memory runs out.
 pub fn shown(
     alloc: Global,
     points: &Points,

@@ -21,7 +21,7 @@ pub struct Table<'a> {
     pub lines: &'a [PointLines],
 }
 
-// Writes the lines of calls. Fails where memory runs out.
+// Writes the lines of calls. Fails if memory runs out.
 fn write_calls(text: &mut Writer, lines: &[u32]) -> Result<(), AllocError>
     ensures { OnOk result (text.new ≡ text.old ++ calls_text lines.now) }
 {
@@ -63,7 +63,7 @@ impl Table<'_> {
         }
     }
 
-    // Writes the message of a point. Fails where memory runs out.
+    // Writes the message of a point. Fails if memory runs out.
     fn write_message(&self, text: &mut Writer, point: Point) -> Result<(), AllocError>
         requires first { 1 ≤ point }
         requires last { point ≤ length self.now.points.now.messages }
@@ -81,7 +81,7 @@ impl Table<'_> {
         text.word(self.name(self.points.receiver(point)))
     }
 
-    /// Writes the line of a point, with the lines of its calls. Fails where memory runs out.
+    /// Writes the line of a point, with the lines of its calls. Fails if memory runs out.
     pub fn write_point(&self, text: &mut Writer, point: Point) -> Result<(), AllocError>
         requires first { 1 ≤ point }
         requires last { point ≤ length self.now.points.now.messages }
@@ -93,7 +93,7 @@ impl Table<'_> {
         text.word(b"\n")
     }
 
-    /// Writes the lines of these points. Fails where memory runs out.
+    /// Writes the lines of these points. Fails if memory runs out.
     pub fn write_points(&self, text: &mut Writer, points: &[Point]) -> Result<(), AllocError>
         requires { AreInText (net_in self.now.points.now) points.now }
         ensures { OnOk result (text.new ≡ text.old
@@ -105,7 +105,7 @@ impl Table<'_> {
         Ok(())
     }
 
-    /// Writes the lines of all points. Fails where memory runs out.
+    /// Writes the lines of all points. Fails if memory runs out.
     pub fn write_all(&self, text: &mut Writer) -> Result<(), AllocError>
         ensures { OnOk result (text.new ≡ text.old
             ++ all_text self.now.roles.now (net_in self.now.points.now) self.now.lines.now) }

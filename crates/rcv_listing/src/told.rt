@@ -221,7 +221,7 @@ fn write_told(
 }
 
 /// Writes what a refusal by a rule says: its line, the role and the place with their points, the rule and the repair.
-/// Fails where memory runs out.
+/// Fails if memory runs out.
 pub fn write_refusal(
     alloc: Global,
     text: &mut Writer,

@@ -38,7 +38,7 @@ fn call_lines(alloc: Global, dos: &[u32], calls: &[Called]) -> Result<Lines, All
 }
 
 /// The lines of points that came from there, where the receivers of each protocol stand at these lines, and the words `do`
-/// of the module at those. Fails where memory runs out.
+/// of the module at those. Fails if memory runs out.
 pub fn lines_of_points(
     alloc: Global,
     receivers: &[Lines],

@@ -17,7 +17,7 @@ use crate::texts::{explain_answer, points_answer};
 use crate::told::told_answer;
 use std::alloc::{AllocError, Global};
 
-/// What a command answers to its input. Fails where memory runs out.
+/// What a command answers to its input. Fails if memory runs out.
 pub fn answer(alloc: Global, command: &Command, input: &[u8]) -> Result<Output, AllocError>
     requires within { IsWithin (view_of command.now) }
     requires short { length input.now ≤ most_for (view_of command.now) }

@@ -24,7 +24,7 @@ use rcv_tree::role::RoleId;
 use std::alloc::{AllocError, Global};
 
 /// The picture of the recovery table of the input's protocol, or the input's first refusal. The input has at most
-/// 1,048,576 bytes. Fails where memory runs out.
+/// 1,048,576 bytes. Fails if memory runs out.
 pub fn table_answer(alloc: Global, input: &[u8]) -> Result<Output, AllocError>
     requires { length input.now ≤ 1048576 }
     ensures { IfOk result (λ output. IsChartAnswer DrawTable input.now output.status output.bytes.items) }

@@ -27,7 +27,7 @@ use rcv_replay::cut::{Cut, cut_of};
 use std::alloc::{AllocError, Global};
 
 /// The picture of the journal that stands behind the input's bundle, or why there is none. The input has at most
-/// 134,217,728 bytes. Fails where memory runs out.
+/// 134,217,728 bytes. Fails if memory runs out.
 pub fn journal_answer(alloc: Global, input: &[u8]) -> Result<Output, AllocError>
     requires { length input.now ≤ 134217728 }
     ensures { IfOk result (λ output. IsJournalAnswer input.now output.status output.bytes.items) }

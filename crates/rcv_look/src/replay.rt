@@ -9,7 +9,7 @@ use rcv_diagnosis::diagnosis::{Finding, diagnose};
 use std::alloc::{AllocError, Global};
 
 /// The diagnosis of the journal that stands behind the input's bundle. The input has at most 134,217,728 bytes. Fails
-/// where memory runs out.
+/// if memory runs out.
 pub fn replay_answer(alloc: Global, input: &[u8]) -> Result<Output, AllocError>
     requires { length input.now ≤ 134217728 }
     ensures { IfOk result (λ output. IsReplayAnswer input.now output.status output.bytes.items) }

@@ -18,7 +18,7 @@ use rcv_section::section::{Section, section_of};
 use std::alloc::{AllocError, Global};
 
 /// The picture of the journal of session `number`, from 1 to 64, of those that stand behind the input's bundle, or why
-/// there is none. The input has at most 134,217,728 bytes. Fails where memory runs out.
+/// there is none. The input has at most 134,217,728 bytes. Fails if memory runs out.
 pub fn session_answer(alloc: Global, input: &[u8], number: u32) -> Result<Output, AllocError>
     requires least { 1 ≤ number }
     requires most { number ≤ 64 }

@@ -31,7 +31,7 @@ use rcv_scene::ends::{End, RoleEnd};
 use std::alloc::{AllocError, Global};
 
 /// The picture of the journal that a guide was told, which stands behind the input's bundle, or why there is none. The
-/// input has at most 134,217,728 bytes. Fails where memory runs out.
+/// input has at most 134,217,728 bytes. Fails if memory runs out.
 pub fn told_answer(alloc: Global, input: &[u8]) -> Result<Output, AllocError>
     requires { length input.now ≤ 134217728 }
     ensures { IfOk result (λ output. IsToldAnswer input.now output.status output.bytes.items) }
@@ -81,7 +81,7 @@ fn bundle_answer(
 }
 
 // The guide of the session that a bundle was taken as, with room for so many events. It keeps a protocol of its own, so the
-// bundle is read again. Fails where memory runs out.
+// bundle is read again. Fails if memory runs out.
 fn guide_of(alloc: Global, setup: &Setup, bundle: &[u8], room: u32) -> Result<Guide, AllocError>
     requires bundle { length bundle.now ≤ 1048576 }
     requires taken { IsTaken bundle.now setup.now }

@@ -10,7 +10,7 @@ use rcv_tree::point::PointSet;
 use std::alloc::{AllocError, Global};
 
 /// Makes a channel for messages of these points, with room for so many on their way, 1 to 1,024, and reserves room to
-/// keep `limit` messages at each end, any number, so that no later call takes memory. Fails where memory runs out.
+/// keep `limit` messages at each end, any number, so that no later call takes memory. Fails if memory runs out.
 pub fn channel(
     alloc: Global,
     room: u32,

@@ -195,7 +195,7 @@ fn put_line_of(text: &mut Writer, group: &Group) -> Result<(), AllocError>
     )
 }
 
-/// Puts groups behind the text, each behind a line feed. Fails where memory runs out.
+/// Puts groups behind the text, each behind a line feed. Fails if memory runs out.
 pub fn put_groups(text: &mut Writer, groups: &[Group]) -> Result<(), AllocError>
     ensures { OnOk result (text.new ≡ text.old ++ flat_map group_line groups.now) }
 {

@@ -174,7 +174,7 @@ fn put_shape(text: &mut Writer, shape: &Shape) -> Result<(), AllocError>
     }
 }
 
-/// Puts shapes behind the text, one after another. Fails where memory runs out.
+/// Puts shapes behind the text, one after another. Fails if memory runs out.
 pub fn put_shapes(text: &mut Writer, shapes: &[Shape]) -> Result<(), AllocError>
     ensures { OnOk result (text.new ≡ text.old ++ flat_map shape_text shapes.now) }
 {

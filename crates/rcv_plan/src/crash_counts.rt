@@ -44,7 +44,7 @@ impl CrashCounts {
         }
     }
 
-    /// Lets this role crash at this count. Fails where memory runs out; then it is as before.
+    /// Lets this role crash at this count. Fails if memory runs out; then it is as before.
     pub fn add(&mut self, role: RoleId, number: u32) -> Result<(), AllocError>
         requires { role < 8 }
         ensures ok { OnOk result ((r n : ℕ) → r < 8

@@ -97,7 +97,7 @@ impl<'a> Known<'a> {
         is_among(self.names.as_slice(), name)
     }
 
-    /// Appends a line that is no crash line. Fails where memory runs out.
+    /// Appends a line that is no crash line. Fails if memory runs out.
     pub fn push(&mut self, line: Line) -> Result<(), AllocError>
         requires { (r n : ℕ) → is_crash r n (line_in line) ≡ false }
         ensures { OnOk result (self.new ≡ with_line self.old (line_in line)) }
@@ -106,7 +106,7 @@ impl<'a> Known<'a> {
         Ok(())
     }
 
-    /// Appends a crash line of a role below 8. Fails where memory runs out.
+    /// Appends a crash line of a role below 8. Fails if memory runs out.
     pub fn push_crash(&mut self, role: RoleId, number: u32) -> Result<(), AllocError>
         requires { role < 8 }
         ensures { OnOk result (self.new ≡ with_line self.old (CrashLine role number)) }
@@ -119,7 +119,7 @@ impl<'a> Known<'a> {
         Ok(())
     }
 
-    /// Appends a host with its name. Fails where memory runs out.
+    /// Appends a host with its name. Fails if memory runs out.
     pub fn push_host(
         &mut self,
         alloc: Global,

@@ -26,7 +26,7 @@ pub enum Line {
 }
 
 impl Line {
-    /// The line of a later session, in which crash counts are so many more. Fails where memory runs out.
+    /// The line of a later session, in which crash counts are so many more. Fails if memory runs out.
     pub fn shifted(&self, alloc: Global, by: u32) -> Result<Line, AllocError>
         requires by { by ≤ 63 }
         requires count { HasReadCount (line_in self.now) }
@@ -47,7 +47,7 @@ impl Line {
         })
     }
 
-    /// The same line. Fails where memory runs out.
+    /// The same line. Fails if memory runs out.
     pub fn copied(&self, alloc: Global) -> Result<Line, AllocError>
         ensures { IfOk result (λ line. line_in line ≡ line_in self.now) }
     {

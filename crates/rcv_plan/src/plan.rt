@@ -69,7 +69,7 @@ impl Plan {
     }
 
     /// The plan of a later one of several sessions: with so many added to each crash count. The counts of this one
-    /// are at most 100,000. Fails where memory runs out.
+    /// are at most 100,000. Fails if memory runs out.
     pub fn shifted(&self, alloc: Global, by: u32) -> Result<Plan, AllocError>
         requires by { by ≤ 63 }
         requires counts { All HasReadCount self.now }

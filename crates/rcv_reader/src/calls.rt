@@ -25,7 +25,7 @@ fn is_call(bundle: &[u8], token: &Token) -> bool
     }
 }
 
-/// The lines of the words `do`, in text order. Fails where memory runs out.
+/// The lines of the words `do`, in text order. Fails if memory runs out.
 pub fn lines_of_calls(alloc: Global, bundle: &[u8], list: &[Token]) -> Result<Lines, AllocError>
     requires inside { All (λ t. LiesIn bundle.now t.span) list.now }
     ensures { IfOk result (λ lines. lines ≡ lines_of_calls bundle.now list.now) }

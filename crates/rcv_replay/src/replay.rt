@@ -28,7 +28,7 @@ use std::alloc::{AllocError, Global};
 /// - `WrongEnd` where each may come, but the session isn't at its end or the lines behind them aren't what they leave;
 /// - `Legal` else.
 ///
-/// Whether a channel has room isn't asked. Fails where memory runs out.
+/// Whether a channel has room isn't asked. Fails if memory runs out.
 pub fn replay(alloc: Global, input: &[u8]) -> Result<Replayed, AllocError>
     requires { length input.now ≤ 1048576 }
     ensures { IfOk result (IsReplay input.now) }

@@ -54,7 +54,7 @@ pub fn states_of(alloc: Global, guide: &Guide) -> Result<Vec<RoleState>, AllocEr
     Ok(states)
 }
 
-// The text goes on with the answer to `end`. Fails where memory runs out.
+// The text goes on with the answer to `end`. Fails if memory runs out.
 fn write_end(
     text: &mut Writer,
     accepted: &Accepted,
@@ -72,7 +72,7 @@ fn write_end(
 }
 
 /// What stands behind the entries that a guide was told: a line for each role, in order of declaration, and the line that
-/// says whether all are done. Fails where memory runs out.
+/// says whether all are done. Fails if memory runs out.
 pub fn closing(alloc: Global, guide: &Guide) -> Result<Vec<u8>, AllocError>
     ensures { IfOk result (λ text. (m : Remembered) → IsMemory guide.now m → IsClosing guide.now.protocol m text.items) }
 {

@@ -38,7 +38,7 @@ fn is_undone(stamps: &Stamps, entry: &Entry) -> bool
 }
 
 /// For each entry whether its event's stamp isn't among the stamps of its role, which grow. Where these are the stamps of
-/// the kept events, it says which are undone. Fails where memory runs out.
+/// the kept events, it says which are undone. Fails if memory runs out.
 pub fn undone_of(alloc: Global, stamps: &Stamps, entries: &[Entry]) -> Result<Vec<bool>, AllocError>
     requires declared { (place : ℕ) (e : TheEvent) → IsEventAt entries.now place e → e.role < length stamps.now.items }
     requires sorted { (r : ℕ) → r < length stamps.now.items → IsNonDecreasing (stamps_at (lists_in stamps.now.items) r) }

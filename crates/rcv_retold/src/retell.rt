@@ -39,7 +39,7 @@ impl From<AllocError> for RetellError {
     }
 }
 
-// Follows an entry that was told to a guide. Fails where memory runs out.
+// Follows an entry that was told to a guide. Fails if memory runs out.
 fn follow(stamps: &mut Stamps, guide: &Guide, entry: &Entry) -> Result<(), AllocError>
     requires count { length stamps.old.items ≡ roles_of guide.now }
     requires declared { (e : TheEvent) → IsEventOf entry.now e → e.role < roles_of guide.now }
@@ -89,7 +89,7 @@ fn tell_all(
 
 /// The record of a told journal, of fewer than 2^31 entries, told to a guide of the session with room for them; the guide
 /// has them all then. `Entry`
-/// comes exactly where one of them may not be told as it stands behind those before it. `Memory` where memory runs out.
+/// comes exactly where one of them may not be told as it stands behind those before it. `Memory` if memory runs out.
 pub fn retell<'a>(
     alloc: Global,
     setup: &'a Setup,

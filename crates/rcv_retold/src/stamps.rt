@@ -13,7 +13,7 @@ use std::alloc::{AllocError, Global};
 /// For each role the stamps of its events, in order.
 pub type Stamps = Vec<Vec<u64>>;
 
-/// So many roles without events. Fails where memory runs out.
+/// So many roles without events. Fails if memory runs out.
 pub fn no_stamps(alloc: Global, roles: u8) -> Result<Stamps, AllocError>
     ensures { IfOk result (λ stamps. lists_in stamps.items ≡ replicate roles []) }
 {
@@ -24,7 +24,7 @@ pub fn no_stamps(alloc: Global, roles: u8) -> Result<Stamps, AllocError>
     Ok(stamps)
 }
 
-/// Adds the stamp of a role's event. Fails where memory runs out.
+/// Adds the stamp of a role's event. Fails if memory runs out.
 pub fn note(stamps: &mut Stamps, role: RoleId, stamp: u64) -> Result<(), AllocError>
     requires { role < length stamps.old.items }
     ensures { OnOk result (lists_in stamps.new.items ≡ with_stamp (lists_in stamps.old.items) role stamp) }

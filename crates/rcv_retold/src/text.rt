@@ -55,7 +55,7 @@ fn entry_in(said: &Line) -> Option<Entry>
     }
 }
 
-// The entry that a line says, if it says one. Fails where memory runs out.
+// The entry that a line says, if it says one. Fails if memory runs out.
 fn read_entry(
     alloc: Global,
     accepted: &Accepted,
@@ -75,7 +75,7 @@ fn read_entry(
 }
 
 /// The entries that the first lines of a text say, up to the first line that says none. Whether they may be told isn't
-/// asked. Fails where memory runs out.
+/// asked. Fails if memory runs out.
 pub fn read_front(
     alloc: Global,
     accepted: &Accepted,
@@ -101,7 +101,7 @@ pub fn read_front(
 }
 
 // The first line, counted from 1, at which a text isn't what stands behind the entries that a guide was told; the number
-// of its lines plus 1 where it stops too early; none where it is that. Fails where memory runs out.
+// of its lines plus 1 where it stops too early; none where it is that. Fails if memory runs out.
 fn wrong_closing(alloc: Global, guide: &Guide, text: &[u8]) -> Result<Option<u32>, AllocError>
     requires { length text.now < 2 ^ 31 }
     ensures end { IfOk result (λ wrong. (m : Remembered) → IsMemory guide.now m → IsEnd guide.now.protocol m text.now wrong) }

@@ -11,7 +11,7 @@ use rcv_tree::point::PointSet;
 use std::alloc::{AllocError, Global};
 
 /// Makes a ring with room for so many messages, 1 to 1,024, each of one of these points. Nothing was sent yet. Fails
-/// where memory runs out.
+/// if memory runs out.
 pub fn ring(alloc: Global, room: u32, points: PointSet) -> Result<(Pusher, Puller), AllocError>
     requires { (1 ≤ room) × (room ≤ 1024) }
     ensures pusher { IfOk result (λ ends. ends.0 ≡ fresh ends.0.ring room points.0) }

@@ -57,7 +57,7 @@ impl<'a> Model for Cell<'a> {
 impl<'a> Cell<'a> {
     /// The cell of a declared role at the start of a session, with the ends of new channels: a post to each other role
     /// and an inbox from each, in order of declaration, with the plan's room and limit. It reserves what it may need.
-    /// Fails where memory runs out; no later call takes any.
+    /// Fails if memory runs out; no later call takes any.
     pub fn new(
         alloc: Global,
         setup: &'a Setup,

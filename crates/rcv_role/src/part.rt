@@ -67,7 +67,7 @@ impl<'a> Model for Part<'a> {
 }
 
 impl<'a> Part<'a> {
-    /// A declared role before its first event, with room for all that it may come to. Fails where memory runs out;
+    /// A declared role before its first event, with room for all that it may come to. Fails if memory runs out;
     /// later calls take none.
     pub fn new(alloc: Global, setup: &'a Setup, role: RoleId) -> Result<Part<'a>, AllocError>
         requires { role < roles_of setup.now }

@@ -13,7 +13,7 @@ use rcv_picture::group::Says;
 use std::alloc::{AllocError, Global};
 
 /// The rows of a journal: each entry that is shown has a row, and each longest run of others is one fold.
-/// `shown` has a mark for each entry. Fails where memory runs out.
+/// `shown` has a mark for each entry. Fails if memory runs out.
 pub fn rows(alloc: Global, record: &Record<'_>, shown: &[bool]) -> Result<Vec<Says>, AllocError>
     requires { length shown.now ≡ length record.now.entries }
     ensures rows { IfOk result (λ rows. (kept : List Event) → HasKept record.now kept

@@ -20,7 +20,7 @@ pub struct Told {
 }
 
 /// What a picture of a journal tells. `shown` has a mark for each entry: those that it marks have rows of their
-/// own, and the others are folded. Fails where memory runs out.
+/// own, and the others are folded. Fails if memory runs out.
 pub fn tell(alloc: Global, record: &Record<'_>, shown: &[bool]) -> Result<Told, AllocError>
     requires { length shown.now ≡ length record.now.entries }
     ensures tells { IfOk result (λ told. (kept : List Event) → HasKept record.now kept

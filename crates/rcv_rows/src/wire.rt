@@ -13,7 +13,7 @@ use rcv_picture::group::Says;
 use std::alloc::{AllocError, Global};
 
 /// The messages of a journal that were received, each as an arrow, where its Send or its Recv is shown. `shown`
-/// has a mark for each entry. Fails where memory runs out.
+/// has a mark for each entry. Fails if memory runs out.
 pub fn wires(alloc: Global, record: &Record<'_>, shown: &[bool]) -> Result<Vec<Says>, AllocError>
     requires { length shown.now ≡ length record.now.entries }
     ensures { IfOk result (λ wires. (kept : List Event) → HasKept record.now kept

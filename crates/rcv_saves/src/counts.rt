@@ -13,7 +13,7 @@ pub fn many_up_to(counts: &[u64], count: u64) -> usize
     counts.partition_point(|one| *one <= count)
 }
 
-/// One count more, if it isn't there. Fails where memory runs out; then they are as before.
+/// One count more, if it isn't there. Fails if memory runs out; then they are as before.
 pub fn add(counts: &mut Vec<u64>, count: u64) -> Result<(), AllocError>
     requires { IsAscending counts.old.items }
     ensures ok { OnOk result (counts.new.items ≡ with_count count counts.old.items) }

@@ -29,7 +29,7 @@ impl Model for Saves {
 }
 
 impl Saves {
-    /// The saves of roles with these steps, before any is told. Fails where memory runs out.
+    /// The saves of roles with these steps, before any is told. Fails if memory runs out.
     pub fn new(alloc: Global, steps: &[u32]) -> Result<Saves, AllocError>
         ensures { IfOk result (λ saves. saves ≡ opened steps.now) }
     {

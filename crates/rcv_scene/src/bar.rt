@@ -138,7 +138,7 @@ fn add_shown_parts(shapes: &mut Shapes, layout: &Layout<'_>) -> Result<(), Alloc
     Ok(())
 }
 
-/// The bar; nothing where no entry is folded. Fails where memory runs out.
+/// The bar; nothing where no entry is folded. Fails if memory runs out.
 pub fn bar(layout: &Layout<'_>) -> Result<Vec<Shape>, AllocError> {
     let mut shapes = Shapes::new(layout.alloc);
     if layout.folded {

@@ -99,7 +99,7 @@ pub fn next_at(setup: &Setup, role: RoleId, at: u16) -> Option<&[Point]>
 }
 
 impl<'a> Cast<'a> {
-    /// The cast of a setup. Fails where memory runs out.
+    /// The cast of a setup. Fails if memory runs out.
     pub fn of(alloc: Global, setup: &'a Setup) -> Result<Cast<'a>, AllocError> {
         Ok(Cast {
             name: setup.protocol().name.as_slice(),

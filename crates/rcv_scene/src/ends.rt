@@ -45,7 +45,7 @@ fn end_of(line: &RoleLine) -> RoleEnd
     }
 }
 
-/// What these lines of a journal say. Fails where memory runs out.
+/// What these lines of a journal say. Fails if memory runs out.
 pub fn ends_of(alloc: Global, lines: &[RoleLine]) -> Result<Vec<RoleEnd>, AllocError>
     ensures { IfOk result (λ ends. ends.items ≡ ends_in lines.now) }
 {

@@ -93,7 +93,7 @@ fn add_foot(shapes: &mut Shapes, layout: &Layout<'_>, role: &RoleEnd) -> Result<
     Ok(())
 }
 
-/// The feet of the roles, which ended so. Fails where memory runs out.
+/// The feet of the roles, which ended so. Fails if memory runs out.
 pub fn feet(layout: &Layout<'_>, ends: &[RoleEnd]) -> Result<Vec<Shape>, AllocError>
     ensures { IfOk result (λ shapes. AreFeet (grid_of layout.now) layout.now.end ends.now (seen shapes.items)) }
 {
@@ -104,7 +104,7 @@ pub fn feet(layout: &Layout<'_>, ends: &[RoleEnd]) -> Result<Vec<Shape>, AllocEr
     Ok(shapes.finish())
 }
 
-/// The labels that are shortened, in full, from this height downwards, and where they end. Fails where memory runs out.
+/// The labels that are shortened, in full, from this height downwards, and where they end. Fails if memory runs out.
 pub fn long_labels(layout: &Layout<'_>, top: Pixels) -> Result<(Vec<Shape>, Pixels), AllocError> {
     let mut shapes = Shapes::new(layout.alloc);
     let mut y = top;

@@ -72,7 +72,7 @@ fn add_one(
     Ok(())
 }
 
-/// Adds a group for each of these, in order: each says what it stands for. Fails where memory runs out.
+/// Adds a group for each of these, in order: each says what it stands for. Fails if memory runs out.
 pub fn add_all(
     groups: &mut Vec<Group>,
     alloc: Global,
@@ -90,7 +90,7 @@ pub fn add_all(
     Ok(())
 }
 
-/// Adds a group that says nothing of its own. Fails where memory runs out.
+/// Adds a group that says nothing of its own. Fails if memory runs out.
 pub fn add_silent(
     groups: &mut Vec<Group>,
     title: Vec<u8>,

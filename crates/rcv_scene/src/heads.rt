@@ -39,7 +39,7 @@ fn add_head(shapes: &mut Shapes, layout: &Layout<'_>, role: u8) -> Result<(), Al
     Ok(())
 }
 
-/// The title and the heads. Fails where memory runs out.
+/// The title and the heads. Fails if memory runs out.
 pub fn heads(layout: &Layout<'_>) -> Result<Vec<Shape>, AllocError> {
     let mut shapes = Shapes::new(layout.alloc);
     shapes.words(

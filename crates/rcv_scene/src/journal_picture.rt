@@ -170,7 +170,7 @@ fn planned<'a>(
 
 /// The picture of a journal: what its roles did, from above to below, with an arrow for each of these wires and
 /// a row for each of these entries and folds. `ends` says how the roles ended, and `story` is that of the journal.
-/// Fails where memory runs out.
+/// Fails if memory runs out.
 #[tactic(auto, using(crate::proofs::Telling::from_none, crate::proofs::Telling::titled_from_none, crate::proofs::Planning::on_grid))]
 pub fn journal_picture(
     alloc: Global,

@@ -97,7 +97,7 @@ pub struct Layout<'a> {
     row_of: Vec<u32>,
 }
 
-/// A label with its value, as it stands beside a mark. Fails where memory runs out.
+/// A label with its value, as it stands beside a mark. Fails if memory runs out.
 pub fn label_of(alloc: Global, cast: &Cast<'_>, event: &Event) -> Result<Vec<u8>, AllocError> {
     let message = cast.message(event.point);
     let label = shortened(alloc, message.label, LABEL)?;
@@ -467,7 +467,7 @@ fn end_of(rows: &[Row], top: Pixels) -> Pixels {
     }
 }
 
-/// Where everything of a picture stands that has these rows. Fails where memory runs out.
+/// Where everything of a picture stands that has these rows. Fails if memory runs out.
 pub fn lay_out<'a>(
     alloc: Global,
     cast: Cast<'a>,
@@ -546,7 +546,7 @@ pub fn lay_out<'a>(
 }
 
 impl<'a> Layout<'a> {
-    /// Makes each column so much wider. Fails where memory runs out.
+    /// Makes each column so much wider. Fails if memory runs out.
     pub fn widen(&mut self, more: Pixels) -> Result<(), AllocError>
         ensures { OnOk result (IsLayoutOf self.old.setup.now self.old.says.now self.old.entries.now self.old.undone.items self.old.story.now self.new) }
     {

@@ -167,7 +167,7 @@ fn find_occurring(layout: &Layout<'_>) -> Occurring {
     found
 }
 
-/// The legend, from this height downwards, and where it ends. Fails where memory runs out.
+/// The legend, from this height downwards, and where it ends. Fails if memory runs out.
 pub fn legend(layout: &Layout<'_>, top: Pixels) -> Result<(Vec<Shape>, Pixels), AllocError> {
     let mut shapes = Shapes::new(layout.alloc);
     let occurring = find_occurring(layout);

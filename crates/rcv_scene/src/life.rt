@@ -134,7 +134,7 @@ fn add_line(shapes: &mut Shapes, layout: &Layout<'_>, role: u8) -> Result<(), Al
     shapes.line(place(x, start), place(x, layout.end), look)
 }
 
-/// The lines of all roles. Fails where memory runs out.
+/// The lines of all roles. Fails if memory runs out.
 pub fn lives(layout: &Layout<'_>) -> Result<Vec<Shape>, AllocError> {
     let mut shapes = Shapes::new(layout.alloc);
     for role in 0..layout.roles() {

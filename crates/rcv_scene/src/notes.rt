@@ -37,14 +37,14 @@ fn counted(alloc: Global, number: u32, one: &[u8], many: &[u8]) -> Result<Vec<u8
     text_of(alloc, &[Piece::Number(number), Piece::Word(word)])
 }
 
-/// How many events a Recover undoes. Fails where memory runs out.
+/// How many events a Recover undoes. Fails if memory runs out.
 pub fn undone_text(alloc: Global, undone: u32) -> Result<Vec<u8>, AllocError>
     ensures { IfOk result (λ text. text.items ≡ undone_words undone) }
 {
     counted(alloc, undone, b" event undone", b" events undone")
 }
 
-/// How many entries a fold holds. Fails where memory runs out.
+/// How many entries a fold holds. Fails if memory runs out.
 pub fn entries_text(alloc: Global, first: u32, end: u32) -> Result<Vec<u8>, AllocError>
     ensures { IfOk result (λ text. text.items ≡ entries_words (end - first)) }
 {
@@ -73,7 +73,7 @@ fn crashes_text(alloc: Global, crashes: u32, recoveries: u32) -> Result<Vec<u8>,
     )
 }
 
-/// How many crashes and recoveries a fold holds. Fails where memory runs out.
+/// How many crashes and recoveries a fold holds. Fails if memory runs out.
 pub fn failures_text(alloc: Global, counts: &Counts) -> Result<Vec<u8>, AllocError>
     ensures { IfOk result (λ text. text.items ≡ failure_words counts.now.crashes counts.now.recoveries) }
 {
@@ -108,7 +108,7 @@ fn width_beside(
     Ok(above.max(width_of(below.as_slice(), Letters::Small)))
 }
 
-/// How wide the notes beside these rows are. Fails where memory runs out.
+/// How wide the notes beside these rows are. Fails if memory runs out.
 pub fn width_of_notes(
     alloc: Global,
     cast: &Cast<'_>,

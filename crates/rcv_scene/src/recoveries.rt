@@ -104,7 +104,7 @@ fn add_recovery(
     Ok(())
 }
 
-/// What lies behind the columns at all recoveries that are shown. Fails where memory runs out.
+/// What lies behind the columns at all recoveries that are shown. Fails if memory runs out.
 pub fn zones(layout: &Layout<'_>) -> Result<Vec<Shape>, AllocError> {
     let mut shapes = Shapes::new(layout.alloc);
     for recovery in layout.story.recoveries.iter() {

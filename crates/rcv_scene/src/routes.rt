@@ -245,7 +245,7 @@ fn give_lane(
     Ok(())
 }
 
-/// The ways of the messages of a picture with these wires. Fails where memory runs out.
+/// The ways of the messages of a picture with these wires. Fails if memory runs out.
 pub fn find_routes(
     alloc: Global,
     layout: &Layout<'_>,

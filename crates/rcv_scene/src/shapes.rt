@@ -9,7 +9,7 @@ use rcv_picture::pixels::{At, Pixels};
 use rcv_picture::shape::{Anchor, Shape};
 use std::alloc::{AllocError, Global};
 
-/// Shapes, in order. Each call that adds one fails where memory runs out.
+/// Shapes, in order. Each call that adds one fails if memory runs out.
 #[derive(Drop)]
 pub struct Shapes {
     alloc: Global,

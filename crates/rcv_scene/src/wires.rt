@@ -273,7 +273,7 @@ pub fn wire_shapes(
     shapes_between(layout, send, receive, sent.role.0, got.role.0, lane, undone)
 }
 
-/// What a viewer is told of a wire. Fails where memory runs out.
+/// What a viewer is told of a wire. Fails if memory runs out.
 pub fn wire_title(alloc: Global, send: u32, receive: u32) -> Result<Vec<u8>, AllocError> {
     text_of(
         alloc,
@@ -286,7 +286,7 @@ pub fn wire_title(alloc: Global, send: u32, receive: u32) -> Result<Vec<u8>, All
     )
 }
 
-/// What a viewer is told of a message that isn't received. Fails where memory runs out.
+/// What a viewer is told of a message that isn't received. Fails if memory runs out.
 pub fn loose_title(alloc: Global, route: &Route) -> Result<Vec<u8>, AllocError> {
     let send = Piece::Number(route.send.saturating_add(1));
     match route.fate {
@@ -312,7 +312,7 @@ pub fn loose_title(alloc: Global, route: &Route) -> Result<Vec<u8>, AllocError> 
 }
 
 /// The wire of a message that isn't received: to a cross where it was dropped, which says so where it is the first of its
-/// recovery; to a ring where it waits at the end. Fails where memory runs out.
+/// recovery; to a ring where it waits at the end. Fails if memory runs out.
 pub fn loose_shapes(
     layout: &Layout<'_>,
     route: &Route,

@@ -33,7 +33,7 @@ fn put_piece(text: &mut Writer, piece: &Piece<'_>) -> Result<(), AllocError>
     }
 }
 
-/// The text of these pieces. Fails where memory runs out.
+/// The text of these pieces. Fails if memory runs out.
 pub fn text_of(alloc: Global, pieces: &[Piece<'_>]) -> Result<Vec<u8>, AllocError>
     ensures { IfOk result (λ text. text.items ≡ pieces_text pieces.now) }
 {
@@ -44,7 +44,7 @@ pub fn text_of(alloc: Global, pieces: &[Piece<'_>]) -> Result<Vec<u8>, AllocErro
     Ok(text.finish())
 }
 
-/// A name of at most so many letters as it is; of a longer one its beginning and its end. Fails where memory runs out.
+/// A name of at most so many letters as it is; of a longer one its beginning and its end. Fails if memory runs out.
 pub fn shortened(alloc: Global, name: &[u8], most: usize) -> Result<Vec<u8>, AllocError> {
     if name.len() <= most {
         return Vec::from_slice(alloc, name);
@@ -80,7 +80,7 @@ fn break_at(name: &[u8]) -> usize {
     }
 }
 
-/// The lines of a name, of which nothing is left out. Fails where memory runs out.
+/// The lines of a name, of which nothing is left out. Fails if memory runs out.
 pub fn lines_of_name(alloc: Global, name: &[u8]) -> Result<Vec<&[u8]>, AllocError> {
     let mut lines = Vec::new(alloc);
     let mut rest = name;

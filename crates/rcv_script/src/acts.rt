@@ -46,7 +46,7 @@ impl Model for ActsByPoint {
 }
 
 impl ActsByPoint {
-    /// Those of these lines that are for each point, by its message. Fails where memory runs out.
+    /// Those of these lines that are for each point, by its message. Fails if memory runs out.
     pub fn of(
         alloc: Global,
         lines: &[Line],

@@ -71,7 +71,7 @@ impl Model for Scripts {
 }
 
 impl Scripts {
-    /// The scripts of roles, in order of declaration, for the protocol with these points. Fails where memory runs out.
+    /// The scripts of roles, in order of declaration, for the protocol with these points. Fails if memory runs out.
     pub(crate) fn of(
         alloc: Global,
         roles: Vec<Script>,

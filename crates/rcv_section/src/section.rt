@@ -109,7 +109,7 @@ fn next_heading(text: &[u8]) -> usize
 }
 
 /// The section of a session, counted from 1, in the texts of several, each of which stands behind a line `session I`;
-/// `None` where no line is that of this session. Fails where memory runs out.
+/// `None` where no line is that of this session. Fails if memory runs out.
 pub fn section_of(alloc: Global, number: u32, text: &[u8]) -> Result<Option<Section>, AllocError>
     requires { length text.now < 2 ^ 32 }
     ensures some { IfOk result (λ found. IfSome found (λ section. IsSection number text.now section)) }

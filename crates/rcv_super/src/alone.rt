@@ -52,7 +52,7 @@ pub fn end_of(book: &Book) -> Turn
 }
 
 /// Brings the cells to where the book stands, where it has gone on alone; from then on they choose, and have forgotten
-/// the states before the line. Fails where memory runs out; then the cells are at home nowhere.
+/// the states before the line. Fails if memory runs out; then the cells are at home nowhere.
 pub fn bring_home<'a>(
     alloc: Global,
     book: &mut Book<'a>,

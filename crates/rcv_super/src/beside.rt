@@ -146,7 +146,7 @@ fn hand_in<'a>(
 
 /// With the fence lowered, recovers a crashed role on one thread, while the cells that aren't concerned and aren't
 /// crashed run on the others; where there are none such, no thread is started. The Recover goes into the book, and
-/// behind it the merged entries of those that ran. Fails where memory runs out; then the book is as it was or has the
+/// behind it the merged entries of those that ran. Fails if memory runs out; then the book is as it was or has the
 /// Recover alone, and the cells aren't at home.
 pub fn recover_beside<'a, G: Gate + Sync, R: Threads + Sync>(
     crew: &Crew<R, G>,

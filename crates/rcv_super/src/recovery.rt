@@ -16,7 +16,7 @@ use rcv_tree::role::RoleId;
 use std::alloc::{AllocError, Global};
 
 /// Recovers a crashed role: its Recover goes into the book, and the concerned cells go back to what the book keeps.
-/// Fails where memory runs out; then the book is as it was.
+/// Fails if memory runs out; then the book is as it was.
 pub fn recover_alone<'a>(
     alloc: Global,
     book: &mut Book<'a>,

@@ -25,7 +25,7 @@ use std::alloc::{AllocError, Global};
 use std::thread::Threads;
 
 /// A turn of a crew, behind which the cells are at home, from where they stand. They have forgotten the states before
-/// the line, and no others. Fails where memory runs out: then the cells aren't at home.
+/// the line, and no others. Fails if memory runs out: then the cells aren't at home.
 pub fn go<'a, G: Gate + Sync, R: Threads + Sync>(
     crew: &Crew<R, G>,
     house: &mut House<'a>,

@@ -92,7 +92,7 @@ pub enum SessionError {
 
 impl<'a> Session<'a> {
     /// A session before its first entry: its channels and its cells are made, and one fence, with a watch for each of
-    /// eight workers; and all room that its entries may need is reserved. Fails where memory runs out.
+    /// eight workers; and all room that its entries may need is reserved. Fails if memory runs out.
     pub fn new(alloc: Global, setup: &'a Setup) -> Result<Session<'a>, AllocError>
         ensures { IfOk result (λ session. session ≡ new_session setup.now) }
     {

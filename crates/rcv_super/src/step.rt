@@ -23,7 +23,7 @@ use rcv_tree::role::RoleId;
 use std::alloc::{AllocError, Global};
 
 /// The next step of the one-thread order: the book says which it is, its role's cell makes it, and it goes into the
-/// book. Fails where memory runs out; then the book is as it was.
+/// book. Fails if memory runs out; then the book is as it was.
 pub fn make_step<'a, G: Gate>(
     alloc: Global,
     book: &mut Book<'a>,

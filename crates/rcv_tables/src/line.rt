@@ -86,7 +86,7 @@ fn at_place(points: &Points, place: u16) -> PointSet
 }
 
 impl Line {
-    /// The line of a text. Fails where memory runs out.
+    /// The line of a text. Fails if memory runs out.
     pub fn of(alloc: Global, points: &Points) -> Result<Line, AllocError>
         ensures { IfOk result (λ line. AreOnLine points.now line) }
     {

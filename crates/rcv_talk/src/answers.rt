@@ -41,7 +41,7 @@ fn next_behind(line: &Line) -> Next
     }
 }
 
-/// The answer to a line, which is given without its line feed. Fails where memory runs out for the answer: then nothing is
+/// The answer to a line, which is given without its line feed. Fails if memory runs out for the answer: then nothing is
 /// said of the session.
 pub fn answer_line(
     alloc: Global,

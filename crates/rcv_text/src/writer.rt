@@ -41,7 +41,7 @@ impl Writer {
         })
     }
 
-    /// The text goes on with these bytes. Fails where memory runs out; then the text is as before.
+    /// The text goes on with these bytes. Fails if memory runs out; then the text is as before.
     #[inline(always)]
     pub fn word(&mut self, word: &[u8]) -> Result<(), AllocError>
         ensures ok { OnOk result (self.new ≡ self.old ++ word.now) }
@@ -50,7 +50,7 @@ impl Writer {
         self.text.extend_from_slice(word)
     }
 
-    /// The text goes on with this byte. Fails where memory runs out; then the text is as before.
+    /// The text goes on with this byte. Fails if memory runs out; then the text is as before.
     #[inline(always)]
     pub fn byte(&mut self, byte: u8) -> Result<(), AllocError>
         ensures ok { OnOk result (self.new ≡ self.old ++ byte ∷ []) }
@@ -60,7 +60,7 @@ impl Writer {
         Ok(())
     }
 
-    /// The text goes on with a number in decimal. Fails where memory runs out; then the text is as before.
+    /// The text goes on with a number in decimal. Fails if memory runs out; then the text is as before.
     #[inline(always)]
     pub fn number(&mut self, number: u16) -> Result<(), AllocError>
         ensures ok { OnOk result (self.new ≡ self.old ++ decimal number) }
@@ -70,7 +70,7 @@ impl Writer {
         self.word(digits.format(number).as_bytes())
     }
 
-    /// The text goes on with a large number in decimal. Fails where memory runs out; then the text is as before.
+    /// The text goes on with a large number in decimal. Fails if memory runs out; then the text is as before.
     #[inline(always)]
     pub fn large_number(&mut self, number: u64) -> Result<(), AllocError>
         ensures ok { OnOk result (self.new ≡ self.old ++ decimal number) }
