@@ -9,7 +9,7 @@ mod scan;
 pub mod token;
 
 pub use parts::{Parts, split};
-pub use scan::{line_feeds, tokens};
+pub use scan::{bad_letter, line_feeds, tokens};
 
 /// A part has one list of tokens or one first bad letter: one of both, and never both.
 #[tactic(auto, using(crate::proofs::Once::one_reading))]

@@ -1,10 +1,10 @@
 // The tokens of a part.
 
-ghost use Rattle.std.specs.Prelude.{◌≡◌, ◌+◌, ◌^◌, ◌≤◌, ◌<◌, ◌==◌, ◌++◌, length, count_by, IfOk, IfErr, OnOk};
+ghost use Rattle.std.specs.Prelude.{◌≡◌, ◌+◌, ◌^◌, ◌≤◌, ◌<◌, ◌==◌, ◌++◌, length, count_by, IfOk, IfErr, IfSome, None, OnOk};
 ghost use Rattle.std.specs.Prelude.{MatchResult};
 ghost use Rattle.std.specs.List.{All};
 ghost use Rattle.rcv_lexer.specs.Parts.{LiesIn};
-ghost use Rattle.rcv_lexer.specs.Tokens.{AreTokens, IsRefused, token_at};
+ghost use Rattle.rcv_lexer.specs.Tokens.{AreTokens, HasTokens, IsLetterAt, IsRefused, token_at};
 
 use crate::piece::piece_at;
 use crate::token::{Span, TextError, Token};
@@ -54,4 +54,22 @@ pub fn tokens(alloc: Global, bundle: &[u8], part: Span) -> Result<Vec<Token>, Te
         place = end;
     }
     Ok(list)
+}
+
+/// The place of the byte for which a part is refused with code 10, counted from 0; none if the part has tokens.
+pub fn bad_letter(bundle: &[u8], part: Span) -> Option<usize>
+    requires short { length bundle.now + 1 < 2 ^ 32 }
+    requires inside { LiesIn bundle.now part }
+    ensures place { IfSome result (IsLetterAt bundle.now part) }
+    ensures tokens { result ≡ None → HasTokens bundle.now part }
+    ensures within { IfSome result (λ place. (part.start ≤ place) × (place < part.end)) }
+{
+    let mut place = part.start;
+    while place < part.end {
+        let Some(piece) = piece_at(&bundle[place..part.end]) else {
+            return Some(place);
+        };
+        place += piece.len;
+    }
+    None
 }
