@@ -24,7 +24,7 @@ abbrev pub clock_in_book : BookView → ℕ → ℕ
 clock_in_book book r = slice_index (state_of book).clocks r
 
 -- The cell of role r can go back to what the book keeps of the role: its first events, with its numbers set. The state
--- behind these is held, unless the role stays crashed, and none of those that it goes back to was forgotten.
+-- after these is held, unless the role stays crashed, and none of those that it goes back to was forgotten.
 pub record CanGo (book : BookView) (r : ℕ) (c : CellView) : Type 0 where
   pub setup_is : c.part.setup ≡ book.setup
   pub role_is : c.part.role ≡ r

@@ -38,8 +38,8 @@ pub record CanRewindAt (to from : Option CellView) (s keep drop_from : ℕ) : Ty
   pub pair : (a b : CellView) → from ≡ Some a → to ≡ Some b → CanRewind a b keep drop_from
   pub alone : (b : CellView) → from ≡ None → to ≡ Some b → CanRewindAlone b s keep
 
--- The channel between what stands at two places went back, to so many messages of which so many are received: both its
--- ends, the receiving one alone where no sender stands, and neither where no receiver does.
+-- The channel between what stands at two places went back to so many messages, and so many of these are received: both its
+-- ends; the receiving one alone if no sender stands there; and neither if no receiver does.
 abbrev pub HaveRewoundAt : Option CellView → Option CellView → Option CellView → Option CellView → ℕ → ℕ → ℕ → Type 0
 HaveRewoundAt None to_now from from_now s keep drop_from = (to_now ≡ None) × (from_now ≡ from)
 HaveRewoundAt (Some b) to_now None from_now s keep drop_from =
@@ -47,14 +47,14 @@ HaveRewoundAt (Some b) to_now None from_now s keep drop_from =
 HaveRewoundAt (Some b) to_now (Some a) from_now s keep drop_from =
     (b' : CellView) × (a' : CellView) × (to_now ≡ Some b') × (from_now ≡ Some a') × HaveRewound a a' b b' keep drop_from
 
--- The sender stands at place s behind a rewind of both.
+-- The sender stands at place s after a rewind of both.
 pub record HasSender (half : List (Option CellView)) (s : ℕ) (from to to_now : CellView) (keep drop_from : ℕ)
     : Type 0 where
   pub from_now : CellView
   pub has : Has half s from_now
   pub rewound : HaveRewound from from_now to to_now keep drop_from
 
--- So does the receiver at place t; and behind a rewind of the receiving end alone.
+-- So does the receiver at place t; and after a rewind of the receiving end alone.
 pub record HasBoth (half : List (Option CellView)) (s t : ℕ) (from to : CellView) (keep drop_from : ℕ) : Type 0 where
   pub to_now : CellView
   pub has : Has half t to_now
@@ -117,7 +117,7 @@ pub record AreGoing (book : BookView) (from to : ℕ) (half : List (Option CellV
   pub spared : (r q : ℕ) (c : CellView) → Has half r c → Lacks half q
       → put (net_for book.setup) r q (kept_of book r) ≡ put (net_for book.setup) r q c.part.own.events
 
--- What a cell is behind a rewind of the channel from s to t.
+-- What a cell is after a rewind of the channel from s to t.
 pub record IsStep (book : BookView) (half : List (Option CellView)) (s t keep r : ℕ) (old new : CellView) : Type 0 where
   pub part : new.part ≡ old.part
   pub posts : (q : ℕ) (d : End) → (q ≡ r → ⊥) → (r ≡ s → q ≡ t → ⊥) → end_at new.posts r q d ≡ end_at old.posts r q d
@@ -166,7 +166,7 @@ pub record HasGoneInPlace (book : BookView) (r : ℕ) (old new : CellView) : Typ
   pub posts : new.posts ≡ old.posts
   pub inboxes : new.inboxes ≡ old.inboxes
 
--- The part of the cell at a place went back, if one stands there; and no cell came where none was.
+-- The part of the cell at a place went back, if one stands there; and no place without a cell got one.
 abbrev pub HasGoneAt : BookView → ℕ → Option CellView → Option CellView → Type 0
 HasGoneAt book r None new = new ≡ None
 HasGoneAt book r (Some c) new = (c' : CellView) × (new ≡ Some c') × HasGoneInPlace book r c c'

@@ -14,7 +14,7 @@ use std::alloc::{AllocError, Global};
 /// Cells at the places of their roles. The place of a role whose cell stands in the other half is empty.
 pub type Half<'a> = Vec<Option<Cell<'a>>>;
 
-// Adds a place to both halves, which have room for it, with the cell in the first one where it is concerned, and else
+// Adds a place to both halves, which have room for it, with the cell in the first one if it is concerned, and else
 // in the second.
 fn push_apart<T: Drop>(
     back: &mut Vec<Option<T>>,
@@ -37,8 +37,8 @@ fn push_apart<T: Drop>(
     }
 }
 
-// Moves all cells out of their list into two empty halves, which have room for them. The list keeps its room. Of cells
-// of any type, since of those with a lifetime the prover doesn't know what a drain leaves.
+// Moves all cells out of their list into two empty halves, which have room for them. The list keeps its room. It is for
+// cells of any type, since the prover doesn't know what a drain leaves of those with a lifetime.
 fn part<T: Drop>(
     cells: &mut Vec<T>,
     back: &mut Vec<Option<T>>,
@@ -60,7 +60,7 @@ fn part<T: Drop>(
     }
 }
 
-/// Takes all cells out, of which there are at most eight: the concerned ones into the first half, the others into the
+/// Takes all cells out (there are at most eight): the concerned ones into the first half, the others into the
 /// second. The list keeps its room, so that they can be put back. Fails if memory runs out, before a cell is moved.
 pub fn split<'a>(
     alloc: Global,
@@ -93,7 +93,7 @@ fn move_from<'a>(cells: &mut Vec<Cell<'a>>, half: &mut Half<'a>, place: usize)
     }
 }
 
-/// Puts the cells of both halves back in their order, where no cell stands now, and there is room for them.
+/// Puts the cells of both halves back in their order, into a list without cells that has room for them.
 pub fn unite<'a>(
     cells: &mut Vec<Cell<'a>>,
     back: &mut Half<'a>,

@@ -6,5 +6,5 @@ pub mod halves;
 mod rewinding;
 mod settling;
 
-/// Want of memory, which is the one error of this crate.
+/// Memory ran out: the one error of this crate.
 pub use std::alloc::AllocError as Memory;

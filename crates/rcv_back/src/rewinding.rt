@@ -12,7 +12,7 @@ use rcv_lanes::two::{Together, two_together};
 use rcv_role::cell::Cell;
 use rcv_tree::role::RoleId;
 
-// How far the channel from a role goes back: so many of its messages stay, of which so many are received.
+// How far the channel from a role goes back: so many of its messages stay, and so many of these are received.
 #[derive(Drop)]
 struct Cut {
     from: RoleId,
@@ -28,7 +28,7 @@ impl<'a> Together<Cut> for Option<Cell<'a>> {
     ghost done = { λ cut receiver receiver_now sender sender_now.
         HaveRewoundAt receiver receiver_now sender sender_now cut.from cut.keep cut.drop_from };
 
-    // Where no sender stands, the receiving end goes back alone.
+    // If no sender stands there, the receiving end goes back alone.
     fn act(&mut self, other: &mut Option<Cell<'a>>, with: &Cut) {
         let Some(receiver) = self else {
             return;

@@ -1,4 +1,4 @@
-// The parts of a half's cells go back, whose channels did.
+// The parts of a half's cells go back, once their channels did.
 
 ghost use Rattle.std.specs.Prelude.{◌≡◌, ◌+◌, ◌^◌, ◌<◌, ◌≤◌, true, false, Some, length, take};
 ghost use Rattle.rcv_session.specs.Session.{roles_of};

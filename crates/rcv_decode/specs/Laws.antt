@@ -8,7 +8,7 @@ use Rattle.rcv_form.specs.Form.{IsFormed}
 use Rattle.rcv_form.specs.Json.{formed_data}
 use Rattle.rcv_decode.specs.Reading.{IsReadAs}
 
--- A text is read as one journal at most.
+-- A text is read as at most one journal.
 abbrev pub TextsHaveOneJournal : Type 0
 TextsHaveOneJournal =
     (p : Protocol) (text : List ℕ) (a b : JournalView) → IsAcceptedProtocol p → IsReadAs p text a → IsReadAs p text b → a ≡ b

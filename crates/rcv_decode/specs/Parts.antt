@@ -60,8 +60,8 @@ recovered r = Recover r.role r.cuts.concerned r.cuts.kept r.undone
 abbrev pub later_cuts : SessionView → ℕ → List ℕ → ℕ → List Data
 later_cuts setup concerned kept q = flat_map (cut_data setup concerned kept) (range_with_len q (roles_of setup - q))
 
--- So many pairs were read as the cuts of the roles below q, and whatever recovery all pairs say, the others say its
--- cuts of the roles from q on.
+-- So many pairs were read as the cuts of the roles below q. Whatever recovery all pairs say, the other pairs say its cuts of the roles from
+-- q on.
 pub record HasRead (setup : SessionView) (pairs : List Data) (q read concerned : ℕ) (kept : List ℕ) : Type 0 where
   pub within : read ≤ length pairs
   pub said : take read pairs ≡ cuts_data setup concerned kept q

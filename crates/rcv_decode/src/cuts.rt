@@ -20,7 +20,7 @@ pub(crate) struct Cuts {
 }
 
 impl Cuts {
-    // Reads the next pair, where it is this role's.
+    // Reads the next pair, if it is this role's.
     fn step(&mut self, protocol: &Protocol, role: RoleId, pairs: &[Value])
         requires role { role < length protocol.now.roles }
         requires few { length protocol.now.roles ≤ 8 }
@@ -42,7 +42,7 @@ impl Cuts {
     }
 }
 
-// How many events the role keeps, where the value is its pair.
+// How many events the role keeps, if the value is its pair.
 fn cut(protocol: &Protocol, role: RoleId, pair: &Value) -> Option<u32>
     requires { role < length protocol.now.roles }
     ensures fits { IfSome result (λ n. n < 2 ^ 32) }

@@ -10,7 +10,7 @@ use thiserror::Error;
 /// Why no journal was read of a JSON text.
 #[derive(Clone, Copy, Debug, PartialEq, Eq, Error)]
 pub enum JsonError {
-    /// The text is no JSON, or the value that it is says no journal of the form.
+    /// The text isn't JSON, or its value says no journal of the form.
     #[error("the text isn't of the form")]
     Shape,
     /// No memory was left.

@@ -2,7 +2,7 @@
 
 ghost use Rattle.rcv_decode.specs.Laws.{LinesAreReadBack, TextsHaveOneJournal};
 
-/// A text is read as one journal at most.
+/// A text is read as at most one journal.
 pub fn texts_have_one_journal()
     ensures { TextsHaveOneJournal }
 {}

@@ -12,7 +12,7 @@ use rcv_tree::protocol::Protocol;
 use rcv_tree::role::RoleId;
 use serde_json::Value;
 
-/// The whole number, where the value is one that isn't negative.
+/// The whole number, if the value is one and isn't negative.
 pub(crate) fn count(value: &Value) -> Option<u64>
     ensures some { IfSome result (λ n. view value.now ≡ count n) }
     ensures none { IfNone result ((n : ℕ) → view value.now ≡ count n → ⊥) }
@@ -20,7 +20,7 @@ pub(crate) fn count(value: &Value) -> Option<u64>
     value.as_u64()
 }
 
-/// The whole number of 32 bits, where the value is one.
+/// The whole number of 32 bits, if the value is one.
 pub(crate) fn short_count(value: &Value) -> Option<u32>
     ensures some { IfSome result (λ n. view value.now ≡ count n) }
     ensures none { IfNone result ((n : ℕ) → n < 2 ^ 32 → view value.now ≡ count n → ⊥) }
@@ -28,7 +28,7 @@ pub(crate) fn short_count(value: &Value) -> Option<u32>
     u32::try_from(count(value)?).ok()
 }
 
-/// The signed number, where the value is a whole one of 64 bits.
+/// The signed number, if the value is a whole one of 64 bits.
 pub(crate) fn signed(value: &Value) -> Option<i64>
     ensures some { IfSome result (λ z. view value.now ≡ number (of_integer z)) }
     ensures none { IfNone result ((z : ℤ) → FitsSigned w64 z → view value.now ≡ number (of_integer z) → ⊥) }
@@ -50,7 +50,7 @@ pub(crate) fn is_text(value: &Value, text: &[u8]) -> bool
     }
 }
 
-/// The items, where the value is a list.
+/// The items, if the value is a list.
 pub(crate) fn items(value: &Value) -> Option<&[Value]>
     ensures some { IfSome result (λ list. view value.now ≡ list_of (map view list.now)) }
     ensures none { IfNone result ((list : List Data) → view value.now ≡ list_of list → ⊥) }

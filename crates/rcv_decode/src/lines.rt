@@ -15,7 +15,7 @@ use rcv_tree::protocol::Protocol;
 use rcv_tree::role::RoleId;
 use serde_json::Value;
 
-// How the role ended, where the value is a word for that.
+// How the role ended, if the value is a word for that.
 fn word(value: &Value) -> Option<RoleWord>
     ensures some { IfSome result (λ w. view value.now ≡ string (word_text w)) }
     ensures none { IfNone result ((w : RoleWord) → view value.now ≡ string (word_text w) → ⊥) }
@@ -46,7 +46,7 @@ fn numbers(role: RoleId, kept: &Value, raw: &Value, ended: &Value) -> Option<Rol
     })
 }
 
-// The line of the role, where the value is one.
+// The line of the role, if the value is one.
 pub(crate) fn read_line(protocol: &Protocol, role: RoleId, value: &Value) -> Option<RoleLine>
     requires { role < length protocol.now.roles }
     ensures some { IfSome result (λ line. SaysLine (bare protocol.now) role (view value.now) line) }

@@ -16,7 +16,7 @@ pub(crate) struct JournalMembers<'a> {
     pub(crate) roles: &'a Value,
 }
 
-// The value of the next member, where that has this key.
+// The value of the next member, if that has this key.
 fn next<'a>(members: &mut Iter<'a, String, Value>, key: &[u8]) -> Option<&'a Value>
     ensures some { IfSome result (λ v. members_view members.old
         ≡ member key.now (view v.now) (members_view members.new)) }
@@ -30,7 +30,7 @@ fn next<'a>(members: &mut Iter<'a, String, Value>, key: &[u8]) -> Option<&'a Val
     }
 }
 
-// The values of the members `entries`, `limited` and `roles`, where the value is an object of these alone.
+// The values of the members `entries`, `limited` and `roles`, if the value is an object of these alone.
 pub(crate) fn members(value: &Value) -> Option<JournalMembers<'_>>
     ensures some { IfSome result (λ m. view value.now
         ≡ three_data (view m.entries.now) (view m.limited.now) (view m.roles.now)) }

@@ -30,11 +30,11 @@ fn journal(alloc: Global, accepted: &Accepted, value: &Value) -> Result<Journal,
     })
 }
 
-/// The journal of the form that a JSON text says, of any spacing and any order of its keys: exactly where there is one,
-/// and which. Its whole numbers are those of `serde_json`, so `1.0` is none; of a key that stands twice the last value
-/// counts. It takes memory linear in the text.
+/// The journal of the form that a JSON text says, of any spacing and any order of its keys. It answers a journal
+/// exactly if there is one, and then that one. Its whole numbers are those of `serde_json`, so `1.0` is none. If a key
+/// stands twice, the last value counts. It takes memory linear in the text.
 ///
-/// `Shape` where no journal of the form is read: the text isn't UTF-8 or no JSON, nests deeper than 127 levels, has
+/// `Shape` if no journal of the form is read: the text isn't UTF-8 or isn't JSON, nests deeper than 127 levels, has
 /// another key or lacks one, or a name, a label, a number or an order isn't the form's. `Memory` if memory runs out.
 pub fn read_json(alloc: Global, text: &[u8], accepted: &Accepted) -> Result<Journal, JsonError>
     ensures ok { IfOk result (λ j. IsReadAs accepted.now.protocol text.now j) }

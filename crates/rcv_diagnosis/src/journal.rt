@@ -43,7 +43,7 @@ pub fn of_journal(
     }
 }
 
-// The same where entry `number`, counted from 0, is the first that may not come.
+// The same if entry `number`, counted from 0, is the first that may not come.
 fn of_wrong(
     alloc: Global,
     setup: &Setup,
@@ -67,7 +67,7 @@ fn of_wrong(
     }
 }
 
-// What is told of an entry with this number, counted from 1, behind those of a book.
+// What is told of an entry with this number, counted from 1, after those of a book.
 fn of_entry(
     alloc: Global,
     book: &Book<'_>,
@@ -114,7 +114,7 @@ fn of_legal(
     }
 }
 
-// What is told where the closing lines aren't right.
+// What is told if the closing lines aren't right.
 fn of_end(alloc: Global, book: &Book<'_>) -> Result<Diagnosis, AllocError>
     ensures { IfOk result (λ answer. Says (IsWrongEnd book.now) answer.finding answer.bytes.items) }
 {
@@ -125,7 +125,7 @@ fn of_end(alloc: Global, book: &Book<'_>) -> Result<Diagnosis, AllocError>
     }
 }
 
-// The same where the session isn't over.
+// The same if the session isn't over.
 fn of_unfinished(alloc: Global, book: &Book<'_>) -> Result<Diagnosis, AllocError>
     requires { HasMore book.now }
     ensures { IfOk result (λ answer. Says (IsWrongEnd book.now) answer.finding answer.bytes.items) }
@@ -140,7 +140,7 @@ fn of_unfinished(alloc: Global, book: &Book<'_>) -> Result<Diagnosis, AllocError
     }
 }
 
-// The same where it is.
+// The same if it is.
 fn of_over(alloc: Global, book: &Book<'_>) -> Result<Diagnosis, AllocError>
     requires { IsAtEnd book.now }
     ensures { IfOk result (λ answer. Says (IsWrongEnd book.now) answer.finding answer.bytes.items) }

@@ -18,7 +18,7 @@ use rcv_input::{Input, Refused};
 use rcv_lines::text::{LinesError, read_text};
 use std::alloc::{AllocError, Global};
 
-/// What is found in the text behind so many line feeds.
+/// What is found in the text after so many line feeds.
 pub fn of_session(
     alloc: Global,
     taken: Input,

@@ -54,7 +54,7 @@ end_line setup (r ∷ rest) = codes "limited" ++ flat_map (λ q. codes " " ++ na
 abbrev pub journal_lines : SessionView → JournalView → List (List ℕ)
 journal_lines setup j = map (entry_line setup) j.entries ++ map (role_line setup) j.roles ++ end_line setup j.limited ∷ []
 
--- The lines of a text, each with its line feed; what stands behind the last line feed is a line too.
+-- The lines of a text, each with its line feed; what stands after the last line feed is a line too.
 abbrev pub lines_from : List ℕ → List ℕ → List (List ℕ)
 lines_from [] [] = []
 lines_from (b ∷ begun) [] = (b ∷ begun) ∷ []
@@ -72,8 +72,8 @@ Spells setup text j = IsFormed setup j × (lines_of text ≡ journal_lines setup
 abbrev pub MayBegin : SessionView → List (List ℕ) → Type 0
 MayBegin setup lines = (j : JournalView) × IsFormed setup j × (more : List (List ℕ)) × (journal_lines setup j ≡ lines ++ more)
 
--- Line k, counted from 1, is the first at which the text isn't of the form: no text of the form begins with the first k
--- lines, but one does with those before; behind the last line, where the text stops too early.
+-- Line k, counted from 1, is the first at which the text isn't of the form: no text of the form begins with the first k lines,
+-- but one does with those before. If the text stops too early, k is the line after the last.
 pub record IsFirstWrong (setup : SessionView) (text : List ℕ) (k : ℕ) : Type 0 where
   pub first : 1 ≤ k
   pub before : MayBegin setup (take (k - 1) (lines_of text))

@@ -5,7 +5,7 @@ use Rattle.rcv_tree.specs.declared.protocol.Protocol.{Protocol}
 use Rattle.rcv_session.specs.Session.{SessionView}
 use Rattle.rcv_journal.specs.declared.line.RoleLine.{RoleLine}
 
--- Its entries, the lines of the roles, and the roles that the last line names: none where it says `completed`.
+-- Its entries, the lines of the roles, and the roles that the last line names: none if it says `completed`.
 pub record JournalView : Type 0 where
   pub entries : List Entry
   pub roles : List RoleLine

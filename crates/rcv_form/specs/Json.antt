@@ -34,7 +34,7 @@ event_items setup word e rest =
 abbrev pub event_data : SessionView → List ℕ → Event → List Data → Data
 event_data setup word e rest = list_of (event_items setup word e rest)
 
--- What a recovery says of a role: `[ROLE,KEPT]` where it is concerned, and nothing else; and of the first so many roles.
+-- What a recovery says of a role: `[ROLE,KEPT]` if it is concerned, else nothing; and of the first so many roles.
 abbrev pub cut_data : SessionView → ℕ → List ℕ → ℕ → List Data
 cut_data setup concerned kept q =
     if has_bit concerned q then list_of (role_data setup q ∷ count (slice_index kept q) ∷ []) ∷ [] else []
@@ -55,7 +55,7 @@ entry_data setup (Recover p concerned kept undone) =
 abbrev pub line_data : SessionView → RoleLine → Data
 line_data setup line = list_of (role_data setup line.role ∷ count line.kept ∷ count line.raw ∷ string (word_text line.word) ∷ [])
 
--- The name of a line's role where that is at the limit; and those of all such roles.
+-- The name of a line's role if that is at the limit; and those of all such roles.
 abbrev pub limit_data : SessionView → RoleLine → List Data
 limit_data setup line = if is_limit line.word then role_data setup line.role ∷ [] else []
 

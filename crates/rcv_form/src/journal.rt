@@ -5,8 +5,8 @@ use rcv_tree::entry::Entry;
 use rcv_tree::role::RoleId;
 use std::marker::Model;
 
-/// A journal as it was read: its entries, a line for each role, and the roles that the last line names, which are none
-/// where it says `completed`. It is of the form; whether the entries are legal and the last lines fit them isn't asked.
+/// A journal as it was read: its entries, a line for each role, and the roles that the last line names: none if it says
+/// `completed`. It is of the form; whether the entries are legal and the last lines fit them isn't asked.
 #[derive(Drop)]
 pub struct Journal {
     pub entries: Vec<Entry>,

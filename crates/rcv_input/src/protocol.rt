@@ -84,7 +84,7 @@ pub fn accepted_of(alloc: Global, protocol: Protocol) -> Result<Accepted, InputE
     requires names { HasNames protocol.roles (body_of protocol.body) }
     ensures { MatchResult result (λ a. a.protocol ≡ protocol) (IsRuledOut protocol) }
 {
-    // The protocol is gone where it isn't accepted.
+    // The protocol is gone if it isn't accepted.
     let roles = protocol.roles.share()?;
     match accept(alloc, protocol) {
         Ok(accepted) => Ok(accepted),

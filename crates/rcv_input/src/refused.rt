@@ -49,7 +49,7 @@ impl<T: Drop> From<AllocFailed<T>> for InputError {
     }
 }
 
-/// An error that has a line, where it is a refusal.
+/// An error that has a line, if it is a refusal.
 pub fn at_line(error: TextError) -> InputError
     requires { IsTextError error }
     ensures refused { (code line : ℕ) → error ≡ errors.Refused (Text code line)

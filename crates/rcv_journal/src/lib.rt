@@ -16,7 +16,7 @@ mod vec_sink;
 
 pub use fault::TextError;
 
-/// Want of memory, where nothing else can fail.
+/// Memory ran out: the error if nothing else can fail.
 pub use std::alloc::AllocError as Memory;
 
 /// Each role and each point in a legal journal of an accepted protocol has a name, and its events are made by the ends
@@ -30,7 +30,7 @@ pub fn journals_have_one_text()
     ensures { JournalsHaveOneText }
 {}
 
-/// The last line is `completed` exactly where all roles are done.
+/// The last line is `completed` exactly if all roles are done.
 pub fn completed_is_written()
     ensures { CompletedIsWritten }
 {}

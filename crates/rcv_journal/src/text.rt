@@ -23,16 +23,16 @@ use rcv_page::Page;
 use rcv_tree::entry::Entry;
 use std::alloc::{AllocError, Global};
 
-// The line of an entry has about so many bytes at most, where names are short.
+// The line of an entry has about so many bytes at most, if names are short.
 const LINE: usize = 48;
 
-// The last line has about so many bytes at most, where names are short.
+// The last line has about so many bytes at most, if names are short.
 const LAST: usize = 64;
 
 /// Writes the text of a final journal, page by page: a line for each entry, a line for each role, and a last one that
 /// says whether the session is completed.
 ///
-/// `WriteFault` comes exactly where a call of the sink failed: a beginning of the text was written then, and not all of
+/// `WriteFault` comes exactly if a call of the sink failed: a beginning of the text was written then, and not all of
 /// it. `Memory` comes only before the first call of the sink, so what is told of it is as before.
 pub fn write_text<K: Sink>(alloc: Global, book: &Book<'_>, sink: &mut K) -> Result<(), TextError>
     requires { IsFinal (rules_of book.now.setup) (state_of book.now) }
@@ -102,7 +102,7 @@ pub fn entry_line_of(alloc: Global, setup: &Setup, entry: &Entry) -> Result<Vec<
     }
 }
 
-/// The lines behind a journal's entries alone, from what is said of the roles. It fails if memory runs out.
+/// The lines after a journal's entries alone, from what is said of the roles. It fails if memory runs out.
 pub fn closing_of(alloc: Global, setup: &Setup, lines: &[RoleLine]) -> Result<Vec<u8>, AllocError>
     requires { HaveRoles setup.now lines.now }
     ensures { IfOk result (λ text. text.items ≡ closing_text setup.now lines.now) }

@@ -19,7 +19,7 @@ use rcv_text::writer::Writer;
 use rcv_tree::entry::Entry;
 use std::alloc::{AllocError, Global};
 
-// An entry has about so many bytes at most, where names are short.
+// An entry has about so many bytes at most, if names are short.
 const ENTRY: usize = 56;
 
 // The JSON of entries and of what is said of the roles at the end, written piece by piece.

@@ -33,7 +33,7 @@ fn all_same(roles: &[Role<'_>], others: &[Role<'_>]) -> bool {
     true
 }
 
-// What a journal keeps of each role: the events of its lines but those that its recoveries take out.
+// What a journal keeps of each role: the events of its lines, except for those that its recoveries take out.
 fn kept<'a>(alloc: Global, journal: &'a str) -> Result<Vec<Role<'a>>, AllocError> {
     let mut roles = declared(alloc, journal)?;
     for line in journal.lines() {
@@ -74,7 +74,7 @@ fn add<'a>(roles: &mut Vec<Role<'a>>, event: &'a str) -> Result<(), AllocError> 
     Ok(())
 }
 
-// Takes out what a recovery undoes: behind each concerned role's name stands how many events it keeps.
+// Takes out what a recovery undoes: after each concerned role's name stands how many events it keeps.
 fn cut(roles: &mut Vec<Role<'_>>, counts: &str) {
     for role in roles.as_mut_slice() {
         if let Some(count) = number_behind(counts, role.name) {
@@ -83,7 +83,7 @@ fn cut(roles: &mut Vec<Role<'_>>, counts: &str) {
     }
 }
 
-// The number behind this word.
+// The number after this word.
 fn number_behind(text: &str, word: &str) -> Option<usize> {
     let mut words = text.split(' ');
     words.find(|other| *other == word)?;

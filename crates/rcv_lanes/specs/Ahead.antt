@@ -1,4 +1,4 @@
--- Cells whose logs are to come into their book: what they have made, and the book hasn't yet.
+-- Cells whose logs will come into their book: what they have made, and the book doesn't have yet.
 use Rattle.std.specs.Prelude.{◌≡◌, ◌<◌, List, [], ◌∷◌, ◌++◌, length, map}
 use Rattle.rcv_tree.specs.declared.entry.Entry.{Entry}
 use Rattle.rcv_tree.specs.declared.entry.Entry.TheVariants.{Send, Recv, Crash, Recover}
@@ -21,12 +21,12 @@ abbrev pub HaveNoRecover : List Entry → Type 0
 HaveNoRecover [] = Unit {0}
 HaveNoRecover (e ∷ entries) = IsNoRecover e × HaveNoRecover entries
 
--- None of the entries is a Recover, and behind them the cells are at home, with cleared logs.
+-- None of the entries is a Recover, and after them the cells are at home, with cleared logs.
 pub record BringHome (book : BookView) (merged : List Entry) (cells : List CellView) : Type 0 where
   pub no_recover : HaveNoRecover merged
   pub home : AreHome (with_more book merged) (map without_log cells)
 
--- The cell's events go on with this one behind those that the book has of its role.
+-- The cell's events go on with this one, after those that the book has of its role.
 pub record IsAheadBy (book : BookView) (e : Event) (c : CellView) : Type 0 where
   pub setup_is : c.part.setup ≡ book.setup
   pub role_is : c.part.role ≡ e.role
@@ -38,7 +38,7 @@ pub record IsNextOfCell (book : BookView) (cells : List CellView) (e : Event) : 
   pub there : e.role < length cells
   pub ahead : (d : CellView) → IsAheadBy book e (cell_at cells e.role d)
 
--- The same of an entry's event; of one without an event nothing is said.
+-- The same of an entry's event. It says nothing of an entry without an event.
 abbrev pub IsNextOfCells : BookView → List CellView → Entry → Type 0
 IsNextOfCells book cells (Send e) = IsNextOfCell book cells e
 IsNextOfCells book cells (Recv e) = IsNextOfCell book cells e

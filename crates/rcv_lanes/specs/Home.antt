@@ -14,7 +14,7 @@ use Rattle.rcv_role.specs.Part.{HasNoStrangers}
 use Rattle.rcv_role.specs.Ends.{end_at}
 use Rattle.rcv_role.specs.Cell.{CellView, IsSettled, Goes, HasMet, HaveMet}
 
--- The cell of a role, which stand in order of declaration.
+-- The cell of a role. Cells stand in order of declaration.
 abbrev pub cell_at : List CellView → ℕ → CellView → CellView
 cell_at cells r d = slice_index_or cells r d
 
@@ -30,9 +30,8 @@ AreBegun roles cells =
     (s r : ℕ) (d : CellView) (e : End) → s < roles → r < roles → (s ≡ r → ⊥)
     → Begins (end_at (cell_at cells r d).inboxes r s e).list (end_at (cell_at cells s d).posts s r e).list
 
--- The cell of role r: its log is one of the role at this state, and behind the log the state has of the role, its kept
--- events, raw count, crashes, whether it is crashed, attempt and clock, what the cell has. Its ends hold what its
--- events say.
+-- The cell of role r: its log is one of the role at this state. After the log, the state has of the role what the cell has: its kept
+-- events, raw count, crashes, whether it is crashed, attempt and clock. The cell's ends hold what its events say.
 pub record IsOutAt (setup : SessionView) (s : State) (r : ℕ) (c : CellView) : Type 0 where
   pub setup_is : c.part.setup ≡ setup
   pub role_is : c.part.role ≡ r
@@ -66,11 +65,11 @@ abbrev pub AllGo : List CellView → List CellView → Type 0
 AllGo old new =
     (length new ≡ length old) × ((r : ℕ) (d : CellView) → r < length old → Goes (cell_at old r d) (cell_at new r d))
 
--- Each tells what it told, but for what its ends know of the others.
+-- Each tells what it told, except for what its ends know of the others.
 abbrev pub AllMet : List CellView → List CellView → Type 0
 AllMet old new = (length new ≡ length old) × ((r : ℕ) (d : CellView) → HasMet (cell_at old r d) (cell_at new r d))
 
--- The first cells, so many, have forgotten the states before these counts; a list that ends before one says 0 of it.
+-- So many of the first cells have forgotten the states before these counts. If the list of counts ends before a cell, its count is 0.
 abbrev pub HaveBases : ℕ → List ℕ → List CellView → Type 0
 HaveBases roles line cells = (r : ℕ) (d : CellView) → r < roles → (cell_at cells r d).part.base ≡ slice_index line r
 

@@ -28,7 +28,7 @@ pub struct House<'a> {
     pub watches: Vec<Watch>,
     /// The merged entries of a round. The list is kept, so that no round takes fresh pages for it.
     pub merged: Vec<Entry>,
-    /// Whether scripts are dear: then the book takes the variables of the cells in place of computing them once more.
+    /// Whether scripts are dear: then the book takes the variables of the cells instead of computing them again.
     pub dear: bool,
 }
 
@@ -38,13 +38,13 @@ pub struct Crew<'c, R, G> {
     pub rt: &'c R,
     pub alloc: Global,
     pub workers: usize,
-    /// About how many steps a cell makes in one round: one that has made so many is run no more in it.
+    /// About how many steps a cell makes in one round: one that has made so many doesn't run again in it.
     pub steps: u32,
     pub gate: &'c G,
 }
 
 impl<'a> House<'a> {
-    /// An empty book, the cells of all roles at home with it, and one fence with nobody's failure raised. Fails where
+    /// An empty book, the cells of all roles at home with it, and one fence with nobody's failure raised. Fails if
     /// memory runs out.
     pub fn new(alloc: Global, setup: &'a Setup, dear: bool) -> Result<House<'a>, AllocError>
         ensures book { IfOk result (λ house. house.book ≡ record { setup = setup.now; entries = [] }) }

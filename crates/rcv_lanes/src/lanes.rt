@@ -15,14 +15,14 @@ use rcv_role::cell::Cell;
 use rcv_role::poll::Stop;
 use std::thread::Threads;
 
-// How many steps a cell makes in one round at most, so that the fence and the other roles are heard of in between.
+// How many steps a cell makes in one round at most, so that it hears of the fence and the other roles in between.
 const ROUND_STEPS: usize = 1_024;
 
 // How many steps a cell makes in one run at most: the others of its worker wait meanwhile.
 const RUN_STEPS: u32 = 2;
 
-/// Runs a cell for a few steps, unless it is crashed or has made as many as it may in one round. It is over, too, where
-/// it has then made at least so many steps in this round.
+/// Runs a cell for a few steps, unless it is crashed or has made as many as it may in one round. It is over, too, if it
+/// has then made at least so many steps in this round.
 pub fn run_cell<'a, G: Gate>(cell: &mut Cell<'a>, watch: &mut Watch, gate: &G, steps: u32) -> Pace
     requires { IsReady cell.old }
     ensures ready { IsReady cell.new }
@@ -117,9 +117,9 @@ impl<'a, 'c, R, G: Gate> Place<Watch, Crew<'c, R, G>> for Option<Cell<'a>> {
     ghost carries = { λ watch other old new same ran. subst (λ f. RanAt f old new) same ran };
 }
 
-/// Behind the lowering of the fence by the session's watch, runs each cell that isn't crashed, again and again, until it
-/// has made as many steps as it shall in one round or nobody can go on, by as many threads as there are watches, from 1 to
-/// 8, and joins these. It takes no memory.
+/// The session's watch has lowered the fence. Runs each cell that isn't crashed, again and again, until it has made as
+/// many steps as it shall in one round or nobody can go on. It uses as many threads as there are watches, from 1 to 8,
+/// and joins these. It takes no memory.
 pub fn round<'a, G: Gate + Sync, R: Threads + Sync>(
     crew: &Crew<R, G>,
     lanes: &mut [Cell<'a>],

@@ -10,5 +10,5 @@ pub mod push;
 pub mod round;
 pub mod two;
 
-/// Want of memory, which is the one error of this crate.
+/// Memory ran out. This is the one error of this crate.
 pub use std::alloc::AllocError as Memory;

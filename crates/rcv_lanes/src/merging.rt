@@ -10,7 +10,7 @@ use rcv_role::cell::Cell;
 use rcv_tree::entry::{Entry, Timed};
 use std::alloc::AllocError;
 
-/// Puts the merged entries of the logs of these cells, at most eight, into a list, in place of what is in it. Fails where
+/// Puts the merged entries of the logs of these cells, at most eight, into a list, instead of what is in it. Fails if
 /// memory runs out.
 pub fn merge_logs(lanes: &[Cell], merged: &mut Vec<Entry>) -> Result<(), AllocError>
     requires few { length lanes.now ≤ 8 }

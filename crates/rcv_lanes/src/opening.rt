@@ -62,7 +62,7 @@ fn goes(setup: &Setup, point: Point, from: RoleId, to: RoleId) -> bool
     setup.receiver(point) == to
 }
 
-// Adds the point behind so many of the text, if it goes from one role to another.
+// Adds the point after so many of the text, if it goes from one role to another.
 fn add_point(
     setup: &Setup,
     points: &mut Vec<Point>,

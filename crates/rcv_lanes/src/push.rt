@@ -14,9 +14,9 @@ use rcv_tree::entry::Entry;
 use rcv_tree::event::Event;
 use rcv_tree::variables::Vars;
 
-/// Adds these entries, which bring the cells home. The book has room for all that may come. Where scripts are dear, it
-/// takes the variables behind an event from the cell of the event's role, if that holds them, in place of computing
-/// them once more.
+/// Adds these entries, which bring the cells home. The book has room for all that may come. If scripts are dear, it
+/// takes the variables after an event from the cell of the event's role, if that holds them, instead of computing them
+/// again.
 pub fn push_all(book: &mut Book, entries: &[Entry], lanes: &[Cell], dear: bool)
     requires legal { IsLegalFrom (rules_of book.old.setup) (state_of book.old) entries.now }
     requires home { BringHome book.old entries.now lanes.now }
@@ -66,7 +66,7 @@ fn push_event(book: &mut Book, event: &Event, entry: Entry, lanes: &[Cell])
     let _reserved = book.push_event(event, &vars);
 }
 
-// The variables behind an event, if the cell of its role holds them.
+// The variables after an event, if the cell of its role holds them.
 fn vars_behind(book: &Book, event: &Event, lanes: &[Cell]) -> Option<Vars>
     requires { IsNextOfCell book.now lanes.now event.now }
     ensures { IfSome result (λ vars. vars ≡ vars_behind_in book.now event.now) }

@@ -4,8 +4,8 @@ ghost use Rattle.std.specs.Prelude.{◌≡◌, ◌<◌, ℕ, length, slice_index
 
 /// What does something with another one of its kind, by what the caller lends.
 ///
-/// A caller of a function that gives two `&mut`s learns nothing of them where their type names a lifetime; so those of
-/// a list are handed to one another in a generic function.
+/// If a function gives two `&mut`s whose type names a lifetime, its caller learns nothing of them. So a generic
+/// function hands those of a list to one another.
 pub trait Together<C> {
     /// It may do so with the other.
     ghost can: { C → Self → Self → Type 0 };

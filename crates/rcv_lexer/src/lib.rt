@@ -11,13 +11,13 @@ pub mod token;
 pub use parts::{Parts, split};
 pub use scan::{line_feeds, tokens};
 
-/// A part has one list of tokens or one first bad letter: one of both, and never both.
+/// A part has one list of tokens or one first bad letter: one of the two, and never both.
 #[tactic(auto, using(crate::proofs::Once::one_reading))]
 pub fn part_has_one_reading()
     ensures { PartHasOneReading }
 {}
 
-/// The bytes of each word are a letter, and letters and digits behind it, at most 64; those of a number are digits; a
+/// The bytes of each word are a letter, and letters and digits after it, at most 64; those of a number are digits; a
 /// text has between its quotes at most 64 bytes, and no quote and no line feed among them.
 #[tactic(auto, using(crate::proofs::TokenBytes::words_are_words))]
 pub fn words_are_words()

@@ -10,7 +10,7 @@ use std::marker::Model;
 use std::mem::size_of;
 use thiserror::Error;
 
-/// A stretch of the bundle: the place of its first byte, and the place behind its last one. Places are counted from 0.
+/// A stretch of the bundle: the place of its first byte, and the place after its last one. Places are counted from 0.
 #[derive(Clone, Copy, Debug, PartialEq, Eq)]
 pub struct Span {
     pub start: usize,

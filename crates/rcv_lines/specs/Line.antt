@@ -6,7 +6,7 @@ use Rattle.rcv_journal.specs.declared.line.RoleLine.{RoleLine}
 use Rattle.rcv_journal.specs.JournalText.{entry_line, role_line}
 use Rattle.rcv_form.specs.Form.{IsFormedEntry, end_line}
 
--- An entry, how a role ended, or how the session ended: the roles at the limit, none where it is completed.
+-- An entry, how a role ended, or how the session ended: the roles at the limit, or none if it is completed.
 pub data LineView : Type 0 where
   EntryLine : (entry : Entry) → LineView
   RoleLineOf : (line : RoleLine) → LineView

@@ -111,8 +111,8 @@ fn limited(
     roles_in_order(alloc, accepted.protocol().roles.as_slice(), rest)
 }
 
-// The roles at the limit that the fields of the last line say; none where the session is completed. Fails where memory
-// runs out.
+// The roles at the limit that the fields of the last line say; none if the session is completed. Fails if memory runs
+// out.
 #[tactic(auto, using(crate::proofs::Ends::completed_said, crate::proofs::Ends::limited_said, crate::proofs::Ends::neither_said))]
 pub fn end(
     alloc: Global,

@@ -17,7 +17,7 @@ WordsAreOneCommand = (words : List Text) (a b : CommandView) → IsCommand words
 abbrev pub IsOfForm : SessionView → List ℕ → Type 0
 IsOfForm session text = (j : JournalView) × Spells session text j
 
--- Of journals of the form, one behind another, each behind the line of its session, section I is journal I.
+-- If journals of the form stand one after another, each after the line of its session, section I is journal I.
 abbrev pub SectionsAreJournals : Type 0
 SectionsAreJournals =
     (session : SessionView) (texts : List (List ℕ)) (i : ℕ) → length texts ≤ 64 → All (IsOfForm session) texts

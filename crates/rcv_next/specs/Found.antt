@@ -22,7 +22,7 @@ pub record AreFound (flags : List Bool) (items : List ℕ) (count : ℕ) (words 
 abbrev pub Is : ℕ → ℕ → Type 0
 Is p j = j ≡ p
 
--- Behind what was found stand these, all of them and no others.
+-- After what was found come these, all of them and no others.
 pub record Adds (These : ℕ → Type 0) (old now : List ℕ) : Type 0 where
   pub kept : IsPrefix old now
   pub all : (j : ℕ) → These j → IsIn j now
@@ -43,11 +43,11 @@ IsOther net r ps p = IsIn p ps × (IsOf net r p → ⊥)
 abbrev pub IsWay : Net → ℕ → ℕ → ℕ → Type 0
 IsWay net r k j = (w : List ℕ) × IsLaneWalk net k w × HasNone net r w × (last_of k w ≡ j)
 
--- The same where one of these points comes first.
+-- The same, if one of these points comes first.
 abbrev pub IsWayFrom : Net → ℕ → List ℕ → ℕ → Type 0
 IsWayFrom net r ps j = (s : ℕ) × IsOther net r ps s × IsWay net r s j
 
--- The places that can come where these points are offered first, with no point of role r.
+-- The places that can come if these points are offered first, with no point of role r.
 abbrev pub ArePlacesFrom : Net → ℕ → List ℕ → List ℕ → Type 0
 ArePlacesFrom net r ps js = (j : ℕ) → IsIn j js ↔ IsWayFrom net r ps j
 
@@ -63,7 +63,7 @@ HasEnd net js = (j : ℕ) × IsIn j js × (net.offers j ≡ [])
 abbrev pub IsForced : Net → ℕ → List ℕ → ℕ → Type 0
 IsForced net r ps p = (ps ≡ p ∷ []) × (IsOf net r p → ⊥)
 
--- A point of the text offers nothing behind it; or it offers this one.
+-- A point of the text offers nothing after it; or it offers this one.
 abbrev pub IsEndPoint : Net → ℕ → Type 0
 IsEndPoint net k = IsInText net k × (net.offers k ≡ [])
 

@@ -7,7 +7,7 @@ use Rattle.rcv_model.specs.Next.{IsOf}
 abbrev pub HasOwn : Net → ℕ → ℕ → Type 0
 HasOwn net r l = (p : ℕ) × (1 ≤ p) × (p ≤ net.count) × IsOf net r p × (net.lane p ≡ l)
 
--- The stages behind a place, of which the start has all.
+-- The stages after a place. All stages come after the start.
 abbrev pub next_stage : Net → ℕ → ℕ
 next_stage net k = if k == 0 then 0 else net.stage (net.lane k) + 1
 

@@ -1,4 +1,4 @@
-// The points behind which a lane can be brought to its end.
+// The points after which a lane can be brought to its end.
 
 ghost use Rattle.std.specs.Prelude.{◌≡◌, ◌≤◌, ◌↔◌, ℕ, true, length};
 ghost use Rattle.rcv_tree.specs.Bits.{has_point};
@@ -10,8 +10,8 @@ use crate::places::Places;
 use rcv_points::points::Points;
 use rcv_tree::point::{Point, PointSet};
 
-/// The points of the text behind which the lane can be brought to its end, found from the ends of lanes backwards; each is
-/// visited once. It takes no memory.
+/// The points of the text after which the lane can be brought to its end, found from the ends of lanes backwards. Each
+/// is visited once. It takes no memory.
 pub fn can_end(points: &Points) -> PointSet
     ensures { (p : ℕ) → 1 ≤ p → p ≤ length points.now.messages
         → (has_point result.0 p ≡ true) ↔ CanEnd (net_in points.now) p }
@@ -29,7 +29,7 @@ pub fn can_end(points: &Points) -> PointSet
     places.points()
 }
 
-// Adds the points behind which nothing is offered.
+// Adds the points after which nothing is offered.
 fn add_ends(points: &Points, places: &mut Places)
     ensures { Adds (IsEndPoint (net_in points.now)) places.old places.new }
 {
@@ -41,7 +41,7 @@ fn add_ends(points: &Points, places: &mut Places)
     }
 }
 
-// Adds the points behind which this one is offered.
+// Adds the points after which this one is offered.
 fn add_leading(points: &Points, point: Point, places: &mut Places)
     requires first { 1 ≤ point }
     requires last { point ≤ length points.now.messages }

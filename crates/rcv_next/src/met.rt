@@ -9,7 +9,7 @@ use rcv_points::points::Points;
 use rcv_tree::point::Point;
 use rcv_tree::role::RoleId;
 
-/// What the role meets at a place, where it is told whether the place's lane has a point of it. It takes no memory.
+/// What the role meets at a place. The caller says whether the place's lane has a point of it. It takes no memory.
 pub fn met_at<'a>(points: &'a Points, role: RoleId, place: u16, owned: bool) -> &'a [Point]
     requires last { place ≤ length points.now.messages }
     requires told { 1 ≤ place → (IsTrue owned ↔ HasOwn (net_in points.now) role ((net_in points.now).lane place)) }
@@ -24,7 +24,7 @@ pub fn met_at<'a>(points: &'a Points, role: RoleId, place: u16, owned: bool) -> 
     next_start(points, role, place)
 }
 
-/// Whether the lane of a place behind a point has a point of the role. It takes no memory.
+/// Whether the lane of a place after a point has a point of the role. It takes no memory.
 pub fn owns(points: &Points, role: RoleId, place: u16) -> bool
     requires { place ≤ length points.now.messages }
     ensures { 1 ≤ place → (IsTrue result ↔ HasOwn (net_in points.now) role ((net_in points.now).lane place)) }
@@ -32,7 +32,7 @@ pub fn owns(points: &Points, role: RoleId, place: u16) -> bool
     if place == 0 {
         return false;
     }
-    // So it is for most.
+    // This holds for most places.
     if points.is_of(Point(place), role) {
         return true;
     }
@@ -54,7 +54,8 @@ fn is_own_in(points: &Points, role: RoleId, point: Point, lane: u16) -> bool
     points.is_of(point, role) && points.lane_of(point.0) == lane
 }
 
-// What the role's next lane behind a place begins with: points behind it in the text stand in later stages, or in its own.
+// What the role's next lane after a place begins with: points after it in the text stand in later stages, or in its
+// own.
 fn next_start<'a>(points: &'a Points, role: RoleId, place: u16) -> &'a [Point]
     requires { place ≤ length points.now.messages }
     ensures { result.now ≡ next_begins (net_in points.now) role (next_stage (net_in points.now) place) (points_in (net_in points.now)) }
@@ -68,7 +69,7 @@ fn next_start<'a>(points: &'a Points, role: RoleId, place: u16) -> &'a [Point]
     &[]
 }
 
-// Whether the role's next lane behind a place may be that of the point.
+// Whether the role's next lane after a place may be that of the point.
 fn is_next_lane(points: &Points, role: RoleId, place: u16, point: Point) -> bool
     requires last { place ≤ length points.now.messages }
     requires first { 1 ≤ point }

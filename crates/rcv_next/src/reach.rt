@@ -28,11 +28,11 @@ pub struct Reach {
 #[derive(Clone, Copy)]
 struct SoFar {
     reach: Reach,
-    // Where the walk may not end: the stage of the first lane that can't.
+    // If the walk may not end: the stage of the first lane that can't.
     last_stage: u16,
 }
 
-/// What can come from a place on, where these are the role's own points. Each place is visited once. It takes no memory.
+/// What can come from a place on, if these are the role's own points. Each place is visited once. It takes no memory.
 pub fn reach_from(points: &Points, role: RoleId, own: PointSet, place: u16) -> Reach
     requires own { IsSetOfRole (net_in points.now) role (members own.0) }
     requires last { place ≤ length points.now.messages }
@@ -76,7 +76,7 @@ fn with_lane(
     if stage <= points.stage_of(points.lane_of(place)) {
         return so_far;
     }
-    // What stands behind a lane that can't end isn't reached.
+    // What comes after a lane that can't end isn't reached.
     if !is_open(so_far, stage) {
         return so_far;
     }
@@ -98,14 +98,14 @@ fn with_lane(
     }
 }
 
-// Whether a stage comes behind lanes that end, or beside the first that can't.
+// Whether a stage comes after lanes that end, or beside the first that can't.
 fn is_open(so_far: SoFar, stage: u16) -> bool
     ensures { IsTrue result ↔ ((so_far.reach.ends ≡ true) ⊎ (stage ≤ so_far.last_stage)) }
 {
     so_far.reach.ends || stage <= so_far.last_stage
 }
 
-// The same along one lane, where these points are offered first.
+// The same along one lane, if these points are offered first.
 fn lane_reach(points: &Points, role: RoleId, own: PointSet, first: &Offered) -> Reach
     requires own { IsSetOfRole (net_in points.now) role (members own.0) }
     requires text { AreInText (net_in points.now) first.now }

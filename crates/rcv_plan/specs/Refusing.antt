@@ -25,9 +25,9 @@ abbrev pub backward : List Symbol → List Symbol → List Symbol
 backward [] back = back
 backward (t ∷ ts) back = backward ts (t ∷ back)
 
--- The code holds where front stands before and left begins with the symbol at which it is to hold; at the end nothing is
--- left. Code 40 is at a symbol that the grammar doesn't have there, and at the end of what isn't whole. No other code is
--- at the end.
+-- The code holds here: front stands before, and left begins with the symbol at which the code holds; at the end nothing is left.
+-- Code 40 holds at a symbol that the grammar doesn't have there, and at the end of what isn't whole. No other code holds at the
+-- end.
 abbrev pub HoldsAt : List (List ℕ) → Fault → List Symbol → List Symbol → Type 0
 HoldsAt roles faults.Token front [] = IsBeginning front × (IsDerived front → ⊥)
 HoldsAt roles faults.Token front (t ∷ ts) = IsBeginning front × (IsBeginning (front ++ t ∷ []) → ⊥)

@@ -18,7 +18,7 @@ use std::marker::Model;
 #[derive(Drop)]
 pub struct Known<'a> {
     lines: Vec<Line>,
-    // Where their crash lines let roles crash, to find one.
+    // The counts at which their crash lines let roles crash, to find one.
     crashes: CrashCounts,
     names: Vec<&'a [u8]>,
 }

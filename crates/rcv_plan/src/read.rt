@@ -44,11 +44,14 @@ fn items<'a>(
 /// end. A part without tokens is the plan without lines.
 ///
 /// Refused at the first token at which a code holds, or at the part's end, with the least code at it and its line:
-/// 40 where the grammar doesn't have the token or the end there; 41 at a role that isn't declared; 42 at the first word
-/// of a second `every` of one role, of a second `limit` or `room`, at the number of a `crash` line that stands before,
-/// at the name of a host that stands before, and at a role that stands before in a host; 43 at a number that isn't in
-/// its range, which is 1 to 100,000 for `every` and `limit`, 0 to 100,000 for `crash`, and 1 to 1,024 for `room`.
-/// `Memory` where no memory is left.
+/// - 40: the grammar doesn't have the token or the end there.
+/// - 41: a role that isn't declared.
+/// - 42: the first word of a second `every` of one role, or of a second `limit` or `room`; the number of a `crash` line
+///   that stands before; the name of a host that stands before; or a role that stands before in a host.
+/// - 43: a number that isn't in its range. The range is 1 to 100,000 for `every` and `limit`, 0 to 100,000 for `crash`,
+///   and 1 to 1,024 for `room`.
+///
+/// `Memory` if no memory is left.
 pub fn read_plan(
     alloc: Global,
     bundle: &[u8],

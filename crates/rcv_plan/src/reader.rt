@@ -238,7 +238,7 @@ impl<'a> Reader<'a> {
             || (is(word, b"room") && known.has_room())
     }
 
-    // Takes what stands behind `every`.
+    // Takes what stands after `every`.
     fn every(&mut self, roles: &Names, known: &mut Known<'a>) -> Result<(), ReadError>
         requires { length roles.now ≤ 8 }
         ensures goes { Goes result (λ _. known.new) self.new.rest (every_line roles.now known.old self.old.rest) }
@@ -250,7 +250,7 @@ impl<'a> Reader<'a> {
         Ok(())
     }
 
-    // Takes what stands behind `crash`.
+    // Takes what stands after `crash`.
     fn crash(&mut self, roles: &Names, known: &mut Known<'a>) -> Result<(), ReadError>
         requires { length roles.now ≤ 8 }
         ensures goes { Goes result (λ _. known.new) self.new.rest (crash_line roles.now known.old self.old.rest) }
@@ -262,7 +262,7 @@ impl<'a> Reader<'a> {
         Ok(())
     }
 
-    // Takes what stands behind `limit`.
+    // Takes what stands after `limit`.
     fn limit(&mut self, known: &mut Known<'a>) -> Result<(), ReadError>
         ensures goes { Goes result (λ _. known.new) self.new.rest (limit_line known.old self.old.rest) }
         ensures shorter { length self.new.rest ≤ length self.old.rest }
@@ -272,7 +272,7 @@ impl<'a> Reader<'a> {
         Ok(())
     }
 
-    // Takes what stands behind `room`.
+    // Takes what stands after `room`.
     fn room(&mut self, known: &mut Known<'a>) -> Result<(), ReadError>
         ensures goes { Goes result (λ _. known.new) self.new.rest (room_line known.old self.old.rest) }
         ensures shorter { length self.new.rest ≤ length self.old.rest }
@@ -282,7 +282,7 @@ impl<'a> Reader<'a> {
         Ok(())
     }
 
-    // Takes what stands behind `host`.
+    // Takes what stands after `host`.
     fn host(&mut self, alloc: Global, roles: &Names, known: &mut Known<'a>) -> Result<(), ReadError>
         requires { length roles.now ≤ 8 }
         ensures goes { Goes result (λ _. known.new) self.new.rest (host_line roles.now known.old self.old.rest) }
@@ -295,7 +295,7 @@ impl<'a> Reader<'a> {
         Ok(())
     }
 
-    // Takes what stands behind the first word of an item, which is this one.
+    // Takes what stands after this word, the first of an item.
     fn line(
         &mut self,
         alloc: Global,

@@ -6,7 +6,7 @@ use rcv_decode::{JsonError, read_json};
 use std::alloc::{AllocError, Global};
 use std::test::Fail;
 
-// As `run --json` writes it, but for the line feeds between the entries.
+// As `run --json` writes it, except for the line feeds between the entries.
 const PING_LINES: &[u8] = b"{\"entries\":[
 [\"send\",\"A\",1,\"ping\",0,1],
 [\"recv\",\"B\",1,\"ping\",0,2,1],

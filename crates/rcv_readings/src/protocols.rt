@@ -37,7 +37,7 @@ global protocol TwoBuyer(role A, role B, role S) {
 // How many bytes an input may have.
 const MOST: usize = 1_048_576;
 
-/// The protocol of an input; none where it is too long, is refused, or no memory was left.
+/// The protocol of an input; none if it is too long, if it is refused, or if memory ran out.
 pub fn accepted(alloc: Global, input: &[u8]) -> Option<Accepted> {
     if input.len() > MOST {
         return None;

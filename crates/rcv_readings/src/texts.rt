@@ -71,7 +71,7 @@ fn has_entry(entries: &[Entry], number: usize, entry: Entry) -> bool {
     entries.get(number) == Some(&entry)
 }
 
-// The first line of a text that isn't of the form; none where all are.
+// The first line of a text that isn't of the form; none if all are.
 fn first_wrong(alloc: Global, accepted: &Accepted, text: &[u8]) -> Result<Option<u32>, AllocError> {
     if text.len() > MOST {
         return Ok(Some(0));
@@ -83,8 +83,8 @@ fn first_wrong(alloc: Global, accepted: &Accepted, text: &[u8]) -> Result<Option
     }
 }
 
-// Whether the text of Ping's journal with one byte changed to a sign that no journal has is wrong at the line of that
-// byte, whichever byte it is.
+// Whether the text of Ping's journal is wrong at the line of a byte if that byte is changed to a sign that no journal
+// has, whichever byte it is.
 fn tells_each_byte(alloc: Global, accepted: &Accepted) -> Result<bool, AllocError> {
     let mut line: u32 = 1;
     for (place, byte) in PING_TEXT.iter().enumerate() {

@@ -10,7 +10,7 @@ use std::alloc::AllocError;
 use std::test::Fail;
 use std::thread::Threads;
 
-// C makes as many events as the limit allows, which fit into one turn: more of them where its number is dear.
+// C makes as many events as the limit allows, and they fit into one turn. There are more of them if its number is dear.
 const AHEAD: &[u8] = b"module ahead;
 global protocol Ahead(role A, role B, role C, role D) {
   a() from A to B;
@@ -33,7 +33,7 @@ const A: RoleId = RoleId(0);
 
 const C: RoleId = RoleId(2);
 
-// Holds A at its first step until C is at its last one, behind so many.
+// Holds A at its first step until C is at its last one, after so many others.
 #[derive(Drop)]
 struct Hold {
     before: u32,
@@ -72,7 +72,7 @@ fn goes_ahead<R: AllocGlobal + Threads + Sync>(
     }
 }
 
-// The same of the session of a setup.
+// The same for the session of a setup.
 fn goes_in<R: AllocGlobal + Threads + Sync>(
     rt: &R,
     setup: &Setup,

@@ -7,8 +7,8 @@ use std::thread::Threads;
 /// How many turns a session of a test may take.
 pub const TURNS: u32 = 1000;
 
-/// Turns a session to its end with one worker through the gate, and says whether it completes. It fails where a turn
-/// does.
+/// Turns a session to its end with one worker through the gate, and says whether it completes. It fails if a turn
+/// fails.
 pub fn completes<R: AllocGlobal + Threads + Sync, G: Gate + Sync>(
     rt: &R,
     session: &mut Session<'_>,

@@ -49,8 +49,8 @@ const C: RoleId = RoleId(2);
 // How many steps C makes beside the recovery: nearly all that fit into one turn.
 const STEPS: u64 = 1000;
 
-// Behind the crash, holds C at its next step until the recovery of B has begun, and the recovery until C has made so
-// many more.
+// After the crash, holds C at its next step until the recovery of B has begun, and holds the recovery until C has made
+// so many more.
 #[derive(Drop)]
 struct Both {
     crashed: Flag,
@@ -90,7 +90,7 @@ impl Gate for Both {
     }
 }
 
-// The text of the journal of a session that is limited, and none of another one.
+// The text of a session's journal if the session is limited, else none.
 fn limited_text(alloc: Global, book: &Book<'_>) -> Result<Option<String>, AllocError> {
     match book.final_state() {
         Outcome::Limited => {
@@ -101,7 +101,8 @@ fn limited_text(alloc: Global, book: &Book<'_>) -> Result<Option<String>, AllocE
     }
 }
 
-// Turns the session with two workers to its end, and gives its journal. The gate is told of the crash behind its turn.
+// Turns the session with two workers to its end, and gives its journal. The gate hears of the crash after the turn that
+// makes it.
 fn journal<R: AllocGlobal + Threads + Sync>(
     rt: &R,
     gate: &Both,
@@ -113,7 +114,7 @@ fn journal<R: AllocGlobal + Threads + Sync>(
     }
 }
 
-// The same of the session of a setup.
+// The same for the session of a setup.
 fn journal_in<R: AllocGlobal + Threads + Sync>(
     rt: &R,
     setup: &Setup,

@@ -44,7 +44,7 @@ impl Gate for Counter {
     }
 }
 
-// How many of a book's entries behind the first so many are recoveries, and how many are not.
+// How many of a book's entries after the first so many are recoveries, and how many are not.
 fn counts(book: &Book<'_>, before: usize) -> (usize, usize) {
     let recoveries = book
         .entries()
@@ -56,7 +56,7 @@ fn counts(book: &Book<'_>, before: usize) -> (usize, usize) {
     (recoveries, all.saturating_sub(recoveries))
 }
 
-// How the entries are made that are counted.
+// How the counted entries are made.
 #[derive(Clone, Copy)]
 enum Way {
     Turns,
@@ -79,7 +79,7 @@ fn ends<R: AllocGlobal + Threads + Sync>(
     }
 }
 
-// Whether a session of Ping completes with one worker, behind a first turn of several or of none, with recoveries, and
+// Whether a session of Ping completes with one worker, after a first turn of several or of none, with recoveries, and
 // each of its entries passed the gate once.
 fn passes_once<R: AllocGlobal + Threads + Sync>(rt: &R, way: Way) -> Result<bool, AllocError> {
     match setup_of(rt.alloc(), PING)? {
@@ -88,7 +88,7 @@ fn passes_once<R: AllocGlobal + Threads + Sync>(rt: &R, way: Way) -> Result<bool
     }
 }
 
-// The same of a session of a setup.
+// The same for a session of a setup.
 fn passes_in<R: AllocGlobal + Threads + Sync>(
     rt: &R,
     setup: &Setup,

@@ -1,5 +1,5 @@
-// Sessions that `finish` ends: with several workers, and with one behind several. Each ends as with one worker alone, and
-// each role keeps the same.
+// Sessions that `finish` ends: with several workers, and with one after several. Each ends as with one worker alone,
+// and each role keeps the same.
 
 use crate::flag::Flag;
 use crate::given::{DEAR, RING_OF_TWO, setup_of, stormy, stream};
@@ -26,8 +26,8 @@ enum Way {
     OneBehindSeveral,
 }
 
-// Lets all pass, though it doesn't say so, and keeps whether a role that has come to the limit tries one more step:
-// where rounds are made to the end it does, and where the book goes on alone it doesn't.
+// Lets all pass, though it doesn't say so, and keeps whether a role that has come to the limit tries one more step. If
+// rounds are made to the end, it does. If the book goes on alone, it doesn't.
 #[derive(Drop)]
 struct Silent {
     limited: Flag,
@@ -82,7 +82,7 @@ fn ends_alike<R: AllocGlobal + Threads + Sync, G: Gate + Sync>(
     }
 }
 
-// The same of the sessions of a setup: the one of one worker comes first.
+// The same for the sessions of a setup: the one of one worker comes first.
 fn alike_in<R: AllocGlobal + Threads + Sync, G: Gate + Sync>(
     rt: &R,
     setup: &Setup,
@@ -136,7 +136,7 @@ fn one_worker_does_behind_several(rt: HostRuntime) -> Result<(), Fail> {
     Ok(())
 }
 
-// Whether two workers end a ring, of whose turns many add few entries, and a role that has come to the limit tries one
+// Whether two workers end a ring with many turns that add few entries, and a role that has come to the limit tries one
 // more step.
 fn rounds_to_the_end<R: AllocGlobal + Threads + Sync>(rt: &R) -> Result<bool, AllocError> {
     let input = stormy(rt.alloc(), RING_OF_TWO, &["A"], CRASHES)?;

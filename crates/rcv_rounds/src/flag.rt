@@ -35,7 +35,7 @@ impl Flag {
         self.word.load(Ordering::SeqCst) != 0
     }
 
-    /// Waits until it is set. Where it isn't for too long, the wait ends, and sets the other one.
+    /// Waits until it is set. If that takes too long, the wait ends, and sets the other one.
     pub fn wait(&self, missed: &Flag) {
         for _ in 0..LOOKS {
             if self.is_set() {

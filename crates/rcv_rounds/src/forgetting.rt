@@ -1,5 +1,5 @@
-// Sessions of more than 1,024 turns: they find their stable line behind the 1,024th, the cells forget what is before it,
-// and a role that crashes behind it recovers.
+// Sessions of more than 1,024 turns: they find their stable line after the 1,024th, the cells forget what is before it,
+// and a role that crashes later recovers.
 
 use crate::given::setup_of;
 use crate::kept::{is_complete, recoveries};
@@ -10,7 +10,7 @@ use std::alloc::AllocError;
 use std::test::Fail;
 use std::thread::Threads;
 
-// One worker adds a Send and its Recv by turns. B crashes behind the 1,024th turn, also where the first turn was a round.
+// One worker adds a Send and its Recv by turns. B crashes after the 1,024th turn, even if the first turn was a round.
 const STREAM: &[u8] = b"module stream;
 global protocol Stream(role A, role B) {
   rec X {
@@ -25,8 +25,8 @@ every A 3 every B 4 crash B 1560 room 1
 
 const NOTHING: [u32; 8] = [0; 8];
 
-// A has made 512 events then, and saved 510. B has 512, and saved all: but the last of these that A saved the Send of
-// is the 510th, and before it B saved the 508th.
+// A has made 512 events then, and saved 510. B has made 512, and saved all. But the last of B's events whose Send A
+// saved is the 510th, and the last one up to there at which B saved is the 508th.
 const LINE: [u32; 8] = [510, 508, 0, 0, 0, 0, 0, 0];
 
 // Turns a session with one worker until so many turns were made, and says whether each of them added entries.
@@ -43,14 +43,15 @@ fn comes_to<R: AllocGlobal + Threads + Sync>(
     true
 }
 
-// Turns it to its end with two workers, and says whether it completes behind one recovery.
+// Turns it to its end with two workers, and says whether it completes with one recovery.
 fn recovers<R: AllocGlobal + Threads + Sync>(rt: &R, session: &mut Session<'_>) -> bool {
     session.finish(rt, rt.alloc(), 2, &NoGate) == Ok(())
         && is_complete(session.book())
         && recoveries(session.book()) == 1
 }
 
-// Whether a session forgets, its cells behind a first turn of several, or where a later turn of several brings them home.
+// Whether a session forgets, with its cells after a first turn of several, or with cells that a later turn of several
+// brings home.
 fn forgets<R: AllocGlobal + Threads + Sync>(
     rt: &R,
     session: &mut Session<'_>,
@@ -74,7 +75,7 @@ fn forgets<R: AllocGlobal + Threads + Sync>(
     found && recovers(rt, session)
 }
 
-// The same of the session of the stream.
+// The same for the session of the stream.
 fn stream_forgets<R: AllocGlobal + Threads + Sync>(
     rt: &R,
     several: bool,
@@ -85,7 +86,7 @@ fn stream_forgets<R: AllocGlobal + Threads + Sync>(
     }
 }
 
-// And of the session of a setup.
+// And for the session of a setup.
 fn forgets_in<R: AllocGlobal + Threads + Sync>(
     rt: &R,
     setup: &Setup,

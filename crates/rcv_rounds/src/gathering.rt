@@ -1,4 +1,4 @@
-// Roles that are at a step at one time, each on a thread of its own: the first step of all, and one behind many turns
+// Roles that are at a step at one time, each on a thread of its own: the first step of all, and one after many turns
 // that added few entries.
 
 ghost use Rattle.std.specs.Prelude.{◌≤◌};
@@ -16,15 +16,16 @@ use std::test::Fail;
 use std::thread;
 use std::thread::Threads;
 
-// How often a role looks for the others, where they have to come.
+// How often a role looks for the others, if they have to come.
 const LOOKS: u64 = 10_000_000;
 
-// Where one thread may make the turn, so that they can't: how often it looks for the first of them, and lets other
-// threads go first. That takes some 20 ms, in which threads are started on a busy machine, too.
+// If one thread may make the turn, the others don't have to come. This is how often a role then looks for the first of
+// them, and lets other threads go first. That takes some 20 ms. In that time threads are started on a busy machine,
+// too.
 const LOOKS_ALONE: u64 = 50_000;
 
-// How often A crashes, each time with its first event alone: so many turns add few entries, and of the later ones several
-// are made on threads.
+// How often A crashes, each time with its first event alone. So there are many turns that add few entries, and several
+// of the later ones are made on threads.
 const CRASHES: u32 = 200;
 
 // How many turns come before the late one, and all turns of a session.
@@ -102,7 +103,7 @@ impl Gathering {
         self.missed.set();
     }
 
-    // Whether a second role comes, for whom there has to be a second thread.
+    // Whether a second role comes. It needs a second thread.
     fn is_joined(&self) -> bool {
         for _ in 0..LOOKS_ALONE {
             if self.come.load(Ordering::SeqCst) > 1 {
@@ -137,7 +138,7 @@ impl Gate for Gathering {
     }
 }
 
-// Whether all roles of an input are at their first steps at one time, where there are as many workers.
+// Whether all roles of an input are at their first steps at one time, if there are as many workers.
 fn gather_first<R: AllocGlobal + Threads + Sync>(
     rt: &R,
     workers: &str,
@@ -166,7 +167,7 @@ fn gather_late<R: AllocGlobal + Threads + Sync>(
     }
 }
 
-// The same of the session of a setup.
+// The same for the session of a setup.
 fn gather_in<R: AllocGlobal + Threads + Sync>(
     rt: &R,
     setup: &Setup,

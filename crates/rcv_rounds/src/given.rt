@@ -66,7 +66,7 @@ every A 100 limit 300
 /// So many terms make a script dear: more than any cheap one has.
 pub const DEAR: u32 = 250;
 
-// A stream from A through B to C in 12 laps, as far as to the number that B sends.
+// A stream from A through B to C in 12 laps, up to the number that B sends.
 const STREAM: &[u8] = b"module stream;
 global protocol Stream(role A, role B, role C) {
   rec X {
@@ -84,7 +84,7 @@ global protocol Stream(role A, role B, role C) {
 role A { var n = 0; send more = n * n; on more set n = n + 1; pick more when n < 12; pick stop; }
 role B { var s = 0; on more set s = s + value; send copy = s";
 
-// And what is behind that.
+// And what comes after that.
 const STREAM_END: &[u8] = b"; }
 %% plan
 every A 3 every B 4 every C 100
@@ -93,7 +93,7 @@ every A 3 every B 4 every C 100
 // How many bytes an input may have.
 const MOST: usize = 1_048_576;
 
-/// The setup of an input, and none where it is too long or refused.
+/// The setup of an input, and none if it is too long or refused.
 pub fn setup_of(alloc: Global, input: &[u8]) -> Result<Option<Setup>, AllocError> {
     if input.len() > MOST {
         return Ok(None);
@@ -104,7 +104,7 @@ pub fn setup_of(alloc: Global, input: &[u8]) -> Result<Option<Setup>, AllocError
     Ok(Some(Setup::new(alloc, input.accepted, input.scripts, input.plan)?))
 }
 
-/// An input of two parts, with so many terms between them that are added to the number with which the first one ends.
+/// An input of two parts, with so many terms between them. They are added to the number that the first part ends with.
 pub fn with_terms(
     alloc: Global,
     head: &[u8],
@@ -124,7 +124,7 @@ pub fn stream(alloc: Global, terms: u32) -> Result<Vec<u8>, AllocError> {
     with_terms(alloc, STREAM, terms, STREAM_END)
 }
 
-/// The same input, whose plan has a crash of each of these roles at each of the first so many counts besides.
+/// The same input, but its plan also has a crash of each of these roles at each of the first so many counts.
 pub fn stormy(
     alloc: Global,
     input: &[u8],

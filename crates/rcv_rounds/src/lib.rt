@@ -1,5 +1,6 @@
-// Tests of sessions of several workers, through the top call and turn by turn, and of several sessions. Where a test
-// tells by the order of the roles' steps, gates hold roles up until others have come so far, so that it ends in one way.
+// Tests of sessions of several workers, through the top call and turn by turn, and of several sessions. If what a test
+// tells depends on the order of the roles' steps, gates hold roles up until others have come so far, so that it ends in
+// one way.
 #![tactic(auto)]
 
 #[cfg(test)]

@@ -1,4 +1,4 @@
-// A book of events that were added with the variables behind them is the book of their entries.
+// A book of events that were added with the variables after them is the book of their entries.
 
 ghost use Rattle.rcv_model.specs.Journal.{May};
 ghost use Rattle.rcv_session.specs.Session.{rules_of};
@@ -16,7 +16,7 @@ use std::test::Fail;
 // More entries than the sessions have.
 const MOST: usize = 100;
 
-// Adds an entry that may come next, a Send or Recv with the variables behind it.
+// Adds an entry that may come next, a Send or Recv with the variables after it.
 fn add(book: &mut Book<'_>, entry: Entry) -> Result<(), AllocError>
     requires { May (rules_of book.old.setup) (state_of book.old) entry }
 {

@@ -7,7 +7,7 @@ use rcv_top::Gate;
 use rcv_tree::role::RoleId;
 use std::test::Fail;
 
-// What is written of Ping where A waits with its second step until B has made both of its own.
+// What is written of Ping if A waits with its second step until B has made both of its own.
 const JOURNAL: &[u8] = b"send A 1 ping 0 @1
 recv B 1 ping 0 @2 <1
 send B 2 pong 0 @3

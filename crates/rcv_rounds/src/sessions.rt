@@ -33,7 +33,7 @@ role B kept 2 raw 2 done
 completed
 ";
 
-// Four laps, and 44 behind a crash that takes a lap back. A makes nine events in four laps, so of twelve sessions the
+// Four laps, and 44 after a crash that takes a lap back. A makes nine events in four laps, so of twelve sessions the
 // first six crash, and are long.
 const UNEVEN: &[u8] = b"module uneven;
 global protocol Uneven(role A, role B) {

@@ -1,5 +1,5 @@
-// Sessions that one worker and several turn by turns, and some of whose crashed roles recover between two turns: each
-// role keeps what it keeps where one worker makes all turns.
+// Sessions that one worker and several turn by turns. Some of their crashed roles recover between two turns. Each role
+// keeps what it keeps if one worker makes all turns.
 
 use crate::alone::{TURNS, completes};
 use crate::given::{TWO_BUYER, setup_of, stream};
@@ -20,7 +20,7 @@ every B 100 crash B 6
 const STREAM_PLAN: &[u8] = b"crash A 5 crash B 10 crash C 7
 ";
 
-// One turn, with a number of workers that hangs on how many turns came before.
+// One turn. The number of its workers depends on how many turns came before.
 fn turn_after<R: AllocGlobal + Threads + Sync>(
     rt: &R,
     session: &mut Session<'_>,
@@ -67,7 +67,7 @@ fn keeps_by_turns<R: AllocGlobal + Threads + Sync>(
     }
 }
 
-// The same of the sessions of a setup: what one worker keeps comes first.
+// The same for the sessions of a setup: what one worker keeps comes first.
 fn keeps_in<R: AllocGlobal + Threads + Sync>(
     rt: &R,
     setup: &Setup,

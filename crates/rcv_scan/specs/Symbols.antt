@@ -5,14 +5,14 @@ use Rattle.rcv_lexer.specs.declared.token.Token.{Token}
 use Rattle.rcv_scan.specs.declared.lexeme.Lexeme.{Lexeme}
 use Rattle.rcv_scan.specs.declared.lexeme.Lexeme.TheVariants as lexemes
 
--- A sign is a reserved word, a mark, or whatever else the grammar has to tell apart.
+-- A sign is a reserved word, a mark, or whatever else the grammar must tell apart.
 pub data Symbol (S : Type 0) : Type 0 where
   Is : (sign : S) → Symbol S
   Word : (bytes : List ℕ) → Symbol S
   Number : (number : ℕ) → Symbol S
   Text : (bytes : List ℕ) → Symbol S
 
--- the number that digits say behind a number
+-- the number that digits say after a number
 abbrev pub decimal : ℕ → List ℕ → ℕ
 decimal n [] = n
 decimal n (digit ∷ digits) = decimal (n * 10 + (digit - 48)) digits
@@ -66,7 +66,7 @@ NoNumber ts = (n : ℕ) → IsNotNext (Number n) ts
 abbrev pub NoText : {S : Type 0} → List (Symbol S) → Type 0
 NoText ts = (q : List ℕ) → IsNotNext (Text q) ts
 
--- the line of the first token, or of the end where there is none
+-- the line of the first token, or of the end if there is none
 abbrev pub line_of_first : List Token → ℕ → ℕ
 line_of_first [] last = last
 line_of_first (t ∷ ts) last = t.line

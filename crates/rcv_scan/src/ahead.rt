@@ -60,7 +60,7 @@ impl<'a, S: Alphabet> Ahead<'a, S> {
         self.tokens.is_empty()
     }
 
-    /// The next one, and what is left behind it. It takes no memory.
+    /// The next one, and what is left after it. It takes no memory.
     pub fn next(&self) -> Option<(Lexeme<'a, S>, Ahead<'a, S>)>
         ensures some { IfSome result (λ r. self.now ≡ symbol_in r.0 ∷ r.1) }
         ensures within { IfSome result (λ r. IsWithin S.greatest r.0) }
@@ -79,7 +79,7 @@ impl<'a, S: Alphabet> Ahead<'a, S> {
         Some((S::lexeme(first.kind(), bytes), rest))
     }
 
-    /// What is left behind this sign, if it is next.
+    /// What is left after this sign, if it is next.
     pub fn sign(&self, sign: S) -> Option<Ahead<'a, S>>
         ensures some { IfSome result (λ after. self.now ≡ Is sign ∷ after) }
         ensures none { IfNone result (IsNotNext (Is sign) self.now) }
@@ -90,7 +90,7 @@ impl<'a, S: Alphabet> Ahead<'a, S> {
         if found.is(sign) { Some(after) } else { None }
     }
 
-    /// The word that is next, and what is left behind it.
+    /// The word that is next, and what is left after it.
     pub fn word(&self) -> Option<(&'a [u8], Ahead<'a, S>)>
         ensures some { IfSome result (λ r. self.now ≡ Word r.0.now ∷ r.1) }
         ensures none { IfNone result (NoWord self.now) }
@@ -101,7 +101,7 @@ impl<'a, S: Alphabet> Ahead<'a, S> {
         Some((word, after))
     }
 
-    /// The number that is next, and what is left behind it.
+    /// The number that is next, and what is left after it.
     pub fn number(&self) -> Option<(u64, Ahead<'a, S>)>
         ensures some { IfSome result (λ r. self.now ≡ Number r.0 ∷ r.1) }
         ensures within { IfSome result (λ r. r.0 ≤ S.greatest) }
@@ -113,7 +113,7 @@ impl<'a, S: Alphabet> Ahead<'a, S> {
         Some((number, after))
     }
 
-    /// What stands between the quotes that are next, and what is left behind it.
+    /// What stands between the quotes that are next, and what is left after it.
     pub fn text(&self) -> Option<(&'a [u8], Ahead<'a, S>)>
         ensures some { IfSome result (λ r. self.now ≡ Text r.0.now ∷ r.1) }
         ensures none { IfNone result (NoText self.now) }

@@ -11,7 +11,7 @@ pub enum Lexeme<'a, S> {
     Is(S),
     /// The bytes of any other word.
     Word(&'a [u8]),
-    /// A number, 2^64 - 1 where it is greater than that.
+    /// A number; 2^64 - 1 if it is greater than that.
     Number(u64),
     /// What stands between two quotes.
     Text(&'a [u8]),
@@ -25,7 +25,7 @@ pub fn is(word: &[u8], other: &[u8]) -> bool
     word == other
 }
 
-/// The number that these digits say, however many there are: 2^64 - 1 where it is greater than that.
+/// The number that these digits say, however many there are; 2^64 - 1 if it is greater than that.
 pub fn number_of(digits: &[u8]) -> u64
     ensures { result ≡ number_of digits.now }
 {

@@ -5,7 +5,7 @@ ghost use Rattle.rcv_scan.specs.Symbols.{line_before};
 
 use rcv_lexer::token::Token;
 
-/// The line of the token from which on so many of the list are left. `last` is the line of the end, where none is.
+/// The line of the token from which on so many of the list are left; if none is left, `last`, the line of the end.
 pub fn line_before(list: &[Token], last: u32, left: usize) -> u32
     ensures { result ≡ line_before list.now last left }
 {

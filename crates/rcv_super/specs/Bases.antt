@@ -23,7 +23,7 @@ pub record AreBased (book : BookView) (cells : List CellView) : Type 0 where
   pub stable : IsStableIn book line
   pub bases : HaveBases (roles_of book.setup) line cells
 
--- The cell can forget the states before the one behind so many events: it has saved that one.
+-- The cell can forget the states that are older than the one after so many events: it has saved that one.
 pub record CanForget (line : ℕ) (c : CellView) : Type 0 where
   pub step : (k : ℕ) × (k * (rules_of c.part.setup).every c.part.role ≡ line)
   pub above : c.part.base ≤ line

@@ -36,8 +36,7 @@ pub record HaveParted (fence : FenceId) (book : BookView) (concerned : RoleSet) 
   pub ran : (r : ℕ) (d : CellView) → r < length cells → has_bit concerned.0 r ≡ false
       → Runs fence (cell_at cells r d) (cell_at gone r d)
 
--- The book's last entry is a recovery, at which the cells parted, behind the lowering of the fence by this watch.
--- Before it they were at home.
+-- The book's last entry is a recovery. At it the cells parted, after the fence was lowered, by this watch. Before it they were at home.
 pub record ArePartedBehind (watch : Shown) (book : BookView) (gone : List CellView) : Type 0 where
   pub before : BookView
   pub role : ℕ
@@ -49,7 +48,7 @@ pub record ArePartedBehind (watch : Shown) (book : BookView) (gone : List CellVi
   pub home : AreHome before cells
   pub parted : HaveParted watch.fence (with_entry before entry) (concerned_of entry) cells gone
 
--- The logs of these cells were merged by stamp, and what came of it was added.
+-- The logs of these cells were merged by stamp, and the result was added.
 pub record HaveMerged (old new : BookView) (gone : List CellView) : Type 0 where
   pub merged : List Entry
   pub is : IsMergeOf (logs_in gone) merged

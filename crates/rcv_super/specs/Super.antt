@@ -14,7 +14,7 @@ use Rattle.rcv_super.specs.declared.whereabouts.Whereabouts.{Whereabouts}
 use Rattle.rcv_super.specs.declared.whereabouts.Whereabouts.TheVariants.{Before, Home, Over}
 use Rattle.rcv_alone.specs.Steps.{AreSteps}
 
--- Its book, whether want of memory closed it, how many turns added entries, and the stable line that was found last.
+-- Its book, whether it was closed because memory ran out, how many turns added entries, and the stable line that was found last.
 pub record SuperView : Type 0 where
   pub book : BookView
   pub closed : Bool

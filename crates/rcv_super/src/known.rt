@@ -1,4 +1,4 @@
-// What a recovery has to know before it begins: whom it concerns, and that the cells hold the states to go back to.
+// What a recovery needs to know before it begins: whom it concerns, and that the cells hold the states to go back to.
 
 ghost use Rattle.std.specs.Prelude.{◌≡◌, ◌<◌, ℕ, length};
 ghost use Rattle.rcv_role.specs.Part.{HoldsStates};

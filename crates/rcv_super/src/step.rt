@@ -22,7 +22,7 @@ use rcv_tree::event::Event;
 use rcv_tree::role::RoleId;
 use std::alloc::{AllocError, Global};
 
-/// The next step of the one-thread order: the book says which it is, its role's cell makes it, and it goes into the
+/// The next step of the one-thread order. The book says which it is, its role's cell makes it, and it goes into the
 /// book. Fails if memory runs out; then the book is as it was.
 pub fn make_step<'a, G: Gate>(
     alloc: Global,
@@ -44,7 +44,7 @@ pub fn make_step<'a, G: Gate>(
     }
 }
 
-// The same, where this is the step.
+// The same, if this is the step.
 fn make_entry<'a, G: Gate>(
     alloc: Global,
     book: &mut Book<'a>,
@@ -111,8 +111,8 @@ fn make_crash<'a, G: Gate>(book: &mut Book<'a>, lanes: &mut [Cell<'a>], gate: &G
     add_entry(book, lanes, Entry::Crash(role));
 }
 
-// The Send or Recv of an event. The cells at the ends of its channel meet before it, so that the role's cell finds the
-// message or the room that the book knows of, and meet again behind it, so that both know of it.
+// The Send or Recv of an event. Before it the cells at the ends of its channel meet, so that the role's cell finds the
+// message or the room that the book knows of. After it they meet again, so that both know of it.
 fn make_event<'a, G: Gate>(
     book: &mut Book<'a>,
     lanes: &mut [Cell<'a>],

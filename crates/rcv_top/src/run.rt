@@ -26,7 +26,7 @@ use std::thread::Threads;
 /// Runs a session to its end with so many workers, from 1 to 8, and writes its journal, as JSON or as lines. Says how
 /// the session ended, or that the sink failed.
 ///
-/// The error comes where no memory was left; then nothing was written.
+/// The error comes if memory runs out; then nothing was written.
 pub fn run<R: Threads + Sync, K: Sink, G: Gate + Sync>(
     rt: &R,
     alloc: Global,
@@ -49,8 +49,8 @@ pub fn run<R: Threads + Sync, K: Sink, G: Gate + Sync>(
     run_setup(rt, alloc, &setup, workers, json, sink, gate)
 }
 
-// Runs the session of a setup. The setup stays the caller's, who frees it at one place: a large value is freed field by
-// field at each place where its owner may return.
+// Runs the session of a setup. The caller keeps the setup, and frees it at one place. The code frees a large value
+// field by field at each place where its owner may return.
 fn run_setup<R: Threads + Sync, K: Sink, G: Gate + Sync>(
     rt: &R,
     alloc: Global,
@@ -70,8 +70,8 @@ fn run_setup<R: Threads + Sync, K: Sink, G: Gate + Sync>(
     finish(rt, alloc, &mut session, workers, json, sink, gate)
 }
 
-// Brings a session to its end with so many workers, and writes its journal. The session stays the caller's, as the setup
-// does.
+// Brings a session to its end with so many workers, and writes its journal. The caller keeps the session, as it keeps
+// the setup.
 fn finish<R: Threads + Sync, K: Sink, G: Gate + Sync>(
     rt: &R,
     alloc: Global,
