@@ -12,7 +12,7 @@ use Rattle.rcv_model.proofs.Ways.{next_in_text as in_text}
 use Rattle.rcv_model.proofs.Refusals.{Case, AtPlace}
 use Rattle.rcv_model.proofs.Refusals as rules
 use Rattle.rcv_model.proofs.LeastRefusal.{told}
-use Rattle.rcv_next.specs.Ahead.{IsAhead}
+use Rattle.rcv_points.specs.Ahead.{IsAhead}
 use Rattle.rcv_points.specs.Follow.{PointsView, net_in}
 use Rattle.rcv_points.proofs.Whole.{same_net}
 use Rattle.rcv_accept.specs.declared.rule.Rule.TheVariants.{Mixed, Senders, Labels, NotEnabled, MaybeDone}

@@ -9,7 +9,7 @@ ghost use Rattle.rcv_accept.specs.Faults.{AreOf, IsFirst, FailsAtEnd, IsFirstUne
 
 use crate::fault::{Fault, earlier};
 use crate::rule::Rule;
-use rcv_next::ending::can_end;
+use rcv_points::ending::can_end;
 use rcv_points::points::Points;
 use rcv_tree::point::Point;
 
@@ -24,7 +24,7 @@ fn has_later(points: &Points, point: Point) -> bool
     stage < points.stage_of(points.lane_of(points.count()))
 }
 
-// The fault at a point behind which a lane can't be brought to its end, and a later stage follows.
+// The fault at a point, if the lane can't be brought to its end after it, and a later stage follows.
 fn unending(points: &Points, point: Point, ends: bool) -> Option<Fault>
     requires text { IsInText (net_in points.now) point }
     requires told { IsTrue ends ↔ CanEnd (net_in points.now) point }
@@ -43,7 +43,7 @@ fn unending(points: &Points, point: Point, ends: bool) -> Option<Fault>
     })
 }
 
-/// The first point behind which a lane can't be brought to its end, though a later stage follows, by its sender.
+/// The first point after which a lane can't be brought to its end, though a later stage follows, by its sender.
 pub fn first_unending(points: &Points) -> Option<Fault>
     ensures { IsFirstUnending points.now result }
 {

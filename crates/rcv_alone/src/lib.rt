@@ -13,8 +13,8 @@ use rcv_core::skip::Skip;
 use rcv_gate::Gate;
 use rcv_tree::entry::Entry;
 
-/// Adds the entry that one thread makes next, and says what is known behind it; None at the end of the session. It
-/// takes no memory.
+/// Adds the entry that one thread makes next, and says what is known after it; None at the end of the session. It takes
+/// no memory.
 #[inline(always)]
 pub fn step_alone<G: Gate>(book: &mut Book, skip: Skip, gate: &G) -> Option<Skip>
     requires { IsSkip book.old skip }

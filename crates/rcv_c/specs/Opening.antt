@@ -30,13 +30,13 @@ pub record IsRefusedAs (text : List ℕ) (why : Refusal) : Type 0 where
   pub is : IsFirstRefusal text first
   pub why_is : IsRefusalFor first why
 
--- Why it isn't taken, where it isn't too long: it is refused; or there was no memory to tell.
+-- Why it isn't taken, if it isn't too long: it is refused; or there was no memory to tell.
 abbrev pub Fails : List ℕ → Refusal → Refusal → Status → Type 0
 Fails text old new Refused = IsRefusedAs text new
 Fails text old new Memory = new ≡ old
 Fails text old new other = ⊥
 
--- What a check of the text answers. The refusal is written where there is one.
+-- What a check of the text answers. If there is a refusal, it is written.
 abbrev pub Checks : List ℕ → Refusal → Refusal → Status → Type 0
 Checks text old new Done = IsAccepted text × (new ≡ old)
 Checks text old new Long = (most < length text) × (new ≡ old)
@@ -58,7 +58,7 @@ pub record OpensAs (text : List ℕ) (saving : Saving) (after : Option Held) : T
   pub begun : IsBegun text saving held
   pub short : length text ≤ most
 
--- It was closed, and is.
+-- It was closed, and still is.
 abbrev pub StaysClosed : Option Held → Option Held → Type 0
 StaysClosed before after = (before ≡ None) × (after ≡ None)
 

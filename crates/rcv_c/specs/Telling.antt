@@ -20,7 +20,7 @@ use Rattle.rcv_c.specs.Opening.{StaysClosed}
 
 -- ---- events, as numbers
 
--- The number that C gives, where it gives one: not the greatest of 64 bits.
+-- The number that C gives, if it gives one: not the greatest of 64 bits.
 abbrev pub number_given : ℕ → Option ℕ
 number_given n = if n == 18446744073709551615 then None else Some n
 
@@ -41,7 +41,7 @@ recv_of r p value sent incarnation =
 abbrev pub save_of : ℕ → ℕ → ℕ → Line
 save_of r count incarnation = line.Save (record { role = r; count = count; incarnation = number_given incarnation })
 
--- The status of what was heard; and the stamp that is written over an old number.
+-- The status of what was heard; and the stamp that overwrites an old number.
 abbrev pub status_of : Heard → Status
 status_of (heard.Done stamp) = Done
 status_of heard.Illegal = Illegal
@@ -73,7 +73,7 @@ pub record IsOutside (told : Line) (before after : Option Held) (old new : ℕ) 
   pub same : after ≡ before
   pub stamp_same : new ≡ old
 
--- What a call answers that tells an event; a number is the event's stamp then, where it was taken.
+-- What a call that tells an event answers. If the event was taken, a number is its stamp then.
 abbrev pub TellsEvent : Line → Option Held → Option Held → ℕ → ℕ → Status → Type 0
 TellsEvent told before after old new Done = Hears told before after old new Done
 TellsEvent told before after old new Illegal = Hears told before after old new Illegal
@@ -83,7 +83,7 @@ TellsEvent told before after old new Range = IsOutside told before after old new
 TellsEvent told before after old new Closed = StaysClosed before after × (new ≡ old)
 TellsEvent told before after old new other = ⊥
 
--- What a call answers that tells a save, which has no stamp.
+-- What a call that tells a save answers. A save has no stamp.
 abbrev pub TellsSave : Line → Option Held → Option Held → Status → Type 0
 TellsSave told before after status = (stamp : ℕ) × TellsEvent told before after 0 stamp status
 
@@ -96,7 +96,7 @@ pub record IsToldAs (text : List ℕ) (held next : Held) : Type 0 where
   pub told : IsTold held.session text said added next.session
   pub answer : next.answer.items ≡ answer_text (accepted_of held.session) said
 
--- An open session was told a line, whose answer has so many bytes.
+-- An open session was told a line, and its answer has so many bytes.
 pub record IsToldLine (text : List ℕ) (before after : Option Held) (count : ℕ) : Type 0 where
   pub held : Held
   pub before_is : before ≡ Some held
@@ -105,7 +105,7 @@ pub record IsToldLine (text : List ℕ) (before after : Option Held) (count : �
   pub told : IsToldAs text held next
   pub count_is : count ≡ length next.answer.items
 
--- What a call answers that tells a line. Without memory for the answer the session is closed.
+-- What a call that tells a line answers. If there is no memory for the answer, the session is closed.
 abbrev pub TellsLine : List ℕ → Option Held → Option Held → ℕ → ℕ → Status → Type 0
 TellsLine text before after old new Done = IsToldLine text before after new
 TellsLine text before after old new Closed = StaysClosed before after × (new ≡ old)
@@ -122,7 +122,7 @@ pub record HasAnswer (before after : Option Held) (answer : List ℕ) (count : �
   pub answer_is : answer ≡ held.answer.items
   pub count_is : count ≡ length answer
 
--- They stand in front in C's list; or don't fit.
+-- The bytes stand in front in C's list; or they don't fit.
 pub record IsCopied (before after : Option Held) (out_old out_new : List ℕ) (count : ℕ) : Type 0 where
   pub answer : List ℕ
   pub has : HasAnswer before after answer count
@@ -135,7 +135,7 @@ pub record IsTooLong (before after : Option Held) (out_old out_new : List ℕ) (
   pub short : length out_old < count
   pub untouched : out_new ≡ out_old
 
--- What a call answers that asks for the last answer.
+-- What a call that asks for the last answer answers.
 abbrev pub Answers : Option Held → Option Held → List ℕ → List ℕ → ℕ → ℕ → Status → Type 0
 Answers before after out_old out_new old new Done = IsCopied before after out_old out_new new
 Answers before after out_old out_new old new Short = IsTooLong before after out_old out_new new

@@ -26,9 +26,9 @@ fn answer(alloc: Global, session: &mut Session, out: &mut [u8], count: &mut usiz
     Status::Done
 }
 
-/// Copies the bytes of a session's last answer to the front of `out`; it has none before a line was told. `RCV_DONE` where
-/// they fit; `RCV_SHORT` where they don't: `out` is as before then. In both cases `count` is how many they are.
-/// `RCV_CLOSED` where the session is closed.
+/// Copies the bytes of a session's last answer to the front of `out`. Before a line was told it has none. `RCV_DONE` if
+/// they fit. `RCV_SHORT` if they don't: then `out` is as before. In both cases `count` is how many they are.
+/// `RCV_CLOSED` if the session is closed.
 #[unsafe(no_mangle)]
 pub extern "C" fn rcv_raw_answer(
     alloc: Global,

@@ -1,4 +1,4 @@
-// A text is checked; a session opens, and is closed.
+// Checks a text, opens a session, and closes it.
 
 ghost use Rattle.std.specs.Prelude.{◌≡◌, ◌≤◌, ℕ, List, length, None, MatchResult};
 ghost use Rattle.rcv_input.specs.Refusals.{IsRefused};
@@ -25,7 +25,7 @@ pub extern "C" fn rcv_raw_version() -> u32
     1
 }
 
-// How a call ends where a text isn't taken. The refusal is written, if it is one.
+// How a call ends if a text isn't taken. The refusal is written, if there is one.
 fn failed(error: InputError, why: &mut Refusal) -> Status
     ensures { (text : List ℕ) → IsRefused text error → Fails text why.old why.new result }
 {
@@ -51,9 +51,9 @@ fn check(alloc: Global, text: &[u8], why: &mut Refusal) -> Status
     }
 }
 
-/// Whether a text is an accepted protocol with scripts and a plan. `RCV_DONE` where it is; `RCV_REFUSED` where it isn't,
-/// and `why` is its first refusal then; `RCV_LONG` where it has more than 1,048,576 bytes; `RCV_MEMORY` where no memory
-/// was left to tell.
+/// Whether a text is an accepted protocol with scripts and a plan. `RCV_DONE` if it is. `RCV_REFUSED` if it isn't: then
+/// `why` is its first refusal. `RCV_LONG` if it has more than 1,048,576 bytes. `RCV_MEMORY` if no memory was left to
+/// tell.
 #[unsafe(no_mangle)]
 pub extern "C" fn rcv_raw_check(alloc: Global, text: &[u8], why: &mut Refusal) -> u8
     ensures { Ends result (Checks text.now why.old why.new) }
@@ -107,9 +107,9 @@ fn open(
     }
 }
 
-/// Opens a closed session on a text, as `rcv-guide` begins it, or, with `told`, as `rcv-guide --told`. `RCV_DONE` where it
-/// is open now; `RCV_OPENED` where it was open before; `RCV_REFUSED`, `RCV_LONG` and `RCV_MEMORY` as `rcv_raw_check`. But
-/// for the first it is as before.
+/// Opens a closed session on a text, as `rcv-guide` begins it, or, with `told`, as `rcv-guide --told`. `RCV_DONE` if it
+/// is open now; `RCV_OPENED` if it was open before; `RCV_REFUSED`, `RCV_LONG` and `RCV_MEMORY` as `rcv_raw_check`.
+/// Unless it is `RCV_DONE`, the session is as before.
 #[unsafe(no_mangle)]
 pub extern "C" fn rcv_raw_open(
     alloc: Global,

@@ -9,9 +9,9 @@ use rcv_input::Refused;
 // A name has at most so many bytes.
 const ROOM: usize = 64;
 
-/// A refusal: its code; and the line at which the text breaks a rule, counted from 1; or, where the line is 0, the name
-/// of the role at which it breaks a rule of acceptance, as so many bytes, and the number of that. docs/FORMATS.md lists
-/// the codes.
+/// A refusal: its code, and the line at which the text breaks a rule, counted from 1. If the line is 0, instead of it
+/// the name of the role at which the text breaks a rule of acceptance, as so many bytes, and the number of its place or
+/// point there. docs/FORMATS.md lists the codes.
 #[repr(C)]
 #[derive(Clone, Copy)]
 pub struct Refusal {
@@ -47,7 +47,7 @@ fn front(name: &[u8]) -> &[u8]
     }
 }
 
-// They in front of a list, and zeros.
+// These bytes in front of a list, and zeros.
 fn filled(bytes: &[u8]) -> [u8; 64]
     requires { length bytes.now ≤ 64 }
     ensures { take (length bytes.now) result ≡ bytes.now }

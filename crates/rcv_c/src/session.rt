@@ -8,7 +8,7 @@ use crate::held::Held;
 use std::alloc::Global;
 use std::mem::replace;
 
-/// Open, with what it holds, or closed, as zeros say it. C has it as a `rcv_session`.
+/// Open, with what it holds, or closed, which zeros say. C has it as a `rcv_session`.
 #[repr(C)]
 pub struct Session {
     handle: Handle,
@@ -58,7 +58,7 @@ impl Session {
         self.is_open
     }
 
-    /// Takes out what it holds; it is closed behind that.
+    /// Takes out what it holds. After that it is closed.
     pub fn take(&mut self, alloc: Global) -> Option<Box<Held>>
         ensures closed { self.new.handle.value ≡ None }
         ensures value { MatchOption result (self.old.handle.value ≡ None) (λ b. Some b.value ≡ self.old.handle.value) }

@@ -29,7 +29,7 @@ pub enum Status {
 }
 
 impl Status {
-    /// Its number. 9 is none of these: it is answered where a pointer is null, before a call comes here.
+    /// Its number. 9 is none of these: it is the answer if a pointer is null, before a call comes here.
     pub fn number(self) -> u8
         ensures { result ≡ number_of self }
     {

@@ -11,7 +11,7 @@ use rcv_talk::answers::answer_line;
 use rcv_text::writer::Writer;
 use std::alloc::{AllocError, Global};
 
-// Tells what is held a line. Fails where no memory is left for its answer.
+// Tells a line to what is held. Fails if no memory is left for its answer.
 fn answer(alloc: Global, held: &mut Held, line: &[u8]) -> Result<(), AllocError>
     ensures { OnOk result (IsToldAs line.now held.old held.new) }
 {
@@ -38,9 +38,9 @@ fn tell(alloc: Global, session: &mut Session, line: &[u8], count: &mut usize) ->
     }
 }
 
-/// Tells a session any line of the dialogue, without the line feed at its end. `RCV_DONE` whatever is answered: the answer
-/// has `count` bytes, and `rcv_raw_answer` gives them. `RCV_CLOSED` where the session is closed; `RCV_MEMORY` where no
-/// memory was left for the answer: the session is closed then.
+/// Tells a session any line of the dialogue, without the line feed at its end. `RCV_DONE` whatever the answer is: it
+/// has `count` bytes, and `rcv_raw_answer` gives them. `RCV_CLOSED` if the session is closed. `RCV_MEMORY` if no memory
+/// was left for the answer: then the session is closed.
 #[unsafe(no_mangle)]
 pub extern "C" fn rcv_raw_tell(
     alloc: Global,

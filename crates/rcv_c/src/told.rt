@@ -16,7 +16,7 @@ use rcv_tree::point::Point;
 use rcv_tree::role::RoleId;
 use std::alloc::Global;
 
-// The number that C gives, where it gives one.
+// The number that C gives, if it gives one.
 fn number_given(number: u64) -> Option<u64>
     ensures value { result ≡ number_given number }
     ensures fits { MayFit result }
@@ -44,7 +44,7 @@ fn has_both(accepted: &Accepted, role: RoleId, point: Point) -> bool
     has_role(accepted, role) && 1 <= point.0 && point.0 <= accepted.points().count()
 }
 
-// How a call ends by which this was heard; its stamp is written where it was taken.
+// How a call ends that heard this. If the event was taken, its stamp is written.
 fn status_of(heard: Heard, stamp: &mut u64) -> Status
     ensures status { result ≡ status_of heard }
     ensures stamp { stamp.new ≡ stamp_over stamp.old heard }
@@ -118,9 +118,9 @@ fn save(alloc: Global, session: &mut Session, told: &ToldSave) -> Status
 }
 
 /// Tells a session that a role sends `value` at a point, as the line `send` does, with `#INC` unless `incarnation` is
-/// 2^64 - 1. `RCV_DONE` where it is taken: `stamp` goes with the message. `RCV_ILLEGAL` where it may not come, `RCV_STALE`
-/// where it is old news, `RCV_MEMORY` where no memory was left, `RCV_RANGE` where the role or the point isn't declared:
-/// nothing has changed then. `RCV_CLOSED` where the session is closed.
+/// 2^64 - 1. `RCV_DONE` if it is taken: `stamp` goes with the message. In these cases nothing has changed:
+/// `RCV_ILLEGAL` if it may not come, `RCV_STALE` if it is old news, `RCV_MEMORY` if no memory was left, `RCV_RANGE` if
+/// the role or the point isn't declared. `RCV_CLOSED` if the session is closed.
 #[unsafe(no_mangle)]
 pub extern "C" fn rcv_raw_sent(
     alloc: Global,
@@ -171,8 +171,8 @@ pub extern "C" fn rcv_raw_received(
     receive(alloc, session, &told, stamp).number()
 }
 
-/// Tells a session that a role has saved its state behind its `count`-th event, as the line `save` does, with `#INC` unless
-/// `incarnation` is 2^64 - 1. It ends as `rcv_raw_sent`.
+/// Tells a session that a role has saved its state after its `count`-th event, as the line `save` does, with `#INC`
+/// unless `incarnation` is 2^64 - 1. It ends as `rcv_raw_sent`.
 #[unsafe(no_mangle)]
 pub extern "C" fn rcv_raw_saved(
     alloc: Global,

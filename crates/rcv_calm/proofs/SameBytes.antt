@@ -10,7 +10,7 @@ use Rattle.rcv_lexer.specs.Pieces.{piece_of}
 use Rattle.rcv_lexer.specs.Parts.{parts_of}
 use Rattle.rcv_lexer.specs.Tokens.{Cuts, line_at, token_at, tokens_of, text_of_part, AreTokens}
 use Rattle.rcv_lexer.proofs.TokenBytes.{bytes_at, bytes_behind}
-use Rattle.rcv_scan.specs.Symbols.{Symbol, symbol_of, symbols_of}
+use Rattle.rcv_lexer.specs.Symbols.{Symbol, symbol_of, symbols_of}
 use Rattle.rcv_syntax.specs.Symbols as protocols
 use Rattle.rcv_script.specs.Symbols as scripts
 use Rattle.rcv_calm.specs.Laws.{SameBytesSayTheSame}

@@ -8,22 +8,20 @@ use Rattle.rcv_input.specs.Input.{IsTaken}
 use Rattle.rcv_transparent.specs.Calm.{without_crash_lines, calm}
 use Rattle.rcv_calm.specs.Without.{without_crash_items, HaveSameProtocol, HaveSameScripts, HaveSameBytes, IsWithoutCrashLines}
 
--- Where a text is taken as a session, each text that is the same without the crash lines is taken as the session without
--- those.
+-- If a text is taken as a session, each text that is the same without the crash lines is taken as the session without those.
 abbrev pub TextsWithoutCrashLinesAreCalm : Type 0
 TextsWithoutCrashLinesAreCalm =
     (text other : List ℕ) (session : SessionView) → IsTaken text session → IsWithoutCrashLines text other
     → IsTaken other (calm session)
 
--- Parts with the same bytes say the same, where the text is taken: so whoever changes nothing but the plan part has done all
--- that is asked of the other parts.
+-- If a text is taken, parts with the same bytes say the same. So whoever changes nothing but the plan part has done all that is asked of
+-- the other parts.
 abbrev pub SameBytesSayTheSame : Type 0
 SameBytesSayTheSame =
     (text other : List ℕ) (session : SessionView) → IsTaken text session → HaveSameBytes text other
     → HaveSameProtocol text other × HaveSameScripts text other
 
--- Where items are read as the lines of a plan, no code holds in the items without the crash lines, and they are read as
--- its other lines.
+-- If items are read as the lines of a plan, no code holds in the items without the crash lines, and they are read as its other lines.
 abbrev pub PlansWithoutCrashLinesAreRead : Type 0
 PlansWithoutCrashLinesAreRead =
     (roles : List (List ℕ)) (items : List Written) (lines : List PlanLine) → IsRead roles (plan_text items) lines

@@ -10,7 +10,7 @@ use Rattle.rcv_plan.specs.Symbols as plans
 use Rattle.rcv_plan.specs.Grammar.{Written, WrittenEvery, WrittenCrash, WrittenLimit, WrittenRoom, WrittenHost, plan_text}
 use Rattle.rcv_input.specs.Input.{AreProtocolTokens, AreScriptTokens, ArePlanTokens}
 
--- The item of a plan is for something else than a crash.
+-- The item of a plan is for something other than a crash.
 abbrev pub is_calm_item : Written → Bool
 is_calm_item (WrittenEvery r n) = true
 is_calm_item (WrittenCrash r n) = false

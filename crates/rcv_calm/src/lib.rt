@@ -4,12 +4,12 @@
 ghost use Rattle.rcv_calm.specs.Laws.{PlansWithoutCrashLinesAreRead, SameBytesSayTheSame};
 ghost use Rattle.rcv_calm.specs.Laws.{TextsWithoutCrashLinesAreCalm};
 
-/// Where a text is taken as a session, the text without its crash lines is taken as the session without them.
+/// If a text is taken as a session, the text without its crash lines is taken as the session without them.
 pub fn texts_without_crash_lines_are_calm()
     ensures { TextsWithoutCrashLinesAreCalm }
 {}
 
-/// The items of a plan that was read are read without its crash lines too, as its other lines.
+/// If a plan was read, its items without its crash lines are read too, as its other lines.
 pub fn plans_without_crash_lines_are_read()
     ensures { PlansWithoutCrashLinesAreRead }
 {}

@@ -3,7 +3,7 @@
 use crate::piece::bytes_of;
 use std::alloc::{AllocError, Global};
 
-/// What a program is called with, and how it has to answer.
+/// What a program is called with, and how it must answer.
 #[derive(Drop)]
 pub struct Case {
     pub words: Vec<String>,
@@ -14,7 +14,7 @@ pub struct Case {
 
 /// The case that a file says: what it shows, a line `$ PROGRAM WORDS`, the input, a line `== status N`, the output.
 ///
-/// None where the file has another form.
+/// None if the file has another form.
 pub fn read_case(alloc: Global, program: &str, text: &str) -> Result<Option<Case>, AllocError> {
     let Some((_, called)) = text.split_once("\n$ ") else {
         return Ok(None);
@@ -39,7 +39,7 @@ pub fn read_case(alloc: Global, program: &str, text: &str) -> Result<Option<Case
     }))
 }
 
-// The words behind the program's name, divided by single spaces; `""` is the empty word.
+// The words after the program's name, divided by single spaces; `""` is the empty word.
 fn words_of(alloc: Global, line: &str) -> Result<Vec<String>, AllocError> {
     let mut words = Vec::new(alloc);
     for word in line.split(' ') {

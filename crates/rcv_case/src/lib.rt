@@ -1,4 +1,4 @@
-//! Cases in files: what a program is called with, and how it has to answer.
+//! Cases in files: what a program is called with, and how it must answer.
 #![tactic(auto)]
 
 mod case;

@@ -2,7 +2,7 @@
 
 use std::alloc::{AllocError, Global};
 
-// Lines that stand so many times behind each other, with this behind each.
+// Lines that stand so many times one after the other, with this after each.
 #[derive(Drop)]
 struct Piece {
     text: String,
@@ -12,9 +12,9 @@ struct Piece {
 
 /// The bytes of a text. A line `== ..` of it is no text, but says:
 ///
-/// - `== N times`: the lines behind it stand so often, and a number in braces grows, `{1}` by 1 and `{1+8}` by 8;
-/// - `== CR`: the lines behind it end with CR LF;
-/// - `== once`: the lines behind it are ordinary ones again;
+/// - `== N times`: the lines after it stand so often, and a number in braces grows, `{1}` by 1 and `{1+8}` by 8;
+/// - `== CR`: the lines after it end with CR LF;
+/// - `== once`: the lines after it are ordinary ones again;
 /// - `== cut`: the last line so far has no line end;
 /// - `== N spaces`: so many spaces.
 pub fn bytes_of(alloc: Global, text: &str) -> Result<Vec<u8>, AllocError> {
@@ -42,7 +42,7 @@ fn once(alloc: Global) -> Piece {
     }
 }
 
-// The piece that begins behind this word, once what the word does to the bytes is done.
+// The piece that begins after this word, once what the word does to the bytes is done.
 fn begin(alloc: Global, bytes: &mut Vec<u8>, word: &str) -> Result<Piece, AllocError> {
     let mut piece = once(alloc);
     if word == "CR" {
@@ -81,7 +81,7 @@ fn add_piece(alloc: Global, bytes: &mut Vec<u8>, piece: &Piece) -> Result<(), Al
     Ok(())
 }
 
-// Adds the text of one turn, where each number in braces has grown so often.
+// Adds the text of one turn, in which each number in braces has grown so often.
 fn add_turn(alloc: Global, bytes: &mut Vec<u8>, text: &str, turn: u64) -> Result<(), AllocError> {
     let mut pieces = text.split('{');
     if let Some(front) = pieces.next() {
@@ -104,7 +104,7 @@ fn add_turn(alloc: Global, bytes: &mut Vec<u8>, text: &str, turn: u64) -> Result
     Ok(())
 }
 
-// The first number and the step, where a number and a closing brace begin this text, and what stands behind them.
+// The first number, the step, and what stands after the brace, if a number and a closing brace begin this text.
 fn growing(text: &str) -> Option<(u64, u64, &str)> {
     let (number, rest) = text.split_once('}')?;
     match number.split_once('+') {

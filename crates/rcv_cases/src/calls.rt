@@ -45,7 +45,7 @@ const CALLS: [Call; 3] = [
     },
 ];
 
-/// Prints each call that ends otherwise than it has to, or writes other bytes.
+/// Prints each call that ends in another way than it should, or writes other bytes.
 pub fn try_calls<R: AllocGlobal + Print + Threads + Sync>(rt: &R) -> io::Result<()> {
     for call in CALLS.iter() {
         try_call(rt, call)?;

@@ -2,7 +2,7 @@
 
 use rcv_case::{Case, read_case};
 use rcv_io::{MemSink, MemSource};
-use rcv_kept::keep_the_same;
+use rcv_same_kept::keep_the_same;
 use rcv_top::{NoGate, recover};
 use std::alloc::{AllocError, Global};
 use std::fs::Files;
@@ -19,8 +19,8 @@ struct Answer {
     bytes: Vec<u8>,
 }
 
-/// Prints what differs between the answer to a case and the wanted one, nothing where they are the same. A session is
-/// run with two and with four workers, too, and its answers have to fit the case.
+/// Prints what differs between the answer to a case and the wanted one, nothing if they are the same. A session also
+/// runs with two and with four workers, and its answers must fit the case.
 pub fn try_case<R: AllocGlobal + Files + Print + Threads + Sync>(
     rt: &R,
     name: &str,
@@ -59,7 +59,7 @@ fn try_alone<R: AllocGlobal + Files + Print + Threads + Sync>(
     Ok(())
 }
 
-// Prints what differs where so many workers run the session of this case.
+// Prints what differs if so many workers run the session of this case.
 fn try_workers<R: AllocGlobal + Files + Print + Threads + Sync>(
     rt: &R,
     name: &str,
@@ -84,9 +84,9 @@ fn try_workers<R: AllocGlobal + Files + Print + Threads + Sync>(
 }
 
 // Whether an answer of several workers fits the case. A refusal is the same one. The last line of a journal says its
-// status; that is the wanted one where the word `crash` doesn't stand in the input: where it does, the order of the
-// roles' steps may say who comes to the limit. Where both complete, each role keeps the same events, unless the word
-// `attempt` stands in the input: how often a role is rolled back may depend on that order, too.
+// status. If the word `crash` doesn't stand in the input, that is the wanted one; else the order of the roles' steps
+// may decide who comes to the limit. If both complete, each role keeps the same events, unless the word `attempt`
+// stands in the input: how often a role is rolled back may depend on that order, too.
 fn fits(alloc: Global, case: &Case, answer: &Answer) -> Result<bool, AllocError> {
     let same = answer.status == case.status;
     if !is_of_session(case.status.as_str()) {

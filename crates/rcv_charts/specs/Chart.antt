@@ -10,7 +10,7 @@ use Rattle.rcv_charts.specs.Statements.{choice_title, rec_title, continue_title,
 use Rattle.rcv_charts.specs.Titles.{titled_of}
 use Rattle.rcv_charts.specs.Drawn.{DrawingView, further}
 
--- From which height to which shapes go: as the first of them, which is a line downwards, a rectangle or a text.
+-- From which height to which height shapes go. The first of them counts, which is a line downwards, a rectangle or a text.
 abbrev pub first_upper : List Shape → ℕ
 first_upper [] = 0
 first_upper (Line from to look ∷ shapes) = from.y.0
@@ -134,7 +134,7 @@ pub record AddsBody (roles : List (List ℕ)) (body : Body) (before after : Draw
   pub grown : after.groups ≡ before.groups ++ added
   pub drawn : Draws roles body before.down added after.down
 
--- It goes on by a statement: what is drawn of the statements behind it, is with it drawn of them all.
+-- It goes on by a statement: groups that draw the statements after it then draw all of them, together with its groups.
 pub record AddsStatement (roles : List (List ℕ)) (statement : Body → Body) (before after : DrawingView) : Type 0 where
   pub added : List Group
   pub grown : after.groups ≡ before.groups ++ added
@@ -148,8 +148,7 @@ pub record AddsBlocks (roles : List (List ℕ)) (word : List ℕ) (blocks : Bodi
   pub grown : after.groups ≡ before.groups ++ added
   pub drawn : DrawsBlocks roles word blocks before.down added after.down
 
--- It goes on by a lane from here on, which goes down to that height or less far, and goes back up. The height is not above
--- another.
+-- It goes on by a lane from here on, and then goes back up. The lane goes down to that height or less far. The height isn't above another.
 pub record AddsLane (roles : List (List ℕ)) (lane : Body) (least bottom : ℕ) (before after : DrawingView) : Type 0 where
   pub added : List Group
   pub grown : after.groups ≡ before.groups ++ added
@@ -172,7 +171,7 @@ pub record AddsLanes (roles : List (List ℕ)) (blocks : Bodies) (before after :
   pub drawn :
       DrawsBlocks roles (codes "and") blocks before.down added after.down ⊎ DrawsLanes roles blocks before.down added after.down
 
--- While blocks are drawn: what is drawn of the rest of them further down, is with what was drawn so far drawn of the whole.
+-- While blocks are drawn: groups that draw the rest of the blocks further down then draw the whole, together with the groups so far.
 pub record SoFar (Whole Rest : ℕ → List Group → ℕ → Type 0) (before after : DrawingView) : Type 0 where
   pub added : List Group
   pub grown : after.groups ≡ before.groups ++ added

@@ -5,7 +5,7 @@ use Rattle.rcv_tables.specs.Rows.{TableView}
 use Rattle.rcv_tables.specs.TableText.{table_text}
 use Rattle.rcv_charts.specs.RowTitles.{table_titles}
 
--- A title with a line feed behind it.
+-- A title with a line feed after it.
 abbrev pub as_line : List ℕ → List ℕ
 as_line title = title ++ codes "\n"
 

@@ -46,7 +46,7 @@ pub record ShowsStates (names : List (List ℕ)) (net : Net) (states : List Stat
   pub boxes_shown : AreShown (length states) (ShowsBox names net states) boxes
   pub together : groups ≡ wire_groups ++ boxes
 
--- The picture is one of the machine of role r, where these are the names of the roles.
+-- The picture is one of the machine of role r, if these are the names of the roles.
 pub record IsMachine (names : List (List ℕ)) (net : Net) (r : ℕ) (picture : Picture) : Type 0 where
   pub states : List StateView
   pub are_states : AreStatesOf net r states

@@ -9,7 +9,7 @@ use Rattle.rcv_tables.specs.TableText.{is_own, name_of, roles_text}
 abbrev pub row_title : List (List ℕ) → ℕ → ℕ → RowView → List ℕ
 row_title names p n row = codes "fail " ++ name_of names p ++ codes " " ++ decimal n ++ codes ":" ++ roles_text names row
 
--- One where the point is the role's, else none.
+-- One if the point is the role's, else none.
 abbrev pub start_titles : Net → List (List ℕ) → TableView → ℕ → ℕ → List (List ℕ)
 start_titles net names table p n = if is_own net p n then row_title names p n (row_at table p n) ∷ [] else []
 

@@ -51,11 +51,11 @@ continue_title name = codes "continue " ++ name
 abbrev pub par_title : Bodies → List ℕ
 par_title blocks = codes "par: " ++ points_text (points_beside blocks)
 
--- A block behind another: `or: points 4 to 5`, or `and: points 6 to 9`
+-- A block after another: `or: points 4 to 5`, or `and: points 6 to 9`
 abbrev pub block_title : List ℕ → Body → List ℕ
 block_title word body = word ++ codes ": " ++ points_text (points_of body)
 
--- The titles of the statements of a body. A frame's stands in front of those in it. An expansion has no calls.
+-- The titles of the statements of a body. The title of a frame comes before those of what is in it. An expansion has no calls.
 abbrev mutual
   pub statement_titles : List (List ℕ) → Body → List (List ℕ)
   statement_titles roles End = []

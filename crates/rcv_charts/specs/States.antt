@@ -46,8 +46,8 @@ abbrev pub StandTogether : List StateView → ℕ → ℕ → Type 0
 StandTogether [] k l = ⊥
 StandTogether (state ∷ states) k l = (IsIn k state.places × IsIn l state.places) ⊎ StandTogether states k l
 
--- The states of the machine of role r: each place of the role stands in one of them, once, and two places stand in one
--- exactly if the role does the same at both.
+-- The states of the machine of role r. Each place of the role stands in one of them, once. Two places stand in one state exactly if the
+-- role does the same at both.
 pub record AreStatesOf (net : Net) (r : ℕ) (states : List StateView) : Type 0 where
   pub each_once : AreStatesTo net r net.count states
   pub each : AllByRecursion (IsState net r) states

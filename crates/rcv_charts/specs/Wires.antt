@@ -1,4 +1,4 @@
--- The wires of a machine: from each step of a state to the state that holds the place behind its point.
+-- The wires of a machine: from each step of a state to the state that holds the place after its point.
 use Rattle.std.specs.Prelude.{◌≡◌, ◌<◌, ℕ, ◌+◌, List, [], ◌∷◌, ◌++◌, map, length, slice_index_or}
 use Rattle.std.specs.List.{All}
 use Rattle.rcv_model.specs.Net.{IsIn}
@@ -18,7 +18,7 @@ wire_at wires i = slice_index_or wires i (record { from = 0; step = 0; point = 0
 abbrev pub Holds : List StateView → ℕ → Type 0
 Holds states k = StandTogether states k k
 
--- The place behind each next point of each state is in one of them.
+-- The place after each next point of each state is in one of them.
 abbrev pub AreClosed : List StateView → Type 0
 AreClosed states = All (λ (state : StateView). All (Holds states) (next_in state.act)) states
 
@@ -30,7 +30,7 @@ steps_from i (state ∷ states) = map (λ (z : ℕ). (i, z)) (next_in state.act)
 abbrev pub step_of : Wire → ℕ × ℕ
 step_of wire = (wire.from, wire.point)
 
--- The wire begins at a step of its state, which has its point, and leads to a state that has the place behind that point.
+-- The wire begins at a step of its state, which has its point, and leads to a state that has the place after that point.
 pub record LeadsOn (states : List StateView) (wire : Wire) : Type 0 where
   pub step : wire.step < length (next_in (state_at states wire.from).act)
   pub point : slice_index_or (next_in (state_at states wire.from).act) wire.step 0 ≡ wire.point
@@ -41,7 +41,7 @@ pub record AreWires (states : List StateView) (wires : List Wire) : Type 0 where
   pub each_step : map step_of wires ≡ steps_from 0 states
   pub lead : All (LeadsOn states) wires
 
--- Behind these wires stand those of the state with number i.
+-- After these wires come those of the state with number i.
 pub record GetsWires (states : List StateView) (i : ℕ) (before after : List Wire) : Type 0 where
   pub each_step : map step_of after ≡ map step_of before ++ map (λ (z : ℕ). (i, z)) (next_in (state_at states i).act)
   pub lead : All (LeadsOn states) before → All (LeadsOn states) after

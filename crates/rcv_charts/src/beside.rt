@@ -4,7 +4,7 @@ use crate::columns::ROLES;
 use rcv_tree::role::RoleId;
 use rcv_tree::statement::{Block, Blocks, Stmt};
 
-/// The columns from that of one role to that of another; none where the first is behind the last.
+/// The columns from that of one role to that of another: none if the first comes after the last.
 #[derive(Clone, Copy, Drop)]
 pub struct Span {
     pub first: RoleId,

@@ -37,7 +37,7 @@ pub struct Source<'a> {
     pub points: &'a Points,
 }
 
-// The head of a state: the points behind which it stands.
+// The head of a state: the points after which the role is in it.
 fn head_of(alloc: Global, state: &State) -> Result<Vec<u8>, AllocError> {
     let mut head = Writer::new(alloc);
     let mut places = state.places();
@@ -159,7 +159,7 @@ fn look_of(state: &State) -> (u32, Look) {
     }
 }
 
-// What parts the head of a box from the rest, or the inner edge of the box where the part ends.
+// What separates the head of a box from the rest. If the role's part ends there, the inner edge of the box instead.
 fn seam(state: &State, frame: Frame, left: Pixels, wide: Pixels) -> Shape
     ensures { texts_in (result ∷ []) ≡ [] }
 {

@@ -40,8 +40,8 @@ fn first_point_of_blocks(blocks: &Blocks) -> Option<Point> {
     None
 }
 
-/// The calls of a module: where each point came from, and for each call in how many inner blocks of its protocol's text
-/// it stands.
+/// The calls of a module: where each point came from, and how many inner blocks of its protocol's text each call stands
+/// in.
 #[derive(Clone, Copy, Drop)]
 pub struct Calls<'a> {
     pub origins: &'a Origins,
@@ -49,7 +49,7 @@ pub struct Calls<'a> {
 }
 
 impl<'a> Calls<'a> {
-    // Those through which a point came, the outermost first.
+    // The calls through which a point came, the outermost first.
     fn of_point(self, point: Point) -> &'a [Called] {
         match self
             .origins
@@ -66,8 +66,9 @@ impl<'a> Calls<'a> {
         self.depths.get(call.number) == Some(&blocks)
     }
 
-    /// Those through which a statement came into the block that is drawn there, the outermost first. What has no point, as a
-    /// `continue`, came through none: the statements of a called text have points, but for some in its inner blocks.
+    /// The calls through which a statement came into the block that is drawn there, the outermost first. A statement
+    /// that has no point, such as a `continue`, came through none: the statements of a called text have points, except
+    /// for some in its inner blocks.
     pub fn into_block(self, within: Within, stmt: &Stmt) -> &'a [Called] {
         let Some(point) = first_point(stmt) else {
             return &[];

@@ -29,7 +29,8 @@ pub struct Headings {
 pub struct Columns {
     pub left: Pixels,
     pub width: Pixels,
-    /// In front of which columns there is a gap, and how much of it belongs to what is left and right of it.
+    /// Which columns have a gap in front of them, and how much of a gap belongs to what is left of it and to what is
+    /// right of it.
     pub gaps: [bool; ROLES],
     pub behind: Pixels,
     pub before: Pixels,

@@ -106,7 +106,7 @@ impl Drawing {
         Ok(())
     }
 
-    /// Adds what was drawn inside a frame behind the frame, and goes on as far down as this. Fails if memory runs out.
+    /// After a frame, adds what was drawn inside it, and goes on so far down. Fails if memory runs out.
     pub fn put_inner(&mut self, mut inner: Drawing, down: Pixels) -> Result<(), AllocError>
         ensures { OnOk result (self.new ≡ record { groups = self.old.groups ++ inner.groups; down = down.0 }) }
     {

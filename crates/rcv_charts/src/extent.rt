@@ -15,8 +15,8 @@ use std::alloc::{AllocError, Global};
 /// How much further in each frame stands than the one around it.
 pub const INSET: Pixels = Pixels(14);
 
-/// Where a block is drawn: how far in its frame stands, within the frames of how many calls, and within how many other
-/// frames that stand in that of the innermost call.
+/// Where a block is drawn: how far in its frame stands, how many calls have a frame around it, and how many other
+/// frames are around it within that of the innermost call.
 #[derive(Clone, Copy, Drop)]
 pub struct Within {
     pub inset: Pixels,
@@ -33,9 +33,9 @@ pub struct Extent {
     /// The widest label, and the widest name of a loop that is begun again.
     pub label: Pixels,
     pub again: Pixels,
-    /// How wide a picture has to be for each tag to fit into its frame.
+    /// How wide a picture must be for each tag to fit into its frame.
     pub tags: Pixels,
-    /// The columns with which a lane begins that has one to its left.
+    /// The columns at which a lane begins that has another lane to its left.
     pub gaps: [bool; ROLES],
     /// Whether there are lanes, and whether there are calls.
     pub has_lanes: bool,

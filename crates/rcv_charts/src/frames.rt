@@ -19,7 +19,8 @@ use rcv_picture::shape::Shape;
 use rcv_tree::name::Names;
 use std::alloc::{AllocError, Global};
 
-/// What is the same for the whole picture, or for a lane: the roles, the calls, the columns, and between which edges frames stand.
+/// What is the same for the whole picture, or for a lane: the roles, the calls, the columns, and the edges between
+/// which frames stand.
 #[derive(Clone, Copy, Drop)]
 pub struct Chart<'a> {
     pub alloc: Global,
@@ -119,7 +120,7 @@ fn group_of(
     Ok(titled(title, shapes))
 }
 
-/// Draws a frame that begins as far down as the drawing has come, around what was drawn inside, with its tag. Fails where
+/// Draws a frame that begins as far down as the drawing has come, around what was drawn inside, with its tag. Fails if
 /// memory runs out.
 pub fn put_frame(
     chart: &Chart<'_>,
@@ -197,9 +198,9 @@ fn close_calls(
     Ok(())
 }
 
-/// Goes on behind these frames of calls, which stand in a block, with what came into the block through these calls: ends
-/// the frames in which that doesn't stand, and begins those of the others of its calls. Answers where it stands. Fails
-/// if memory runs out.
+/// Goes from these frames of calls, which stand in a block, to what came into the block through these calls. It ends
+/// the frames that this isn't in, and begins those of its other calls. Answers where it stands. Fails if memory runs
+/// out.
 pub fn go_into(
     chart: &Chart<'_>,
     drawing: &mut Drawing,

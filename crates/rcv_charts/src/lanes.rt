@@ -45,7 +45,7 @@ impl Lanes {
         self.lanes.len()
     }
 
-    /// Puts a wire between these heights into the first lane with room, and answers which that is. Fails where memory
+    /// Puts a wire between these heights into the first lane with room, and answers which lane that is. Fails if memory
     /// runs out.
     pub fn put(&mut self, alloc: Global, one: Pixels, other: Pixels) -> Result<usize, AllocError> {
         let span = Span {

@@ -26,7 +26,7 @@ pub fn pixels(count: usize) -> Pixels {
     Pixels(u32::try_from(count).unwrap_or(u32::MAX))
 }
 
-/// How wide a text is, where a letter is so many tenths of a pixel wide.
+/// How wide a text is, if a letter is so many tenths of a pixel wide.
 pub fn width(text: &[u8], tenths: u32) -> Pixels {
     // The bytes that only go on with a letter aren't counted.
     let letters = text
@@ -42,7 +42,7 @@ pub fn is_cut(label: &[u8]) -> bool {
     label.len() > LONGEST
 }
 
-/// A label as it is shown: its first ten letters, three dots and its last five where it is long.
+/// A label as it is shown: a long one as its first ten letters, three dots and its last five.
 pub fn cut(alloc: Global, label: &[u8]) -> Result<Vec<u8>, AllocError>
     ensures { IfOk result (λ shown. shown.items ≡ shown_label label.now) }
 {
@@ -55,7 +55,7 @@ pub fn cut(alloc: Global, label: &[u8]) -> Result<Vec<u8>, AllocError>
     Ok(short)
 }
 
-/// The lines of a name in a heading: broken behind a `_`, or where a capital letter follows a small one.
+/// The lines of a name in a heading: broken after a `_`, or where a capital letter follows a small one.
 pub fn lines(alloc: Global, name: &[u8]) -> Result<Vec<Vec<u8>>, AllocError> {
     let mut lines = Vec::new(alloc);
     let mut rest = name;
@@ -102,7 +102,7 @@ pub fn pieces(alloc: Global, text: &[u8]) -> Result<Vec<Vec<u8>>, AllocError> {
     Ok(pieces)
 }
 
-/// The width of the widest of these texts, where a letter is so many tenths of a pixel wide.
+/// The width of the widest of these texts, if a letter is so many tenths of a pixel wide.
 pub fn widest(texts: &[Vec<u8>], tenths: u32) -> Pixels {
     let mut most = Pixels(0);
     for text in texts {

@@ -28,7 +28,7 @@ mod ways;
 mod wires;
 mod words;
 
-/// Want of memory, which is the one error of the calls of this crate.
+/// Memory ran out. This is the one error of the calls of this crate.
 pub use std::alloc::AllocError as Memory;
 
 /// The titles of the rows of a table's picture are the lines of the table's text.

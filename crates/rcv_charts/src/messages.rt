@@ -30,7 +30,7 @@ pub struct Message<'a> {
     pub point: Point,
 }
 
-/// The name of a role; none where it isn't declared.
+/// The name of a role; none if the role isn't declared.
 pub fn name_of(roles: &Names, role: RoleId) -> &[u8]
     ensures { result.now ≡ name_of roles.now role }
 {
@@ -90,7 +90,7 @@ impl Message<'_> {
         Ok(text.finish())
     }
 
-    /// Its label and its sorts, cut where they are long. Fails if memory runs out.
+    /// Its label and its sorts, cut if they are long. Fails if memory runs out.
     pub fn shown(&self, alloc: Global) -> Result<Vec<u8>, AllocError> {
         let label = cut(alloc, self.label.as_slice())?;
         let sorts = cut(alloc, self.sorts(alloc)?.as_slice())?;
@@ -109,7 +109,7 @@ impl Message<'_> {
     }
 }
 
-// A label, and behind it the sorts in brackets, if there are any.
+// A label, and after it the sorts in brackets, if there are any.
 fn with_sorts(alloc: Global, label: &[u8], sorts: &[u8]) -> Result<Vec<u8>, AllocError> {
     let mut text = Writer::new(alloc);
     text.word(label)?;

@@ -132,11 +132,12 @@ fn finished(
     drawing.picture(alloc, wide, called, description, ground)
 }
 
-/// The picture of an expansion: a column for each role, an arrow for each message, and a frame for each choice, for each
-/// loop, with a way back to it from each `continue`, for lanes beside each other, and for what came through a call, with the
-/// name of the protocol that it names. The points come from there, and each call stands in so many inner blocks of its
-/// protocol's text. Each statement is drawn once, in order and in its frames, and has a title; that of a frame says which
-/// points it holds. Fails if memory runs out.
+/// The picture of an expansion: a column for each role, an arrow for each message, and frames. There is a frame for
+/// each choice and each loop, for lanes beside each other, and for what came through a call. A way goes from each
+/// `continue` back to its loop; the frame of a call has the name of the protocol that the call names. `origins` says
+/// where the points come from, and `depths` how many inner blocks of its protocol's text each call stands in. Each
+/// statement is drawn once, in order and in its frames, and has a title. The title of a frame says which points it
+/// holds. Fails if memory runs out.
 pub fn protocol_picture(
     alloc: Global,
     protocol: &Protocol,

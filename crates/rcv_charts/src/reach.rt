@@ -1,4 +1,4 @@
-// From which point to which statements reach.
+// From which point to which point statements reach.
 
 ghost use Rattle.std.specs.Prelude.{◌≡◌, ◌++◌, OnOk};
 ghost use Rattle.rcv_model.specs.Text.{Body, body_of, bodies_of, stmt_body};
@@ -32,7 +32,7 @@ impl Reach {
         Reach::Nothing.with_blocks(blocks)
     }
 
-    // With a point behind them.
+    // With one more point after them.
     fn with_point(self, point: Point) -> Reach
         ensures { result ≡ with_point self point }
     {
@@ -45,7 +45,7 @@ impl Reach {
         }
     }
 
-    // With the points of a block behind them.
+    // With the points of a block after them.
     #[cycle(reach)]
     fn with_block(self, block: &Block) -> Reach
         ensures { result ≡ reached self (points_of (body_of block.now)) }

@@ -150,9 +150,9 @@ fn states_picture(
     finished(alloc, drawing, title.as_slice(), &notes, right)
 }
 
-/// The picture of the machine of a declared role of an accepted protocol: a box for each state, with the role's steps
-/// there, and a wire from each step to the state that it leads to. Two places stand in one box exactly if the role does
-/// the same at both. Fails if memory runs out.
+/// The picture of the machine of a declared role of an accepted protocol. It has a box for each state, with the role's
+/// steps there, and a wire from each step to the state that it leads to. Two places stand in one box exactly if the
+/// role does the same at both. Fails if memory runs out.
 pub fn role_picture(
     alloc: Global,
     local: &Local,

@@ -37,7 +37,7 @@ fn write_points(text: &mut Writer, points: &[Point]) -> Result<(), AllocError>
     Ok(())
 }
 
-// Another role, and where it restarts, where it is concerned.
+// Another role, and where it restarts if it is concerned.
 fn write_concerned(
     text: &mut Writer,
     accepted: &Accepted,

@@ -102,8 +102,8 @@ fn row_height(table: &Table, role: RoleId, point: Point, roles: u8) -> Pixels
     pixels(most) * 16 + Pixels(8)
 }
 
-// Adds the cells of a start: where each concerned role restarts, and a line for each that goes on. Fails where memory
-// runs out.
+// Adds the cells of a start: where each concerned role restarts, and a line for each that goes on. Fails if memory runs
+// out.
 fn draw_cells(
     alloc: Global,
     shapes: &mut Vec<Shape>,
@@ -191,7 +191,7 @@ fn draw_row(
     Ok(())
 }
 
-// The same, where the point is the role's.
+// The same, if the point is the role's.
 fn draw_start(
     alloc: Global,
     drawing: &mut Drawing,
@@ -305,7 +305,7 @@ fn has_any(points: &Points, role: RoleId) -> bool {
     !points.of_role(role).is_empty()
 }
 
-// Draws the rows of a role, below their heading where it has any. Fails if memory runs out.
+// Draws the rows of a role, below their heading if it has any. Fails if memory runs out.
 fn draw_role(
     alloc: Global,
     drawing: &mut Drawing,

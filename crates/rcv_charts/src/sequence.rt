@@ -84,7 +84,7 @@ fn side(chart: &Chart<'_>, first: RoleId) -> Pixels {
     chart.columns.start(first) - chart.columns.before
 }
 
-// Draws the lines between lanes beside each other, which begin here: one to the left of each but the leftmost. Fails where
+// Draws the lines between lanes beside each other, which begin here: one to the left of each but the leftmost. Fails if
 // memory runs out.
 fn draw_sides(
     chart: &Chart<'_>,
@@ -106,8 +106,8 @@ fn draw_sides(
     Ok(())
 }
 
-// The word at this height beside the line to the left of a lane behind the first one of the text. That of the leftmost lane
-// stands beside the line of the first. Fails if memory runs out.
+// The word at this height beside the line to the left of a lane that comes after the text's first one. The word of the
+// leftmost lane stands beside the line of the first one. Fails if memory runs out.
 fn and_word(
     chart: &Chart<'_>,
     blocks: &Blocks,
@@ -133,7 +133,7 @@ fn and_word(
     Ok(titled(title, shapes))
 }
 
-// Draws the word that stands beside a lane behind the first one of the text. Fails if memory runs out.
+// Draws the word that stands beside a lane that comes after the text's first one. Fails if memory runs out.
 fn draw_and(
     chart: &Chart<'_>,
     drawing: &mut Drawing,
@@ -148,8 +148,8 @@ fn draw_and(
     drawing.put_group(group)
 }
 
-// The words of a way back at this height, and the way, to the innermost of these loops that has the name. Fails where memory
-// runs out.
+// The words of a way back at this height, and the way, to the innermost of these loops that has the name. Fails if
+// memory runs out.
 fn way_back(
     chart: &Chart<'_>,
     loops: &[Loop<'_>],
@@ -196,7 +196,7 @@ fn draw_continue(
     drawing.put_group(group)
 }
 
-/// Draws the statements of a block inside these loops, with a frame around those that came through one call. Fails where
+/// Draws the statements of a block inside these loops, with a frame around those that came through one call. Fails if
 /// memory runs out.
 #[cycle(draw)]
 pub fn draw_block<'t>(
@@ -242,7 +242,7 @@ fn draw_blocks<'t>(
     Ok(())
 }
 
-// Draws a lane in its own columns, from here on. Answers how far down it goes, or this if that is further down. Fails
+// Draws a lane in its own columns, from here on. Answers how far down it goes, or `end` if that is further down. Fails
 // if memory runs out.
 #[cycle(draw)]
 fn draw_lane<'t>(
@@ -291,7 +291,7 @@ fn draw_beside<'t>(
     draw_sides(chart, drawing, top, blocks)
 }
 
-// Draws the lanes of a `par`: beside each other where each has columns of its own, else one below the other. Fails where
+// Draws the lanes of a `par`: beside each other if each has columns of its own, else one below the other. Fails if
 // memory runs out.
 #[cycle(draw)]
 fn draw_lanes<'t>(

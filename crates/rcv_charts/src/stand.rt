@@ -30,8 +30,8 @@ fn height(state: &State) -> Pixels {
     }
 }
 
-/// Where the boxes of these states stand: below each other in order, the one where the part ends last. Fails where
-/// memory runs out.
+/// Where the boxes of these states stand: below each other in order, the one where the part ends last. Fails if memory
+/// runs out.
 pub fn frames_of(alloc: Global, states: &[State], top: Pixels) -> Result<Vec<Frame>, AllocError> {
     let mut all = Pixels(0);
     for state in states {

@@ -144,8 +144,8 @@ fn doing(states: &[State], act: &OwnedAct) -> Option<usize>
     states.iter().position(|state| state.does(act))
 }
 
-// Adds a place at which the role does this: to the state in which it does so, or as a state of its own. Fails where
-// memory runs out.
+// Adds a place at which the role does this: to the state in which it does so, or as a state of its own. Fails if memory
+// runs out.
 fn add_place(
     alloc: Global,
     states: &mut Vec<State>,

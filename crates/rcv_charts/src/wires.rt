@@ -9,7 +9,8 @@ use crate::states::{State, state_with};
 use rcv_tree::point::Point;
 use std::alloc::{AllocError, Global};
 
-/// A wire: from which state and which of its steps, counted from 0, with the point of that step, and to which state.
+/// A wire: the state that it starts from, which of that state's steps it is, counted from 0, the point of that step,
+/// and the state that it leads to.
 #[derive(Clone, Copy, Drop)]
 pub struct Wire {
     pub from: usize,

@@ -24,7 +24,7 @@ pub fn owns(points: &Points, role: RoleId, point: Point) -> bool
     points.sender(point) == role || points.receiver(point) == role
 }
 
-/// The label of a point, or nothing where the text has no such point.
+/// The label of a point, or nothing if the text has no such point.
 pub fn label(points: &Points, point: Point) -> &[u8] {
     if 1 <= point.0 && point.0 <= points.count() {
         points.label(point)
@@ -42,7 +42,7 @@ pub fn point_label(alloc: Global, points: &Points, point: Point) -> Result<Vec<u
     Ok(words.finish())
 }
 
-/// Words, one behind the other. Fails if memory runs out.
+/// Words, one after the other. Fails if memory runs out.
 pub fn joined(alloc: Global, first: &[u8], second: &[u8]) -> Result<Vec<u8>, AllocError> {
     let mut words = Vec::from_slice(alloc, first)?;
     words.extend_from_slice(second)?;
@@ -63,7 +63,7 @@ impl Notes {
         }
     }
 
-    /// Adds what stands behind a point, in full. Fails if memory runs out.
+    /// Adds a line with a point and the words that stand after it, in full. Fails if memory runs out.
     pub fn add(&mut self, alloc: Global, point: Point, words: &[u8]) -> Result<(), AllocError> {
         let mut line = Writer::new(alloc);
         line.word(b"point ")?;
@@ -76,7 +76,7 @@ impl Notes {
         Ok(())
     }
 
-    /// Adds the label of a point where it is cut elsewhere. Fails if memory runs out.
+    /// Adds the label of a point if it is cut elsewhere. Fails if memory runs out.
     pub fn add_cut(
         &mut self,
         alloc: Global,

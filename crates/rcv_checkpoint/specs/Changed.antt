@@ -3,7 +3,7 @@ use Rattle.std.specs.Prelude.{◌≡◌, ℕ, ℤ, ◌<◌, List, slice_set}
 use Rattle.rcv_checkpoint.specs.declared.changed.Changed.{Changed}
 use Rattle.rcv_checkpoint.specs.declared.changed.Changed.TheVariants.{Nothing, One, Any}
 
--- The variables are the same but for some value at this place.
+-- The variables are the same, except for some value at this place.
 pub record IsOneChange (place : ℕ) (from to : List ℤ) : Type 0 where
   pub within : place < 16
   pub value : ℤ

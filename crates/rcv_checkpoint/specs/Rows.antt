@@ -37,7 +37,7 @@ abbrev pub changes_before : List ℕ → ℕ → ℕ
 changes_before changed zero = 0
 changes_before changed (suc n) = changes_before changed n + slice_index changed n
 
--- Of a list with an item for each change, those of event number n, from 0.
+-- The items of event number n, from 0, in a list with an item for each change.
 abbrev pub of_event : {A : Type 0} → List ℕ → List A → ℕ → List A
 of_event changed xs n = take (slice_index changed n) (drop (changes_before changed n) xs)
 
@@ -58,7 +58,7 @@ state_in rows (suc n) =
 abbrev pub states_of : Lists → List State
 states_of rows = map (state_in rows) (range_with_len 0 (length rows.points + 1))
 
--- The lists fit together, and at each count that 64 divides stand the full state and where the changes behind it begin.
+-- The lists fit together, and at each count that 64 divides stand the full state and where the changes after it begin.
 pub record AreRows (rows : Lists) : Type 0 where
   pub changed : length rows.changed ≡ length rows.points
   pub places : length rows.places ≡ changes_before rows.changed (length rows.points)
@@ -101,7 +101,7 @@ pub record KeepsRoom (old now : Rows) : Type 0 where
 abbrev pub AreSame : List ℤ → List ℤ → ℕ → Type 0
 AreSame from to start = (i : ℕ) → start ≤ i → i < start + 4 → slice_index_or from i (pos 0) ≡ slice_index_or to i (pos 0)
 
--- Behind the places and the values stand those that take the first variables to the other ones: so many.
+-- After these places and values come those that take the first variables to the other ones: so many.
 pub record IsNoted (places places_now : List ℕ) (values values_now from to : List ℤ) (changed : ℕ) : Type 0 where
   pub more_places : List ℕ
   pub more_values : List ℤ

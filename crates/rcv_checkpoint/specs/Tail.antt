@@ -24,7 +24,7 @@ place_of tail count = count - tail.base
 abbrev pub Holds : TailView → ℕ → Type 0
 Holds tail count = (tail.base ≤ count) × (count ≤ made tail)
 
--- The variables behind all of them.
+-- The variables after all of them.
 abbrev pub final_vars : TailView → List ℤ
 final_vars tail = (slice_index_or tail.states (length tail.states - 1) nowhere).vars
 
@@ -55,7 +55,7 @@ pub record IsTail (stack : StackView) (before base every : ℕ) : Type 0 where
   pub steps : 1 ≤ every
   pub few : before + held stack < 2 ^ 32
 
--- The states after `base`, `base + 1` and so on, up to `count` events, where that after n of them is `state n`.
+-- The states after `base`, `base + 1` and so on, up to `count` events. The one after n of them is `state n`.
 pub record AreFrom (state : ℕ → State) (base count : ℕ) (states : List State) : Type 0 where
   pub all : base + length states ≡ count + 1
   pub each : (n : ℕ) → base ≤ n → n ≤ count → slice_get states (n - base) ≡ Some (state n)

@@ -9,5 +9,5 @@ pub mod tail;
 #[cfg(test)]
 mod tests;
 
-/// Want of memory, which is the one error of the calls of this crate.
+/// Memory ran out. This is the one error of the calls of this crate.
 pub use std::alloc::AllocError as Memory;

@@ -18,7 +18,7 @@ const BLOCK: usize = 64;
 const VARS: usize = 16;
 
 /// For each event its point and how many variables it changed, 3 bytes; for each such change the variable's place and
-/// what it was changed to, 9 bytes; and at each 64th count a full state and where the changes behind it begin, 144
+/// what it was changed to, 9 bytes; and at each 64th count a full state and where the changes after it begin, 144
 /// bytes. An event that changes two variables costs 23 bytes and a quarter; a full state for each event would cost 136.
 #[derive(Drop)]
 pub struct Rows {
@@ -72,8 +72,8 @@ impl Rows {
         Ok(())
     }
 
-    /// Adds the state after one event more, at this point and with these variables, where `last` is the one before it,
-    /// and becomes it. `change` says what the event changed of the variables.
+    /// Adds the state after one event more, at this point and with these variables. `last` is the state before it, and
+    /// becomes this one. `change` says what the event changed of the variables.
     #[inline(always)]
     pub fn push(&mut self, last: &mut State, k: u16, vars: &Vars, change: Changed)
         requires rows { AreRows (lists_of self.old) }
@@ -135,7 +135,7 @@ impl Rows {
         }
     }
 
-    /// Keeps the states up to this count, of which `changes` changes tell.
+    /// Keeps the states up to this count, with the `changes` changes that lead to them.
     #[inline(always)]
     pub fn cut(&mut self, count: usize, changes: usize)
         requires rows { AreRows (lists_of self.old) }
@@ -257,7 +257,7 @@ fn note_one(
     1
 }
 
-// Notes the variables that differ, answers how many, and makes them the same. It goes over a quarter only where that
+// Notes the variables that differ, answers how many, and makes them the same. It goes over a quarter only if that
 // differs.
 fn note_all(places: &mut Vec<u8>, values: &mut Vec<i64>, vars: &mut Vars, to: &Vars) -> u8
     requires places { vec_len places.old + 16 ≤ vec_capacity places.old }

@@ -12,8 +12,8 @@ use rcv_tree::variables::Vars;
 use std::alloc::{AllocError, Global};
 use std::marker::Model;
 
-/// The states of a role after 0, 1, 2 and so on of its events, from the first one on. Contracts see them as a list.
-/// The states at the multiples of `every` are durable: a crash loses those behind the last of them.
+/// The states of a role after 0, 1, 2 and so on of its events, from the first one on. Contracts see them as a list. The
+/// states at the multiples of `every` are durable: a crash loses those after the last of them.
 #[derive(Drop)]
 pub struct Stack {
     rows: Rows,
@@ -35,8 +35,8 @@ impl Model for Stack {
 }
 
 impl Stack {
-    /// The stack of this state alone, where `every` is at least 1; with room for so many
-    /// events, any number. Fails if memory runs out.
+    /// The stack of this state alone, with room for so many events, any number. `every` is at least 1. Fails if memory
+    /// runs out.
     pub fn new(alloc: Global, first: State, every: u32, room: u32) -> Result<Stack, AllocError>
         requires { 1 ≤ every }
         ensures { IfOk result (λ stack. stack ≡ record { states = first ∷ []; every = every; room = room }) }
@@ -49,7 +49,7 @@ impl Stack {
         })
     }
 
-    /// Adds the state after one event more, of at most 2^32 - 1: the event's point, and the variables behind it, which
+    /// Adds the state after one event more, of at most 2^32 - 1: the event's point, and the variables after it, which
     /// differ from those before it as `change` says. Within the room of the stack it takes no memory and succeeds. Else
     /// it fails if memory runs out; then the stack is as before.
     #[inline(always)]

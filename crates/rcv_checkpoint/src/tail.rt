@@ -16,11 +16,11 @@ use std::marker::Model;
 const BLOCK: u32 = 64;
 
 /// The states of a role after `base`, `base + 1` and so on of its events; the earlier ones are forgotten. The states at
-/// the multiples of `every` are durable: a crash loses those behind the last of them.
+/// the multiples of `every` are durable: a crash loses those after the last of them.
 #[derive(Drop)]
 pub struct Tail {
     stack: Stack,
-    // After so many events stands the first state of the stack.
+    // The first state of the stack is the one after so many events.
     before: u32,
     base: u32,
     every: u32,
@@ -37,8 +37,8 @@ impl Model for Tail {
 }
 
 impl Tail {
-    /// This state alone, before any event, where `every` is at least 1; with room for so many events. Fails where
-    /// memory runs out.
+    /// This state alone, before any event, with room for so many events. `every` is at least 1. Fails if memory runs
+    /// out.
     pub fn new(alloc: Global, first: State, every: u32, room: u32) -> Result<Tail, AllocError>
         requires { 1 ≤ every }
         ensures { IfOk result (λ tail. tail ≡ record { base = 0; states = first ∷ []; every = every; room = room }) }
@@ -51,16 +51,16 @@ impl Tail {
         })
     }
 
-    /// After how many events stands the first state that is held.
+    /// How many events come before the first state that is held.
     pub fn base(&self) -> u32
         ensures { result ≡ self.now.base }
     {
         self.base
     }
 
-    /// Adds the state after one event more, of at most 2^32 - 1: the event's point, and the variables behind it, which
-    /// differ from those before it as `change` says. Within the room it takes no memory and succeeds. Else it fails
-    /// if memory runs out; then all is as before.
+    /// Adds the state after one event more, of at most 2^32 - 1: the event's point, and the variables after it, which
+    /// differ from those before it as `change` says. Within the room it takes no memory and succeeds. Else it fails if
+    /// memory runs out; then all is as before.
     #[inline(always)]
     pub fn save(&mut self, k: u16, vars: &Vars, change: Changed) -> Result<(), AllocError>
         requires few { made self.old + 1 < 2 ^ 32 }
@@ -122,8 +122,8 @@ impl Tail {
 
     /// Forgets the states before the one after so many events, which is the base from then on. It takes no memory.
     ///
-    /// What is forgotten gives its room to what is saved later: once it is at least as much as what stays, this is moved
-    /// over it. So moving costs no more than saving did.
+    /// What is forgotten gives its room to what is saved later: once it is at least as much as what stays, what stays
+    /// moves over it. So moving costs no more than saving did.
     pub fn forget(&mut self, below: u32)
         requires { Holds self.old below }
         ensures { self.new ≡ from_base self.old below }

@@ -12,7 +12,7 @@ use rcv_tree::variables::Vars;
 use std::alloc::{AllocError, Global};
 use std::test::Fail;
 
-// The state after so many events, where the first variable counts them.
+// The state after so many events. Its first variable counts them.
 fn counted(count: u32) -> State {
     let mut vars = [0; 16];
     vars[0] = i64::from(count);
@@ -56,7 +56,7 @@ fn a_crash_loses_the_states_behind_the_durable_one(rt: HostRuntime) -> Result<()
     Ok(())
 }
 
-// A tail with so many saves, of which nothing is forgotten.
+// A tail with so many saves. It has forgotten none of them.
 fn kept(alloc: Global, every: u32, room: u32) -> Result<Tail, AllocError>
     requires { 1 ≤ every }
     ensures base { IfOk result (λ tail. tail.base ≡ 0) }

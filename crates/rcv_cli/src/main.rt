@@ -12,7 +12,7 @@ fn main(rt: HostRuntime) -> ExitCode {
         Err(error) if error.kind() == io::ErrorKind::OutOfMemory => {
             return ExitCode::from(Status::Memory.number());
         }
-        // A word that is no UTF-8 is no word of a command.
+        // A word that isn't UTF-8 is no word of a command.
         Err(_) => Vec::new(rt.alloc()),
     };
     let mut source = StdSource::new(rt.stdin());
@@ -28,7 +28,7 @@ fn main(rt: HostRuntime) -> ExitCode {
     ExitCode::from(status.number())
 }
 
-// The words behind the program's name.
+// The words after the program's name.
 fn words(rt: &HostRuntime) -> io::Result<Vec<String>> {
     let mut words = Vec::new(rt.alloc());
     for word in env::args(rt)?.skip(1) {

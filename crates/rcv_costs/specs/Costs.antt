@@ -30,17 +30,17 @@ own_points session run r = points_of r (reading (rules_of (calm session)) run).k
 abbrev pub made_in : SessionView → List Entry → ℕ → ℕ
 made_in session run r = length (own_points session run r)
 
--- The same, said where no such journal is at hand.
+-- The same, without such a journal at hand.
 abbrev pub AreOwnPoints : SessionView → ℕ → List ℕ → Type 0
 AreOwnPoints session r points = (run : List Entry) → IsCalmRun session run → points ≡ own_points session run r
 
--- So they are, for each role.
+-- The same holds for each role.
 pub record AreAllPoints (session : SessionView) (points : List (Vec ℕ Global)) : Type 0 where
   pub all : length points ≡ roles_of session
   pub short : AreShort points
   pub each : (r : ℕ) → r < roles_of session → AreOwnPoints session r (of_role points r)
 
--- Of these points that of the event after which the role crashes, if it crashes after so many.
+-- The one of these points that belongs to the event after which the role crashes, if it crashes after so many.
 abbrev pub point_before : List ℕ → ℕ → Option ℕ
 point_before points zero = None
 point_before points (suc n) = slice_get points n

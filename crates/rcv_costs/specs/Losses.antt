@@ -15,7 +15,7 @@ sum_over roles f = sum_by f (range_with_len 0 roles)
 abbrev pub lost_by : Rules → State → ℕ → ℕ → ℕ
 lost_by rules s p q = if is_listed (group_of rules p) q then length (acts q s.kept) - durable rules s q else 0
 
--- How many events are lost where p's group fails.
+-- How many events are lost if p's group fails.
 abbrev pub lost_in : Rules → State → ℕ → ℕ
 lost_in rules s p = sum_over rules.roles (lost_by rules s p)
 

@@ -21,7 +21,7 @@ pub record IsNamedCost (session : SessionView) (cost : Cost) : Type 0 where
 abbrev pub AreNamedCosts : SessionView → List Cost → Type 0
 AreNamedCosts session costs = All (IsNamedCost session) costs
 
--- So are the costs of a session.
+-- The same holds for the costs of a session.
 abbrev pub CostsAreNamed : Type 0
 CostsAreNamed =
     (session : SessionView) (costs : Costs) → IsAcceptedProtocol session.protocol → AreCosts session costs

@@ -63,7 +63,7 @@ fn cost_now(
     else {
         unreachable!()
     };
-    // Until now nothing was undone: all entries are kept events, but for the Crash.
+    // Until now nothing was undone: all entries are kept events, except for the Crash.
     let kept = book.len() as u64 - 1;
     let lost = lost(&book, role);
     let received = received(&book);
@@ -122,9 +122,9 @@ fn all_points(alloc: Global, setup: &mut Setup) -> Result<Vec<Vec<Point>>, Alloc
 }
 
 /// What each role's crash costs, at each count of the events that it makes if nobody crashes. The crash lines of the
-/// setup's plan don't count, and the setup gets a plan with another crash line in their place. It runs the session once
-/// for each cost, up to the recovery, and so it takes a time that grows with the square of the events; with more than 2,000
-/// counts it looks at every so many of them. Fails if memory runs out.
+/// setup's plan don't count, and the setup gets a plan with another crash line instead. It runs the session once for
+/// each cost, up to the recovery. So its time grows with the square of the events. With more than 2,000 counts it looks
+/// at every so many of them. Fails if memory runs out.
 pub fn costs_of(alloc: Global, setup: &mut Setup) -> Result<Costs, AllocError>
     ensures costs { IfOk result (AreCosts setup.old) }
     ensures few { IfOk result (λ costs. length costs.list.items ≤ 800008) }

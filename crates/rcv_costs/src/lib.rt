@@ -13,5 +13,5 @@ mod tests;
 
 pub use crashes::costs_of;
 pub use numbers::{Cost, Costs};
-/// Want of memory, which is the one error of this crate.
+/// Memory ran out. This is the one error of this crate.
 pub use std::alloc::AllocError as Memory;

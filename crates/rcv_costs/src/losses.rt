@@ -35,7 +35,7 @@ fn lost_by(book: &Book<'_>, group: RoleSet, role: RoleId) -> u32
     made - made / every * every
 }
 
-/// How many of their kept events the roles haven't saved that fail with a declared role.
+/// Of the roles that fail with a declared role: how many of their kept events they haven't saved.
 pub fn lost(book: &Book<'_>, role: RoleId) -> u64
     requires { role < roles_of book.now.setup }
     ensures { result ≡ lost_in (rules_of book.now.setup) (state_of book.now) role }
@@ -73,7 +73,7 @@ pub fn received(book: &Book<'_>) -> Received
     received
 }
 
-// How many messages of one channel are received again, of which so many had been received before the recovery.
+// How many messages of one channel are received again. So many had been received before the recovery.
 fn again_on(book: &Book<'_>, from: RoleId, to: RoleId, received: u32) -> u32
     requires from { from < roles_of book.now.setup }
     requires to { to < roles_of book.now.setup }
@@ -99,7 +99,7 @@ fn again_from(book: &Book<'_>, from: RoleId, received: &[u32; ROLES]) -> u64
     again
 }
 
-/// How many messages are received again, of which so many had been received before the recovery.
+/// How many messages are received again. So many had been received before the recovery.
 pub fn again(book: &Book<'_>, received: &Received) -> u64
     ensures { (old : List Event) → HaveReceived (net_for book.now.setup) (roles_of book.now.setup) old received.now
         → result ≡ again_in (net_for book.now.setup) (roles_of book.now.setup) old (state_of book.now).kept }

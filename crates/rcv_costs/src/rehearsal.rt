@@ -1,4 +1,4 @@
-// One crash is rehearsed: a plan with that crash alone, and the session up to the recovery.
+// Rehearses one crash: a plan with that crash alone, and the session up to the recovery.
 
 ghost use Rattle.std.specs.Prelude.{◌≡◌, ◌<◌, ◌≤◌, ◌↔◌, IsTrue, OnOk, OnErr};
 ghost use Rattle.rcv_session.specs.Session.{roles_of};
@@ -30,8 +30,8 @@ pub fn crash_once(
     Ok(())
 }
 
-/// Goes on as one thread does, up to the first Recover, which is answered and not added; to the end if there is none. It
-/// takes no memory.
+/// Goes on as one thread does, up to the first Recover, and answers that without adding it; to the end if there is
+/// none. It takes no memory.
 pub fn run_to_recovery(book: &mut Book<'_>) -> Option<Entry>
     ensures { ComesToRecovery book.old book.new result }
 {

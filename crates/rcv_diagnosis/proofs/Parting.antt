@@ -7,8 +7,8 @@ use Rattle.rcv_input.specs.declared.refused.Refused as refusals
 use Rattle.rcv_input.specs.declared.refused.Refused.TheVariants.{Line}
 use Rattle.rcv_input.specs.Input.{IsTaken}
 use Rattle.rcv_input.specs.Refusals.{IsFirstRefusal}
-use Rattle.rcv_form.specs.Form.{IsFirstWrong, Spells}
-use Rattle.rcv_form.specs.Journal.{JournalView, bare}
+use Rattle.rcv_journal.specs.Form.{IsFirstWrong, Spells}
+use Rattle.rcv_journal.specs.Recorded.{JournalView, bare}
 use Rattle.rcv_replay.specs.declared.cut.Cut.{Cut}
 use Rattle.rcv_replay.specs.Cutting.{cut_of, bundle_of, journal_of, feeds_before, line_of_end}
 use Rattle.rcv_diagnosis.specs.declared.diagnosis.Diagnosis.{Diagnosis}

@@ -13,8 +13,8 @@ use Rattle.rcv_session.specs.Session.{SessionView, text_of, roles_of, net_for, r
 use Rattle.rcv_core.specs.Book.{BookView, state_of}
 use Rattle.rcv_journal.specs.JournalText.{IsNamed, IsDeclared}
 use Rattle.rcv_journal.proofs.Named.{ends_named, named}
-use Rattle.rcv_form.specs.Form.{IsFormedEntry}
-use Rattle.rcv_form.specs.Journal.{bare}
+use Rattle.rcv_journal.specs.Form.{IsFormedEntry}
+use Rattle.rcv_journal.specs.Recorded.{bare}
 use Rattle.rcv_judge.specs.declared.could.Could.{Could}
 use Rattle.rcv_judge.specs.declared.could.Could.TheVariants.{Make, Awaits, Done, AtLimit}
 use Rattle.rcv_judge.specs.Could.{IsCould}

@@ -1,4 +1,4 @@
--- What is found in a journal that stands behind its bundle, and what is told of it.
+-- What is found in a journal that stands after its bundle, and what is told of it.
 use Rattle.std.specs.Prelude.{◌≡◌, ◌⊎◌, ◌==◌, ℕ, ◌+◌, ◌<◌, ◌≤◌, ◌^◌, Bool, true, false, List, [], ◌∷◌, ◌++◌, length, take, slice_get, Some, None}
 use Rattle.rcv_tree.specs.declared.entry.Entry.{Entry}
 use Rattle.rcv_tree.specs.declared.protocol.Protocol.{Protocol}
@@ -12,9 +12,9 @@ use Rattle.rcv_input.specs.Input.{IsTaken}
 use Rattle.rcv_input.specs.Refusals.{IsFirstRefusal}
 use Rattle.rcv_journal.specs.declared.line.RoleLine.{RoleLine}
 use Rattle.rcv_journal.specs.Lines.{AreLinesOf}
-use Rattle.rcv_form.specs.Form as form
-use Rattle.rcv_form.specs.Journal.{JournalView, bare}
-use Rattle.rcv_decode.specs.Reading.{IsReadAs}
+use Rattle.rcv_journal.specs.Form as form
+use Rattle.rcv_journal.specs.Recorded.{JournalView, bare}
+use Rattle.rcv_json_reader.specs.Reading.{IsReadAs}
 use Rattle.rcv_judge.specs.declared.could.Could.{Could}
 use Rattle.rcv_judge.specs.Could.{IsCould}
 use Rattle.rcv_replay.specs.declared.cut.Cut.{Cut}
@@ -29,19 +29,19 @@ use Rattle.rcv_diagnosis.specs.declared.written.Written.TheVariants.{Lines, Json
 use Rattle.rcv_diagnosis.specs.Making.{book_of, IsLeastMade}
 use Rattle.rcv_diagnosis.specs.Telling.{said_line, finding_of, entry_text, unfinished_text, over_text}
 
--- What is told of an entry that may not come behind those of a book, with its number, counted from 1: the entry, and what
--- its role could do there.
+-- What is told of an entry that may not come after those of a book, with its number, counted from 1: the entry, and what its role
+-- could do there.
 abbrev pub IsToldOfEntry : BookView → Written → ℕ → Entry → List ℕ → Type 0
 IsToldOfEntry book written k e more =
     (could : Could) × IsCould book (role_of e) could × (more ≡ entry_text book.setup written k e could)
 
--- What is told where the session isn't over: the entry of the least role that could make one.
+-- What is told if the session isn't over: the entry of the least role that could make one.
 abbrev pub IsUnfinished : BookView → List ℕ → Type 0
 IsUnfinished book more =
     (IsFinal (rules_of book.setup) (state_of book) → ⊥)
     × (e : Entry) × IsLeastMade book e × (more ≡ unfinished_text book.setup e)
 
--- And where it is: the right closing lines.
+-- And if it is: the right closing lines.
 abbrev pub IsOver : BookView → List ℕ → Type 0
 IsOver book more =
     IsFinal (rules_of book.setup) (state_of book)
@@ -51,7 +51,7 @@ IsOver book more =
 abbrev pub IsToldOfEnd : BookView → List ℕ → Type 0
 IsToldOfEnd book more = IsUnfinished book more ⊎ IsOver book more
 
--- What is told of a journal behind the first line.
+-- What is told of a journal after the first line.
 abbrev pub IsTold : SessionView → JournalView → Written → Replayed → List ℕ → Type 0
 IsTold session j written (Refused r) more = ⊥
 IsTold session j written (Legal entries limited) more = more ≡ []
@@ -64,7 +64,7 @@ IsTold session j written WrongEnd more = IsToldOfEnd (book_of session j.entries)
 abbrev pub IsOfJournal : SessionView → JournalView → Written → Replayed → List ℕ → Type 0
 IsOfJournal session j written said more = IsVerdict session j said × IsTold session j written said more
 
--- A refusal, of which nothing more is told.
+-- A refusal. Nothing more is told of it.
 abbrev pub IsRefusal : refusals.Refused → Replayed → List ℕ → Type 0
 IsRefusal refused said more = (said ≡ Refused refused) × (more ≡ [])
 
@@ -75,7 +75,7 @@ IsWrongEntry book written k e said more = (said ≡ WrongEntry k) × IsToldOfEnt
 abbrev pub IsWrongEnd : BookView → Replayed → List ℕ → Type 0
 IsWrongEnd book said more = (said ≡ WrongEnd) × IsToldOfEnd book more
 
--- So many entries are legal, of which nothing more is told.
+-- So many entries are legal. Nothing more is told of them.
 abbrev pub IsLegalOf : ℕ → Bool → Replayed → List ℕ → Type 0
 IsLegalOf entries limited said more = (said ≡ Legal entries limited) × (more ≡ [])
 
@@ -88,13 +88,13 @@ is_json (b ∷ bs) = b == 123
 abbrev pub IsJsonOf : Protocol → List ℕ → JournalView → Type 0
 IsJsonOf protocol text j = IsReadAs protocol text j × (length j.entries < 2 ^ 32)
 
--- Of lines behind so many line feeds: the first that isn't of the form, or what is said of their journal.
+-- Of lines after so many line feeds: the first that isn't of the form, or what is said of their journal.
 abbrev pub IsOfLines : SessionView → List ℕ → ℕ → Replayed → List ℕ → Type 0
 IsOfLines session text feeds said more =
     ((k : ℕ) × form.IsFirstWrong (bare session.protocol) text k × IsRefusal (Line 51 (feeds + k)) said more)
     ⊎ ((j : JournalView) × form.Spells (bare session.protocol) text j × IsOfJournal session j (Lines feeds) said more)
 
--- Of JSON behind so many line feeds: that it isn't of the form, by its first line, or what is said of its journal.
+-- Of JSON after so many line feeds: that it isn't of the form, with its first line; or what is said of its journal.
 abbrev pub IsOfJson : SessionView → List ℕ → ℕ → Replayed → List ℕ → Type 0
 IsOfJson session text feeds said more =
     (((j : JournalView) → IsJsonOf session.protocol text j → ⊥) × IsRefusal (Line 51 (feeds + 1)) said more)
@@ -111,11 +111,11 @@ IsOfBundle bundle text feeds said more =
     ((r : refusals.Refused) × IsFirstRefusal bundle r × IsRefusal r said more)
     ⊎ ((session : SessionView) × IsTaken bundle session × IsOfText (is_json text) session text feeds said more)
 
--- So long may a bundle be.
+-- A bundle may be so long.
 abbrev pub most_of_bundle : ℕ
 most_of_bundle = 1048576
 
--- Of an input: no line is `%% journal`, which is said by the line of its end; or what is said of its parts.
+-- Of an input: that no line is `%% journal`, with the line of its end; or what is said of its parts.
 abbrev pub IsOfInput : List ℕ → Replayed → List ℕ → Type 0
 IsOfInput input said more =
     ((cut_of input ≡ None) × IsRefusal (Line 50 (line_of_end input)) said more)

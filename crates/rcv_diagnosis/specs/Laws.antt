@@ -6,8 +6,7 @@ use Rattle.rcv_replay.specs.Replaying.{IsReplay}
 use Rattle.rcv_diagnosis.specs.declared.diagnosis.Finding.{Finding}
 use Rattle.rcv_diagnosis.specs.Diagnosing.{is_json, Says, IsDiagnosis}
 
--- Of an input that is short enough to be replayed, and whose journal isn't JSON, a diagnosis says first what a replay
--- says.
+-- If an input is short enough to be replayed and its journal isn't JSON, a diagnosis of it says first what a replay says.
 abbrev pub DiagnosesAreReplays : Type 0
 DiagnosesAreReplays =
     (input : List ℕ) (finding : Finding) (bytes : List ℕ) → length input ≤ 1048576

@@ -1,4 +1,4 @@
--- Which entry comes next, where some role can make one.
+-- Which entry comes next, if some role can make one.
 use Rattle.std.specs.Prelude.{ℕ, ◌<◌, List, Option, MatchOption}
 use Rattle.rcv_tree.specs.declared.entry.Entry.{Entry}
 use Rattle.rcv_model.specs.Final.{IsLeastOf}
@@ -26,7 +26,7 @@ IsMadeBy book r made = MatchOption made (CanMake book r → ⊥) (IsOneOf book r
 abbrev pub IsLeastMade : BookView → Entry → Type 0
 IsLeastMade book e = IsLeastOf (CanMake book) (role_of e) × IsOneOf book (role_of e) e
 
--- It, or none where no role can.
+-- It, or none if no role can.
 abbrev pub IsFirstMade : BookView → Option Entry → Type 0
 IsFirstMade book made =
     MatchOption made ((r : ℕ) → r < roles_of book.setup → CanMake book r → ⊥) (IsLeastMade book)

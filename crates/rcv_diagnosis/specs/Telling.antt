@@ -30,8 +30,8 @@ finding_of (Legal entries limited) = found.Legal
 finding_of (WrongEntry k) = found.Wrong
 finding_of WrongEnd = found.Wrong
 
--- Where entry k, counted from 1, stands: it has a line of the input, behind the line feeds before the journal; or it is one
--- of a list.
+-- Where entry k, counted from 1, stands: it has a line of the input, after the line feeds before the journal; or it is one of a
+-- list.
 abbrev pub place_text : Written → ℕ → List ℕ
 place_text (Lines feeds) k = codes "line " ++ decimal (feeds + k)
 place_text Json k = codes "entry " ++ decimal k
@@ -44,15 +44,15 @@ could_text session r (Awaits from) =
 could_text session r Done = name_of session r ++ codes " could do nothing: it is done\n"
 could_text session r AtLimit = name_of session r ++ codes " could do nothing: it is at the limit\n"
 
--- Behind `wrong entry K`: what stands there, and what its role could do.
+-- After `wrong entry K`: what stands there, and what its role could do.
 abbrev pub entry_text : SessionView → Written → ℕ → Entry → Could → List ℕ
 entry_text session written k e could =
     place_text written k ++ codes " is: " ++ entry_line session e ++ could_text session (role_of e) could
 
--- Behind `wrong end`, where the session isn't over: what could come.
+-- After `wrong end`, if the session isn't over: what could come.
 abbrev pub unfinished_text : SessionView → Entry → List ℕ
 unfinished_text session e = codes "the session isn't over: " ++ could_text session (role_of e) (Make e)
 
--- And where it is: the right closing lines.
+-- And if it is: the right closing lines.
 abbrev pub over_text : SessionView → List RoleLine → List ℕ
 over_text session lines = codes "the end is:\n" ++ closing_text session lines

@@ -24,22 +24,22 @@ pub enum Finding {
     Wrong,
 }
 
-/// What was found, and the lines that tell it: none where the bundle is too long.
+/// What was found, and the lines that tell it: none if the bundle is too long.
 #[derive(Drop)]
 pub struct Diagnosis {
     pub finding: Finding,
     pub bytes: Vec<u8>,
 }
 
-/// So long may a bundle be.
+/// A bundle may be so long.
 const MOST_OF_BUNDLE: usize = 1_048_576;
 
-/// What is found in the journal that stands behind the input's bundle. The first line is what a replay says, for a
-/// longer input, too. Behind a wrong entry it tells where that stands and what its role could have done; behind a wrong
-/// end what could come, or the right lines where nothing could.
+/// What is found in the journal that stands after the input's bundle. The first line is what a replay says, for a
+/// longer input, too. After a wrong entry it tells where that stands and what its role could have done. After a wrong
+/// end it tells what could come, or the right lines if nothing could.
 ///
-/// The journal is JSON where it begins with an opening brace. Whether a channel has room isn't asked. Fails where memory
-/// runs out.
+/// The journal is JSON if it begins with an opening brace. Whether a channel has room isn't asked. Fails if memory runs
+/// out.
 pub fn diagnose(alloc: Global, input: &[u8]) -> Result<Diagnosis, AllocError>
     requires { length input.now ≤ 134217728 }
     ensures { IfOk result (λ answer. IsDiagnosis input.now answer.finding answer.bytes.items) }
@@ -71,7 +71,7 @@ fn parted(alloc: Global, input: &[u8], cut: Cut) -> Result<Diagnosis, AllocError
     of_bundle(alloc, &input[..cut.end], &input[cut.behind..], feeds)
 }
 
-// What is found in a bundle and the text behind it, before which stand so many line feeds.
+// What is found in a bundle and the text after it. So many line feeds stand before the text.
 fn of_bundle(alloc: Global, bundle: &[u8], text: &[u8], feeds: u32) -> Result<Diagnosis, AllocError>
     requires bundle { length bundle.now ≤ 1048576 }
     requires text { length text.now ≤ 134217728 }

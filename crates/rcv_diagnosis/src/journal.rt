@@ -4,8 +4,8 @@ ghost use Rattle.std.specs.Prelude.{◌≡◌, ◌≢◌, ◌<◌, ◌+◌, ◌^
 ghost use Rattle.rcv_model.specs.Journal.{IsLegal};
 ghost use Rattle.rcv_session.specs.Session.{rules_of};
 ghost use Rattle.rcv_core.specs.Book.{HasMore, IsAtEnd};
-ghost use Rattle.rcv_form.specs.Journal.{bare};
-ghost use Rattle.rcv_form.specs.Form.{IsFormed, IsFormedEntry};
+ghost use Rattle.rcv_journal.specs.Recorded.{bare};
+ghost use Rattle.rcv_journal.specs.Form.{IsFormed, IsFormedEntry};
 ghost use Rattle.rcv_judge.specs.Judged.{IsFirstWrong};
 ghost use Rattle.rcv_diagnosis.specs.Diagnosing.{Says, IsOfJournal, IsWrongEntry, IsWrongEnd};
 
@@ -16,7 +16,7 @@ use crate::written::Written;
 use rcv_core::book::Book;
 use rcv_core::outcome::Outcome;
 use rcv_core::setup::Setup;
-use rcv_form::journal::Journal;
+use rcv_journal::recorded::Journal;
 use rcv_journal::role_lines::lines_of;
 use rcv_judge::closing::wrong_closing;
 use rcv_judge::could::could_do;
@@ -43,7 +43,7 @@ pub fn of_journal(
     }
 }
 
-// The same where entry `number`, counted from 0, is the first that may not come.
+// The same if entry `number`, counted from 0, is the first that may not come.
 fn of_wrong(
     alloc: Global,
     setup: &Setup,
@@ -67,7 +67,7 @@ fn of_wrong(
     }
 }
 
-// What is told of an entry with this number, counted from 1, behind those of a book.
+// What is told of an entry with this number, counted from 1, after those of a book.
 fn of_entry(
     alloc: Global,
     book: &Book<'_>,
@@ -114,7 +114,7 @@ fn of_legal(
     }
 }
 
-// What is told where the closing lines aren't right.
+// What is told if the closing lines aren't right.
 fn of_end(alloc: Global, book: &Book<'_>) -> Result<Diagnosis, AllocError>
     ensures { IfOk result (λ answer. Says (IsWrongEnd book.now) answer.finding answer.bytes.items) }
 {
@@ -125,7 +125,7 @@ fn of_end(alloc: Global, book: &Book<'_>) -> Result<Diagnosis, AllocError>
     }
 }
 
-// The same where the session isn't over.
+// The same if the session isn't over.
 fn of_unfinished(alloc: Global, book: &Book<'_>) -> Result<Diagnosis, AllocError>
     requires { HasMore book.now }
     ensures { IfOk result (λ answer. Says (IsWrongEnd book.now) answer.finding answer.bytes.items) }
@@ -140,7 +140,7 @@ fn of_unfinished(alloc: Global, book: &Book<'_>) -> Result<Diagnosis, AllocError
     }
 }
 
-// The same where it is.
+// The same if it is.
 fn of_over(alloc: Global, book: &Book<'_>) -> Result<Diagnosis, AllocError>
     requires { IsAtEnd book.now }
     ensures { IfOk result (λ answer. Says (IsWrongEnd book.now) answer.finding answer.bytes.items) }

@@ -1,4 +1,4 @@
-// What is wrong with a journal that stands behind its bundle, and what could have come in its place.
+// What is wrong with a journal that stands after its bundle, and what could have come instead.
 #![tactic(auto)]
 
 ghost use Rattle.rcv_diagnosis.specs.Laws.{DiagnosesAreReplays};
@@ -10,7 +10,7 @@ mod session;
 mod telling;
 pub mod written;
 
-/// Of an input that is short enough to be replayed, and whose journal isn't JSON, a diagnosis says first what a replay
+/// If an input is short enough to be replayed and its journal isn't JSON, a diagnosis of it says first what a replay
 /// says.
 pub fn diagnoses_are_replays()
     ensures { DiagnosesAreReplays }

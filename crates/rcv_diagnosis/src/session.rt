@@ -3,7 +3,7 @@
 ghost use Rattle.std.specs.Prelude.{◌≡◌, ◌≤◌, ◌<◌, ◌^◌, ◌+◌, true, false, length, IfOk};
 ghost use Rattle.rcv_script.specs.Scripts.{AreScriptsFor};
 ghost use Rattle.rcv_plan.specs.Lines.{IsPlanned};
-ghost use Rattle.rcv_decode.specs.Reading.{IsReadAs};
+ghost use Rattle.rcv_json_reader.specs.Reading.{IsReadAs};
 ghost use Rattle.rcv_input.specs.declared.refused.Refused.TheVariants.{Line};
 ghost use Rattle.rcv_diagnosis.specs.Diagnosing.{is_json, Says, IsRefusal, IsOfText, IsOfLines, IsOfJson};
 
@@ -12,13 +12,13 @@ use crate::journal::of_journal;
 use crate::telling::refusal;
 use crate::written::{Written, is_json};
 use rcv_core::setup::Setup;
-use rcv_decode::{JsonError, read_json};
-use rcv_form::journal::Journal;
+use rcv_json_reader::{JsonError, read_json};
+use rcv_journal::recorded::Journal;
 use rcv_input::{Input, Refused};
 use rcv_lines::text::{LinesError, read_text};
 use std::alloc::{AllocError, Global};
 
-/// What is found in the text behind so many line feeds.
+/// What is found in the text after so many line feeds.
 pub fn of_session(
     alloc: Global,
     taken: Input,

@@ -143,7 +143,7 @@ pub fn wrong_entry(
     })
 }
 
-/// Tells that a session isn't over, where this entry could come.
+/// Tells that a session isn't over, and that this entry could come.
 pub fn unfinished(alloc: Global, setup: &Setup, entry: &Entry) -> Result<Diagnosis, AllocError>
     requires entry { IsDeclared setup.now entry.now }
     requires role { role_of entry.now < roles_of setup.now }

@@ -1,4 +1,4 @@
-// Journals of Ping: one of its lines as it should be, and else.
+// Journals of Ping: a legal one in lines, and others.
 
 use crate::diagnosis::{Diagnosis, Finding, diagnose};
 use std::alloc::Global;

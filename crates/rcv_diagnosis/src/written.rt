@@ -6,7 +6,7 @@ ghost use Rattle.rcv_diagnosis.specs.Diagnosing.{is_json};
 /// Whether a journal is text or JSON.
 #[derive(Clone, Copy, Debug, PartialEq, Eq)]
 pub enum Written {
-    /// Each entry is a line, behind so many line feeds of the input.
+    /// Each entry is a line, after so many line feeds of the input.
     Lines(u32),
     /// Each entry is one of a list.
     Json,

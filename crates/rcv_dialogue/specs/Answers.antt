@@ -1,4 +1,4 @@
--- The text of an answer: its first line, and so many more as the number behind a plus at its end says.
+-- The text of an answer: its first line, and as many more as the number after a plus at the end of that line says.
 use Rattle.std.specs.Prelude.{ℕ, ◌+◌, ◌≤◌, All, Bool, true, false, if◌then◌else◌, List, ◌∷◌, ◌++◌, length, flat_map, codes, decimal}
 use Rattle.std.specs.Fmt.{signed_decimal}
 use Rattle.std.specs.List.{list_all, range_with_len}

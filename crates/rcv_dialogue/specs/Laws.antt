@@ -11,7 +11,7 @@ abbrev pub LinesSayOneThing : Type 0
 LinesSayOneThing =
     (a : AcceptedView) (text : List ℕ) (x y : Line) → IsAcceptedProtocol a.protocol → SaysLine a text x → SaysLine a text y → x ≡ y
 
--- Each line of the form has a text, which isn't too long, and is read as this line.
+-- Each line of the form has a text that isn't too long and is read as this line.
 abbrev pub LinesAreReadBack : Type 0
 LinesAreReadBack =
     (a : AcceptedView) (l : Line) → IsAcceptedProtocol a.protocol → IsLine a l

@@ -20,7 +20,7 @@ use Rattle.rcv_dialogue.specs.declared.line.Stated.{Stated}
 use Rattle.rcv_lines.specs.Cutting.{joined}
 use Rattle.rcv_dialogue.specs.Names.{name_of}
 
--- A number with a mark in front, where there is one.
+-- A number with a mark in front, if there is one.
 abbrev pub marked_word : ℕ → Option ℕ → List (List ℕ)
 marked_word mark None = []
 marked_word mark (Some n) = (mark ∷ decimal n) ∷ []
@@ -29,7 +29,7 @@ marked_word mark (Some n) = (mark ∷ decimal n) ∷ []
 abbrev pub message_words : AcceptedView → ℕ → ℤ → List (List ℕ)
 message_words a p value = decimal p ∷ (net_for a).label p ∷ signed_decimal value ∷ []
 
--- A role that failed, with its count behind `=`.
+-- A role that failed, with its count after `=`.
 abbrev pub count_text : Option ℕ → List ℕ
 count_text None = []
 count_text (Some n) = 61 ∷ decimal n
@@ -63,7 +63,7 @@ abbrev pub down_text : Bool → List ℕ
 down_text true = codes "down"
 down_text false = codes "up"
 
--- Lines of a snapshot, behind the word `again`.
+-- Lines of a snapshot, after the word `again`.
 abbrev pub extent_words : Extent → List (List ℕ)
 extent_words x = codes "session" ∷ codes "told" ∷ decimal x.told ∷ codes "room" ∷ decimal x.room ∷ []
 
@@ -135,8 +135,8 @@ pub record AreFailed (a : AcceptedView) (failed : List Failed) : Type 0 where
   pub roles : AreRoles a failed
   pub once : EachOnce failed
 
--- Behind the first one none has the word `undone`: where a recovery is told, that says what it takes back. A role of this
--- name is told with its count there.
+-- After the first one none has the word `undone`: if a recovery is told, this word says what it takes back. A role of this name is told
+-- with its count there.
 abbrev pub NoneSaysUndone : AcceptedView → List Failed → Type 0
 NoneSaysUndone a [] = Unit {0}
 NoneSaysUndone a (f ∷ failed) = (failed_word a f ≢ codes "undone") × NoneSaysUndone a failed
@@ -177,7 +177,7 @@ pub record IsStanding (a : AcceptedView) (s : ToldStanding) : Type 0 where
   pub attempt : Fits s.attempt
   pub incarnation : Fits s.incarnation
 
--- The stamp of a Send's own is that of its message.
+-- The message of a Send has the Send's own stamp.
 abbrev pub HasSent : Dir → Event → Type 0
 HasSent Sent e = e.sent ≡ e.stamp
 HasSent Got e = Fits e.sent
@@ -200,7 +200,7 @@ IsLine a (line.Recover e) = AreFailed a e.failed × NoneBehindSaysUndone a e.fai
 IsLine a (line.Ask q) = IsQuestion a q
 IsLine a (line.Again l) = IsAgain a l
 
--- The text says the line: it is its words with a space between each two, and has at most 2,048 bytes.
+-- The text says the line: it is the line's words with one space between neighbours, and has at most 2,048 bytes.
 pub record SaysLine (a : AcceptedView) (text : List ℕ) (l : Line) : Type 0 where
   pub formed : IsLine a l
   pub words : text ≡ joined (line_words a l)

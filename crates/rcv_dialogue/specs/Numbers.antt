@@ -9,7 +9,7 @@ use Rattle.std.specs.Str.Parse.{digits_value, signed_digits_value}
 abbrev pub is_word : List ℕ → List ℕ → Bool
 is_word word other = bytes_eq word other
 
--- The number, where it has this text and 64 bits hold it.
+-- The number, if the word is its text and 64 bits hold it.
 abbrev pub number_if : ℕ → List ℕ → Option ℕ
 number_if n word = if is_word word (decimal n) && nat_lt n (2 ^ 64) then Some n else None
 
@@ -23,7 +23,7 @@ signed_if z word = if is_word word (signed_decimal z) && nat_lt (mag z) (2 ^ 63)
 abbrev pub signed_in : List ℕ → Option ℤ
 signed_in word = signed_if (signed_digits_value 10 word) word
 
--- The number behind a mark, and before a colon.
+-- The number after a mark, and the number before a colon.
 abbrev pub marked_in : ℕ → List ℕ → Option ℕ
 marked_in mark [] = None
 marked_in mark (b ∷ word) = if b == mark then number_in word else None

@@ -47,7 +47,7 @@ abbrev pub said : {A : Type 0} → Words → Expected → Option A → Result A 
 said left expected (Some x) = Ok x
 said left expected None = wrong left expected
 
--- The next word, and what is left behind it.
+-- The next word, and what is left after it.
 abbrev pub word_at : Expected → Words → Result (List ℕ × Words) Misfit
 word_at expected [] = wrong [] expected
 word_at expected (word ∷ words) = Ok (word, words)
@@ -96,7 +96,7 @@ literal_at text expected left = do
   next ← word_at expected left
   if is_word next.0 text then Ok next.1 else wrong left expected
 
--- A number with a mark, where a word with this mark is next; else none.
+-- A number with a mark, if a word with this mark is next; else none.
 unfoldable pub optional_at : ℕ → Expected → Words → Result (Option ℕ × Words) Misfit
 optional_at mark expected left =
     if begins mark left then (marked_at mark expected left >>= λ number. Ok (Some number.0, number.1)) else Ok (None, left)
@@ -134,7 +134,7 @@ save_at a left = do
   incarnation ← optional_at 35 expected.Incarnation count.1
   ended incarnation.1 (line.Save (record { role = role.0; count = count.0; incarnation = incarnation.0 }))
 
--- A role that failed, with a count behind `=` or without one; or what would have to stand there.
+-- A role that failed, with a count after `=` or without one; or what is expected there.
 abbrev pub failed_if : Option ℕ → Option (Option ℕ) → Result Failed Expected
 failed_if None count = Err expected.Role
 failed_if (Some r) None = Ok (record { role = r; count = None })
@@ -162,11 +162,11 @@ abbrev pub one_more : Words → List Failed → Failed → Result (List Failed) 
 one_more left found f =
     if names_role f.role found then wrong left expected.Role else Ok (found ++ f ∷ [])
 
--- So many roles are named already: another one may be next, or where all are, the end.
+-- So many roles are named already: another one may be next, or, if all are named, the end.
 abbrev pub unless_all : {A : Type 0} → AcceptedView → ℕ → Words → Result A Misfit → Result A Misfit
 unless_all a count left read = if nat_lt count (roles_of a) then read else wrong left expected.End
 
--- Roles that failed, to the end, or to the word `undone` where that ends them.
+-- Roles that failed, to the end, or to the word `undone` if that ends them.
 unfoldable pub more_at : AcceptedView → Bool → List Failed → Words → Result (List Failed × Words) Misfit
 more_at a stops found [] = Ok (found, [])
 more_at a stops found (word ∷ words) =
@@ -195,12 +195,12 @@ abbrev pub are_before : ℕ → List Kept → Bool
 are_before r [] = true
 are_before r (k ∷ found) = nat_lt k.role r && are_before r found
 
--- The role, where it comes behind these.
+-- The role, if it comes after these.
 abbrev pub next_if : Words → List Kept → Option ℕ → Result ℕ Misfit
 next_if left found None = wrong left expected.Role
 next_if left found (Some r) = if are_before r found then Ok r else wrong left expected.Role
 
--- Roles in order of declaration, each with its count behind it, to the end; the role, where its count is next.
+-- Roles in order of declaration, each with its count after it, to the end. The role is given if its count is next.
 unfoldable pub cuts_at : AcceptedView → List Kept → Option ℕ → Words → Result (List Kept) Misfit
 cuts_at a found None [] = Ok found
 cuts_at a found (Some r) [] = wrong [] expected.Count
@@ -222,7 +222,7 @@ stated_at a left = do
   kept ← cuts_at a ((record { role = role.0; count = count.0 }) ∷ []) None count.1
   Ok (record { undone = undone; kept = kept })
 
--- The roles that failed, with what is said behind them.
+-- The roles that failed, with what is said after them.
 abbrev pub recovery_of : AcceptedView → List Failed → Words → Result Line Misfit
 recovery_of a failed left =
     if is_over left then Ok (line.Recover (record { failed = failed; stated = None }))
@@ -254,7 +254,7 @@ down_in word = if is_word word (codes "up") then Some false else if is_word word
 unfoldable pub down_at : Words → Result (Bool × Words) Misfit
 down_at left = one_word down_in expected.Up left
 
--- A count behind the word that says of what.
+-- A count after the word that says what is counted.
 unfoldable pub named_at : List ℕ → Expected → Expected → Words → Result (ℕ × Words) Misfit
 named_at text name expected left = do
   begun ← literal_at text name left
@@ -337,7 +337,7 @@ again_save_at a left = do
   count ← number_at expected.Count role.1
   ended count.1 (line.Again (again.Save role.0 count.0))
 
--- A line of a snapshot, behind `again` and the word that tells its kind.
+-- A line of a snapshot, after `again` and the word that tells its kind.
 abbrev pub again_of : AcceptedView → AgainKind → Words → Result Line Misfit
 again_of a kinds.Session left = extent_at left
 again_of a kinds.Role left = standing_at a left
@@ -352,7 +352,7 @@ again_at a left = do
   kind ← said left expected.Again (again_in next.0)
   again_of a kind next.1
 
--- A line behind the word that tells its kind.
+-- A line after the word that tells its kind.
 abbrev pub line_of : AcceptedView → Kind → Words → Result Line Misfit
 line_of a kind.Send left = send_at a left
 line_of a kind.Recv left = recv_at a left
@@ -377,7 +377,7 @@ line_at a left = do
   kind ← said left expected.Line (kind_in next.0)
   line_of a kind next.1
 
--- The first wrong word of a line of these words, counted from 1; one more than there are, where they stop too early.
+-- The first wrong word of a line of these words, counted from 1; one more than there are, if they stop too early.
 abbrev pub wrong_in : Words → Misfit → Wrong
 wrong_in words e = record { word = length words - e.left + 1; expected = e.expected }
 
@@ -389,7 +389,7 @@ counted words (Err e) = Err (wrong_in words e)
 abbrev pub reading : AcceptedView → List ℕ → Result Line Wrong
 reading a text = counted (fields_of text) (line_at a (fields_of text))
 
--- What was read, where the text isn't too long.
+-- What was read, if the text isn't too long.
 abbrev pub IsReadAs : Result Line LineError → Result Line Wrong → Type 0
 IsReadAs (Ok l) read = read ≡ Ok l
 IsReadAs (Err errors.Long) read = ⊥

@@ -28,7 +28,7 @@ fn place_of(accepted: &Accepted, word: &[u8]) -> Option<u16>
     Some(number as u16)
 }
 
-// A place, and the words behind it.
+// A place, and the words after it.
 #[tactic(auto, unfolding(crate::specs::Reading::place_at))]
 fn place<'a>(accepted: &Accepted, words: &'a [u8]) -> Result<(u16, &'a [u8]), Misfit>
     ensures { Gives (λ x. (x.0, left x.1.now)) result (place_at accepted.now (left words.now)) }
@@ -40,7 +40,7 @@ fn place<'a>(accepted: &Accepted, words: &'a [u8]) -> Result<(u16, &'a [u8]), Mi
     }
 }
 
-// Whether the word says that a role is down; none where it doesn't say that it is up either.
+// Whether the word says that a role is down; none if it says neither that nor that the role is up.
 fn is_down(word: &[u8]) -> Option<bool>
     ensures { result ≡ down_in word.now }
 {
@@ -65,7 +65,7 @@ fn down(words: &[u8]) -> Result<(bool, &[u8]), Misfit>
     }
 }
 
-// A number behind its name.
+// A number after its name.
 #[tactic(auto, unfolding(crate::specs::Reading::named_at))]
 fn named<'a>(
     text: &[u8],
@@ -203,7 +203,7 @@ fn save(accepted: &Accepted, words: &[u8]) -> Result<Line, Misfit>
     }))
 }
 
-/// A line of a snapshot, behind the word `again`.
+/// A line of a snapshot, after the word `again`.
 #[tactic(auto, unfolding(crate::specs::Reading::again_at))]
 pub fn again(accepted: &Accepted, words: &[u8]) -> Result<Line, Misfit>
     ensures { Gives (λ line. line) result (again_at accepted.now (left words.now)) }

@@ -22,7 +22,7 @@ pub struct Undone<'a> {
     pub kept: &'a [Kept],
 }
 
-/// A role goes back to behind its `count`-th event, and has this incarnation from then on.
+/// A role goes back to the state after its `count`-th event, and has this incarnation from then on.
 #[derive(Clone, Copy)]
 pub struct Back {
     pub role: RoleId,
@@ -86,7 +86,7 @@ pub enum Answer<'a> {
         stamp: u64,
         sent: u64,
     },
-    /// A recovery: what it takes back, who goes back, and what is on its way to these.
+    /// A recovery: what it takes back, which roles go back, and what is in flight to these.
     Recovered {
         undone: Undone<'a>,
         back: &'a [Back],

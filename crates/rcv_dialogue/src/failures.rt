@@ -21,7 +21,7 @@ fn sign_at(word: &[u8]) -> Option<usize>
     word.iter().position(|byte| *byte == b'=')
 }
 
-// The role that the word says, with the count behind `=`; or what would have to stand in its place.
+// The role that the word says, with the count after `=`; or what is expected in its place.
 fn failed_of(accepted: &Accepted, word: &[u8]) -> Result<Failed, Expected>
     ensures { result ≡ failed_in accepted.now word.now }
 {
@@ -55,7 +55,7 @@ fn names_role(role: RoleId, found: &[Failed]) -> bool
     false
 }
 
-// Roles behind a first one, to the end, or to the word `undone` where that ends them.
+// Roles after a first one, to the end, or to the word `undone` if that ends them.
 #[tactic(auto, unfolding(crate::specs::Reading::more_at))]
 fn more<'a>(
     accepted: &Accepted,
@@ -140,7 +140,7 @@ fn are_before(role: RoleId, found: &[Kept]) -> bool
     true
 }
 
-// `ROLE COUNT ..` behind a first one, in order of declaration, to the end.
+// `ROLE COUNT ..` after a first one, in order of declaration, to the end.
 #[tactic(auto, unfolding(crate::specs::Reading::cuts_at, crate::specs::Reading::number_at))]
 fn cuts(accepted: &Accepted, first: Kept, words: &[u8]) -> Result<KeptRoles, Misfit>
     ensures { Gives (λ x. x) result (cuts_at accepted.now (first ∷ []) None (left words.now)) }

@@ -8,7 +8,7 @@ use std::marker::Model;
 // A protocol has no more roles.
 const MOST: usize = 8;
 
-/// A role that failed, and how many events it had saved, where that is told.
+/// A role that failed, and how many events it had saved, if that is told.
 #[derive(Clone, Copy, Debug, PartialEq, Eq)]
 pub struct Failed {
     pub role: RoleId,
@@ -51,7 +51,7 @@ impl FailedRoles {
         }
     }
 
-    /// Puts one behind the others.
+    /// Adds one at the end.
     pub fn push(&mut self, item: Failed)
         requires { length self.old < 8 }
         ensures { self.new ≡ self.old ++ item ∷ [] }
@@ -97,7 +97,7 @@ impl KeptRoles {
         }
     }
 
-    /// Puts one behind the others.
+    /// Adds one at the end.
     pub fn push(&mut self, item: Kept)
         requires { length self.old < 8 }
         ensures { self.new ≡ self.old ++ item ∷ [] }

@@ -19,12 +19,12 @@ mod words;
 pub mod write;
 pub mod wrong;
 
-/// A text says one line at most, where the protocol is accepted.
+/// If the protocol is accepted, a text says one line at most.
 pub fn lines_say_one_thing()
     ensures { LinesSayOneThing }
 {}
 
-/// Each line of the form has a text, which isn't too long, and is read as this line.
+/// Each line of the form has a text that isn't too long and is read as this line.
 pub fn lines_are_read_back()
     ensures { LinesAreReadBack }
 {}

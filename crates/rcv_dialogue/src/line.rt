@@ -41,7 +41,7 @@ pub struct Stated {
     pub kept: KeptRoles,
 }
 
-/// A role that is down is started anew, the first of these: `recover FAILED .. [undone N: ROLE COUNT ..]`.
+/// The first of these roles, which is down, is started anew: `recover FAILED .. [undone N: ROLE COUNT ..]`.
 #[derive(Drop)]
 pub struct ToldRecovery {
     pub failed: FailedRoles,
@@ -55,7 +55,7 @@ pub enum Question {
     Kept,
     Line,
     Role(RoleId),
-    /// The messages that are on their way to this role, or to all.
+    /// The messages that are in flight to this role, or to all.
     Flight(Option<RoleId>),
     Points,
     Table,
@@ -84,7 +84,7 @@ pub struct ToldStanding {
     pub incarnation: u64,
 }
 
-/// A message that is on its way: `FROM TO POINT LABEL VALUE @STAMP`.
+/// A message that is in flight: `FROM TO POINT LABEL VALUE @STAMP`.
 #[derive(Clone, Copy, Debug, PartialEq, Eq)]
 pub struct Flight {
     pub from: RoleId,
@@ -111,7 +111,7 @@ pub enum Line {
     Send(ToldSend),
     Recv(ToldRecv),
     Save(ToldSave),
-    /// These roles failed, and are started anew, one behind the other.
+    /// These roles failed, and are started anew, one after the other.
     Fail(FailedRoles),
     Crash(RoleId),
     Recover(ToldRecovery),

@@ -31,7 +31,8 @@ fn is_signed_written(number: i64, word: &[u8]) -> bool
     is_same(word, written.format(number).as_bytes())
 }
 
-/// The number whose text the word is. It is written again to see that: the parse also takes a sign and zeros in front.
+/// The number whose text the word is. To check that, the number is written again: the parse also takes a sign and zeros
+/// in front.
 pub fn number(word: &[u8]) -> Option<u64>
     ensures { result ≡ number_in word.now }
 {
@@ -65,7 +66,7 @@ pub fn signed_number(word: &[u8]) -> Option<i64>
     }
 }
 
-/// The number whose text stands behind this mark.
+/// The number whose text stands after this mark.
 pub fn marked_number(mark: u8, word: &[u8]) -> Option<u64>
     ensures { result ≡ marked_in mark word.now }
 {

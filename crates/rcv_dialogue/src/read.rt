@@ -66,7 +66,7 @@ fn wrong_of(text: &[u8], misfit: Misfit) -> Wrong
     }
 }
 
-// What a text says that isn't too long.
+// What a text that isn't too long says.
 fn whole(accepted: &Accepted, text: &[u8]) -> Result<Line, Wrong>
     requires { length text.now ≤ 2048 }
     ensures value { result ≡ reading accepted.now text.now }
@@ -78,7 +78,7 @@ fn whole(accepted: &Accepted, text: &[u8]) -> Result<Line, Wrong>
     }
 }
 
-/// What a line of an accepted protocol says, which is given without its line feed. It takes no memory.
+/// What a line of an accepted protocol says. The line is given without its line feed. It takes no memory.
 pub fn read(accepted: &Accepted, text: &[u8]) -> Result<Line, LineError>
     // What is read has this text.
     ensures found { IfOk result (λ line. SaysLine accepted.now text.now line) }

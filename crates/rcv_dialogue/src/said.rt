@@ -78,7 +78,7 @@ fn point_of(accepted: &Accepted, word: &[u8]) -> Option<Point>
     Some(Point(number as u16))
 }
 
-/// The number of a role, and the words behind it.
+/// The number of a role, and the words after it.
 #[tactic(auto, unfolding(crate::specs::Reading::role_at))]
 pub fn role<'a>(accepted: &Accepted, words: &'a [u8]) -> Result<(u8, &'a [u8]), Misfit>
     ensures { Gives (λ x. (x.0, left x.1.now)) result (role_at accepted.now (left words.now)) }
@@ -90,7 +90,7 @@ pub fn role<'a>(accepted: &Accepted, words: &'a [u8]) -> Result<(u8, &'a [u8]), 
     }
 }
 
-// The number of a point, and the words behind it.
+// The number of a point, and the words after it.
 #[tactic(auto, unfolding(crate::specs::Reading::point_at))]
 fn point<'a>(accepted: &Accepted, words: &'a [u8]) -> Result<(u16, &'a [u8]), Misfit>
     ensures value { Gives (λ x. (x.0, left x.1.now)) result (point_at accepted.now (left words.now)) }
@@ -104,7 +104,7 @@ fn point<'a>(accepted: &Accepted, words: &'a [u8]) -> Result<(u16, &'a [u8]), Mi
     }
 }
 
-/// A word that is to stand here.
+/// A word that is expected here.
 #[tactic(auto, unfolding(crate::specs::Reading::literal_at))]
 pub fn literal<'a>(text: &[u8], expected: Expected, words: &'a [u8]) -> Result<&'a [u8], Misfit>
     ensures { Gives (λ x. left x.now) result (literal_at text.now expected (left words.now)) }
@@ -117,7 +117,7 @@ pub fn literal<'a>(text: &[u8], expected: Expected, words: &'a [u8]) -> Result<&
     }
 }
 
-// A value, and the words behind it.
+// A value, and the words after it.
 #[tactic(auto, unfolding(crate::specs::Reading::value_at))]
 fn value(words: &[u8]) -> Result<(i64, &[u8]), Misfit>
     ensures { Gives (λ x. (x.0, left x.1.now)) result (value_at (left words.now)) }
@@ -140,7 +140,7 @@ pub fn message<'a>(accepted: &Accepted, words: &'a [u8]) -> Result<(u16, i64, &'
     Ok((point, value, words))
 }
 
-/// A number, which is expected as this, and the words behind it.
+/// A number, which is expected as this, and the words after it.
 #[tactic(auto, unfolding(crate::specs::Reading::number_at))]
 pub fn counted(expected: Expected, words: &[u8]) -> Result<(u64, &[u8]), Misfit>
     ensures value { Gives (λ x. (x.0, left x.1.now)) result (number_at expected (left words.now)) }
@@ -165,7 +165,7 @@ pub fn marked(mark: u8, expected: Expected, words: &[u8]) -> Result<(u64, &[u8])
     }
 }
 
-/// The same, where a word with this mark is next; else none.
+/// The same, if a word with this mark is next; else none.
 #[tactic(auto, unfolding(crate::specs::Reading::optional_at))]
 pub fn optional(mark: u8, expected: Expected, words: &[u8]) -> Result<(Option<u64>, &[u8]), Misfit>
     ensures { Gives (λ x. (x.0, left x.1.now)) result (optional_at mark expected (left words.now)) }

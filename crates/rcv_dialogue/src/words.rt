@@ -1,4 +1,4 @@
-// What is left of a line's words: its bytes from the space in front of the first of them on.
+// What is left of a line's words: its bytes from the space before the first of these words on.
 
 ghost use Rattle.std.specs.Prelude.{◌≡◌, ◌+◌, ◌<◌, ◌≤◌, ◌^◌, ◌==◌, [], ◌∷◌, length, position, IfOk, IfSome, IfNone};
 ghost use Rattle.rcv_lines.specs.Cutting.{fields_of};
@@ -7,8 +7,8 @@ ghost use Rattle.rcv_dialogue.specs.Reading.{Gives, begins, is_over, word_at};
 
 use crate::wrong::Expected;
 
-/// In place of the first of so many words that are left, or behind the last word of the line where none is left,
-/// something else would have to stand.
+/// Something else is expected in place of the first of so many words that are left, or after the last word of the line
+/// if none is left.
 #[derive(Clone, Copy)]
 pub struct Misfit {
     pub left: usize,
@@ -22,7 +22,7 @@ fn space_at(text: &[u8]) -> Option<usize>
     text.iter().position(|byte| *byte == b' ')
 }
 
-/// The first word of a text, and those behind it.
+/// The first word of a text, and those after it.
 pub fn first(text: &[u8]) -> (&[u8], &[u8])
     ensures word { fields_of text.now ≡ result.0.now ∷ left result.1.now }
     ensures shorter { length result.1.now ≤ length text.now }
@@ -33,7 +33,7 @@ pub fn first(text: &[u8]) -> (&[u8], &[u8])
     }
 }
 
-/// The next word, and those behind it; none where no word is left.
+/// The next word, and those after it; none if no word is left.
 pub fn next(words: &[u8]) -> Option<(&[u8], &[u8])>
     ensures word { IfSome result (λ next. left words.now ≡ next.0.now ∷ left next.1.now) }
     ensures shorter { IfSome result (λ next. length next.1.now < length words.now) }
@@ -69,7 +69,7 @@ fn count(words: &[u8]) -> usize
     }
 }
 
-/// Something else would have to stand in the next word's place.
+/// Something else is expected in the next word's place.
 pub fn wrong(words: &[u8], expected: Expected) -> Misfit
     ensures { result ≡ record { left = length (left words.now); expected = expected } }
 {
@@ -79,7 +79,7 @@ pub fn wrong(words: &[u8], expected: Expected) -> Misfit
     }
 }
 
-/// The next word, which is expected to be something, and those behind it.
+/// The next word, which is expected to be something, and those after it.
 pub fn take(words: &[u8], expected: Expected) -> Result<(&[u8], &[u8]), Misfit>
     ensures value { Gives (λ x. (x.0.now, left x.1.now)) result (word_at expected (left words.now)) }
     ensures shorter { IfOk result (λ x. length x.1.now < length words.now) }

@@ -166,7 +166,7 @@ fn stale(text: &mut Writer, which: Stale) -> Result<(), AllocError>
     }
 }
 
-// The word for what would have to stand somewhere.
+// The word for what is expected somewhere.
 fn expected_word(expected: Expected) -> &'static [u8]
     ensures { result.now ≡ expected_text expected }
 {
@@ -256,7 +256,7 @@ fn backs(text: &mut Writer, accepted: &Accepted, backs: &[Back]) -> Result<(), A
     Ok(())
 }
 
-// The line of a message that is on its way.
+// The line of a message that is in flight.
 fn flight(text: &mut Writer, accepted: &Accepted, flight: &Flight) -> Result<(), AllocError>
     requires { HasEnds accepted.now flight.now }
     ensures { OnOk result (text.new ≡ text.old ++ flight_line accepted.now flight.now) }
@@ -268,7 +268,7 @@ fn flight(text: &mut Writer, accepted: &Accepted, flight: &Flight) -> Result<(),
     text.word(b"\n")
 }
 
-// The lines of messages that are on their way.
+// The lines of messages that are in flight.
 fn flights(text: &mut Writer, accepted: &Accepted, flights: &[Flight]) -> Result<(), AllocError>
     requires { All (HasEnds accepted.now) flights.now }
     ensures { OnOk result (text.new ≡ text.old ++ flat_map (flight_line accepted.now) flights.now) }

@@ -1,6 +1,6 @@
 // What is wrong with a line.
 
-/// What would have to stand in a word's place.
+/// What is expected in a word's place.
 #[derive(Clone, Copy, Debug, PartialEq, Eq)]
 pub enum Expected {
     /// A word that begins a line.
@@ -17,9 +17,9 @@ pub enum Expected {
     /// `#` and a number.
     Incarnation,
     Count,
-    /// `undone`, or the number behind it.
+    /// `undone`, or the number after it.
     Undone,
-    /// A word that goes on behind `again`.
+    /// A word that may come after `again`.
     Again,
     Told,
     Room,
@@ -34,7 +34,7 @@ pub enum Expected {
     End,
 }
 
-/// At the word of this number, counted from 1, something else would have to stand.
+/// Something else is expected at the word of this number, counted from 1.
 #[derive(Clone, Copy, Debug, PartialEq, Eq)]
 pub struct Wrong {
     pub word: u16,

@@ -8,8 +8,8 @@ use Rattle.rcv_tree.specs.declared.statement.Block.{Block}
 use Rattle.rcv_model.specs.Text.{Body, End, body_of}
 use Rattle.rcv_model.specs.Form.{HasForm}
 use Rattle.rcv_model.specs.Places.{singles, IsFullText}
-use Rattle.rcv_lexer.specs.declared.token.TextError.{TextError}
-use Rattle.rcv_lexer.specs.declared.token.TextError.TheVariants.{Refused, Memory}
+use Rattle.rcv_tree.specs.declared.refusal.TextError.{TextError}
+use Rattle.rcv_tree.specs.declared.refusal.TextError.TheVariants.{Refused, Memory}
 use Rattle.rcv_module.specs.declared.fault.Fault.{Fault}
 use Rattle.rcv_module.specs.Expansion.{IsExpansion, Expands, themselves}
 use Rattle.rcv_module.specs.Form.{HasModuleForm}

@@ -32,7 +32,7 @@ AreAllKnown {A} order known = (i : ℕ) → IsIn i order → (x : A) × (known_a
 abbrev pub CallsAmong : List Part → ℕ → List ℕ → Type 0
 CallsAmong parts i done = (j : ℕ) → CallsOne parts i j → IsIn j done
 
--- Behind these each place stands behind all that it calls.
+-- After these, each place stands after all that it calls.
 abbrev pub CallsBehind : List Part → List ℕ → List ℕ → Type 0
 CallsBehind parts done [] = Unit {0}
 CallsBehind parts done (i ∷ is) = CallsAmong parts i done × CallsBehind parts (done ++ i ∷ []) is
@@ -44,7 +44,7 @@ pub record IsCallOrder (parts : List Part) (order : List ℕ) : Type 0 where
   pub behind : CallsBehind parts [] order
   pub main : CallsAmong parts 0 order
 
--- In an order these stand before a place.
+-- These stand before a place in an order.
 pub record IsFront (order : List ℕ) (place : ℕ) (front : List ℕ) : Type 0 where
   pub behind : List ℕ
   pub is : order ≡ front ++ place ∷ behind
@@ -54,6 +54,6 @@ abbrev pub AreUnder : List Part → List ℕ → List Site → Type 0
 AreUnder parts under [] = Unit {0}
 AreUnder parts under (s ∷ ss) = ((j : ℕ) × (place parts s.name ≡ Some j) × IsIn j under) × AreUnder parts under ss
 
--- Of each protocol the number of its first call.
+-- For each protocol the number of its first call.
 abbrev pub AreFirsts : List Part → List ℕ → Type 0
 AreFirsts parts firsts = (i : ℕ) → i < length parts → slice_index_or firsts i 0 ≡ calls_before parts i

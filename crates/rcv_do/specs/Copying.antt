@@ -16,13 +16,13 @@ abbrev pub in_front : List Stmt → Body → Body
 in_front [] rest = rest
 in_front (s ∷ ss) rest = stmt_body s (in_front ss rest)
 
--- Behind n points these messages are the next ones, up to n'; if there are at most 256.
+-- After n points these messages are the next ones, up to n'; if there are at most 256.
 abbrev pub Counts : ℕ → ℕ → List (ℕ × SingleMessage) → Type 0
 Counts n n' made =
     n + length made ≤ 256
     → (n' ≡ n + length made) × ((es : List (ℕ × SingleMessage)) → IsNumberedFrom (n' + 1) es → IsNumberedFrom (n + 1) (made ++ es))
 
--- From a text to what is left of it these statements lead: they are its expansion so far.
+-- These statements lead from a text to what is left of it: they are its expansion so far.
 pub record Leads (parts : List Part) (stands : Stands) (n n' : ℕ) (whole left : Body) (added : List Stmt) : Type 0 where
   pub made : List (ℕ × SingleMessage)
   pub expands : (next w : Body) → Expands parts stands left next w → Expands parts stands whole next (in_front added w)

@@ -37,7 +37,7 @@ pub record Went (old new : Count) (s t : exact.Size) (ends : List exact.Size) : 
   pub now : new.now ≡ capped t
   pub more : new.ends.items ≡ old.ends.items ++ map capped ends
 
--- So a count goes, where all that is called is known.
+-- All that these call is known, and the count stands at this depth and this size, as far as it counts them.
 abbrev pub IsReady : Count → List Site → ℕ → ℕ → exact.Size → Type 0
 IsReady c sites depth d s =
     AreSizesOf (parts_in c.parts) c.known.now × AreKnown (parts_in c.parts) c.known.now sites × (depth ≡ min d 33) × (c.now ≡ capped s)
@@ -55,7 +55,7 @@ PassesBlocks old depth bodies new =
     Stays old new × ((d : ℕ) (s : exact.Size) → IsReady old (calls_of 0 bodies) depth d s
     → (t : exact.Size) × (ends : List exact.Size) × AllPass (parts_in old.parts) d s bodies ends t × Went old new s t ends)
 
--- A statement, whatever stands behind it.
+-- A statement, whatever stands after it.
 abbrev pub PassesStmt : Count → ℕ → Stmt → Count → Type 0
 PassesStmt old depth stmt new =
     Stays old new × ((d : ℕ) (s : exact.Size) (rest : Body) → IsReady old (calls 0 (stmt_body stmt rest)) depth d s

@@ -7,7 +7,7 @@ use Rattle.rcv_module.specs.Parts.{Part}
 abbrev pub deeper : ℕ → ℕ
 deeper n = if nat_lt n 255 then n + 1 else n
 
--- In how many inner blocks each call of a text stands, in order, where the text itself stands in so many.
+-- In how many inner blocks each call of a text stands, in order, if the text itself stands in so many.
 abbrev mutual
   pub depths : ℕ → Body → List ℕ
   depths n End = []

@@ -3,24 +3,24 @@ use Rattle.std.specs.Prelude.{◌≡◌, ℕ, ◌<◌, Option, Some, None, List,
 use Rattle.rcv_tree.specs.declared.module.Module.{Module}
 use Rattle.rcv_tree.specs.declared.refusal.Refusal.{Refusal}
 use Rattle.rcv_tree.specs.declared.refusal.Refusal.TheVariants as refusals
-use Rattle.rcv_lexer.specs.declared.token.TextError.{TextError}
-use Rattle.rcv_lexer.specs.declared.token.TextError.TheVariants.{Refused, Memory}
+use Rattle.rcv_tree.specs.declared.refusal.TextError.{TextError}
+use Rattle.rcv_tree.specs.declared.refusal.TextError.TheVariants.{Refused, Memory}
 use Rattle.rcv_module.specs.declared.fault.Fault.{Fault}
 use Rattle.rcv_module.specs.Answers.{IsRefused}
 use Rattle.rcv_module.specs.Parts.{Part, Site}
 use Rattle.rcv_module.specs.Refusing.{code_of, HoldsAt, IsFirstCall, AreCallable}
 
--- Of a call: the least code of the table that holds there, if one does.
+-- For a call: the least code of the table that holds there, if one does.
 abbrev pub IsLeastFault : List Part → Site → Option Fault → Type 0
 IsLeastFault parts s None = (g : Fault) → HoldsAt parts g s → ⊥
 IsLeastFault parts s (Some f) = HoldsAt parts f s × ((g : Fault) → code_of g < code_of f → HoldsAt parts g s → ⊥)
 
--- Of all calls: the number of the first one at which a code holds, with the least one.
+-- For all calls: the number of the first one at which a code holds, with the least one.
 abbrev pub IsFirstFault : List Part → Option (ℕ × Fault) → Type 0
 IsFirstFault parts None = AreCallable parts
 IsFirstFault parts (Some r) = IsFirstCall parts r.1 r.0
 
--- The refusal of a call, on its line, for this reason; or want of memory.
+-- The refusal of a call, on its line, for this reason; or memory runs out.
 pub record IsCallRefusal (lines : List ℕ) (r : Refusal) (Why : Fault → ℕ → Type 0) : Type 0 where
   pub fault : Fault
   pub number : ℕ

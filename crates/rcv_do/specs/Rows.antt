@@ -28,7 +28,7 @@ is_target (Some t) j = t == j
 abbrev pub is_call : Call → ℕ → ℕ → Bool
 is_call c i j = (c.holder == i) && is_target c.target j
 
--- One of these calls does, and by any number of them one comes from one place to another.
+-- One of these calls does, and one comes from one place to another by any number of them.
 pub record Leads (calls : List Call) (i j : ℕ) : Type 0 where
   pub number : ℕ
   pub call : Call
@@ -62,13 +62,13 @@ pub record AreAcyclic (rows : List Set) : Type 0 where
 
 -- ---- the order
 
--- Behind these each place stands behind all others in its row.
+-- After these, each place stands after all others in its row.
 abbrev pub StandBehind : List Set → List ℕ → List ℕ → Type 0
 StandBehind rows done [] = Unit {0}
 StandBehind rows done (i ∷ is) =
     ((j : ℕ) → j < length rows → has rows i j ≡ true → (j ≡ i → ⊥) → IsIn j done) × StandBehind rows (done ++ i ∷ []) is
 
--- It has the places to which the first one comes, but its own, and each stands behind those in its row.
+-- It has the places to which the first one comes, except its own, and each stands after those in its row.
 pub record IsOrder (rows : List Set) (order : List ℕ) : Type 0 where
   pub inside : (i : ℕ) → IsIn i order → i < length rows
   pub all : (i : ℕ) → i < length rows → has rows 0 i ≡ true → (i ≡ 0 → ⊥) → IsIn i order
@@ -78,7 +78,7 @@ pub record IsOrder (rows : List Set) (order : List ℕ) : Type 0 where
 abbrev pub IsListed : List Bool → ℕ → Type 0
 IsListed listed i = slice_index_or listed i false ≡ true
 
--- Of so many first places this has the least row of those that aren't listed, which have 64 bits each; or all are.
+-- Of so many first places this has the least row of those that aren't listed, which have 64 bits each; or all are listed.
 abbrev pub IsLeast : List Set → List Bool → ℕ → Option ℕ → Type 0
 IsLeast rows listed n None = (i : ℕ) → i < n → IsListed listed i
 IsLeast rows listed n (Some p) =

@@ -16,7 +16,7 @@ pub record IsTraceable (x : Tracing) : Type 0 where
   pub firsts : AreFirsts (parts_in x.parts) x.firsts.now
   pub behind : CallsBehind (parts_in x.parts) [] x.under.now
 
--- From a text, whose first call has one number, to what is left of it, whose first call has another, these were added.
+-- These were added from a text to what is left of it. The first call of the text has one number, and that of what is left another.
 pub record Traces (x : Tracing) (n n' : ℕ) (whole left : Body) (old new : List Origin) : Type 0 where
   pub added : List Origin
   pub is : new ≡ old ++ added

@@ -6,7 +6,7 @@ ghost use Rattle.rcv_tree.specs.declared.refusal.Refusal.TheVariants.{Text};
 ghost use Rattle.rcv_model.specs.Form.{HasForm};
 ghost use Rattle.rcv_model.specs.Places.{singles, IsFullText};
 ghost use Rattle.rcv_model.specs.Text.{body_of};
-ghost use Rattle.rcv_lexer.specs.declared.token.TextError.TheVariants.{Refused};
+ghost use Rattle.rcv_tree.specs.declared.refusal.TextError.TheVariants.{Refused};
 ghost use Rattle.rcv_module.specs.Answers.{IsExpanded};
 ghost use Rattle.rcv_module.specs.Form.{HasModuleForm};
 ghost use Rattle.rcv_module.specs.Origins.{AreOriginsOf};
@@ -22,11 +22,10 @@ use crate::reach::{order_of, reached};
 use crate::sizes::{first_deep, first_many, marks_of, sizes_of};
 use crate::table::first_fault;
 use crate::trace::origins_of;
-use rcv_lexer::token::TextError;
 use rcv_module::{Fault, Origins};
 use rcv_tree::module::Module;
 use rcv_tree::protocol::Protocol;
-use rcv_tree::refusal::Refusal;
+use rcv_tree::refusal::{Refusal, TextError};
 use std::alloc::{AllocError, Global};
 
 // The refusal of the call with this number, on its line.
@@ -114,11 +113,11 @@ fn expanded(alloc: Global, whole: Module, order: &[usize]) -> Result<Protocol, A
 /// The first protocol of a module, with each call replaced by the statements of the protocol that it names, whose roles
 /// are replaced by the arguments, until no call is left.
 ///
-/// Refused at the first call in text order at which a code holds, with the least one: 13 where no protocol has the
-/// name, 52 where the number of arguments is another than that of its roles, 53 where it comes back to the protocol that
-/// holds the call, 54 where its body is empty. If there is none, 12 at the first call of the first protocol up to whose
-/// end the expansion has a 33rd nested block, and if there is none, 18 at the first up to whose end it has a 257th point;
-/// the last call stands for the text behind it, too. `Memory` where no memory is left.
+/// Refused at the first call in text order at which a code holds, with the least one: 13 if no protocol has the name,
+/// 52 if the number of arguments isn't that of its roles, 53 if it comes back to the protocol that holds the call, 54
+/// if its body is empty. If there is none, 12 at the first call of the first protocol up to whose end the expansion
+/// has a 33rd nested block. If there is none of these either, 18 at the first up to whose end it has a 257th point.
+/// The last call stands for the text after it, too. `Memory` if no memory is left.
 ///
 /// Time and memory are those of the answer and of the module's text: each call is entered at its place.
 pub fn expand(alloc: Global, whole: Module) -> Result<Protocol, TextError>
@@ -132,8 +131,9 @@ pub fn expand(alloc: Global, whole: Module) -> Result<Protocol, TextError>
     Ok(expanded(alloc, whole, order.as_slice())?)
 }
 
-/// The same as `expand`, refused as there, with the origin of each point of the expansion: the names of the protocols in
-/// text order, and for each point, in order, the protocol and the point of its text, and the calls through which it came.
+/// The same as `expand`, refused as there, with the origin of each point of the expansion: the names of the protocols
+/// in text order, and for each point, in order, the protocol and the point of its text, and the calls through which it
+/// came.
 pub fn expand_traced(alloc: Global, whole: Module) -> Result<(Protocol, Origins), TextError>
     requires { HasModuleForm whole }
     ensures answer { MatchResult result (λ r. IsExpanded whole r.0) (FailsBy whole) }

@@ -31,7 +31,7 @@ pub fn calls_of_all(alloc: Global, parts: &Parts<'_>) -> Result<Vec<Call>, Alloc
     Ok(calls)
 }
 
-/// For each protocol the number of its first call: so many stand before it.
+/// For each protocol, the number of its first call: so many calls stand before it.
 pub fn first_calls(alloc: Global, parts: &Parts<'_>) -> Result<Vec<usize>, AllocError>
     ensures { IfOk result (λ firsts. AreFirsts (parts_in parts.now) firsts.items) }
 {

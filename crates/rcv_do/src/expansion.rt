@@ -14,7 +14,7 @@ use rcv_tree::role::RoleId;
 use rcv_tree::statement::{Block, Blocks, Stmt};
 use std::alloc::{AllocError, Global};
 
-// The argument in a role's place, or the other role where there is none.
+// The argument in a role's place, or the other role if there is none.
 fn argument_of(arguments: &[RoleId], other: RoleId, role: RoleId) -> RoleId
     ensures { result ≡ slice_index_or arguments.now role other }
 {
@@ -55,7 +55,7 @@ impl<'a> Expanding<'a> {
         Ok(list)
     }
 
-    // Adds the expansion of a block to another one, where so many points stand before.
+    // Adds the expansion of a block to another one; so many points stand before.
     #[cycle(expand)]
     fn add_all(
         &self,
@@ -158,7 +158,7 @@ impl<'a> Expanding<'a> {
     }
 }
 
-/// The expansion of the first protocol, where the others that it comes to stand in this order.
+/// The expansion of the first protocol. The others that it comes to stand in this order.
 pub fn expansion_of(alloc: Global, parts: &Parts<'_>, order: &[usize]) -> Result<Block, AllocError>
     requires { IsCallOrder (parts_in parts.now) order.now }
     ensures { IfOk result (λ block. IsExpansionAt (parts_in parts.now) 0 block × IsNumberedWhole block) }

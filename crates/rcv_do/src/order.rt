@@ -1,4 +1,4 @@
-// The places of protocols in an order in which each stands behind those that it calls.
+// The places of protocols in an order in which each stands after those that it calls.
 
 ghost use Rattle.std.specs.Prelude.{IfSome, IfNone};
 ghost use Rattle.rcv_model.specs.Net.{IsIn};

@@ -1,4 +1,4 @@
-// To which protocols each one comes by calls, and an order in which each stands behind those that it calls.
+// To which protocols each one comes by calls, and an order in which each stands after those that it calls.
 
 ghost use Rattle.std.specs.Prelude.{◌≡◌, ◌<◌, ◌≤◌, ◌+◌, ◌||◌, ◌&&◌, ℕ, All, length, IfOk};
 ghost use Rattle.rcv_tree.specs.Bits.{has_bit};
@@ -8,7 +8,7 @@ use crate::calls::Call;
 use crate::set::Set;
 use std::alloc::{AllocError, Global};
 
-/// For each protocol of so many those to which it comes by any number of calls, itself among them.
+/// For each of so many protocols, those to which it comes by any number of calls, itself among them.
 pub fn reached(alloc: Global, calls: &[Call], count: usize) -> Result<Vec<Set>, AllocError>
     requires few { count ≤ 64 }
     requires inside { All (IsInside count) calls.now }
@@ -52,7 +52,7 @@ fn join_through(rows: &mut [Set], place: usize)
     }
 }
 
-// The row, with another one where it has this place.
+// The row, with another one if it has this place.
 fn joined(row: Set, place: usize, through: Set) -> Set
     requires { place < 64 }
     ensures { (j : ℕ) → j < 64 → has_bit result.0 j ≡ (has_bit row.0 j || (has_bit row.0 place && has_bit through.0 j)) }
@@ -64,7 +64,7 @@ fn joined(row: Set, place: usize, through: Set) -> Set
     }
 }
 
-/// The places to which the first one comes, but its own, so that each stands behind those to which it comes: a row
+/// The places to which the first one comes, except its own, so that each stands after those to which it comes: a row
 /// with fewer places is a smaller number.
 pub fn order_of(alloc: Global, rows: &[Set]) -> Result<Vec<usize>, AllocError>
     requires few { (0 < length rows.now) × (length rows.now ≤ 64) }
@@ -95,7 +95,7 @@ fn least(rows: &[Set], listed: &[bool]) -> Option<usize>
     found
 }
 
-// The least one up to this place, where the least before it was found.
+// The least one up to this place, given the least before it.
 fn lesser(rows: &[Set], listed: &[bool], found: Option<usize>, place: usize) -> Option<usize>
     requires inside { place < length rows.now }
     requires long { length listed.now ≡ length rows.now }

@@ -40,7 +40,7 @@ impl Size {
         }
     }
 
-    // With a text of that size where so many blocks are open.
+    // With a text of that size inside so many open blocks.
     fn joined(self, depth: u8, inner: Size) -> Size
         ensures points { result.points ≡ min (self.points + inner.points) 257 }
         ensures blocks { result.blocks ≡ max self.blocks (min (depth + inner.blocks) 33) }
@@ -93,7 +93,7 @@ impl<'a> Count<'a> {
         Ok(())
     }
 
-    // Goes past these blocks, of which each counts as open.
+    // Goes past these blocks. Each of them counts as open.
     #[cycle(count)]
     fn blocks(&mut self, blocks: &Blocks, depth: u8) -> Result<(), AllocError>
         ensures { OnOk result (PassesBlocks self.old depth (bodies_of blocks.now) self.new) }
@@ -162,8 +162,8 @@ pub fn size_of(
     Ok(count.now)
 }
 
-/// How large the expansion of the first protocol is up to the end of each of its calls, the last of which stands for
-/// the text behind it, too.
+/// How large the expansion of the first protocol is up to the end of each of its calls. The last call stands for the
+/// text after it, too.
 pub fn marks_of(
     alloc: Global,
     parts: &Parts<'_>,
@@ -191,7 +191,7 @@ pub fn marks_of(
     Ok(ends)
 }
 
-/// The sizes of the protocols in this order, in which each stands behind those that it calls.
+/// The sizes of the protocols in this order, in which each stands after those that it calls.
 pub fn sizes_of(
     alloc: Global,
     parts: &Parts<'_>,

@@ -47,7 +47,7 @@ pub struct Tracing<'a> {
 }
 
 impl<'a> Tracing<'a> {
-    // Adds the origins of a block's points, where its first call has this number.
+    // Adds the origins of a block's points. The block's first call has this number.
     #[cycle(trace)]
     fn block(
         &self,

@@ -23,8 +23,8 @@ use Rattle.rcv_journal.specs.declared.line.RoleLine.{RoleLine}
 use Rattle.rcv_journal.specs.declared.line.RoleWord.TheVariants.{Done}
 use Rattle.rcv_journal.specs.JournalText.{journal_text}
 use Rattle.rcv_journal.specs.Lines.{IsLineOf, AreLinesOf}
-use Rattle.rcv_form.specs.Journal.{bare}
-use Rattle.rcv_form.specs.Json.{formed_data, json_text}
+use Rattle.rcv_journal.specs.Recorded.{bare}
+use Rattle.rcv_journal.specs.Json.{formed_data, json_text}
 use Rattle.rcv_input.proofs.Worked.{input, its_body, one, session, taken}
 use Rattle.rcv_lines.specs.FinalTexts.{IsReadAsJournal}
 use Rattle.rcv_echo.specs.Laws.{IsJsonReadAs}

@@ -14,15 +14,15 @@ use Rattle.rcv_journal.specs.declared.line.RoleLine.{RoleLine}
 use Rattle.rcv_journal.specs.JournalText.{is_limit, journal_text}
 use Rattle.rcv_journal.specs.Lines.{AreLinesOf}
 use Rattle.rcv_journal.proofs.OneText.{same_lines}
-use Rattle.rcv_form.specs.Journal.{JournalView, bare}
-use Rattle.rcv_form.specs.Form.{IsFormed}
-use Rattle.rcv_form.specs.Json.{entry_data, formed_data, journal_data, limited_data, line_data, members_data, role_data}
+use Rattle.rcv_journal.specs.Recorded.{JournalView, bare}
+use Rattle.rcv_journal.specs.Form.{IsFormed}
+use Rattle.rcv_journal.specs.Json.{entry_data, formed_data, journal_data, limited_data, line_data, members_data, role_data}
 use Rattle.rcv_input.specs.Input.{IsTaken}
 use Rattle.rcv_lines.specs.FinalTexts.{IsEnded, limited_in}
 use Rattle.rcv_lines.specs.SmallScripts.{HasSmallScripts}
 use Rattle.rcv_lines.proofs.FinalTexts.{final_texts}
 use Rattle.rcv_lines.proofs.SmallValues.{values_fit}
-use Rattle.rcv_decode.proofs.RoundTrip.{lines_are_read_back}
+use Rattle.rcv_json_reader.proofs.RoundTrip.{lines_are_read_back}
 use Rattle.rcv_echo.specs.Laws.{TakenTextsAreReadBack, TakenJsonIsReadBack}
 use Rattle.rcv_echo.proofs.SmallNumbers.{scripts_are_small}
 

@@ -9,7 +9,7 @@ use Rattle.rcv_lexer.specs.declared.token.Kind.TheVariants as kinds
 use Rattle.rcv_lexer.specs.declared.token.Token.{Token}
 use Rattle.rcv_model.specs.Script.{Expr, TheValue, TheAttempt, Variable, Plus, Minus, Times, Line}
 use Rattle.rcv_points.specs.Follow.{PointView}
-use Rattle.rcv_scan.specs.Symbols.{number_of, symbol_of}
+use Rattle.rcv_lexer.specs.Symbols.{number_of, symbol_of}
 use Rattle.rcv_script.specs.declared.sign.Sign.TheVariants as signs
 use Rattle.rcv_script.specs.Symbols.{Symbol, Is, Word, Number, Text, greatest, number_or_foreign, symbol_by, symbols_of}
 use Rattle.rcv_script.specs.Labels.{place_in}

@@ -6,13 +6,13 @@ use Rattle.rcv_model.specs.Final.{IsFinal}
 use Rattle.rcv_session.specs.Session.{SessionView, rules_of}
 use Rattle.rcv_journal.specs.declared.line.RoleLine.{RoleLine}
 use Rattle.rcv_journal.specs.Lines.{AreLinesOf, IsTextOf}
-use Rattle.rcv_form.specs.Json.{IsJsonOf}
+use Rattle.rcv_journal.specs.Json.{IsJsonOf}
 use Rattle.rcv_input.specs.Input.{IsTaken}
 use Rattle.rcv_lines.specs.FinalTexts.{IsReadAsJournal, limited_in}
-use Rattle.rcv_decode.specs.Reading as json
+use Rattle.rcv_json_reader.specs.Reading as json
 
--- The text of each journal of a session that an input is taken as, which is legal and final, is read as its entries,
--- its roles' lines and those at the limit.
+-- If a journal of a session that an input is taken as is legal and final, its text is read as its entries, its roles' lines
+-- and those at the limit.
 abbrev pub TakenTextsAreReadBack : Type 0
 TakenTextsAreReadBack =
     (input : List ℕ) (session : SessionView) (entries : List Entry) (bytes : List ℕ)
@@ -26,7 +26,7 @@ IsJsonReadAs session entries bytes =
     (lines : List RoleLine) × AreLinesOf (rules_of session) (reading (rules_of session) entries) lines
     × json.IsReadAs session.protocol bytes (record { entries = entries; roles = lines; limited = limited_in lines })
 
--- And so is the JSON of each such journal.
+-- The same holds for the JSON of each such journal.
 abbrev pub TakenJsonIsReadBack : Type 0
 TakenJsonIsReadBack =
     (input : List ℕ) (session : SessionView) (entries : List Entry) (bytes : List ℕ)

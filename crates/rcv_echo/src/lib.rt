@@ -3,13 +3,13 @@
 
 ghost use Rattle.rcv_echo.specs.Laws.{TakenJsonIsReadBack, TakenTextsAreReadBack};
 
-/// The text of each journal of a session that an input is taken as, which is legal and final, is read as its entries,
-/// the lines of its roles, and those at the limit.
+/// If a journal of a session that an input is taken as is legal and final, its text is read as its entries, the lines
+/// of its roles, and those at the limit.
 pub fn taken_texts_are_read_back()
     ensures { TakenTextsAreReadBack }
 {}
 
-/// And so is the JSON of each such journal.
+/// The same holds for the JSON of each such journal.
 pub fn taken_json_is_read_back()
     ensures { TakenJsonIsReadBack }
 {}

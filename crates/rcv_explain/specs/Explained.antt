@@ -24,7 +24,7 @@ spelled code e =
     decimal code ++ codes " " ++ e.name.now ++ codes "\n\n" ++ e.rule.now ++ codes "\n\n" ++ e.example.now ++ codes "\n"
     ++ codes "    " ++ e.refusal.now ++ codes "\n\n" ++ codes "Repair: " ++ e.repair.now ++ codes "\n\n" ++ e.repaired.now
 
--- What is written for a code: its explanation, where it has a rule.
+-- What is written for a code: its explanation, if it has a rule.
 abbrev pub IsToldOf : ℕ → Option (Vec ℕ Global) → Type 0
 IsToldOf code None = HasRule code → ⊥
 IsToldOf code (Some text) = (e : Explanation) × IsNamed code e.name.now × (text.items ≡ spelled code e)

@@ -1,4 +1,4 @@
-// What the codes of calls say that no text has, but 13: 52 to 54.
+// What the codes of calls say that no text has, except for 13: 52 to 54.
 
 use crate::explanation::Explanation;
 

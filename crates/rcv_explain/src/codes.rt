@@ -7,8 +7,7 @@ use crate::explanation::Explanation;
 use crate::{calls, journals, plans, rules, scripts, sessions, texts};
 use std::alloc::{AllocError, Global};
 
-/// The explanation of a code: of those that docs/FORMATS.md lists, which are 10 to 36, 40 to 43, and 50 to 55. None of any
-/// other number.
+/// The explanation of a code, if docs/FORMATS.md lists it: 10 to 36, 40 to 43, and 50 to 55. None of any other number.
 pub fn explain(code: u8) -> Option<Explanation>
     ensures some { IfSome result (λ e. IsNamed code e.name.now) }
     ensures none { IfNone result (HasRule code → ⊥) }
@@ -55,7 +54,7 @@ pub fn explain(code: u8) -> Option<Explanation>
     }
 }
 
-/// The explanation of a code as text; none where there is no such code. Fails if memory runs out.
+/// The explanation of a code as text; none if there is no such code. Fails if memory runs out.
 pub fn explanation_text(alloc: Global, code: u8) -> Result<Option<Vec<u8>>, AllocError>
     ensures { IfOk result (IsToldOf code) }
 {

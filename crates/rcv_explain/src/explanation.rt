@@ -1,4 +1,4 @@
-// What is said of a code.
+// What a code says.
 
 ghost use Rattle.std.specs.Prelude.{◌≡◌, IfOk};
 ghost use Rattle.rcv_explain.specs.Explained.{spelled};
@@ -11,15 +11,15 @@ use std::alloc::{AllocError, Global};
 pub struct Explanation {
     /// The name that stands after the code in a refusal's line.
     pub name: &'static [u8],
-    /// The rule, as a sentence or two in lines of at most 120 columns, without the last line end.
+    /// The rule: a sentence or two in lines of at most 120 columns, without the last line end.
     pub rule: &'static [u8],
     /// An input that breaks it, or words with the input after them, in lines that four spaces indent.
     pub example: &'static [u8],
     /// The refusal's line for it, without the line end.
     pub refusal: &'static [u8],
-    /// What to do, in lines as those of the rule.
+    /// What to do, in lines like those of the rule.
     pub repair: &'static [u8],
-    /// The example as it is taken, in lines as those of the example.
+    /// The example as it is taken, in lines like those of the example.
     pub repaired: &'static [u8],
 }
 

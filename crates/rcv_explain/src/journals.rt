@@ -1,4 +1,4 @@
-// What the codes of a journal behind an input say: 50 and 51.
+// What the codes of a journal after an input say: 50 and 51.
 
 use crate::explanation::Explanation;
 

@@ -1,4 +1,4 @@
-// What the codes of a protocol that was read say, 20 to 26 and 28, and that of a role which isn't declared, 27.
+// What the codes of a protocol that was read say, 20 to 26 and 28, and that of a role that isn't declared, 27.
 
 use crate::explanation::Explanation;
 

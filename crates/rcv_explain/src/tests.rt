@@ -1,4 +1,4 @@
-// The examples of all codes: each is refused by its own code, and what repairs it is taken.
+// The examples of all codes: each is refused by its own code, and its repair is taken.
 
 use crate::explain;
 use rcv_input::{InputError, read_input, refusal_line};
@@ -23,7 +23,7 @@ fn unindented(alloc: Global, text: &[u8]) -> Result<Vec<u8>, AllocError> {
     Ok(lines)
 }
 
-// The refusal's line for an indented input; nothing where the input is taken.
+// The refusal's line for an indented input; nothing if the input is taken.
 fn answer(alloc: Global, text: &[u8]) -> Result<Vec<u8>, AllocError> {
     let input = unindented(alloc, text)?;
     if input.len() > 4096 {
@@ -36,7 +36,7 @@ fn answer(alloc: Global, text: &[u8]) -> Result<Vec<u8>, AllocError> {
     }
 }
 
-// The examples of 27, 50, 51 and 55 have words in front, and are not tried here.
+// The examples of 27, 50, 51 and 55 have words in front. This doesn't try them.
 #[test]
 fn examples_are_refused_by_their_codes(rt: HostRuntime) -> Result<(), Fail> {
     for code in 10..55u8 {

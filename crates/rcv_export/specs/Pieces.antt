@@ -15,7 +15,7 @@ count n = number (unsigned n)
 abbrev pub is_ascii : ℕ → Bool
 is_ascii b = nat_lt b 128
 
--- A name as it is written: its ASCII bytes, which are all where it is a word.
+-- A name as it is written: its ASCII bytes. If it is a word, these are all of its bytes.
 abbrev pub ascii_of : List ℕ → List ℕ
 ascii_of name = filter is_ascii name
 

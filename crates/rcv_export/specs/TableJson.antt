@@ -16,7 +16,7 @@ restarts_data names row q =
     object (member (codes "restarts") (list_of (map count (slice_index_or row.restarts q [])))
     (member (codes "role") (word_data (name_of names q)) no_members))
 
--- One where the role is concerned, else none; and those of all roles, in order.
+-- One if the role is concerned, else none; and those of all roles, in order.
 abbrev pub concerned_data : List (List ℕ) → RowView → ℕ → List Data
 concerned_data names row q = if has_bit row.concerned q then restarts_data names row q ∷ [] else []
 
@@ -30,7 +30,7 @@ failure_data names p n row =
     (member (codes "point") (count n)
     (member (codes "role") (word_data (name_of names p)) no_members)))
 
--- One where the point is the role's, else none.
+-- One if the point is the role's, else none.
 abbrev pub start_data : Net → List (List ℕ) → TableView → ℕ → ℕ → List Data
 start_data net names table p n = if is_own net p n then failure_data names p n (row_at table p n) ∷ [] else []
 

@@ -14,7 +14,7 @@ mod words;
 pub use role::role_json;
 pub use table::table_json;
 
-/// Want of memory, which is the one error of the calls of this crate.
+/// Memory ran out. This is the one error of the calls of this crate.
 pub use std::alloc::AllocError as Memory;
 
 /// A name that is a word is written whole.

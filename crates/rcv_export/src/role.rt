@@ -54,7 +54,7 @@ fn place_value(
     }
 }
 
-// Adds a point of the text as a place, where it is the role's. Fails if memory runs out.
+// Adds a point of the text as a place, if it is the role's. Fails if memory runs out.
 fn push_place(
     list: &mut Vec<Value>,
     alloc: Global,

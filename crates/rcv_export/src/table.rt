@@ -38,7 +38,7 @@ fn restarts_value(
     json!(in alloc; {"restarts": restarts, "role": name})
 }
 
-// Adds another role, where it is concerned. Fails if memory runs out.
+// Adds another role, if it is concerned. Fails if memory runs out.
 fn push_concerned(
     list: &mut Vec<Value>,
     alloc: Global,
@@ -111,7 +111,7 @@ fn failure_value(
     json!(in alloc; {"concerned": concerned, "point": point.0, "role": name})
 }
 
-// Adds a start, where the point is the role's. Fails if memory runs out.
+// Adds a start, if the point is the role's. Fails if memory runs out.
 fn push_start(
     list: &mut Vec<Value>,
     alloc: Global,

@@ -74,7 +74,7 @@ fn receiver(accepted: &Accepted, point: Point) -> RoleId
     accepted.points().receiver(point)
 }
 
-/// The role at the other end of a point of the text: its receiver where it is sent, else its sender.
+/// The role at the other end of a point of the text: its receiver if it is sent, else its sender.
 pub fn peer(accepted: &Accepted, dir: Dir, point: Point) -> RoleId
     requires first { 1 ≤ point }
     requires last { point ≤ (net_for accepted.now).count }

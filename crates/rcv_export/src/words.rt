@@ -13,7 +13,7 @@ use serde_json::Value;
 use std::alloc::{AllocError, Global};
 use std::str::from_utf8;
 
-// The ASCII bytes of a name, which are all of a word's. Fails if memory runs out.
+// The ASCII bytes of a name. A word has no others. Fails if memory runs out.
 fn ascii_of(alloc: Global, name: &[u8]) -> Result<Vec<u8>, AllocError>
     ensures { IfOk result (λ kept. kept.items ≡ ascii_of name.now) }
 {
@@ -64,7 +64,7 @@ pub fn points_value(alloc: Global, points: &[Point]) -> Result<Value, AllocError
     Ok(Value::Array(list))
 }
 
-// The name of a role; none where it isn't declared.
+// The name of a role; none if it isn't declared.
 fn name_of(roles: &Names, role: RoleId) -> &[u8]
     ensures { result.now ≡ name_of roles.now role }
 {

@@ -12,7 +12,7 @@ abbrev pub IsAmong : Event → List Event → Type 0
 IsAmong e [] = ⊥
 IsAmong e (x ∷ xs) = (e ≡ x) ⊎ IsAmong e xs
 
--- The event is kept behind these entries: it isn't undone by a Recover among them.
+-- The event is kept after these entries: no Recover among them undoes it.
 abbrev pub IsKeptIn : Rules → List Entry → Event → Type 0
 IsKeptIn rules entries e = IsAmong e (reading rules entries).kept
 

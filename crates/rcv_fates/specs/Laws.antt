@@ -7,7 +7,7 @@ use Rattle.rcv_model.specs.Net.{Net}
 use Rattle.rcv_model.specs.Journal.{Rules, IsLegal}
 use Rattle.rcv_fates.specs.Fates.{IsKeptIn, IsEventAt, IsMessage}
 
--- The stamps of one role's events grow along a legal journal, those of undone ones too.
+-- The stamps of one role's events grow along a legal journal, even those of undone events.
 abbrev pub StampsGrow : Type 0
 StampsGrow =
     (rules : Rules) (journal : List Entry) (i j : ℕ) (d e : Event) → IsLegal rules journal → i < j
@@ -33,7 +33,7 @@ pub record HasOneSend (net : Net) (entries : List Entry) (t : ℕ) (got : Event)
   pub value : message.sent.value ≡ got.value
   pub only : (other : ℕ) → IsMessage net entries other t → other ≡ s
 
--- In a legal journal each Recv has one Send, those that receive a message again too.
+-- In a legal journal each Recv has one Send, even a Recv that receives a message again.
 abbrev pub EachRecvHasOneSend : Type 0
 EachRecvHasOneSend =
     (rules : Rules) (journal : List Entry) (t : ℕ) (got : Event) → IsLegal rules journal

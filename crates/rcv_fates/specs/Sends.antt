@@ -1,4 +1,4 @@
--- What the code keeps and finds on its way: the Sends of each role, and events by their stamps.
+-- What the code keeps and finds while it runs: the Sends of each role, and events by their stamps.
 use Rattle.std.specs.Prelude.{◌≡◌, ℕ, List, [], ◌∷◌, ◌++◌, map, Some, slice_get, slice_index_or, slice_set}
 use Rattle.std.specs.declared.alloc.Global.{Global}
 use Rattle.std.specs.declared.vec.Vec.{Vec}
@@ -23,6 +23,6 @@ HasNoStamp sends stamp = (i : ℕ) (x : Sent) → slice_get sends i ≡ Some x �
 abbrev pub HasSent : List Sent → ℕ → ℕ → Type 0
 HasSent sends stamp place = (i : ℕ) × (slice_get sends i ≡ Some (record { stamp = stamp; place = place }))
 
--- The event with this stamp, where there is one, has this number.
+-- If there is an event with this stamp, it has this number.
 abbrev pub IsNumberOf : List Event → ℕ → ℕ → Type 0
 IsNumberOf events stamp n = (i : ℕ) (e : Event) → slice_get events i ≡ Some e → e.stamp ≡ stamp → i ≡ n

@@ -17,8 +17,8 @@ pub struct Arrow {
 }
 
 /// The messages that were received, in the order of their Recvs: one for each Recv, so a message that was received
-/// again has one for each time. It takes memory for each Send and each Recv, and for each Recv time that grows with
-/// the logarithm of how many Sends its sender has made. Fails if memory runs out.
+/// again has one for each time. It takes memory for each Send and each Recv. For each Recv it takes time that grows
+/// with the logarithm of how many Sends its sender has made. Fails if memory runs out.
 pub fn arrows(alloc: Global, record: &Record<'_>) -> Result<Vec<Arrow>, AllocError>
     ensures { IfOk result (λ arrows. AreArrows (net_for record.now.setup) record.now.entries arrows.items) }
 {

@@ -46,7 +46,7 @@ fn is_same_dir(one: Dir, other: Dir) -> bool
     }
 }
 
-// The number of the kept event of a declared role that has this stamp, where there is one.
+// The number of the kept event of a declared role that has this stamp, if there is one.
 fn number_of(book: &Book<'_>, role: RoleId, stamp: u64) -> u32
     requires { role < roles_of book.now.setup }
     ensures { IsNumberOf (events_of role (state_of book.now).kept) stamp result }

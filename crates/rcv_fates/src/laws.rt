@@ -2,7 +2,7 @@
 
 ghost use Rattle.rcv_fates.specs.Laws.{StampsGrow, EventsStandOnce, KeptEventsStand, EachRecvHasOneSend};
 
-/// The stamps of one role's events grow along a legal journal, those of undone ones too.
+/// The stamps of one role's events grow along a legal journal, even those of undone events.
 pub fn stamps_grow()
     ensures { StampsGrow }
 {}
@@ -17,7 +17,7 @@ pub fn kept_events_stand()
     ensures { KeptEventsStand }
 {}
 
-/// In a legal journal each Recv has one Send, those that receive a message again too.
+/// In a legal journal each Recv has one Send, even a Recv that receives a message again.
 pub fn each_recv_has_one_send()
     ensures { EachRecvHasOneSend }
 {}

@@ -11,5 +11,5 @@ mod undone;
 pub use arrow::{Arrow, arrows};
 pub use kept::is_kept;
 pub use record::Record;
-/// Want of memory, which is the one error of this crate.
+/// Memory ran out. This is the one error of this crate.
 pub use std::alloc::AllocError as Memory;

@@ -37,7 +37,8 @@ pub fn note(lists: &mut SendLists, role: RoleId, sent: Sent) -> Result<(), Alloc
     Ok(())
 }
 
-/// The place of a Send with this stamp, of Sends whose stamps don't fall; none where none has it. It takes no memory.
+/// The place of a Send with this stamp, among Sends whose stamps don't fall; none if no Send has it. It takes no
+/// memory.
 pub fn place_of(sends: &[Sent], stamp: u64) -> Option<u32>
     requires { IsNonDecreasingBy (λ x. x.stamp) sends.now }
     ensures { MatchOption result (HasNoStamp sends.now stamp) (λ place. HasSent sends.now stamp place) }

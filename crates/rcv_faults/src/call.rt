@@ -6,7 +6,7 @@ use std::alloc::{AllocError, Global};
 use std::io;
 use std::thread::Threads;
 
-/// How many bytes a call of the source gives at most, and how many one of the sink takes.
+/// How many bytes a call of the source gives at most, and how many a call of the sink takes.
 pub const PIECE: usize = 16;
 
 // How many bytes an answer may have.

@@ -1,10 +1,10 @@
-// A call that fails, and what the program has to answer then.
+// A call that fails, and what the program must answer then.
 
 use crate::call::{Fault, run};
 use std::io;
 use std::thread::Threads;
 
-/// Prints what differs where the call on this session doesn't end with this status or doesn't write these bytes.
+/// Prints what differs if the call on this session doesn't end with this status or doesn't write these bytes.
 pub fn try_fault<R: AllocGlobal + Print + Threads + Sync>(
     rt: &R,
     session: &[u8],

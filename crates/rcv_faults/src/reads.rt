@@ -5,10 +5,10 @@ use crate::fault::try_fault;
 use std::io;
 use std::thread::Threads;
 
-// So many calls are tried, which are more than the session's text needs.
+// It tries so many calls, more than the session's text needs.
 const CALLS: u64 = 120;
 
-/// Prints each call of the source that fails, where the answer isn't: status 4 and nothing if that call is made, else
+/// Prints each call of the source that fails, if the answer isn't: status 4 and nothing if that call is made, else
 /// this journal of the session.
 pub fn try_reads<R: AllocGlobal + Print + Threads + Sync>(
     rt: &R,

@@ -1,8 +1,8 @@
-// Roles that crash: each keeps what it keeps without crashes.
+// Roles that crash: each keeps what it keeps if nothing crashes.
 
 use crate::call::{Fault, run};
 use crate::plan::with_plan;
-use rcv_kept::keep_the_same;
+use rcv_same_kept::keep_the_same;
 use std::alloc::{AllocError, Global};
 use std::io;
 use std::thread::Threads;
@@ -28,7 +28,7 @@ const ROLES: [Role; 3] = [
     },
 ];
 
-// In the plan of many crash lines each role has one at each count up to this one.
+// The plan of many crash lines has one for each role at each count up to this one.
 const MOST: u32 = 20;
 
 /// Prints each plan of crashes with which this session doesn't complete, or some role doesn't keep what it keeps in
@@ -66,7 +66,7 @@ fn many_crashes(alloc: Global) -> Result<String, AllocError> {
     Ok(plan)
 }
 
-/// Prints where a journal counts as the same without its first event, by which storms would tell nothing.
+/// Prints if a journal counts as the same without its first event: then storms would tell nothing.
 pub fn try_without_an_event<R: AllocGlobal + Print>(rt: &R, journal: &[u8]) -> io::Result<()> {
     let text = String::from_utf8_lossy(rt.alloc(), journal)?;
     let Some((_, rest)) = text.as_str().split_once("\n") else {

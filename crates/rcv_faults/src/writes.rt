@@ -1,14 +1,14 @@
-// A sink that fails at one call: what it took before is written, and nothing behind that.
+// A sink that fails at one call: what it took before is written, and nothing after that.
 
 use crate::call::{Fault, PIECE};
 use crate::fault::try_fault;
 use std::io;
 use std::thread::Threads;
 
-// So many calls are tried, which are more than the session's journal needs.
+// It tries so many calls, more than the session's journal needs.
 const CALLS: u64 = 60;
 
-/// Prints each call of the sink that fails, where the answer isn't: status 5 and the pieces of this journal of the
+/// Prints each call of the sink that fails, if the answer isn't: status 5 and the pieces of this journal of the
 /// session before that call if it is made, else the journal.
 pub fn try_writes<R: AllocGlobal + Print + Threads + Sync>(
     rt: &R,

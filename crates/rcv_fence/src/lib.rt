@@ -8,5 +8,5 @@ mod watch;
 
 pub use watch::{Watch, fence};
 
-/// Want of memory, which is the one error of the calls of this crate.
+/// Memory ran out. This is the one error of the calls of this crate.
 pub use std::alloc::AllocError as Memory;

@@ -23,7 +23,7 @@ impl TableRule<(), Sight, ()> for Fenced {
     ghost first = { λ _. unlooked };
 }
 
-/// A load, which the watch counts.
+/// A load. The watch counts it.
 pub struct Looks;
 
 impl Play<(), Sight> for Looks {
@@ -32,7 +32,7 @@ impl Play<(), Sight> for Looks {
     ghost then = { Looked };
 }
 
-/// A swap, of which the watch keeps what it wrote.
+/// A swap. The watch keeps what it wrote.
 pub struct Writes;
 
 impl Play<(), Sight> for Writes {
@@ -41,7 +41,7 @@ impl Play<(), Sight> for Writes {
     ghost then = { Wrote };
 }
 
-/// A watch more, which has seen and written nothing yet.
+/// One more watch, which has seen and written nothing yet.
 pub struct Shares;
 
 impl Split<Sight> for Shares {

@@ -36,7 +36,7 @@ impl Model for Watch {
 }
 
 impl Watch {
-    /// What is raised at this moment: the role, below 8, and the point, from 1 to 256; None where nothing is. It is one
+    /// What is raised at this moment: the role, below 8, and the point, from 1 to 256; None if nothing is. It is one
     /// load, which never waits and takes no memory.
     pub fn look(&mut self) -> Option<(RoleId, Point)>
         ensures fence { self.new.fence ≡ self.old.fence }

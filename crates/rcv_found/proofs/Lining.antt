@@ -3,9 +3,9 @@ use Rattle.std.proofs.Common.{◌≡◌, ℕ, zero, suc, ◌+◌, ◌-◌, List,
 use Rattle.std.specs.Prelude.{slice_get}
 use Rattle.rcv_tree.specs.declared.refusal.Refusal.TheVariants as refusals
 use Rattle.rcv_lexer.specs.declared.token.Token.{Token}
-use Rattle.rcv_lexer.specs.declared.token.TextError.TheVariants as errors
+use Rattle.rcv_tree.specs.declared.refusal.TextError.TheVariants as errors
 use Rattle.rcv_lexer.specs.Tokens.{line_at}
-use Rattle.rcv_scan.specs.Symbols as scan
+use Rattle.rcv_lexer.specs.Symbols as scan
 use Rattle.rcv_syntax.specs.Codes as protocols_codes
 use Rattle.rcv_script.specs.Refusals as scripting
 use Rattle.rcv_plan.specs.Refusing as planning

@@ -6,7 +6,7 @@ use Rattle.std.proofs.lemmas.List.{map-append}
 use Rattle.rcv_lexer.specs.declared.token.Kind.{Kind}
 use Rattle.rcv_lexer.specs.declared.token.Token.{Token}
 use Rattle.rcv_lexer.specs.Parts.{LiesIn}
-use Rattle.rcv_scan.specs.Symbols as scan
+use Rattle.rcv_lexer.specs.Symbols as scan
 use Rattle.rcv_syntax.specs.Symbols as protocols
 use Rattle.rcv_syntax.specs.Codes as protocols_codes
 use Rattle.rcv_syntax.specs.Refusing as protocols_first

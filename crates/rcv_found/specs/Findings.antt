@@ -10,7 +10,7 @@ use Rattle.rcv_found.specs.Grammars.{GrammarView}
 use Rattle.rcv_found.specs.Stops.{IsTakenBy}
 use Rattle.rcv_found.specs.Spots.{IsWrongAt}
 
--- A bad letter on this line; or the part has tokens, and this is wrong with them, or they are read.
+-- A bad letter on this line; or the part has tokens, and this is wrong with them; or it has tokens, and they are read.
 abbrev pub IsFindingIn : GrammarView → List ℕ → Span → Finding → Type 0
 IsFindingIn g input part (findings.Letter line) = IsLetter input part line
 IsFindingIn g input part (findings.Wrong wrong) = (tokens : List Token) × AreTokens input part tokens × IsWrongAt g input tokens part.end wrong

@@ -1,4 +1,4 @@
--- What may stand behind tokens.
+-- What may stand after tokens.
 use Rattle.std.specs.Prelude.{◌≡◌, ℕ, true, List, [], ◌∷◌, ◌++◌, Option, Some, None}
 use Rattle.rcv_lexer.specs.declared.token.Kind.{Kind}
 use Rattle.rcv_lexer.specs.declared.token.Token.{Token}
@@ -21,8 +21,8 @@ abbrev pub symbols_by : {S : Type 0} → (Kind → List ℕ → S) → Option Ki
 symbols_by by None bytes = []
 symbols_by by (Some kind) bytes = by kind bytes ∷ []
 
--- The grammar doesn't have the thing behind these tokens: with it, or with the end there, the text is refused at it, as a
--- token that the grammar doesn't have.
+-- The grammar doesn't have the thing after these tokens: with it there, or with the end if the thing is the end, the text is
+-- refused at it, as at a token that the grammar doesn't have.
 abbrev pub IsNotHad : GrammarView → List ℕ → List Token → ThingView → Type 0
 IsNotHad OfProtocol bundle front x =
     let here = symbols_by protocols.symbol_by x.kind x.bytes in
@@ -34,7 +34,7 @@ IsNotHad (OfPlan a) bundle front x =
     let here = symbols_by plans.symbol_by x.kind x.bytes in
     planning.IsFirst a.protocol.roles (plans.symbols_of bundle front ++ here) plans_faults.Token here
 
--- A thing may stand there; one that is a free word is said only if no name may stand there, since it is a name, too.
+-- A thing may stand there. A free word is listed only if no name may stand there, since it is a name, too.
 pub record MayStand (g : GrammarView) (bundle : List ℕ) (front : List Token) (x : ThingView) : Type 0 where
   pub had : IsNotHad g bundle front x → ⊥
   pub own : x.free ≡ true → IsNotHad g bundle front any_name
@@ -47,7 +47,7 @@ pub data AreThose (g : GrammarView) (bundle : List ℕ) (front : List Token) : L
   left_out : {xs ys : List ThingView} (x : ThingView) → (MayStand g bundle front x → ⊥) → AreThose g bundle front xs ys
       → AreThose g bundle front (x ∷ xs) ys
 
--- Those so far, with those of the rest behind them, are those of all.
+-- Those so far, and after them those of the rest, are those of all.
 abbrev pub SoFar : GrammarView → List ℕ → List Token → List ThingView → List ThingView → List ThingView → Type 0
 SoFar g bundle front things may rest =
     (ys : List ThingView) → AreThose g bundle front rest ys → AreThose g bundle front things (may ++ ys)

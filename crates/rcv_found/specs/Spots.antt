@@ -14,12 +14,12 @@ abbrev pub has_feed : List ℕ → Bool
 has_feed [] = false
 has_feed (b ∷ bs) = b == 10 || has_feed bs
 
--- What is left if bytes are taken off the front as long as a line feed is left: what stands behind the last one.
+-- What is left after taking bytes off the front as long as a line feed is left: what stands after the last one.
 abbrev pub since_feed : List ℕ → List ℕ
 since_feed [] = []
 since_feed (b ∷ bs) = if has_feed (b ∷ bs) then since_feed bs else b ∷ bs
 
--- A letter begins with each byte but those of 128 to 191, with which a letter of several bytes goes on.
+-- Each byte begins a letter, except for 128 to 191, which continue a letter of several bytes.
 abbrev pub begins_letter : ℕ → Bool
 begins_letter b = nat_lt b 128 || nat_le 192 b
 
@@ -39,8 +39,8 @@ abbrev pub spot_of : List ℕ → ℕ → Option Token → Spot
 spot_of bundle end (Some t) = spot_by bundle t.span t.line
 spot_of bundle end None = spot_by bundle (record { start = end; end = end }) (line_at bundle end)
 
--- What is wrong with the tokens of a part that ends there: the first code, the token at which it holds or the end, and if it
--- is that of the grammar, what may stand there; nothing else.
+-- What is wrong with the tokens of a part that ends there: the first code; the token at which it holds, or the end; and if the
+-- code is that of the grammar, what may stand there, else nothing more.
 pub record IsWrongAt (g : GrammarView) (bundle : List ℕ) (tokens : List Token) (end : ℕ) (wrong : Wrong) : Type 0 where
   pub place : ℕ
   pub first : IsFirstAt g bundle tokens wrong.code place

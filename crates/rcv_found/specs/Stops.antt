@@ -2,7 +2,7 @@
 use Rattle.std.specs.Prelude.{◌≡◌, ℕ, ◌+◌, List, [], ◌∷◌, length}
 use Rattle.rcv_tree.specs.declared.protocol.Protocol as trees
 use Rattle.rcv_lexer.specs.declared.token.Token.{Token}
-use Rattle.rcv_lexer.specs.declared.token.TextError.{TextError}
+use Rattle.rcv_tree.specs.declared.refusal.TextError.{TextError}
 use Rattle.rcv_model.specs.Script.{Line}
 use Rattle.rcv_model.specs.Plan.{PlanLine}
 use Rattle.rcv_accept.specs.Accepted.{AcceptedView}
@@ -37,7 +37,7 @@ IsTakenBy OfProtocol bundle tokens = AreModule bundle tokens
 IsTakenBy (OfScripts a) bundle tokens = AreScripts a bundle tokens
 IsTakenBy (OfPlan a) bundle tokens = ArePlan a bundle tokens
 
--- It is refused, as its reader says it.
+-- It is refused, and this is how its reader says it.
 abbrev pub IsRefusedBy : GrammarView → List ℕ → List Token → ℕ → TextError → Type 0
 IsRefusedBy OfProtocol bundle tokens last error = reader.IsRefused bundle tokens last error
 IsRefusedBy (OfScripts a) bundle tokens last error =
@@ -65,7 +65,7 @@ token_code OfProtocol = 11
 token_code (OfScripts a) = 30
 token_code (OfPlan a) = 40
 
--- the same tokens, with their places in place of their lines
+-- the same tokens, with their places instead of their lines
 abbrev pub numbered : ℕ → List Token → List Token
 numbered place [] = []
 numbered place (t ∷ ts) = record { kind = t.kind; span = t.span; line = place } ∷ numbered (place + 1) ts

@@ -3,7 +3,7 @@ use Rattle.std.specs.Prelude.{ℕ, Bool, true, false, codes, List, [], ◌++◌,
 use Rattle.rcv_lexer.specs.declared.token.Kind.{Kind}
 use Rattle.rcv_lexer.specs.declared.token.Kind.TheVariants.{Word, Number, Text, Mark}
 
--- One token of it, by its kind and its bytes; without a kind it is the end of the text. The empty word stands for all names,
+-- One token of it, by its kind and its bytes. If it has no kind, it is the end of the text. The empty word stands for all names,
 -- since no grammar asks for it. A free word may be a name at other places.
 pub record ThingView : Type 0 where
   pub kind : Option Kind

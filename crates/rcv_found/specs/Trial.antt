@@ -1,10 +1,10 @@
--- Tokens with a thing behind them, as they are tried.
+-- Tokens with a thing after them, to try it.
 use Rattle.std.specs.Prelude.{ℕ, ◌+◌, List, [], ◌∷◌, ◌++◌, length, Option, Some, None}
 use Rattle.rcv_lexer.specs.declared.token.Kind.{Kind}
 use Rattle.rcv_lexer.specs.declared.token.Token.{Token}
 use Rattle.rcv_found.specs.Things.{ThingView}
 
--- The bundle with its bytes behind it, and the token that they are; no token for the end.
+-- The bundle with the thing's bytes after it, and the token that they are; no token for the end.
 abbrev pub bytes_with : List ℕ → ThingView → List ℕ
 bytes_with bundle x = bundle ++ x.bytes
 

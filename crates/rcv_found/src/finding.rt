@@ -8,9 +8,9 @@ ghost use Rattle.rcv_found.specs.Findings.{IsFindingIn, LiesWrong};
 
 use crate::grammar::Grammar;
 use crate::wrong::{Wrong, wrong_at};
-use rcv_lexer::token::{Span, TextError, Token};
+use rcv_lexer::token::{Span, Token};
 use rcv_lexer::tokens;
-use rcv_tree::refusal::Refusal;
+use rcv_tree::refusal::{Refusal, TextError};
 use std::alloc::{AllocError, Global};
 
 /// What is found in a part.

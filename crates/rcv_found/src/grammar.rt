@@ -10,10 +10,11 @@ ghost use Rattle.rcv_found.specs.Stops.{AreModule, AreScripts, ArePlan, IsTakenB
 ghost use Rattle.rcv_found.specs.Seen.{grammar_in};
 
 use rcv_accept::accepted::Accepted;
-use rcv_lexer::token::{TextError, Token};
+use rcv_lexer::token::Token;
 use rcv_plan::read_plan;
 use rcv_reader::read_module;
 use rcv_script::read_scripts;
+use rcv_tree::refusal::TextError;
 use std::alloc::Global;
 
 /// Which part of an input is read. Scripts and plans are read for an accepted protocol.

@@ -1,4 +1,4 @@
-// What is found where a text is refused, and what may stand there.
+// What is found if a text is refused, and what may stand there.
 #![tactic(auto)]
 
 pub mod finding;

@@ -1,4 +1,4 @@
-// What may stand behind tokens: each thing of the grammar is tried there.
+// What may stand after tokens: it tries each thing of the grammar there.
 
 ghost use Rattle.std.specs.Prelude.{◌≡◌, ◌+◌, ◌^◌, ◌<◌, ◌≤◌, ◌∷◌, [], List, length, true, false, Some, IfOk, OnOk};
 ghost use Rattle.std.specs.List.{All};
@@ -16,7 +16,7 @@ use crate::thing::Thing;
 use rcv_lexer::token::Token;
 use std::alloc::{AllocError, Global};
 
-// The bundle with a thing behind it.
+// The bundle with a thing after it.
 fn bytes_with(alloc: Global, bundle: &[u8], thing: &Thing) -> Result<Vec<u8>, AllocError>
     ensures text { IfOk result (λ text. text.items ≡ bytes_with bundle.now thing.now) }
     ensures short { IfOk result (λ text. length text.items ≤ length bundle.now + 8) }
@@ -26,7 +26,7 @@ fn bytes_with(alloc: Global, bundle: &[u8], thing: &Thing) -> Result<Vec<u8>, Al
     Ok(text)
 }
 
-// The tokens with that of a thing behind them, which stands behind the bundle.
+// The tokens, and after them that of a thing, whose bytes stand after the bundle.
 fn tokens_with(
     alloc: Global,
     bundle: &[u8],
@@ -45,7 +45,7 @@ fn tokens_with(
     Ok(list)
 }
 
-// Whether the text is not refused at this place as at a token that the grammar doesn't have.
+// Whether the text isn't refused at this place by the code of a token that the grammar doesn't have.
 fn is_had(grammar: &Grammar<'_>, stop: Option<Stop>, place: usize) -> bool
     ensures no { result ≡ false → (s : Stop) × (stop ≡ Some s) × (s.code ≡ token_code (grammar_in grammar.now)) × (s.place ≡ place) }
     ensures yes { result ≡ true → (s : Stop) → stop ≡ Some s → s.code ≡ token_code (grammar_in grammar.now) → s.place ≡ place → ⊥ }
@@ -56,7 +56,7 @@ fn is_had(grammar: &Grammar<'_>, stop: Option<Stop>, place: usize) -> bool
     }
 }
 
-// Whether the grammar has the thing behind these tokens.
+// Whether the grammar has the thing after these tokens.
 fn has(
     alloc: Global,
     grammar: &Grammar<'_>,
@@ -77,7 +77,7 @@ fn has(
     Ok(is_had(grammar, stop, front.len()))
 }
 
-// Whether a thing is to be listed, if any name is had there or not.
+// Whether to list a thing, if the grammar has any name there (`named`), or has none.
 fn may_stand(
     alloc: Global,
     grammar: &Grammar<'_>,
@@ -100,7 +100,7 @@ fn may_stand(
     has(alloc, grammar, bundle, front, thing)
 }
 
-// Adds the next thing to those so far, if it may stand there. What is left behind it only tells the proof where it stands.
+// Adds the next thing to those so far, if it may stand there. The things after it only tell the proof where it stands.
 #[tactic(auto, using(crate::proofs::Listing::one_listed, crate::proofs::Listing::one_left_out))]
 fn add_if_it_may(
     alloc: Global,
@@ -151,8 +151,8 @@ fn listed(
     Ok(may)
 }
 
-/// What may stand behind these tokens at which a text is refused by this code: nothing is told but for the code of a token
-/// that the grammar doesn't have.
+/// What may stand after these tokens, if a text is refused there by this code. Nothing, unless it is the code of a
+/// token that the grammar doesn't have.
 pub fn may_at(
     alloc: Global,
     grammar: &Grammar<'_>,
@@ -174,8 +174,8 @@ pub fn may_at(
     }
 }
 
-/// What may stand behind these tokens: each word and mark of the grammar, and each kind, with which the text is not refused
-/// there as with a token that the grammar doesn't have; in the table's order. Fails if memory runs out.
+/// What may stand after these tokens: each word, mark and kind of the grammar with which the text isn't refused there
+/// by the code of a token that the grammar doesn't have; in the table's order. Fails if memory runs out.
 pub fn what_may_stand(
     alloc: Global,
     grammar: &Grammar<'_>,

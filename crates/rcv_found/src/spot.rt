@@ -9,8 +9,8 @@ ghost use Rattle.rcv_found.specs.Spots.{begins_letter, column_of, column_at, spo
 use rcv_lexer::line_feeds;
 use rcv_lexer::token::{Span, Token};
 
-/// A stretch of a text, with the line and the column of its first byte, both counted from 1. A column counts letters. At the
-/// end of a part the stretch is empty.
+/// A stretch of a text, with the line and the column of its first byte, both counted from 1. A column counts letters.
+/// At the end of a part the stretch is empty.
 #[derive(Clone, Copy, Debug, PartialEq, Eq)]
 pub struct Spot {
     pub span: Span,
@@ -25,7 +25,7 @@ fn begins_letter(byte: u8) -> bool
     byte < 128 || 192 <= byte
 }
 
-// The column behind a byte, where the byte's own is this.
+// The column after a byte, if this is the byte's own.
 #[tactic(auto, using(crate::proofs::Columns::column_last, crate::proofs::Columns::column_letter, crate::proofs::Columns::column_same))]
 fn next_column(column: u32, byte: u8) -> u32
     requires { column + 1 < 2 ^ 32 }
@@ -41,7 +41,7 @@ fn next_column(column: u32, byte: u8) -> u32
     }
 }
 
-// The column behind these bytes.
+// The column after these bytes.
 fn column_of(before: &[u8]) -> u32
     requires { length before.now + 1 < 2 ^ 32 }
     ensures { result ≡ column_of before.now }
@@ -75,7 +75,7 @@ fn spot_by(bundle: &[u8], span: Span, line: u32) -> Spot
     }
 }
 
-/// Where the token with this place stands; behind all of them, where the part ends.
+/// Where the token with this place stands; if the place is after all of them, where the part ends.
 pub fn spot_of(bundle: &[u8], list: &[Token], place: usize, end: usize) -> Spot
     requires short { length bundle.now + 1 < 2 ^ 32 }
     requires inside { All (λ t. LiesIn bundle.now t.span) list.now }

@@ -7,18 +7,19 @@ ghost use Rattle.rcv_found.specs.Stops.{IsTakenBy, IsFirstAt, numbered};
 ghost use Rattle.rcv_found.specs.Seen.{grammar_in};
 
 use crate::grammar::Grammar;
-use rcv_lexer::token::{TextError, Token};
-use rcv_tree::refusal::Refusal;
+use rcv_lexer::token::Token;
+use rcv_tree::refusal::{Refusal, TextError};
 use std::alloc::{AllocError, Global};
 
-/// The first code of a table, and the place of the token at which it holds: counted from 0, behind all of them at the end.
+/// The first code of a table, and the place of the token at which it holds: counted from 0, and after all of them if
+/// that is the end.
 #[derive(Clone, Copy, Debug, PartialEq, Eq)]
 pub struct Stop {
     pub code: u8,
     pub place: usize,
 }
 
-// The same token with a place in place of its line. The bundle tells the proof that its span fits.
+// The same token with a place instead of its line. The bundle tells the proof that its span fits.
 fn numbered_token(bundle: &[u8], token: &Token, place: u32) -> Token
     requires short { length bundle.now < 2 ^ 32 }
     requires inside { LiesIn bundle.now token.now.span }
@@ -66,8 +67,8 @@ fn numbered(alloc: Global, bundle: &[u8], list: &[Token]) -> Result<Vec<Token>, 
     Ok(tokens)
 }
 
-/// The first code of the grammar's table that holds at one of the tokens or at the end; none if the part is read. Fails if
-/// memory runs out.
+/// The first code of the grammar's table that holds at one of the tokens or at the end; none if the part is read. Fails
+/// if memory runs out.
 pub fn stop_at(
     alloc: Global,
     grammar: &Grammar<'_>,

@@ -106,7 +106,7 @@ impl Thing {
         }
     }
 
-    /// The same again.
+    /// A copy of it.
     pub fn copy(&self) -> Thing
         ensures { result ≡ self.now }
     {

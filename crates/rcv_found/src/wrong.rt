@@ -15,8 +15,8 @@ use crate::thing::Thing;
 use rcv_lexer::token::Token;
 use std::alloc::{AllocError, Global};
 
-/// The first code of a part's table that holds, where that is, and for the code of a token that the grammar doesn't have
-/// there what it has.
+/// The first code of a part's table that holds, and where; and if it is the code of a token that the grammar doesn't
+/// have there, what the grammar has.
 #[derive(Drop)]
 pub struct Wrong {
     pub code: u8,
@@ -35,7 +35,8 @@ fn front_of(list: &[Token], place: usize) -> &[Token]
     }
 }
 
-/// What is wrong with the tokens of a part of the bundle that ends there; none if they are read. Fails if memory runs out.
+/// What is wrong with the tokens of a part of the bundle that ends there; none if they are read. Fails if memory runs
+/// out.
 pub fn wrong_at(
     alloc: Global,
     grammar: &Grammar<'_>,

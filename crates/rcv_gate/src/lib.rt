@@ -12,7 +12,7 @@ pub trait Gate {
     /// Comes before the recovery of this failed role moves anything.
     fn recovering(&self, role: RoleId);
 
-    /// Whether it lets all pass at once, always: then nobody can be held up beside others.
+    /// Whether it always lets all pass at once: then nobody can be held up beside others.
     fn is_open(&self) -> bool;
 }
 

@@ -14,7 +14,7 @@ messages label roles = flat_map (message_line label) (range_with_len 0 roles)
 unfoldable pub script_line : ℕ → List ℕ
 script_line role = codes "role R" ++ decimal role ++ codes " { var v = 0; on more set v = value; send more = v + 1; }\n"
 
--- The scripts of so many roles behind the first.
+-- The scripts of so many roles after the first.
 unfoldable pub scripts : ℕ → List ℕ
 scripts roles = flat_map script_line (range_with_len 1 roles)
 

@@ -29,7 +29,7 @@ fn push_messages(text: &mut String, label: &str, roles: u64) -> Result<(), Alloc
     Ok(())
 }
 
-// The script of a role behind the first.
+// The script of a role after the first.
 #[tactic(auto, unfolding(crate::specs::Generated::script_line))]
 fn push_script(text: &mut String, role: u64) -> Result<(), AllocError>
     ensures { OnOk result (string_bytes text.new ≡ string_bytes text.old ++ script_line role) }
@@ -40,7 +40,7 @@ fn push_script(text: &mut String, role: u64) -> Result<(), AllocError>
     )
 }
 
-// The scripts of so many roles behind the first.
+// The scripts of so many roles after the first.
 #[tactic(auto, using(crate::proofs::Lists::one_more_script, crate::proofs::Lists::no_script))]
 fn push_scripts(text: &mut String, roles: u64) -> Result<(), AllocError>
     requires { roles ≤ 7 }
@@ -94,7 +94,7 @@ fn push_plan(text: &mut String) -> Result<(), AllocError>
 }
 
 /// The generated input with this number, which is at most 4,000: a value goes `200 + number` times round a ring of
-/// eight roles, and its plan has a crash line for R3 and for R6. An input of this length may be read. It fails where
+/// eight roles, and its plan has a crash line for R3 and for R6. An input of this length may be read. It fails if
 /// memory runs out.
 #[tactic(auto, using(crate::proofs::Lengths::generated_fits))]
 pub fn generate(alloc: Global, number: u32) -> Result<Vec<u8>, AllocError>

@@ -4,5 +4,5 @@
 pub mod generate;
 pub mod summary;
 
-/// Want of memory, which is the one error of the calls of this crate.
+/// Memory ran out: the one error of the calls of this crate.
 pub use std::alloc::AllocError as Memory;

@@ -4,7 +4,7 @@ use Rattle.std.specs.Prelude.{if◌then◌else◌}
 use Rattle.std.proofs.lemmas.Bool.Decides.{nat_tests}
 use Rattle.rcv_tree.specs.declared.protocol.Protocol.{Protocol}
 use Rattle.rcv_lexer.specs.declared.token.Token.{Token}
-use Rattle.rcv_scan.specs.Symbols.{symbol_of}
+use Rattle.rcv_lexer.specs.Symbols.{symbol_of}
 use Rattle.rcv_model.specs.Text as trees
 use Rattle.rcv_module.specs.Parts.{part_of, calls, calls_of, sites_from}
 use Rattle.rcv_machine.specs.Words.{Sign, Or, And, Open, Close, Right, Semicolon, Symbol, Is, symbols_of, symbol_by, is_call, lines_of_calls, Written, NoStmt, AMessage, AChoice, ARec, AContinue, APar, ADo, Blocks, NoBlock, ABlock, dotted, names_behind, sort_list, roles_behind, decls, Decl, stmts, blocks_behind, WrittenProtocol, protocols, Source, spelling, IsTreeOf, AreTreesOf, roles_at, role_at, points, points_of, singles, tree_of, trees_of}

@@ -1,4 +1,4 @@
--- Causes of refusals: why something may not be told, a relation each.
+-- Causes of refusals: why something may not be told. Each has a relation.
 use Rattle.std.specs.Prelude.{◌≡◌, ℕ, ◌<◌, ◌≤◌, true, false, List, [], ◌∷◌, Some}
 use Rattle.rcv_tree.specs.declared.event.Message.{Message}
 use Rattle.rcv_guide.specs.declared.cause.Cause.{Cause}
@@ -26,7 +26,7 @@ pub record IsFull (g : GuideView) (news : News) : Type 0 where
   pub attempt : news.attempt ≡ (numbers_at g.numbers news.role).attempt
   pub full : HasRoom g → ⊥
 
--- It is able, and it isn't its turn to send there; and to receive there.
+-- It is able, but it isn't its turn to send there; or not its turn to receive there.
 pub record IsNotNextToSend (g : GuideView) (news : News) : Type 0 where
   pub able : IsAble g news
   pub turn : IsTurnToSend g news → ⊥
@@ -35,13 +35,13 @@ pub record IsNotNextToReceive (g : GuideView) (news : News) : Type 0 where
   pub able : IsAble g news
   pub turn : IsTurnToReceive g news → ⊥
 
--- It is its turn to receive, and nothing lies in the channel.
+-- It is its turn to receive, but nothing lies in the channel.
 pub record IsEmpty (g : GuideView) (news : News) : Type 0 where
   pub able : IsAble g news
   pub turn : IsTurnToReceive g news
   pub nothing : in_channel g ((net_for g).sender news.point) news.role ≡ []
 
--- It is its turn to receive, and another message is in front.
+-- It is its turn to receive, but another message is in front.
 pub record IsNotFront (g : GuideView) (news : News) (stamp : ℕ) : Type 0 where
   pub able : IsAble g news
   pub turn : IsTurnToReceive g news

@@ -26,12 +26,12 @@ pub record AreKeeps (numbers : List Numbers) (logs : List (List Event)) (group :
   pub eight : length keeps.keep ≡ 8
   pub saved_is : (r : ℕ) → r < 8 → has_bit group r ≡ true → slice_index keeps.keep r ≡ logged_of numbers logs saved r
 
--- The point of an event, and 0 where there is none.
+-- The point of an event; 0 if there is none.
 abbrev pub point_or_none : Option Event → ℕ
 point_or_none None = 0
 point_or_none (Some e) = e.point
 
--- The start of a failed role: the point of its first event behind those that it keeps, and 0 where it loses none.
+-- The start of a failed role: the point of its first event after those that it keeps; 0 if it loses none.
 abbrev pub first_lost : List (List Event) → Keeps → ℕ → ℕ
 first_lost logs keeps r =
     if has_bit keeps.failed.0 r then point_or_none (slice_get (log_at logs r) (slice_index keeps.keep r)) else 0
@@ -39,7 +39,7 @@ first_lost logs keeps r =
 abbrev pub AreStartsOf : List (List Event) → Keeps → List ℕ → Type 0
 AreStartsOf logs keeps starts = (length starts ≡ 8) × ((r : ℕ) → r < 8 → slice_index starts r ≡ first_lost logs keeps r)
 
--- The counts of all events, where so many logged ones are left: 0 of a role without a log.
+-- The counts of all events, if so many logged ones are left; 0 for a role without a log.
 pub record AreMade (numbers : List Numbers) (counts made : List ℕ) : Type 0 where
   pub eight : length made ≡ 8
   pub each : (r : ℕ) → r < length numbers

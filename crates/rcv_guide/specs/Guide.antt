@@ -31,9 +31,8 @@ use Rattle.rcv_guide.specs.declared.recovery.Recovery.{Recovery}
 use Rattle.rcv_guide.specs.Numbers.{at_start, numbers_at, down_of, with_advanced, AreNumbers, AreBack}
 use Rattle.rcv_guide.specs.Failing.{all_events}
 
--- An accepted protocol; a plan, of which its `host` lines count; the remembered events of each role, and its numbers; for how
--- many events there is room until what is stable is forgotten, and how many of these places are used; and how much was told
--- in all.
+-- An accepted protocol; a plan, whose `host` lines alone count; the remembered events of each role, and its numbers; how many
+-- events there is room for until what is stable is forgotten; how many of these places are used; and how much was told in all.
 pub record GuideView : Type 0 where
   pub protocol : Protocol
   pub plan : List PlanLine
@@ -62,7 +61,7 @@ net_for g = net_of (body_of g.protocol.body)
 abbrev pub roles_of : GuideView → ℕ
 roles_of g = length g.protocol.roles
 
--- What a guide's session is told by.
+-- The terms by which a guide's session is told.
 abbrev pub terms_of : GuideView → Terms
 terms_of g = record { net = net_for g; roles = roles_of g; host = host_in g.plan }
 
@@ -94,8 +93,8 @@ pub record HasMemory (g : GuideView) : Type 0 where
   pub memory : Remembered
   pub is : IsMemory g memory
 
--- The new session is the old one after one thing more: whatever the old one's memory is, that may be told, and the new one's
--- memory is what is remembered after it.
+-- The new session is the old one after one thing more. That may be told, whatever memory the old one has, and what is
+-- remembered after it is the new one's memory.
 pub record IsAfter (old new : GuideView) (e : Entry) : Type 0 where
   pub may : (m : Remembered) → IsMemory old m → MayBeTold (terms_of old) m e
   pub memory : (m : Remembered) → IsMemory old m → IsMemory new (told_after (terms_of old) m e)
@@ -113,7 +112,7 @@ with_event g e =
 abbrev pub with_numbers : GuideView → List Numbers → GuideView
 with_numbers g numbers = record g { numbers = numbers; told = g.told + 1 }
 
--- A role is down, or it isn't; none where it isn't declared.
+-- Whether a role is down; none if it isn't declared.
 abbrev pub down_at : List Numbers → ℕ → Option Bool
 down_at numbers r = down_of (slice_get numbers r)
 
@@ -202,7 +201,7 @@ received g news stamp =
       sent = stamp;
     }
 
--- How many events each failed role has saved is at least what is forgotten.
+-- Each failed role has saved at least as many of its events as are forgotten.
 abbrev pub HaveSavedEnough : GuideView → ℕ → List ℕ → Type 0
 HaveSavedEnough g p saved =
     (q : ℕ) → q < 8 → is_listed (group_of (terms_of g) p) q ≡ true → (numbers_at g.numbers q).forgotten ≤ slice_index saved q
@@ -219,7 +218,7 @@ pub record TellsLeft (g : GuideView) (m : Remembered) (left : List Event) (back 
   pub counts : (r : ℕ) → r < roles_of g → slice_index back.kept r ≡ made_of m left r
   pub undone : back.undone + length left ≡ length m.held
 
--- The counts as a journal lists them: 0 of a role that isn't concerned.
+-- The counts as a journal lists them: 0 for a role that isn't concerned.
 abbrev pub listed_of : Recovery → List ℕ
 listed_of back = map (λ r. if has_bit back.concerned.0 r then slice_index back.kept r else 0) (range_with_len 0 8)
 
@@ -227,7 +226,7 @@ listed_of back = map (λ r. if has_bit back.concerned.0 r then slice_index back.
 abbrev pub entry_of : ℕ → Recovery → Entry
 entry_of p back = Recover p back.concerned (listed_of back) back.undone
 
--- The events of a memory that are left where p's group fails with these saved counts.
+-- The events of a memory that are left if p's group fails with these saved counts.
 abbrev pub left_in : GuideView → Remembered → ℕ → List ℕ → List Event
 left_in g m p saved = left_at (net_for g) m (group_of (terms_of g) p) (slice_index saved)
 
@@ -237,7 +236,7 @@ pub record IsFailureOf (g : GuideView) (p : ℕ) (saved : List ℕ) (back : Reco
   pub failed : (m : Remembered) → IsMemory g m
       → HasFailed (terms_of g) m p (slice_index saved) back.concerned (listed_of back) back.undone
 
--- Of each role's remembered events so many are left, whatever the session's memory is.
+-- So many of each role's remembered events are left, whatever the session's memory is.
 abbrev pub AreLeft : GuideView → ℕ → List ℕ → List ℕ → Type 0
 AreLeft g p saved left =
     (m : Remembered) → IsMemory g m → (r : ℕ) → slice_index left r ≡ length (acts r (left_in g m p saved))
@@ -250,14 +249,14 @@ pub record HasGoneBack (old new : GuideView) (p : ℕ) (left : List ℕ) (back :
   pub numbers : AreBack old.numbers new.numbers group.0 back.concerned.0 old.logs left
   pub rest : new ≡ record old { logs = new.logs; numbers = new.numbers; told = old.told + 1 }
 
--- The session recovered: it went back to what is left where each failed role has saved so many of its events.
+-- The session recovered: it went back to what is left if each failed role has saved so many of its events.
 pub record HasRecovered (old new : GuideView) (p : ℕ) (saved : List ℕ) (back : Recovery) : Type 0 where
   pub left : List ℕ
   pub left_is : AreLeft old p saved left
   pub gone : HasGoneBack old new p left back
 
--- These counts can be forgotten: of each role at most what it did since, and nothing is received within them that is sent
--- outside.
+-- These counts can be forgotten: the log of each role has so many events after its seeds, and nothing is received within the
+-- counts that is sent outside.
 pub record MayForget (g : GuideView) (counts : List ℕ) : Type 0 where
   pub eight : length counts ≡ 8
   pub held : (r : ℕ) → r < roles_of g → (numbers_at g.numbers r).seeds + slice_index counts r ≤ length (log_at g.logs r)
@@ -265,8 +264,8 @@ pub record MayForget (g : GuideView) (counts : List ℕ) : Type 0 where
       → length (taken (net_for g) a b (take ((numbers_at g.numbers b).seeds + slice_index counts b) (log_at g.logs b)))
       ≤ length (put (net_for g) a b (take ((numbers_at g.numbers a).seeds + slice_index counts a) (log_at g.logs a)))
 
--- A shorter memory took the place of the old one: it lacks just so many events more of each role. What is remembered uses the
--- places, and no others are used; it isn't more than before.
+-- A shorter memory replaced the old one: it lacks exactly so many events more of each role. Only what is remembered uses places,
+-- and it isn't more than before.
 pub record HasForgotten (old new : GuideView) (counts : List ℕ) (room : ℕ) : Type 0 where
   pub shorter : (m : Remembered) → IsMemory old m → (short : Remembered) × IsMemory new short × IsShorter (net_for old) m short
   pub gone : (r : ℕ) → r < roles_of old
@@ -279,8 +278,8 @@ pub record HasForgotten (old new : GuideView) (counts : List ℕ) (room : ℕ) :
 abbrev pub no_vars : ℕ → List Event → List ℤ
 no_vars r events = replicate 16 (pos 0)
 
--- The places of a role's events, and that behind the forgotten ones, are its own, and so are the ends of its points; its seeds
--- are Sends.
+-- The places of a role's events, and the place after its forgotten ones, are the role's own, and so are the ends of its points.
+-- Its seeds are Sends.
 pub record IsSoundMemory (g : GuideView) : Type 0 where
   pub points : (r : ℕ) → r < roles_of g → IsPlaceOf (net_for g) r (numbers_at g.numbers r).point
   pub events : (r n : ℕ) (e : Event) → slice_get (log_at g.logs r) n ≡ Some e
@@ -289,8 +288,8 @@ pub record IsSoundMemory (g : GuideView) : Type 0 where
   pub seeds_are : (a b : ℕ) → taken (net_for g) a b (take (numbers_at g.numbers b).seeds (log_at g.logs b)) ≡ []
   pub ends : (r n : ℕ) (e : Event) → slice_get (log_at g.logs r) n ≡ Some e → IsByEnd (net_for g) e
 
--- Stamps grow along each role's events, up to its clock, a message's stamp is below that of its Recv, and a Send's own is its
--- message's.
+-- Stamps grow along each role's events, up to its clock. A message's stamp is below that of its Recv, and a Send has its
+-- message's stamp.
 pub record AreStamped (g : GuideView) : Type 0 where
   pub grow : (r i j : ℕ) (e f : Event) → i < j → slice_get (log_at g.logs r) i ≡ Some e → slice_get (log_at g.logs r) j ≡ Some f
       → e.stamp < f.stamp

@@ -7,7 +7,7 @@ use Rattle.rcv_told.specs.Told.{Remembered, told, IsTold}
 use Rattle.rcv_told.specs.Forgetting.{IsShorter}
 use Rattle.rcv_guide.specs.Guide.{GuideView, net_for, terms_of, opened, IsMemory, IsAfter, HasForgotten}
 
--- These entries may be told one after another from the start on, and what is remembered is a shorter memory of them, or all of
+-- These entries may be told one after another from the start on. What is remembered is a shorter memory of them, or all of
 -- them.
 pub record HasHistory (g : GuideView) (entries : List Entry) : Type 0 where
   pub may : IsTold (terms_of g) entries
@@ -15,7 +15,7 @@ pub record HasHistory (g : GuideView) (entries : List Entry) : Type 0 where
   pub is : IsMemory g memory
   pub shorter : IsShorter (net_for g) (told (terms_of g) entries) memory
 
--- A session begins with no history; it goes on by what is told; and forgetting changes none.
+-- A session begins with no history, and it goes on by what is told. Forgetting changes no history.
 abbrev pub HistoriesBegin : Type 0
 HistoriesBegin = (protocol : Protocol) (plan : List PlanLine) (room : ℕ) → HasHistory (opened protocol plan room) []
 

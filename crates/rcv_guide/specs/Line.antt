@@ -10,20 +10,20 @@ use Rattle.rcv_guide.specs.declared.numbers.Numbers.{Numbers}
 use Rattle.rcv_guide.specs.Numbers.{numbers_at}
 use Rattle.rcv_guide.specs.Guide.{GuideView, roles_of, HasMemory, MayForget, HasForgotten}
 
--- The role has saved its state behind what is forgotten of it and so many events more.
+-- The role has saved its state after what is forgotten of it and so many events more.
 abbrev pub IsSavedBehind : List Numbers → SavesView → ℕ → ℕ → Type 0
 IsSavedBehind numbers saves r count = IsSaved saves r (numbers_at numbers r).forgotten ((numbers_at numbers r).forgotten + count)
 
--- Each role has saved its state behind its count.
+-- Each role has saved its state after its count of events.
 abbrev pub AreSaved : GuideView → SavesView → List ℕ → Type 0
 AreSaved g saves counts = (r : ℕ) → r < roles_of g → IsSavedBehind g.numbers saves r (slice_index counts r)
 
--- The counts can be forgotten, and each role has saved its state behind its count: no failure takes back what is within.
+-- The counts can be forgotten, and each role has saved its state after its count: no failure takes back what is within.
 pub record AreStable (g : GuideView) (saves : SavesView) (counts : List ℕ) : Type 0 where
   pub forget : MayForget g counts
   pub saved : AreSaved g saves counts
 
--- The greatest such counts, and 0 of a role that isn't declared.
+-- The greatest such counts; 0 for a role that isn't declared.
 pub record IsLine (g : GuideView) (saves : SavesView) (counts : List ℕ) : Type 0 where
   pub stable : AreStable g saves counts
   pub greatest : (other : List ℕ) → AreStable g saves other → (r : ℕ) → r < roles_of g → slice_index other r ≤ slice_index counts r
@@ -34,8 +34,8 @@ pub record HaveForgotten (g : GuideView) (old new : SavesView) : Type 0 where
   pub steps : new.steps ≡ old.steps
   pub told : (r : ℕ) → r < roles_of g → told_of new r ≡ above (numbers_at g.numbers r).forgotten (told_of old r)
 
--- Forgetting moves no line: where a session forgets what is stable, each role's line among all its events is where it was. So
--- what a failure may not take back doesn't depend on when was forgotten.
+-- Forgetting moves no line: if a session forgets what is stable, each role's line among all its events is where it was. So what
+-- a failure may not take back doesn't depend on when something was forgotten.
 abbrev pub ForgettingMovesNoLine : Type 0
 ForgettingMovesNoLine =
     (old new : GuideView) (saves left : SavesView) (counts line later : List ℕ) (room : ℕ)
@@ -43,7 +43,7 @@ ForgettingMovesNoLine =
     → IsLine old saves line → IsLine new left later
     → (r : ℕ) → (numbers_at new.numbers r).forgotten + slice_index later r ≡ (numbers_at old.numbers r).forgotten + slice_index line r
 
--- The same of what a guide holds: logs, which begin with the seeds, and numbers.
+-- The same for what a guide holds: logs, which begin with the seeds, and numbers.
 abbrev pub reach : List Numbers → List ℕ → ℕ → ℕ
 reach numbers counts r = (numbers_at numbers r).seeds + slice_index counts r
 
@@ -79,7 +79,7 @@ abbrev pub AreAboveLines : Net → List (List Event) → List Numbers → SavesV
 AreAboveLines net logs numbers saves counts =
     (other : List ℕ) → AreStableIn net logs numbers saves other → (r : ℕ) → r < length logs → reach numbers other r ≤ slice_index counts r
 
--- A role with these numbers has saved its state behind so many of its logged events, the greatest such count up to this one.
+-- A role with these numbers has saved its state after so many of its logged events: the greatest such count up to this one.
 pub record IsLastCount (x : Numbers) (saves : SavesView) (r count last : ℕ) : Type 0 where
   pub seeds : x.seeds ≤ last
   pub within : last ≤ count
@@ -91,13 +91,13 @@ abbrev pub AreSavedCounts : List Numbers → SavesView → List ℕ → Type 0
 AreSavedCounts numbers saves counts =
     (r : ℕ) → r < length numbers → IsSavedBehind numbers saves r (slice_index counts r - (numbers_at numbers r).seeds)
 
--- This role hasn't, and goes back to this count.
+-- This role hasn't. It goes back to this count.
 pub record GoesBackTo (numbers : List Numbers) (saves : SavesView) (counts : List ℕ) (r count : ℕ) : Type 0 where
   pub role : r < length numbers
   pub less : count < slice_index counts r
   pub last : IsLastCount (numbers_at numbers r) saves r (slice_index counts r) count
 
--- The counts without the seeds, and 0 of a role without numbers.
+-- The counts without the seeds; 0 for a role without numbers.
 pub record AreBehindSeeds (numbers : List Numbers) (counts behind : List ℕ) : Type 0 where
   pub eight : length behind ≡ 8
   pub each : (r : ℕ) → r < length numbers → slice_index behind r ≡ slice_index counts r - (numbers_at numbers r).seeds

@@ -14,7 +14,7 @@ at_start = record { seeds = 0; forgotten = 0; point = 0; raw = 0; attempt = 0; c
 abbrev pub numbers_at : List Numbers → ℕ → Numbers
 numbers_at numbers r = slice_index_or numbers r at_start
 
--- Whether a role with these numbers is down; none where there are none.
+-- Whether a role with these numbers is down; none if there are no numbers.
 abbrev pub down_of : Option Numbers → Option Bool
 down_of None = None
 down_of (Some x) = Some x.down
@@ -29,7 +29,7 @@ pub record AreNumbersOf (m : Remembered) (r : ℕ) (x : Numbers) : Type 0 where
   pub clock : slice_get m.clocks r ≡ Some x.clock
   pub down : slice_get m.down r ≡ Some x.down
 
--- Each list of a memory has a number for each of so many roles.
+-- Each list of a memory has an entry for each of so many roles.
 pub record HaveAll (roles : ℕ) (m : Remembered) : Type 0 where
   pub seeds : length m.seeds ≡ roles
   pub forgotten : length m.forgotten ≡ roles
@@ -45,7 +45,7 @@ pub record AreNumbers (roles : ℕ) (m : Remembered) (numbers : List Numbers) : 
   pub all : length numbers ≡ roles
   pub each : (r : ℕ) → r < roles → AreNumbersOf m r (numbers_at numbers r)
 
--- The numbers with one event more; with a role that is down; and with one of whose events so many are its seeds.
+-- The numbers with one event more; with a role that is down; and with a role that has so many seeds.
 abbrev pub with_advanced : List Numbers → Event → List Numbers
 with_advanced numbers e =
     let x = numbers_at numbers e.role in
@@ -57,12 +57,12 @@ with_crash numbers p = slice_set numbers p (record (numbers_at numbers p) { down
 abbrev pub with_seeds : List Numbers → ℕ → ℕ → List Numbers
 with_seeds numbers r seeds = slice_set numbers r (record (numbers_at numbers r) { seeds = seeds })
 
--- From role r on: the greatest clock of the roles of a set.
+-- The greatest clock of the roles of a set, from role r on.
 abbrev pub latest_from : ℕ → ℕ → List Numbers → ℕ
 latest_from set r [] = 0
 latest_from set r (x ∷ rest) = max (if has_bit set r then x.clock else 0) (latest_from set (r + 1) rest)
 
--- The numbers of role r behind a recovery of this group, which leaves so many of its logged events.
+-- The numbers of role r after a recovery of this group, which leaves so many of its logged events.
 abbrev pub back_from : List Numbers → ℕ → ℕ → ℕ → ℕ → ℕ → Numbers → Numbers
 back_from numbers group concerned made left r x =
     record x {

@@ -1,4 +1,4 @@
--- What of the logs stays where the first events of each role are forgotten, and the ledger that holds it.
+-- What stays of the logs if the first events of each role are forgotten, and the ledger that holds it.
 use Rattle.std.specs.Prelude.{◌≡◌, ℕ, ℤ, ◌+◌, ◌-◌, ◌<◌, ◌≤◌, ◌^◌, zero, suc, Bool, ◌==◌, if◌then◌else◌, nat_le, Option, Some, None, List, [], ◌∷◌, ◌++◌, length, take, slice_get, slice_index}
 use Rattle.std.specs.List.{sum_by, range_with_len}
 use Rattle.rcv_tree.specs.declared.event.Event.{Event}
@@ -27,12 +27,12 @@ pub record AreOrdered (net : Net) (logs : List (List Event)) : Type 0 where
       → e.stamp < f.stamp
   pub after : (r i : ℕ) (e : Event) → slice_get (log_at logs r) i ≡ Some e → e.dir ≡ Got → e.sent < e.stamp
 
--- Of each role's logged events so many, its first, are forgotten afterwards: those of before, and so many more.
+-- So many of each role's logged events, its first, are forgotten afterwards: those of before, and so many more.
 pub record AreEnds (numbers : List Numbers) (counts ends : List ℕ) : Type 0 where
   pub eight : length ends ≡ 8
   pub each : (r : ℕ) → r < length numbers → slice_index ends r ≡ (numbers_at numbers r).seeds + slice_index counts r
 
--- They may be: there are so many, and nothing is received among them that isn't sent among them.
+-- They may be forgotten: there are so many, and nothing is received among them that isn't sent among them.
 pub record MayEnd (net : Net) (logs : List (List Event)) (ends : List ℕ) : Type 0 where
   pub eight : length ends ≡ 8
   pub made : (r : ℕ) → r < length logs → slice_index ends r ≤ length (log_at logs r)
@@ -43,8 +43,8 @@ pub record AreReceived (net : Net) (logs : List (List Event)) (ends received : L
   pub all : length received ≡ 64
   pub each : (a b : ℕ) → a < 8 → b < 8 → slice_index received (between a b) ≡ taken_within net logs ends a b
 
--- A Send stays where its message isn't received among the receiver's forgotten events, and a Recv where it isn't forgotten.
--- Of its role's channels so many messages are received so, and so many were put on them before it; it has this place.
+-- A Send stays if its message isn't received among the receiver's forgotten events. A Recv stays if it isn't forgotten.
+-- So many messages on each of the role's channels are received so, and so many were put there before the event; it has this place.
 abbrev pub stays : Net → (ℕ → ℕ) → (ℕ → ℕ) → ℕ → ℕ → Event → Bool
 stays net received sent end place e =
     if is_sent e.dir then nat_le (received (net.receiver e.point)) (sent (net.receiver e.point)) else nat_le end place
@@ -58,13 +58,13 @@ abbrev pub one_staying : Net → List (List Event) → List ℕ → ℕ → ℕ 
 one_staying net logs ends r place None = []
 one_staying net logs ends r place (Some e) = if stays_at net logs ends r place e then e ∷ [] else []
 
--- Of the first so many events of role r those that stay.
+-- Those of the first so many events of role r that stay.
 abbrev pub staying : Net → List (List Event) → List ℕ → ℕ → ℕ → List Event
 staying net logs ends r zero = []
 staying net logs ends r (suc n) =
     staying net logs ends r n ++ one_staying net logs ends r n (slice_get (log_at logs r) n)
 
--- So many of the first events of each role are gone over, which put so many messages on each channel, and took no more.
+-- So many of the first events of each role are gone over. They put so many messages on each channel, and took no more.
 pub record ArePassed (net : Net) (logs : List (List Event)) (counts sent : List ℕ) : Type 0 where
   pub eight : length counts ≡ 8
   pub all : length sent ≡ 64
@@ -81,7 +81,7 @@ left_in logs counts = sum_by (λ r. length (log_at logs r) - slice_index counts 
 abbrev pub AreAllPassed : List (List Event) → List ℕ → ℕ → Type 0
 AreAllPassed logs counts n = (r : ℕ) → r < n → length (log_at logs r) ≤ slice_index counts r
 
--- Of the next events of the first n roles this role's has the least stamp.
+-- Among the next events of the first n roles, this role's has the least stamp.
 pub record IsLeast (logs : List (List Event)) (counts : List ℕ) (n : ℕ) (front : Front) : Type 0 where
   pub role : front.role < n
   pub event : Event
@@ -89,7 +89,7 @@ pub record IsLeast (logs : List (List Event)) (counts : List ℕ) (n : ℕ) (fro
   pub stamp : event.stamp ≡ front.stamp
   pub least : (q : ℕ) (f : Event) → q < n → slice_get (log_at logs q) (slice_index counts q) ≡ Some f → front.stamp ≤ f.stamp
 
--- Role r's next event may be gone over: a Recv's message was put on its channel by those that are.
+-- Role r's next event may be gone over: if it is a Recv, those that are gone over put its message on its channel.
 pub record IsNextEvent (net : Net) (logs : List (List Event)) (counts : List ℕ) (r : ℕ) : Type 0 where
   pub role : r < length logs
   pub event : Event
@@ -97,7 +97,7 @@ pub record IsNextEvent (net : Net) (logs : List (List Event)) (counts : List ℕ
   pub waits : event.dir ≡ Got → length (taken net (net.sender event.point) r (take (slice_index counts r) (log_at logs r)))
       < put_within net logs counts (net.sender event.point) r
 
--- The ledger with one event more, behind which its role has these variables.
+-- The ledger with one event more, after which its role has these variables.
 abbrev pub with_one : Net → LedgerView → Event → List ℤ → LedgerView
 with_one net ledger e vars =
     if is_sent e.dir then with_send ledger e (net.receiver e.point) (behind_event e vars)
@@ -124,7 +124,7 @@ pub record IsRenewing (net : Net) (logs : List (List Event)) (ends : List ℕ) (
   pub few : length fresh.entries + left_in logs counts ≤ all_events logs
   pub rooms : HasRoomFor room fresh
 
--- The ledger holds what stays of all events.
+-- All events are gone over: the ledger holds those that stay.
 pub record IsRenewed (net : Net) (logs : List (List Event)) (ends : List ℕ) (room : ℕ) (fresh : LedgerView) : Type 0 where
   pub held : List Event
   pub stay : (r : ℕ) → events_of r held ≡ staying net logs ends r (length (log_at logs r))
@@ -134,7 +134,7 @@ pub record IsRenewed (net : Net) (logs : List (List Event)) (ends : List ℕ) (r
   pub few : length fresh.entries ≤ all_events logs
   pub rooms : HasRoomFor room fresh
 
--- The numbers of role r after forgetting so many more of its events, up to this place of its log; the new one is so long.
+-- The numbers of role r after forgetting so many more of its events, up to this place of its log; the new log is so long.
 abbrev pub forgotten_from : List Event → ℕ → ℕ → ℕ → Numbers → Numbers
 forgotten_from log end count size x =
     record x {

@@ -1,4 +1,4 @@
--- Restoring: a guide takes over where another one ended, by what that one remembered.
+-- Restoring: a guide takes over where another one ended, from what that one remembered.
 use Rattle.std.specs.Prelude.{◌≡◌, ℕ, ◌+◌, ◌-◌, ◌<◌, ◌≤◌, List, [], ◌∷◌, ◌++◌, length, take, slice_get, slice_set, Some}
 use Rattle.rcv_tree.specs.declared.event.Event.{Event}
 use Rattle.rcv_tree.specs.declared.event.Dir.{Dir}
@@ -16,11 +16,11 @@ use Rattle.rcv_guide.specs.declared.standing.Standing.{Standing}
 use Rattle.rcv_guide.specs.Numbers.{numbers_at, with_seeds}
 use Rattle.rcv_guide.specs.Guide.{GuideView, net_for, roles_of, opened, stand, IsNextOf, IsOfText}
 
--- A session of which nothing is restored yet but how much was told of it.
+-- A session that has restored nothing yet except how much was told.
 abbrev pub begun_again : Protocol → List PlanLine → ℕ → ℕ → GuideView
 begun_again protocol plan room told = record (opened protocol plan room) { told = told }
 
--- The numbers of a role that stands so, and of which nothing is remembered; and where a role stands.
+-- The numbers of a role that stands so, if nothing is remembered of it; and where a role stands.
 abbrev pub numbers_of : Standing → Numbers
 numbers_of s =
     record { seeds = 0; forgotten = s.forgotten; point = s.place; raw = s.raw; attempt = s.attempt; clock = s.clock; down = s.down }
@@ -50,8 +50,8 @@ pub record MayStand (g : GuideView) (r : ℕ) (s : Standing) : Type 0 where
 abbrev pub with_standing : GuideView → ℕ → Standing → GuideView
 with_standing g r s = record g { numbers = slice_set g.numbers r (numbers_of s) }
 
--- There is room for one event more of a declared role, and its stamp is above those that are remembered of the role, and at most
--- the role's clock.
+-- There is room for one event more of a declared role. Its stamp is above those of the role's remembered events, and at most the
+-- role's clock.
 pub record FitsLog (g : GuideView) (r stamp : ℕ) : Type 0 where
   pub declared : r < roles_of g
   pub room : g.used < g.room
@@ -62,7 +62,7 @@ pub record FitsLog (g : GuideView) (r stamp : ℕ) : Type 0 where
 abbrev pub sent_by : ℕ → Message → Event
 sent_by r m = record { role = r; dir = Sent; point = m.point; value = m.value; stamp = m.stamp; sent = m.stamp }
 
--- A role sent the message, and that is forgotten; it lay in its channel then. No event of the role is restored yet.
+-- A role sent the message in an event that is forgotten, and it lay in its channel then. No event of the role is restored yet.
 pub record MayLie (g : GuideView) (r : ℕ) (m : Message) : Type 0 where
   pub log : FitsLog g r m.stamp
   pub only : length (log_at g.logs r) ≡ (numbers_at g.numbers r).seeds
@@ -82,7 +82,7 @@ with_seed g r m =
 abbrev pub message_in : Event → Message
 message_in e = record { point = e.point; value = e.value; stamp = e.sent }
 
--- It is the role's turn to make the event; a Send's message has its stamp, and that of a Recv is in front, and has one below.
+-- It is the role's turn to make the event. A Send's message has its stamp. A Recv's message is in front, and has a lower stamp.
 pub record ComesAgain (g : GuideView) (e : Event) (end : ℕ) : Type 0 where
   pub next : IsNextOf g e.role e.point
   pub end_is : end ≡ e.role
@@ -92,7 +92,7 @@ IsTurn g e Sent = ComesAgain g e ((net_for g).sender e.point) × (e.sent ≡ e.s
 IsTurn g e Got =
     ComesAgain g e ((net_for g).receiver e.point) × IsInFront (net_for g) (stand g e.role) (message_in e) × (e.sent < e.stamp)
 
--- An event that is remembered may be restored behind those that are. The role made more events than there are.
+-- A remembered event may be restored after those that are. The role made more events than are there now.
 pub record MayBeAgain (g : GuideView) (e : Event) : Type 0 where
   pub log : FitsLog g e.role e.stamp
   pub made : (numbers_at g.numbers e.role).forgotten + (length (log_at g.logs e.role) - (numbers_at g.numbers e.role).seeds)
@@ -103,7 +103,7 @@ pub record MayBeAgain (g : GuideView) (e : Event) : Type 0 where
 abbrev pub with_again : GuideView → Event → GuideView
 with_again g e = record g { logs = with_event_of g.logs e.role e; used = g.used + 1 }
 
--- An event of a role fits behind those that are restored, and then the role has so many seeds, whose messages none of them takes.
+-- An event of a role fits after those that are restored. The role has so many seeds then, and none of them takes a message.
 pub record FitsEvent (g : GuideView) (e : Event) (count : ℕ) : Type 0 where
   pub log : FitsLog g e.role e.stamp
   pub text : (1 ≤ e.point) × (e.point ≤ (net_for g).count)

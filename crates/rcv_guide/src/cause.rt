@@ -5,20 +5,20 @@
 pub enum Cause {
     /// The role isn't declared.
     Undeclared,
-    /// The role is down: it crashed, and nobody has told that it recovers.
+    /// The role is down: it crashed, and nobody has told yet that it recovers.
     Down,
     /// The role isn't down, so it can't recover.
     Up,
-    /// The event is of another attempt of its role than the one that it is in.
+    /// The event is of another attempt than the one that its role is in.
     Stale,
-    /// No room is left: what is stable is to be forgotten first (`Guide::forget`); or 2^62 things were told.
+    /// No room is left until what is stable is forgotten (`Guide::forget`); or 2^62 things were told.
     Full,
     /// It isn't the role's turn there: the point isn't one of its next points, or it is one and the role doesn't send
     /// there, or doesn't receive there.
     NotNext,
-    /// Nothing lies in the channel that the role receives from: its Send has to be told first.
+    /// Nothing lies in the channel that the role receives from: tell its Send first.
     Empty,
-    /// Another message is in front of that channel: of another point, with another number or another stamp.
+    /// Another message is in front of that channel: one of another point, or with another number or another stamp.
     NotFront,
     /// A failed role is said to have saved fewer of its events than are forgotten.
     Forgotten,

@@ -12,7 +12,7 @@ use rcv_depend::keeps::Keeps;
 use rcv_ledger::ledger::Ledger;
 use rcv_tree::role::{RoleId, RoleSet};
 
-/// How many of its logged events each role of a failed group keeps, where it has saved so many of all its events. It
+/// How many of its logged events each role of a failed group keeps, if it has saved so many of all its events. It
 /// takes no memory.
 pub fn keeps(numbers: &[Numbers], ledger: &Ledger, group: RoleSet, saved: &[u64; 8]) -> Keeps
     requires logs { HaveLogs group.0 ledger.now.logs }
@@ -29,7 +29,7 @@ pub fn keeps(numbers: &[Numbers], ledger: &Ledger, group: RoleSet, saved: &[u64;
     }
 }
 
-// How many of its logged events a role of the group keeps. What is said of another role isn't used.
+// How many of its logged events a role of the group keeps. No caller uses the answer for another role.
 fn keep_by(
     numbers: &[Numbers],
     ledger: &Ledger,
@@ -64,8 +64,8 @@ fn logged(numbers: &[Numbers], ledger: &Ledger, saved: &[u64; 8], role: RoleId) 
     (behind + own.seeds as u64).min(made) as u32
 }
 
-/// The starts of the failed roles: the point of the first event that a role hasn't saved, and 0 where it has saved all.
-/// It takes no memory.
+/// The starts of the failed roles: the point of the first event that a role hasn't saved; 0 if it has saved all. It
+/// takes no memory.
 pub fn starts(ledger: &Ledger, keeps: &Keeps) -> [u16; 8]
     requires { HaveLogs keeps.now.failed.0 ledger.now.logs }
     ensures { AreStartsOf ledger.now.logs keeps.now result }
@@ -89,7 +89,7 @@ fn start_by(ledger: &Ledger, keeps: &Keeps, role: RoleId) -> u16
     start(ledger, role, keeps.keep[role.0 as usize])
 }
 
-// The point of a role's first event behind so many, and 0 where there is none.
+// The point of a role's first event after so many; 0 if there is none.
 fn start(ledger: &Ledger, role: RoleId, count: u32) -> u16
     requires { role < length ledger.now.logs }
     ensures { result ≡ point_or_none (slice_get (log_at ledger.now.logs role) count) }
@@ -101,7 +101,7 @@ fn start(ledger: &Ledger, role: RoleId, count: u32) -> u16
     ledger.event(role, number).point.0
 }
 
-/// How many of all its events each role keeps, where so many of the logged ones are left; 0 of a role without a log. It
+/// How many of all its events each role keeps, if so many of the logged ones are left; 0 for a role without a log. It
 /// takes no memory.
 pub fn made(numbers: &[Numbers], counts: &[u32; 8]) -> [u64; 8]
     requires few { length numbers.now ≤ 8 }
@@ -117,7 +117,7 @@ pub fn made(numbers: &[Numbers], counts: &[u32; 8]) -> [u64; 8]
     made
 }
 
-// How many of all its events a role keeps, where so many of the logged ones are left.
+// How many of all its events a role keeps, if so many of the logged ones are left.
 fn made_by(own: Numbers, count: u32) -> u64
     requires seeds { own.seeds ≤ count }
     requires fits { own.forgotten + count < 2 ^ 64 }
@@ -126,7 +126,7 @@ fn made_by(own: Numbers, count: u32) -> u64
     own.forgotten + (count - own.seeds) as u64
 }
 
-/// How many events are undone where so many of each role are kept: all that are logged, less those. It takes no memory.
+/// How many events are undone if so many of each role are kept: all that are logged, less those. It takes no memory.
 pub fn undone(ledger: &Ledger, counts: &[u32; 8]) -> u32
     requires logs { HaveLogs 0 ledger.now.logs }
     requires counts { AreCountsOf ledger.now.logs counts.now }

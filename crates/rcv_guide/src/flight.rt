@@ -1,4 +1,4 @@
-// The messages of a channel, by the log of its sender.
+// The messages of a channel, found in the log of its sender.
 
 ghost use Rattle.std.specs.Prelude.{◌≡◌, ◌<◌, length, drop, IfOk};
 ghost use Rattle.rcv_model.specs.Run.{put, puts_on};
@@ -23,8 +23,8 @@ fn puts(points: &Points, from: RoleId, to: RoleId, event: &Event) -> bool
     }
 }
 
-/// The messages that a role with a log put on its channel to another, in order, but for the first so many. It goes once
-/// over the role's kept events. Fails if memory runs out.
+/// The messages that a role with a log put on its channel to another, in order, except for the first so many. It goes
+/// once over the role's kept events. Fails if memory runs out.
 pub fn flying(
     alloc: Global,
     ledger: &Ledger,

@@ -1,5 +1,5 @@
-// The guide of a session: the judge of what is told of roles that run elsewhere. It judges things in the order in which they
-// are told: a Recv that is told before its Send is illegal, though it happened.
+// The guide of a session: it judges what is told of roles that run elsewhere. It judges things in the order in which
+// they are told: a Recv that is told before its Send is illegal, though it happened.
 
 ghost use Rattle.std.specs.Prelude.{◌≡◌, ℕ, ◌<◌, ◌≤◌, ◌↔◌, ◌^◌, Some, length, slice_get, slice_index};
 ghost use Rattle.std.specs.Prelude.{All, IsTrue, IfOk, IfErr, IfSome, OnOk, OnErr, MatchOption};
@@ -46,8 +46,8 @@ const MOST_TOLD: u64 = 1 << 62;
 
 /// A session of an accepted protocol whose roles run elsewhere: what is remembered of what was told of them.
 ///
-/// A Send is to be told before its Recv: a Recv that is told first is illegal (`Cause::Empty`), though it happened. Each
-/// role's events are to be told in the order in which it did them. Else any order will do.
+/// Tell a Send before its Recv: a Recv that is told first is illegal (`Cause::Empty`), though it happened. Tell each
+/// role's events in the order in which it made them. Otherwise any order will do.
 #[derive(Drop)]
 pub struct Guide {
     pub(crate) accepted: Accepted,
@@ -76,9 +76,9 @@ impl Model for Guide {
 }
 
 impl Guide {
-    /// A session before its first event, with a plan that was read for the protocol's roles: of its lines those on
-    /// hosts count. Reserves room for so many events until what is stable is forgotten; none of it is written before it
-    /// is used. Fails if memory runs out.
+    /// A session before its first event, with a plan that was read for the protocol's roles. Of the plan only the lines
+    /// on hosts count. Reserves room for so many events until what is stable is forgotten, and writes none of it before
+    /// it is used. Fails if memory runs out.
     pub fn new(
         alloc: Global,
         accepted: Accepted,
@@ -131,7 +131,7 @@ impl Guide {
         &self.table
     }
 
-    /// A role, which is below 8, with the other roles of its host: they fail together.
+    /// A role, which is below 8, and the other roles of its host: they fail together.
     pub fn group(&self, role: RoleId) -> RoleSet
         requires { role < 8 }
         ensures { IsGroup self.now.plan role result.0 }
@@ -147,7 +147,7 @@ impl Guide {
         self.room
     }
 
-    /// How many places of that room are used: at least as many as events are remembered. (A failure frees none.)
+    /// How many places of that room are used: at least as many as there are remembered events. (A failure frees none.)
     pub fn used(&self) -> u32
         ensures value { result ≡ self.now.used }
         ensures within { result ≤ self.now.room }
@@ -172,7 +172,7 @@ impl Guide {
         self.numbers[role.0 as usize].down
     }
 
-    /// The attempt that a declared role is in: how often events of it were taken back.
+    /// The attempt that a declared role is in: how often some of its events were taken back.
     pub fn attempt(&self, role: RoleId) -> u64
         requires { role < roles_of self.now }
         ensures { result ≡ (numbers_at self.now.numbers role).attempt }
@@ -228,7 +228,7 @@ impl Guide {
         self.ledger.event(role, made - 1).point.0
     }
 
-    /// The points that a declared role can come to next, ascending: none where its part has ended.
+    /// The points that a declared role can come to next, ascending: none if its part has ended.
     pub fn next(&self, role: RoleId) -> &[Point]
         requires { role < roles_of self.now }
         ensures { AreNext (net_for self.now) role (stand self.now role).place result.now }
@@ -254,8 +254,8 @@ impl Guide {
         put - taken
     }
 
-    /// The oldest message in flight from one declared role to another; none where nothing is. It takes the same time
-    /// whatever is remembered.
+    /// The oldest message in flight from one declared role to another; none if nothing is in flight. It takes the same
+    /// time, however much is remembered.
     pub fn front(&self, from: RoleId, to: RoleId) -> Option<Message>
         requires from { from < roles_of self.now }
         requires to { to < roles_of self.now }
@@ -282,8 +282,9 @@ impl Guide {
         flying(alloc, &self.ledger, self.accepted.points(), from, to, taken)
     }
 
-    /// How many of each role's remembered events behind its seeds no failure takes back: the greatest counts behind which
-    /// each role has saved its state, such that nothing is received within them that is sent outside. It takes no memory.
+    /// How many of each role's remembered events after its seeds no failure takes back. These are the greatest counts
+    /// after which each role has saved its state, such that nothing is received within them that is sent outside. It
+    /// takes no memory.
     pub fn line(&self, saves: &Saves) -> [u32; 8]
         requires { roles_of self.now ≤ length saves.now.steps }
         ensures { IsLine self.now saves.now result }
@@ -370,7 +371,7 @@ impl Guide {
         Ok(())
     }
 
-    // Whether a message is in front of the channel that a role is to receive from, and else why not.
+    // Whether a message is in front of the channel that a role receives from, and else why not.
     fn has_in_front(&self, news: &News, stamp: u64) -> Result<(), Cause>
         requires able { IsAble self.now news.now }
         requires turn { IsTurnToReceive self.now news.now }
@@ -441,7 +442,7 @@ impl Guide {
         self.told += 1;
     }
 
-    /// Tells that a role sent a number at a point; answers the stamp of its message, which is to travel with it.
+    /// Tells that a role sent a number at a point. Answers the stamp of its message, which must travel with it.
     pub fn tell_sent(&mut self, news: &News) -> Result<u64, Cause>
         ensures legal { OnOk result (MayBeSent self.old news.now) }
         ensures stamp { IfOk result (λ stamp. stamp ≡ stamp_to_send self.old news.now.role) }
@@ -463,8 +464,8 @@ impl Guide {
         Ok(stamp)
     }
 
-    /// Tells that a role received a number at a point, in the message with this stamp, whose Send was told before;
-    /// answers the stamp of the Recv.
+    /// Tells that a role received a number at a point, in the message with this stamp, whose Send was told before.
+    /// Answers the stamp of the Recv.
     pub fn tell_received(&mut self, news: &News, stamp: u64) -> Result<u64, Cause>
         ensures legal { OnOk result (MayBeReceived self.old news.now stamp) }
         ensures stamp { IfOk result (λ own. own ≡ stamp_to_receive self.old news.now.role stamp) }
@@ -533,8 +534,8 @@ impl Guide {
         self.numbers[role.0 as usize].forgotten <= saved[role.0 as usize]
     }
 
-    /// Whether a role may be told to recover, where each role that fails with it has saved so many of its events; and
-    /// else why not.
+    /// Whether it may be told that a role recovers, if each role that fails with it has saved so many of its events;
+    /// and else why not.
     pub fn may_recover(&self, role: RoleId, saved: &[u64; 8]) -> Result<(), Cause>
         ensures ok { OnOk result (MayRecover self.now role saved.now) }
         ensures cause { IfErr result (IsCauseNotToRecover self.now role saved.now) }
@@ -572,7 +573,8 @@ impl Guide {
         (left, recovery)
     }
 
-    /// What `tell_recovered` would answer now: what the failure takes back, or why it isn't taken. It changes nothing.
+    /// What `tell_recovered` would answer now: what the failure takes back, or why the guide refuses it. It changes
+    /// nothing.
     pub fn would_recover(&self, role: RoleId, saved: &[u64; 8]) -> Result<Recovery, Cause>
         ensures legal { OnOk result (MayRecover self.now role saved.now) }
         ensures back { IfOk result (IsFailureOf self.now role saved.now) }
@@ -597,9 +599,9 @@ impl Guide {
         self.told += 1;
     }
 
-    /// Tells that a role that is down recovers, where it and each role of its host have saved so many of their first
-    /// events; a count above what a role did means all of it. Answers what the failure takes back: exactly the lost
-    /// events and what depends on them. It wants no memory.
+    /// Tells that a role that is down recovers. It and each role of its host have saved so many of their first events;
+    /// a count above what a role did means all of it. Answers what the failure takes back: exactly the lost events and
+    /// what depends on them. It takes no memory.
     pub fn tell_recovered(&mut self, role: RoleId, saved: &[u64; 8]) -> Result<Recovery, Cause>
         ensures legal { OnOk result (MayRecover self.old role saved.now) }
         ensures back { IfOk result (IsFailureOf self.old role saved.now) }
@@ -614,8 +616,8 @@ impl Guide {
         Ok(back)
     }
 
-    /// Forgets so many more of each role's events: they can't be lost any more. Makes room for so many events in all, at
-    /// least those that are remembered. Fails if memory runs out.
+    /// Forgets so many more of each role's events: no failure takes them back any more. Makes room for so many events
+    /// in all, at least for those that are remembered. Fails if memory runs out.
     pub fn forget(&mut self, alloc: Global, counts: &[u32; 8], room: u32) -> Result<(), AllocError>
         requires counts { MayForget self.old counts.now }
         requires room { room < 2 ^ 31 }

@@ -1,4 +1,4 @@
-// What holds of each session, though most of what was told of it may be forgotten.
+// What holds of each session, even if most of what was told of it is forgotten.
 
 ghost use Rattle.rcv_guide.specs.Line.{ForgettingMovesNoLine};
 ghost use Rattle.rcv_guide.specs.History.{HistoriesBegin, HistoriesGoOn, HistoriesOutlastForgetting};

@@ -1,4 +1,5 @@
-// A session whose roles run elsewhere: which of the events that are told of it are legal, and what a failure takes back.
+// A session whose roles run elsewhere: which of the events that are told of it are legal, and what a failure takes
+// back.
 #![tactic(auto)]
 
 pub mod cause;
@@ -15,5 +16,5 @@ mod renewal;
 pub mod restoring;
 pub mod standing;
 
-/// Want of memory.
+/// Memory ran out.
 pub use std::alloc::AllocError as Memory;

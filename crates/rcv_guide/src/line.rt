@@ -13,12 +13,12 @@ use rcv_points::points::Points;
 use rcv_saves::saves::Saves;
 use rcv_tree::role::RoleId;
 
-/// How many of each role's logged events behind its seeds no failure takes back: the greatest counts behind which each
-/// role has saved its state, such that nothing is received within them that is sent outside. 0 of a role without a log.
-/// It takes no memory.
+/// How many of each role's logged events after its seeds no failure takes back. These are the greatest counts after
+/// which each role has saved its state, such that nothing is received within them that is sent outside; 0 for a role
+/// without a log. It takes no memory.
 ///
-/// From all events it takes them off the ends of the logs: a role that hasn't saved its state at its count goes back to
-/// where it has, and where a channel then owes, its receiver goes back.
+/// It begins with all events, and takes some off the ends of the logs: a role that hasn't saved its state at its count
+/// goes back to a count where it has. If a channel then owes a message, its receiver goes back.
 pub fn line(numbers: &[Numbers], ledger: &Ledger, points: &Points, saves: &Saves) -> [u32; 8]
     requires carried { AreCarried (net_in points.now) ledger.now.logs ledger.now.channels }
     requires few { AreFew ledger.now.logs }
@@ -36,14 +36,14 @@ pub fn line(numbers: &[Numbers], ledger: &Ledger, points: &Points, saves: &Saves
     behind_seeds(&counted.counts, numbers)
 }
 
-// A role that goes back, and to which count.
+// A role that goes back, and the count that it goes back to.
 #[derive(Clone, Copy)]
 struct Back {
     role: usize,
     count: u32,
 }
 
-// The first role that hasn't saved its state at its count, and to which count it goes back; none where each has.
+// The first role that hasn't saved its state at its count, and the count that it goes back to; none if each has.
 fn unsaved(counts: &[u32; 8], numbers: &[Numbers], saves: &Saves) -> Option<Back>
     requires eight { length numbers.now ≤ 8 }
     requires steps { length numbers.now ≤ length saves.now.steps }
@@ -60,7 +60,7 @@ fn unsaved(counts: &[u32; 8], numbers: &[Numbers], saves: &Saves) -> Option<Back
     None
 }
 
-// The greatest count of logged events up to this one behind which a role has saved its state.
+// The greatest count of logged events up to this one after which a role has saved its state.
 fn last_saved(own: Numbers, role: RoleId, count: u32, saves: &Saves) -> u32
     requires role { role < length saves.now.steps }
     requires seeds { own.seeds ≤ count }
@@ -87,7 +87,7 @@ fn lower_to(counted: &mut Counted, ledger: &Ledger, points: &Points, role: usize
     }
 }
 
-// The counts without the seeds; 0 of a role without numbers.
+// The counts without the seeds; 0 for a role without numbers.
 fn behind_seeds(counts: &[u32; 8], numbers: &[Numbers]) -> [u32; 8]
     requires eight { length numbers.now ≤ 8 }
     requires seeds { ReachSeeds numbers.now counts.now }

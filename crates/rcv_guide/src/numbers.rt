@@ -15,14 +15,14 @@ pub const ROLES: usize = 8;
 /// The numbers of a role.
 #[derive(Clone, Copy)]
 pub struct Numbers {
-    /// How many of its remembered events, its first, are forgotten but for their messages.
+    /// How many of its remembered events, its first, are forgotten except for their messages.
     pub seeds: u32,
-    /// How many of its events are forgotten, and the point of the last of them; 0 where none is.
+    /// How many of its events are forgotten, and the point of the last of them; 0 if none is.
     pub forgotten: u64,
     pub point: u16,
     /// How many events it ever made.
     pub raw: u64,
-    /// How often events of it were taken back.
+    /// How often some of its events were taken back.
     pub attempt: u64,
     pub clock: u64,
     pub down: bool,
@@ -56,7 +56,7 @@ pub fn fresh(alloc: Global, roles: u8) -> Result<Vec<Numbers>, AllocError>
     Ok(numbers)
 }
 
-/// Records one event more of its role, whose stamp is the role's clock from now on.
+/// Records one event more of its role. The event's stamp is the role's clock from now on.
 pub fn advance(numbers: &mut Vec<Numbers>, event: &Event)
     requires declared { event.now.role < length numbers.old.items }
     requires few { (numbers_at numbers.old.items event.now.role).raw + 1 < 2 ^ 64 }
@@ -83,7 +83,7 @@ pub fn set_seeds(numbers: &mut Vec<Numbers>, role: RoleId, seeds: u32)
     numbers[role.0 as usize].seeds = seeds;
 }
 
-// The greatest clock of the roles of a set; 0 of none.
+// The greatest clock of the roles of a set; 0 if it is empty.
 fn latest(numbers: &[Numbers], roles: RoleSet) -> u64
     requires { length numbers.now ≤ 8 }
     ensures { result ≡ latest_from roles.0 0 numbers.now }
@@ -95,7 +95,7 @@ fn latest(numbers: &[Numbers], roles: RoleSet) -> u64
     latest
 }
 
-// The clock of a role of the set; 0 of another role.
+// The clock of a role, if it is in the set; else 0.
 fn clock_in(numbers: &[Numbers], roles: RoleSet, role: usize) -> u64
     requires eight { role < 8 }
     requires declared { role < length numbers.now }
@@ -107,8 +107,8 @@ fn clock_in(numbers: &[Numbers], roles: RoleSet, role: usize) -> u64
     numbers[role].clock
 }
 
-/// Records a recovery: no role of the failed group is down any more, a role of whose logged events not all are within
-/// these counts has an attempt more, and the clocks of the concerned roles are one more than their greatest.
+/// Records a recovery. No role of the failed group is down any more. A role is in its next attempt if some of its
+/// logged events aren't within these counts. The clocks of the concerned roles are one more than their greatest.
 pub fn go_back(
     numbers: &mut Vec<Numbers>,
     ledger: &Ledger,
@@ -138,7 +138,7 @@ pub fn go_back(
     }
 }
 
-// Whether a role is down behind a recovery, in which it is one of the failed ones or not.
+// Whether a role is down after a recovery, in which it is one of the failed ones or not.
 fn down_behind(own: &Numbers, fails: bool) -> bool
     ensures { result ≡ (if fails then false else own.now.down) }
 {
@@ -148,7 +148,7 @@ fn down_behind(own: &Numbers, fails: bool) -> bool
     own.down
 }
 
-// The number of its attempt behind it, where it keeps so many of the events that it made.
+// The number of its attempt after it, if it keeps so many of the events that it made.
 fn attempt_behind(own: &Numbers, kept: usize, made: usize) -> u64
     requires { own.now.attempt + 1 < 2 ^ 64 }
     ensures { result ≡ (if kept == made then own.now.attempt else own.now.attempt + 1) }
@@ -159,7 +159,7 @@ fn attempt_behind(own: &Numbers, kept: usize, made: usize) -> u64
     own.attempt + 1
 }
 
-// Its clock behind it, where it is concerned or not.
+// Its clock after it, whether it is concerned or not.
 fn clock_behind(own: &Numbers, concerned: bool, clock: u64) -> u64
     ensures { result ≡ (if concerned then clock else own.now.clock) }
 {

@@ -1,4 +1,4 @@
-// What a guide remembers, as it can be restored.
+// What a guide remembers, in a form that can be restored.
 
 ghost use Rattle.std.specs.Prelude.{◌≡◌, ℕ, ◌<◌, ◌≤◌, ◌++◌, length, take, flat_map, All, IfOk, OnOk};
 ghost use Rattle.std.specs.List.{range_with_len};
@@ -18,7 +18,7 @@ use rcv_tree::role::RoleId;
 use std::alloc::{AllocError, Global};
 
 impl Guide {
-    /// Where a declared role stands behind what is forgotten of it.
+    /// Where a declared role stands after what is forgotten of it.
     pub fn standing(&self, role: RoleId) -> Standing
         requires { role < roles_of self.now }
         ensures { result ≡ standing_of self.now role }
@@ -34,8 +34,8 @@ impl Guide {
         }
     }
 
-    /// The Sends that are forgotten, and whose messages weren't received by what is forgotten: role by role, the oldest first.
-    /// Fails if memory runs out.
+    /// The forgotten Sends whose messages weren't received by what is forgotten: role by role, the oldest first. Fails
+    /// if memory runs out.
     pub fn seeds(&self, alloc: Global) -> Result<Vec<Event>, AllocError>
         ensures value { IfOk result (λ seeds. seeds.items ≡ seeds_of self.now) }
         ensures declared { IfOk result (λ seeds. All (IsDeclaredIn self.now) seeds.items) }
@@ -43,7 +43,8 @@ impl Guide {
         seeds_in(alloc, self.numbers.as_slice(), &self.ledger)
     }
 
-    /// All events that are remembered, in the order of their stamps: each Recv behind its Send. Fails if memory runs out.
+    /// All events that are remembered, in the order of their stamps: each Recv after its Send. Fails if memory runs
+    /// out.
     pub fn remembered(&self, alloc: Global) -> Result<Vec<Event>, AllocError>
         ensures { IfOk result (λ events. AreRemembered self.now events.items) }
     {
@@ -89,7 +90,7 @@ fn seeds_in(alloc: Global, numbers: &[Numbers], ledger: &Ledger) -> Result<Vec<E
     Ok(seeds)
 }
 
-// The events of all roles, of each from a place of its log on, in the order of their stamps. Fails if memory runs out.
+// The events of all roles, each log from some place on, in the order of their stamps. Fails if memory runs out.
 fn merged(alloc: Global, ledger: &Ledger, starts: &[usize; ROLES]) -> Result<Vec<Event>, AllocError>
     requires { AreInOrder ledger.now.logs }
     ensures { IfOk result (λ events. IsMerge ledger.now.logs starts.now events.items) }

@@ -1,4 +1,4 @@
-// Forgetting: a ledger in place of the old one, which holds what stays.
+// Forgetting: a new ledger replaces the old one, and holds what stays.
 
 ghost use Rattle.std.specs.Prelude.{◌≡◌, ℕ, ◌+◌, ◌-◌, ◌<◌, ◌≤◌, ◌^◌, ◌==◌, if◌then◌else◌, pos, replicate, length, take};
 ghost use Rattle.std.specs.Prelude.{nat_le, slice_get, slice_index, slice_set, IfOk, IsOk, OnOk, MatchOption, Some};
@@ -31,7 +31,7 @@ const CHANNELS: usize = ROLES * ROLES;
 /// A guide's roles have no variables.
 pub const NO_VARS: Vars = Vars([0; 16]);
 
-// So many of the first events of each role are gone over, and so many messages they put on each channel.
+// So many of the first events of each role are gone over. They put so many messages on each channel.
 #[derive(Drop)]
 pub struct Passed {
     counts: [usize; ROLES],
@@ -45,7 +45,7 @@ pub struct Front {
     stamp: u64,
 }
 
-/// How many logged events of each role, its first, are forgotten where so many more of it are. It takes no memory.
+/// How many logged events of each role, its first, are forgotten if so many more of it are. It takes no memory.
 pub fn ends(numbers: &[Numbers], counts: &[u32; 8]) -> [usize; 8]
     requires { length numbers.now ≤ 8 }
     ensures { AreEnds numbers.now counts.now result }
@@ -68,7 +68,7 @@ fn takes(points: &Points, from: RoleId, to: RoleId, event: &Event) -> bool
     }
 }
 
-// How many messages from another role are among those that a role received by its first so many events.
+// How many messages from another role a role received in its first so many events.
 fn received_from(ledger: &Ledger, points: &Points, from: RoleId, to: RoleId, end: usize) -> usize
     requires role { to < length ledger.now.logs }
     requires sound { AreSound (net_in points.now) ledger.now.logs }
@@ -161,7 +161,7 @@ impl Passed {
     }
 }
 
-/// The role whose next event, behind so many of each role, has the least stamp. None where no role has one.
+/// The role whose next event, after so many of each role, has the least stamp. None if no role has a next event.
 pub fn least_next(ledger: &Ledger, counts: &[usize; ROLES]) -> Option<Front>
     requires { length ledger.now.logs ≤ 8 }
     ensures { MatchOption result (AreAllPassed ledger.now.logs counts.now (length ledger.now.logs))
@@ -178,7 +178,7 @@ pub fn least_next(ledger: &Ledger, counts: &[usize; ROLES]) -> Option<Front>
     best
 }
 
-// The one of two with the lesser stamp: the former, where they have one stamp.
+// The one of two with the lesser stamp: the former, if they have the same stamp.
 fn first_of(former: Option<Front>, latter: Front) -> Front
     ensures former { MatchOption former (result ≡ latter) (λ front. front.stamp ≤ latter.stamp → result ≡ front) }
     ensures latter { MatchOption former (result ≡ latter) (λ front. latter.stamp < front.stamp → result ≡ latter) }
@@ -189,7 +189,7 @@ fn first_of(former: Option<Front>, latter: Front) -> Front
     }
 }
 
-/// Adds an event of a role with a log. Within the ledger's room it succeeds. Else it fails if memory runs out.
+/// Adds an event of a role with a log. Within the ledger's room it always succeeds. Else it fails if memory runs out.
 pub fn add_event(fresh: &mut Ledger, points: &Points, event: &Event) -> Result<(), AllocError>
     requires role { event.now.role < length fresh.old.logs }
     requires sound { IsSound (net_in points.now) event.now.role event.now }
@@ -266,8 +266,8 @@ pub fn empty(alloc: Global, roles: usize, room: u32) -> Result<Ledger, AllocErro
     )
 }
 
-/// A ledger with room for so many events, which holds what stays where so many of each role are forgotten: the events
-/// behind these, and of these the Sends whose messages aren't received among them. They are added in the order of their
+/// A ledger with room for so many events. It holds what stays if so many of each role are forgotten: the events after
+/// these, and those Sends among these whose messages aren't received among them. It adds them in the order of their
 /// stamps. Fails if memory runs out.
 pub fn renewed(
     alloc: Global,
@@ -298,7 +298,7 @@ pub fn renewed(
     Ok(fresh)
 }
 
-// The point of the last of a role's forgotten events, where so many more are forgotten, up to this place of its log.
+// The point of the last of a role's forgotten events, if so many more are forgotten, up to this place of its log.
 fn point_behind(ledger: &Ledger, role: usize, own: &Numbers, count: u32, end: usize) -> u16
     requires role { role < length ledger.now.logs }
     requires few { role < 8 }
@@ -344,8 +344,8 @@ fn numbers_behind(
     }
 }
 
-/// Records that so many more events of each role are forgotten, up to these places of the logs of the old ledger; what
-/// stays of them are the first events in the new one's.
+/// Records that so many more events of each role are forgotten, up to these places of the old ledger's logs. What stays
+/// of them are the first events in the new ledger's logs.
 pub fn forget(
     numbers: &mut Vec<Numbers>,
     ledger: &Ledger,

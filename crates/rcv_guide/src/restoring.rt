@@ -1,5 +1,5 @@
-// Restoring: a guide takes over where another one ended, by what that one remembered. First how much was told, then where each
-// role stands, then the messages of what is forgotten, and then the events, each Recv behind its Send.
+// Restoring: a guide takes over where another one ended, from what that one remembered. First how much was told, then
+// where each role stands, then the messages of what is forgotten, and then the events, each Recv after its Send.
 
 ghost use Rattle.std.specs.Prelude.{◌≡◌, ℕ, ◌<◌, ◌≤◌, ◌^◌, ◌↔◌, Some, slice_get, IsTrue, OnOk, OnErr};
 ghost use Rattle.rcv_tree.specs.declared.event.Event.{Event};
@@ -26,8 +26,8 @@ use std::alloc::{AllocError, Global};
 pub struct Unfit;
 
 impl Guide {
-    /// Begins anew, with room for so many events: so much, at most 2^62, was told of the session that is restored. Fails where
-    /// memory runs out.
+    /// Begins anew, with room for so many events. So much was told of the session that is restored, at most 2^62. Fails
+    /// if memory runs out.
     pub fn begin_again(&mut self, alloc: Global, told: u64, room: u32) -> Result<(), AllocError>
         requires told { told ≤ 2 ^ 62 }
         requires room { room < 2 ^ 31 }
@@ -44,7 +44,7 @@ impl Guide {
         Ok(())
     }
 
-    /// Restores where a role stands. Fails where it may not stand so; then nothing changes.
+    /// Restores where a role stands. Fails if it may not stand so; then nothing changes.
     pub fn stand_again(&mut self, role: RoleId, standing: &Standing) -> Result<(), Unfit>
         ensures may { OnOk result (MayStand self.old role standing.now) }
         ensures ok { OnOk result (self.new ≡ with_standing self.old role standing.now) }
@@ -66,8 +66,8 @@ impl Guide {
         Ok(())
     }
 
-    /// Restores a message that a role sent, which is forgotten, and that lay in its channel then. Fails where it may not lie
-    /// there; then nothing changes.
+    /// Restores a message that a role sent in an event that is forgotten; it lay in its channel then. Fails if it may
+    /// not lie there; then nothing changes.
     pub fn lie_again(&mut self, role: RoleId, message: &Message) -> Result<(), Unfit>
         ensures may { OnOk result (MayLie self.old role message.now) }
         ensures ok { OnOk result (self.new ≡ with_seed self.old role message.now) }
@@ -94,7 +94,7 @@ impl Guide {
         Ok(())
     }
 
-    /// Restores an event. Fails where it may not come; then nothing changes.
+    /// Restores an event. Fails if it may not come; then nothing changes.
     pub fn add_again(&mut self, event: &Event) -> Result<(), Unfit>
         ensures may { OnOk result (MayBeAgain self.old event.now) }
         ensures ok { OnOk result (self.new ≡ with_again self.old event.now) }
@@ -266,7 +266,7 @@ impl Guide {
         is_taken(&front, event)
     }
 
-    // Logs an event that fits; then its role has so many seeds. Its room is reserved.
+    // Logs an event that fits. Its role has so many seeds then. Its room is reserved.
     fn log(&mut self, event: &Event, seeds: u32)
         requires { FitsEvent self.old event.now seeds }
         ensures { self.new ≡ with_logged self.old event.now seeds }

@@ -11,7 +11,7 @@ recv B 1 ping 0
 end
 ";
 
-// A call with PING, of which the source gives 32 bytes at a time: the numbers of the failing read and the failing write,
+// A call with PING, whose bytes the source gives 32 at a time: the numbers of the failing read and the failing write,
 // 0 for none, and the room of the sink.
 struct Call {
     name: &'static str,
@@ -72,7 +72,7 @@ completed
     },
 ];
 
-/// Prints each call that ends otherwise than it has to, or writes other bytes.
+/// Prints each call that doesn't end as it must, or writes other bytes.
 pub fn try_calls<R: AllocGlobal + Print>(rt: &R) -> io::Result<()> {
     for call in CALLS.iter() {
         try_call(rt, call)?;

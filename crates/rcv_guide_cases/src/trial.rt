@@ -19,7 +19,7 @@ struct Answer {
     bytes: Vec<u8>,
 }
 
-/// Prints what differs between the answer to a case and the wanted one, nothing where they are the same, however many
+/// Prints what differs between the answer to a case and the wanted one; nothing if they are the same, however many
 /// bytes the source gives at a time.
 pub fn try_case<R: AllocGlobal + Files + Print>(rt: &R, name: &str) -> io::Result<()> {
     let text = fs::read_to_string(rt, name)?;
@@ -32,7 +32,7 @@ pub fn try_case<R: AllocGlobal + Files + Print>(rt: &R, name: &str) -> io::Resul
     Ok(())
 }
 
-// Prints what differs where the source gives so many bytes at a time.
+// Prints what differs if the source gives so many bytes at a time.
 fn try_pieces<R: AllocGlobal + Print>(
     rt: &R,
     name: &str,

@@ -14,7 +14,7 @@ use Rattle.rcv_guided.specs.Failures.{Fails, Recovers}
 use Rattle.rcv_guided.specs.Questions.{Asks}
 use Rattle.rcv_guided.specs.Restoring.{Restores}
 
--- What comes of a line in a session: its answer, what it adds to the history, and the session behind it.
+-- What comes of a line in a session: its answer, what it adds to the history, and the session after it.
 abbrev pub Comes : SessionView → Line → Answer → List Entry → SessionView → Type 0
 Comes s (line.Send told) said added after = Sends s told said added after
 Comes s (line.Recv told) said added after = Receives s told said added after
@@ -25,7 +25,8 @@ Comes s (line.Recover told) said added after = Recovers s told said added after
 Comes s (line.Ask asked) said added after = Asks s asked said × IsUnchanged s added after
 Comes s (line.Again told) said added after = Restores s told said added after
 
--- A session in which a line is judged that is told to this one: itself, or the same where some of what is stable is forgotten.
+-- A line that is told to the first session is judged in the second: that is the first itself, or the same with some of what is
+-- stable forgotten.
 abbrev pub IsJudging : SessionView → SessionView → Type 0
 IsJudging old s = (s ≡ old) ⊎ IsSameSession old s
 
@@ -46,13 +47,13 @@ GoesOnBehind (line.Crash r) old added new = GoesOnBy old added new
 GoesOnBehind (line.Recover told) old added new = GoesOnBy old added new
 GoesOnBehind (line.Ask asked) old added new = GoesOnBy old added new
 
--- This comes of a line that is judged in a session, whose history goes on by what the line adds.
+-- This comes of a line that is judged in a session, and the session's history goes on by what the line adds.
 pub record ComesBy (s : SessionView) (told : Line) (after : SessionView) (said : Answer) : Type 0 where
   pub added : List Entry
   pub comes : Comes s told said added after
   pub history : GoesOnBy s added after
 
--- This is the answer to the line, behind which the session is the new one, and its history goes on by what the line adds.
+-- This is the answer to the line. After it the session is the new one, and its history goes on by what the line adds.
 pub record IsAnswer (old : SessionView) (told : Line) (after : SessionView) (said : Answer) : Type 0 where
   pub added : List Entry
   pub hears : Hears old told said added after

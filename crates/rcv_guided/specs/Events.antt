@@ -1,4 +1,4 @@
--- What is answered to told events, and what they leave.
+-- What a session answers to told events, and what they leave.
 use Rattle.std.specs.Prelude.{◌≡◌, ℕ, ◌<◌, ◌≤◌, ◌⊎◌, nat_le, if◌then◌else◌, List, [], ◌∷◌, Option, Some, None, slice_get}
 use Rattle.rcv_tree.specs.declared.entry.Entry.{Entry}
 use Rattle.rcv_tree.specs.declared.entry.Entry.TheVariants as entry
@@ -37,7 +37,7 @@ IsToldSave s told = IsLine (accepted_of s) (line.Save told)
 abbrev pub news_of_send : SessionView → ToldSend → News
 news_of_send s told = news_of s told.role told.point told.value
 
--- A send may come: its role is heard, it is its turn, and the stamp is the right one, where one is told.
+-- A send may come: its role is heard, it is the role's turn, and if a stamp is told, it is the right one.
 pub record MaySend (s : SessionView) (told : ToldSend) : Type 0 where
   pub heard : IsHeard s told.role told.incarnation
   pub turn : IsTurnToSend s.guide (news_of_send s told)
@@ -50,7 +50,7 @@ pub record IsSent (s : SessionView) (told : ToldSend) (said : Answer) (added : L
   pub adds : added ≡ entry.Send (sent s.guide (news_of_send s told)) ∷ []
   pub is : after ≡ record s { guide = with_event s.guide (sent s.guide (news_of_send s told)) }
 
--- It isn't the role's turn, and the answer is what is; or it is, and another stamp is told than the right one.
+-- It isn't the role's turn, and the answer says what is next for the role; or it is, but the told stamp isn't the right one.
 pub record IsNoTurnToSend (s : SessionView) (told : ToldSend) : Type 0 where
   pub heard : IsHeard s told.role told.incarnation
   pub none : IsTurnToSend s.guide (news_of_send s told) → ⊥
@@ -75,7 +75,7 @@ abbrev pub Sends : SessionView → ToldSend → Answer → List Entry → Sessio
 Sends s told said added after =
     IsSent s told said added after ⊎ ((IsRefusalOfSend s told said ⊎ (said ≡ answer.Memory)) × IsUnchanged s added after)
 
--- ---- receipts
+-- ---- receives
 
 abbrev pub news_of_recv : SessionView → ToldRecv → News
 news_of_recv s told = news_of s told.role told.point told.value
@@ -84,8 +84,8 @@ news_of_recv s told = news_of s told.role told.point told.value
 abbrev pub channel_of : SessionView → ToldRecv → List Message
 channel_of s told = in_channel s.guide ((net_for s.guide).sender told.point) told.role
 
--- A message with this stamp was received before, or its Send was taken back: it is older than what lies in front; or nothing
--- does, and its sender, whose clock this is, has come to that stamp. (Stamps grow along a channel.)
+-- A message with this stamp was received before, or its Send was taken back. Either the message is older than the one in front;
+-- or none lies in front, and its sender, whose clock this is, has come to that stamp. (Stamps grow along a channel.)
 abbrev pub IsPast : List Message → ℕ → ℕ → Type 0
 IsPast [] clock stamp = stamp ≤ clock
 IsPast (front ∷ rest) clock stamp = stamp < front.stamp
@@ -103,13 +103,13 @@ pub record IsOldMessage (s : SessionView) (told : ToldRecv) : Type 0 where
 abbrev pub IsFront : SessionView → ToldRecv → Message → Type 0
 IsFront s told front = slice_get (channel_of s told) 0 ≡ Some front
 
--- The stamp of the message that is told: where it isn't told, that of the message in front; 0 of none.
+-- The stamp of the told message. If it isn't told, it is that of the message in front, or 0 if there is none.
 abbrev pub stamp_told : Option ℕ → List Message → ℕ
 stamp_told (Some stamp) lies = stamp
 stamp_told None [] = 0
 stamp_told None (front ∷ rest) = front.stamp
 
--- It is the one that is told, whose stamp need not be told.
+-- This is the told message. Its stamp needn't be told.
 pub record IsToldMessage (told : ToldRecv) (front : Message) : Type 0 where
   pub point : front.point ≡ told.point
   pub value : front.value ≡ told.value
@@ -124,8 +124,8 @@ pub record IsTimelyReceipt (s : SessionView) (told : ToldRecv) : Type 0 where
   pub new : IsNewReceipt s told
   pub turn : IsTurnToReceive s.guide (news_of_recv s told)
 
--- A receipt may come: it is the role's turn, a message lies in front, it is the one that is told, and the stamp of the
--- receipt is the right one, where one is told.
+-- A receive may come: it is the role's turn, a message lies in front, it is the told one, and if the receive's stamp is told,
+-- it is the right one.
 pub record MayReceive (s : SessionView) (told : ToldRecv) : Type 0 where
   pub timely : IsTimelyReceipt s told
   pub front : Message
@@ -150,7 +150,7 @@ pub record IsNoTurnToReceive (s : SessionView) (told : ToldRecv) : Type 0 where
   pub new : IsNewReceipt s told
   pub none : IsTurnToReceive s.guide (news_of_recv s told) → ⊥
 
--- Nothing lies in the channel; another message lies in front.
+-- Nothing lies in the channel; or another message than the told one lies in front.
 pub record IsTooEarly (s : SessionView) (told : ToldRecv) : Type 0 where
   pub timely : IsTimelyReceipt s told
   pub empty : channel_of s told ≡ []
@@ -160,7 +160,7 @@ pub record IsOutOfOrder (s : SessionView) (told : ToldRecv) (front : Message) : 
   pub lies : IsFront s told front
   pub other : IsToldMessage told front → ⊥
 
--- It is the right message, and another stamp is told than the right one.
+-- It is the right message, but the told stamp isn't the right one.
 pub record IsWrongStampToReceive (s : SessionView) (told : ToldRecv) (right : ℕ) : Type 0 where
   pub timely : IsTimelyReceipt s told
   pub front : Message
@@ -186,14 +186,14 @@ IsMistakenReceipt s told _ = ⊥
 abbrev pub IsRefusalOfReceipt : SessionView → ToldRecv → Answer → Type 0
 IsRefusalOfReceipt s told said = IsUnheard s told.role told.incarnation said ⊎ IsMistakenReceipt s told said
 
--- What comes of a receipt: it is taken; or it isn't, and this is why; or there was no memory for it.
+-- What comes of a receive: it is taken; or it isn't, and this is why; or there was no memory for it.
 abbrev pub Receives : SessionView → ToldRecv → Answer → List Entry → SessionView → Type 0
 Receives s told said added after =
     IsReceived s told said added after ⊎ ((IsRefusalOfReceipt s told said ⊎ (said ≡ answer.Memory)) × IsUnchanged s added after)
 
 -- ---- saves
 
--- The session where a role has saved its state behind this count. Behind what is forgotten nothing has to be kept of it.
+-- The session once a role has saved its state after so many events. It keeps nothing of a save within what is forgotten.
 abbrev pub with_save : SessionView → ℕ → ℕ → SessionView
 with_save s r count =
     if nat_le count (forgotten_of s r) then s
@@ -244,6 +244,6 @@ IsRefusalOfCrash s r (answer.Illegal cause.Down) = IsDown s r
 IsRefusalOfCrash s r answer.Memory = IsUp s r × (most_told ≤ s.guide.told)
 IsRefusalOfCrash s r _ = ⊥
 
--- What comes of a crash: it is taken; or it isn't, and this is why. It never wants memory.
+-- What comes of a crash: it is taken; or it isn't, and this is why. It never needs memory.
 abbrev pub Crashes : SessionView → ℕ → Answer → List Entry → SessionView → Type 0
 Crashes s r said added after = IsCrashed s r said added after ⊎ (IsRefusalOfCrash s r said × IsUnchanged s added after)

@@ -32,7 +32,7 @@ abbrev pub told_count : List Failed → ℕ → Option ℕ
 told_count [] r = None
 told_count (f ∷ failed) r = if f.role == r then f.count else told_count failed r
 
--- A role has saved its state behind so many of its events: the count that is told, or else the greatest that is known.
+-- A role has saved its state after so many of its events: the told count, or else the greatest known one.
 abbrev pub IsSavedCount : SessionView → ℕ → Option ℕ → ℕ → Type 0
 IsSavedCount s r (Some told) count = count ≡ told
 IsSavedCount s r None count = IsLastSaved s.saves r (forgotten_of s r) (made_of s r) count
@@ -52,7 +52,7 @@ first_below line [] = None
 first_below line (f ∷ failed) =
     if is_told_below (line f.role) f.count then Some (record { role = f.role; count = line f.role }) else first_below line failed
 
--- This is the first role that is said to have saved fewer events than are stable, with these; or there is none.
+-- This is the first role that is said to have saved fewer events than are stable, with how many are stable; or there is none.
 pub record IsFirstBelow (s : SessionView) (failed : List Failed) (first : Option Kept) : Type 0 where
   pub stable : List ℕ
   pub are : AreStableCounts s stable
@@ -63,7 +63,7 @@ pub record IsFirstBelow (s : SessionView) (failed : List Failed) (first : Option
 abbrev pub is_down_in : GuideView → ℕ → Bool
 is_down_in g p = (numbers_at g.numbers p).down
 
--- The session where a role is down: behind its crash, if it was up. And what is told of that.
+-- The session once a role is down: after its crash, if it was up. And what is told of that.
 abbrev pub fallen : SessionView → ℕ → SessionView
 fallen s p = if is_down_in s.guide p then s else record s { guide = with_numbers s.guide (with_crash s.guide.numbers p) }
 
@@ -74,7 +74,7 @@ fall_of g p = if is_down_in g p then [] else Crash p ∷ []
 abbrev pub entries_of : GuideView → ℕ → Recovery → List Entry
 entries_of g p back = fall_of g p ++ entry_of p back ∷ []
 
--- The role goes back where p fails: it is of p's group, or it keeps fewer events than before.
+-- The role goes back if p fails: it is of p's group, or it keeps fewer events than before.
 abbrev pub goes_back : GuideView → GuideView → ℕ → ℕ → Bool
 goes_back old new p r = is_listed (group_of (terms_of old) p) r || nat_lt (made_in new r) (made_in old r)
 
@@ -89,7 +89,7 @@ pub record AreRaised (old new : List ℕ) (back : ℕ → Bool) : Type 0 where
   pub all : length new ≡ length old
   pub each : (r : ℕ) → r < length old → slice_index new r ≡ (if back r then slice_index old r + 1 else slice_index old r)
 
--- A role that is down recovers with its group, where each has saved so many events: all go back to what that leaves.
+-- A role that is down recovers with its group. Each role has saved so many events, and all go back to what that leaves.
 pub record GoesBack (p : ℕ) (saved : List ℕ) (old : SessionView) (back : Recovery) (new : SessionView) : Type 0 where
   pub may : MayRecover old.guide p saved
   pub failure : IsFailureOf old.guide p saved back
@@ -98,21 +98,21 @@ pub record GoesBack (p : ℕ) (saved : List ℕ) (old : SessionView) (back : Rec
   pub incarnations : AreRaised old.incarnations new.incarnations (goes_back old.guide new.guide p)
   pub restored : new.restored ≡ old.restored
 
--- A role fails: it crashes, unless it is down, and recovers, by what is told, or known, of saves.
+-- A role fails: it crashes, unless it is down, and recovers by what is told, or else known, of saves.
 pub record FailsOnce (failed : List Failed) (p : ℕ) (old : SessionView) (back : Recovery) (new : SessionView) : Type 0 where
   pub saved : List ℕ
   pub saved_are : HaveSaved old failed saved
   pub back_is : GoesBack p saved (fallen old p) back new
 
--- ---- one behind the other
+-- ---- one after the other
 
--- Who of the told roles fails: each but for those of the group of one before it, which went back with that.
+-- Which of the told roles fail: each, except for those in the group of an earlier one. They went back with that one.
 abbrev pub in_turn : Terms → List ℕ → List Failed → List ℕ
 in_turn terms gone [] = []
 in_turn terms gone (f ∷ failed) =
     if is_listed gone f.role then in_turn terms gone failed else f.role ∷ in_turn terms (gone ++ group_of terms f.role) failed
 
--- These roles fail in turn, which takes back this, and tells this.
+-- These roles fail in turn. That takes back this, and tells this.
 abbrev pub FailInTurn : List Failed → List ℕ → SessionView → List Recovery → List Entry → SessionView → Type 0
 FailInTurn failed [] s [] entries new = (entries ≡ []) × (new ≡ s)
 FailInTurn failed [] s (back ∷ backs) entries new = ⊥
@@ -121,7 +121,7 @@ FailInTurn failed (p ∷ roles) s (back ∷ backs) entries new =
     (next : SessionView) × (rest : List Entry) × FailsOnce failed p s back next × FailInTurn failed roles next backs rest new
     × (entries ≡ entries_of s.guide p back ++ rest)
 
--- ---- what is answered
+-- ---- the answers
 
 -- One of these concerns the role.
 abbrev pub is_concerned : List Recovery → ℕ → Bool
@@ -132,7 +132,7 @@ pub record IsUndoneBy (s : SessionView) (backs : List Recovery) (kept : ℕ → 
   pub count : undone.undone ≡ sum_by (λ back. back.undone) backs
   pub kept_is : undone.kept.now ≡ with_counts kept (roles_where s (is_concerned backs))
 
--- Who has gone back: whose incarnation is a higher one.
+-- Who has gone back: each role whose incarnation is higher than before.
 abbrev pub gone_back : SessionView → SessionView → List ℕ
 gone_back old new = roles_where new (λ r. nat_lt (incarnation_of old r) (incarnation_of new r))
 
@@ -140,7 +140,7 @@ gone_back old new = roles_where new (λ r. nat_lt (incarnation_of old r) (incarn
 abbrev pub back_of : SessionView → ℕ → Back
 back_of s r = record { role = r; count = made_of s r; incarnation = incarnation_of s r }
 
--- These roles fail in turn; answered are what that takes back, who has gone back, and what is on its way to these.
+-- These roles fail in turn. The answer says what that takes back, who has gone back, and what is in flight to these.
 pub record FailAll (s : SessionView) (failed : List Failed) (roles : List ℕ) (undone : Undone) (back : List Back) (flight : List Flight) (added : List Entry) (after : SessionView) : Type 0 where
   pub backs : List Recovery
   pub fail : FailInTurn failed roles s backs added after
@@ -148,7 +148,7 @@ pub record FailAll (s : SessionView) (failed : List Failed) (roles : List ℕ) (
   pub back_is : back ≡ map (back_of after) (gone_back s after)
   pub flight_is : flight ≡ flights_to_all after.guide (gone_back s after)
 
--- Not so much more can be told.
+-- So much more can't be told.
 abbrev pub IsFullFor : SessionView → ℕ → Type 0
 IsFullFor s count = most_told < s.guide.told + count
 
@@ -187,7 +187,7 @@ pub record MayRestart (s : SessionView) (failed : List Failed) : Type 0 where
   pub group : is_apart s.guide failed ≡ false
   pub above : IsFirstBelow s failed None
 
--- What it is said to take back is this, where that is said.
+-- If the line says what the recovery takes back, that is this.
 abbrev pub IsStatedAs : Option Stated → Undone → Type 0
 IsStatedAs None undone = Unit {0}
 IsStatedAs (Some stated) undone = (stated.undone ≡ undone.undone) × (stated.kept ≡ undone.kept.now)
@@ -198,7 +198,7 @@ pub record HasRestarted (s : SessionView) (told : ToldRecovery) (undone : Undone
   pub stated : IsStatedAs told.stated undone
   pub all : FailAll s told.failed (first_of told.failed ∷ []) undone back flight added after
 
--- It would take back this, and something else is said.
+-- It would take back this, but the line says something else.
 pub record IsMisstated (s : SessionView) (told : ToldRecovery) (undone : Undone) : Type 0 where
   pub may : MayRestart s told.failed
   pub saved : List ℕ
@@ -208,7 +208,7 @@ pub record IsMisstated (s : SessionView) (told : ToldRecovery) (undone : Undone)
   pub undone_is : IsUndoneBy s (back ∷ []) (slice_index back.kept) undone
   pub other : IsStatedAs told.stated undone → ⊥
 
--- Another role isn't of its group; and a count is below its line.
+-- Another role isn't of its group; or a count is below its line.
 pub record IsOfOtherHost (s : SessionView) (failed : List Failed) : Type 0 where
   pub down : IsDown s (first_of failed)
   pub apart : is_apart s.guide failed ≡ true

@@ -1,4 +1,4 @@
--- The messages that are on their way, as answers list them.
+-- The messages in flight, as answers list them.
 use Rattle.std.specs.Prelude.{◌≡◌, ℕ, ◌<◌, List, Option, Some, None, map, flat_map}
 use Rattle.std.specs.List.{range_with_len}
 use Rattle.rcv_dialogue.specs.declared.line.Flight.{Flight}

@@ -25,12 +25,12 @@ pub record IsUnchanged (s : SessionView) (added : List Entry) (after : SessionVi
   pub nothing : added ≡ []
   pub same : after ≡ s
 
--- What is told, if anything is, is this number.
+-- If a number is told, it is this one.
 abbrev pub Agrees : Option ℕ → ℕ → Type 0
 Agrees None right = Unit {0}
 Agrees (Some n) right = n ≡ right
 
--- It is told in an older incarnation of the role than that of now; in a later one; in this one, or in none.
+-- It is told in an older incarnation of the role than the current one; in a later one; in the current one, or in none.
 abbrev pub IsOld : SessionView → ℕ → Option ℕ → Type 0
 IsOld s r None = ⊥
 IsOld s r (Some n) = n < incarnation_of s r
@@ -48,21 +48,21 @@ IsUp s r = (stand s.guide r).down ≡ Some false
 abbrev pub IsDown : SessionView → ℕ → Type 0
 IsDown s r = (stand s.guide r).down ≡ Some true
 
--- What a guide is told of an event: it is of its role's attempt of now.
+-- What a guide is told of an event: it belongs to its role's current attempt.
 abbrev pub news_of : SessionView → ℕ → ℕ → ℤ → News
 news_of s r point value = record { role = r; attempt = (numbers_at s.guide.numbers r).attempt; point = point; value = value }
 
--- Another stamp is told than the right one, and this is answered.
+-- The told stamp isn't the right one, and this is the answer.
 pub record IsRefusalOfStamp (told : Option ℕ) (right : ℕ) (said : Answer) : Type 0 where
   pub other : Agrees told right → ⊥
   pub says : said ≡ answer.Illegal (cause.Stamp right)
 
--- The role is heard: it is told in the incarnation of now, and the role is up.
+-- The role is heard: it isn't told in another incarnation than the current one, and the role is up.
 pub record IsHeard (s : SessionView) (r : ℕ) (told : Option ℕ) : Type 0 where
   pub now : IsOfNow s r told
   pub up : IsUp s r
 
--- It isn't, and this is answered.
+-- It isn't heard, and this is the answer.
 abbrev pub IsUnheard : SessionView → ℕ → Option ℕ → Answer → Type 0
 IsUnheard s r told (answer.Stale (stale.Incarnation n)) = IsOld s r told × (n ≡ incarnation_of s r)
 IsUnheard s r told (answer.Illegal (cause.Incarnation n)) = IsEarly s r told × (n ≡ incarnation_of s r)

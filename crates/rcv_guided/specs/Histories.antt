@@ -4,6 +4,6 @@ use Rattle.rcv_tree.specs.declared.entry.Entry.{Entry}
 use Rattle.rcv_guide.specs.History.{HasHistory}
 use Rattle.rcv_guided.specs.Session.{SessionView}
 
--- Where the old session has some history, the new one has that and these entries behind it.
+-- If the old session has some history, the new one has that history with these entries after it.
 abbrev pub GoesOnBy : SessionView → List Entry → SessionView → Type 0
 GoesOnBy old entries new = (history : List Entry) → HasHistory old.guide history → HasHistory new.guide (history ++ entries)

@@ -26,8 +26,8 @@ pub record IsSentBy (r : ℕ) (e : Event) : Type 0 where
   pub dir : e.dir ≡ Sent
   pub sent : e.sent ≡ e.stamp
 
--- What each session has: numbers, a log, an incarnation and saves of each role, which ascend; and the first events of a log, as
--- many as are its seeds, are Sends of the role.
+-- What each session has: numbers, a log, an incarnation and saves of each role. The saves ascend. The first events of a log, as
+-- many as it has seeds, are Sends of the role.
 pub record HasForm (s : SessionView) : Type 0 where
   pub logs : length s.guide.logs ≡ roles_in s
   pub numbers : length s.guide.numbers ≡ roles_in s
@@ -38,16 +38,16 @@ pub record HasForm (s : SessionView) : Type 0 where
   pub seeds : (r : ℕ) → r < roles_in s → (numbers_at s.guide.numbers r).seeds ≤ length (log_at s.guide.logs r)
   pub seeds_are : (r n : ℕ) (e : Event) → r < roles_in s → slice_get (seeds_at s.guide r) n ≡ Some e → IsSentBy r e
 
--- The place of a role before the event of its log that has this number, which is none of its seeds.
+-- The place of a role before the event that has this number in its log. That event is none of its seeds.
 abbrev pub place_before : SessionView → ℕ → ℕ → ℕ
 place_before s r n =
     let x = numbers_at s.guide.numbers r in
     place_of x.point (drop x.seeds (acts r (take n (log_at s.guide.logs r))))
 
--- What told lines leave of a session. Its numbers are at most what was told, and there is room for what it remembers; places and
--- ends of events are its protocol's; stamps grow, and a Send's message has its stamp; what each channel's receiver took is the
--- beginning of what was put there; behind its seeds each role's event is one of the points that came next; and what a role saved
--- it did.
+-- What told lines leave of a session. Its numbers are at most what was told, and there is room for what it remembers. Places
+-- and ends of events are its protocol's. Stamps grow, and a Send's message has its stamp. What each channel's receiver took is
+-- the beginning of what was put there. After its seeds each event of a role is one of the points that came next. And each role
+-- has made what it saved.
 pub record IsRestorable (s : SessionView) : Type 0 where
   pub told : s.guide.told ≤ most_told
   pub least : 1 ≤ s.guide.room
@@ -67,20 +67,20 @@ abbrev pub restored_whole : SessionView → SessionView
 restored_whole s =
     record s { guide = record s.guide { used = all_events s.guide.logs }; restored = Some s.guide.told }
 
--- A session that begins with the same protocol, plan and steps, with room for however many events, and takes the lines of a
--- snapshot of another one, is that one.
+-- A session begins with the protocol, plan and steps of another one, with room for however many events. If it takes the lines
+-- of a snapshot of that other one, it is that one.
 abbrev pub SnapshotsRestore : Type 0
 SnapshotsRestore =
     (s last : SessionView) (lines : List Again) (room : ℕ) → HasForm s → AreSnapshot s lines
     → AreTaken (begun s.guide.protocol s.guide.plan room s.saves.steps) lines last → last ≡ restored_whole s
 
--- And it takes these lines, where the other one is what told lines leave.
+-- And it takes these lines, if the other one is what told lines leave.
 abbrev pub SnapshotsAreTaken : Type 0
 SnapshotsAreTaken =
     (s : SessionView) (lines : List Again) (room : ℕ) → HasForm s → IsRestorable s → AreSnapshot s lines
     → AreTaken (begun s.guide.protocol s.guide.plan room s.saves.steps) lines (restored_whole s)
 
--- Told lines do leave that: of what a session and its guide keep, and of a history from the start on.
+-- Told lines do leave that: it follows from what a session and its guide keep, and from a history from the start on.
 abbrev pub ToldSessionsAreRestorable : Type 0
 ToldSessionsAreRestorable =
     (s : SessionView) (table : TableView) (ledger : LedgerView) (history : List Entry) → IsGuide s.guide table ledger

@@ -1,4 +1,4 @@
--- What is answered to questions, which change nothing.
+-- The answers to questions, which change nothing.
 use Rattle.std.specs.Prelude.{◌≡◌, ℕ, ◌==◌, List, length, Option, Some, slice_get, slice_index, count_by}
 use Rattle.std.specs.List.{range_with_len}
 use Rattle.rcv_tables.specs.Rows.{TableView, IsTable}
@@ -96,7 +96,7 @@ abbrev pub AnswersEnd : SessionView → Answer → Type 0
 AnswersEnd s (answer.End states) = AreStates s states.now
 AnswersEnd s _ = ⊥
 
--- The answer to a question. Only the messages that are on their way, the table and a snapshot take memory.
+-- The answer to a question. Only the messages in flight, the table and a snapshot take memory.
 abbrev pub Asks : SessionView → Question → Answer → Type 0
 Asks s (question.Next r) said = AnswersNext s r said
 Asks s question.Kept said = AnswersKept s said

@@ -20,7 +20,7 @@ use Rattle.rcv_dialogue.specs.declared.answer.Cause.TheVariants as cause
 use Rattle.rcv_guided.specs.Session.{SessionView, roles_in, incarnation_of}
 use Rattle.rcv_guided.specs.Counts.{made_of}
 
--- Nothing was told but lines of a snapshot, its first one among them.
+-- Only lines of a snapshot were told, its first one among them.
 abbrev pub IsRestoring : SessionView → Type 0
 IsRestoring s = s.restored ≡ Some s.guide.told
 
@@ -35,7 +35,7 @@ IsUnsaved s r = told_of s.saves r ≡ []
 abbrev pub AreUnsaved : SessionView → Type 0
 AreUnsaved s = (r : ℕ) → r < roles_in s → IsUnsaved s r
 
--- A line fits what was restored before it. The first one comes where nothing was told; and saves come behind all else.
+-- A line fits what was restored before it. The first one comes if nothing was told, and saves come after all else.
 pub record MayBegin (s : SessionView) (told : Extent) : Type 0 where
   pub nothing : s.guide.told ≡ 0
   pub unsaved : AreUnsaved s
@@ -146,7 +146,7 @@ pub record AreSnapshot (s : SessionView) (lines : List Again) : Type 0 where
   pub remembered : AreRemembered s.guide events
   pub lines_are : lines ≡ snapshot_of s events
 
--- A session is told these lines, one behind the other, and each is taken.
+-- A session is told these lines, one after the other, and each is taken.
 abbrev pub AreTaken : SessionView → List Again → SessionView → Type 0
 AreTaken s [] last = last ≡ s
 AreTaken s (told ∷ lines) last = MayRestore s told × AreTaken (restored_by s told) lines last

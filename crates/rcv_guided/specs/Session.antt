@@ -15,8 +15,8 @@ use Rattle.rcv_guide.specs.Line.{IsLine}
 use Rattle.rcv_guided.specs.declared.saving.Saving.{Saving}
 use Rattle.rcv_guided.specs.declared.saving.Saving.TheVariants.{ByPlan, Told}
 
--- The guide; behind which counts each role has saved its state; of each role its incarnation: how often it went back, or was
--- started anew; and how much was told of the session whose snapshot was told to this one, if one was.
+-- The guide; the counts of events after which each role has saved its state; each role's incarnation, which is how often it
+-- went back or was started anew; and, if a snapshot was told to this session, how much was told of the session that gave it.
 pub record SessionView : Type 0 where
   pub guide : GuideView
   pub saves : SavesView
@@ -41,7 +41,7 @@ HaveMade g saves = (r : ℕ) → r < roles_of g → All (λ count. count ≤ mad
 abbrev pub incarnation_of : SessionView → ℕ → ℕ
 incarnation_of s r = slice_index s.incarnations r
 
--- Before the first line, where each role saves behind the multiples of its step (0: behind none).
+-- Before the first line. Each role saves after the multiples of its step (0: after none).
 abbrev pub begun : Protocol → List PlanLine → ℕ → List ℕ → SessionView
 begun protocol plan room steps =
     record {
@@ -51,7 +51,7 @@ begun protocol plan room steps =
       restored = None;
     }
 
--- The step of a role: what the plan says, where roles save by it; none, where saves are told.
+-- The step of a role: what the plan says if roles save by it; none if saves are told.
 abbrev pub step_by : Saving → List PlanLine → ℕ → ℕ
 step_by ByPlan plan r = every_in plan r
 step_by Told plan r = 0
@@ -59,8 +59,8 @@ step_by Told plan r = 0
 abbrev pub steps_by : Saving → List PlanLine → ℕ → List ℕ
 steps_by saving plan roles = map (step_by saving plan) (range_with_len 0 roles)
 
--- What a session keeps: each role has a step and an incarnation, which is at most what was told; there is some room; and what
--- a role is told to have saved it did.
+-- What a session keeps: each role has a step, and an incarnation that is at most what was told; there is some room; and each
+-- role has made what it is told to have saved.
 pub record IsSession (s : SessionView) : Type 0 where
   pub steps : length s.saves.steps ≡ roles_in s
   pub incarnations : length s.incarnations ≡ roles_in s
@@ -68,8 +68,8 @@ pub record IsSession (s : SessionView) : Type 0 where
   pub room : 1 ≤ s.guide.room
   pub saved : HaveMade s.guide s.saves
 
--- The same session, of which no more is forgotten than was stable: no line's answer is another one. What was told of saves
--- within that is forgotten with it.
+-- The same session, and no more of it is forgotten than was stable: no line gets another answer. What was told of saves within
+-- that is forgotten with it.
 pub record IsSameSession (old new : SessionView) : Type 0 where
   pub protocol : new.guide.protocol ≡ old.guide.protocol
   pub plan : new.guide.plan ≡ old.guide.plan

@@ -56,7 +56,7 @@ pub record HaveTaken (old : SessionView) (failed : List Failed) (taken : Taken) 
   pub history : GoesOnBy old entries new
   pub protocol : new.guide.protocol ≡ old.guide.protocol
 
--- Answered is what was counted, with who has another incarnation than before, and what is on its way to these.
+-- The answer is what was counted, with who has another incarnation than before, and what is in flight to these.
 abbrev pub raised_in : List ℕ → SessionView → List ℕ
 raised_in before s = roles_where s (λ r. nat_lt (slice_index before r) (incarnation_of s r))
 

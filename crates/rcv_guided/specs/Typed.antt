@@ -1,4 +1,4 @@
--- How events are heard that are told as values.
+-- How a session hears events that are told as values.
 use Rattle.std.specs.Prelude.{◌≡◌}
 use Rattle.rcv_dialogue.specs.declared.line.Line.{Line}
 use Rattle.rcv_dialogue.specs.declared.answer.Answer.{Answer}

@@ -44,7 +44,7 @@ pub fn raise(incarnations: &mut Vec<u64>, back: RoleSet)
     }
 }
 
-/// The incarnations of the declared roles, of which there are at most eight.
+/// The incarnations of the declared roles, at most eight.
 pub fn copied(incarnations: &[u64]) -> [u64; 8]
     requires { length incarnations.now ≤ 8 }
     ensures { (r : ℕ) → r < length incarnations.now → slice_index result r ≡ slice_index incarnations.now r }
@@ -56,7 +56,7 @@ pub fn copied(incarnations: &[u64]) -> [u64; 8]
     copy
 }
 
-/// The roles whose incarnation is a higher one than before.
+/// The roles whose incarnation is higher than before.
 pub fn raised(before: &[u64; 8], incarnations: &[u64]) -> RoleSet
     requires { length incarnations.now ≤ 8 }
     ensures { (r : ℕ) → r < length incarnations.now

@@ -99,7 +99,7 @@ impl GuidedSession {
         stable
     }
 
-    // Behind how many events a declared role has saved its state: the count that is told, or the greatest that is known.
+    // After how many events a declared role has saved its state: the told count, or the greatest known one.
     fn saved_by(&self, failed: &[Failed], role: RoleId) -> u64
         requires { role < roles_in self.now }
         ensures { IsSavedCount self.now role (told_count failed.now role) result }
@@ -112,7 +112,7 @@ impl GuidedSession {
         }
     }
 
-    /// Behind how many events each declared role has saved its state, by what is told of some roles.
+    /// After how many events each declared role has saved its state, by what is told of some roles.
     pub(crate) fn saved(&self, failed: &[Failed]) -> [u64; 8]
         ensures counts { HaveSaved self.now failed.now result }
         ensures enough { AreEnough self.now failed.now → (p : ℕ) → HaveSavedEnough self.now.guide p result }

@@ -31,7 +31,7 @@ impl GuidedSession {
         }
     }
 
-    // A role is down. It takes no memory but for the text.
+    // A role is down. It takes no memory except for the text.
     pub(crate) fn hear_crash(&mut self, role: RoleId, text: &mut Writer) -> Result<(), AllocError>
         requires { role < roles_in self.old }
         ensures says { OnOk result (Says (accepted_of self.old) text.old text.new

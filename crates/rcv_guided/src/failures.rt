@@ -45,7 +45,7 @@ impl GuidedSession {
         }
     }
 
-    // A role that is down recovers with its group, where each role has saved so many of its events.
+    // A role that is down recovers with its group. Each role has saved so many of its events.
     fn go_back(&mut self, role: RoleId, saved: &[u64; 8]) -> Recovery
         requires { MayRecover self.old.guide role saved.now }
         ensures back { GoesBack role saved.now self.old result self.new }
@@ -65,7 +65,7 @@ impl GuidedSession {
         recovery
     }
 
-    // A declared role fails, where each has saved so many of its events.
+    // A declared role fails. Each role has saved so many of its events.
     fn fail(&mut self, role: RoleId, saved: &[u64; 8]) -> Recovery
         requires declared { role < roles_in self.old }
         requires room { HasRoomFor self.old 2 }
@@ -78,7 +78,7 @@ impl GuidedSession {
         self.go_back(role, saved)
     }
 
-    // These roles fail in turn, but for those that went back with one before them.
+    // These roles fail in turn, except for those that went back with one before them.
     fn fail_in_turn(&mut self, failed: &[Failed]) -> Taken
         requires few { length failed.now ≤ 8 }
         requires declared { All (λ f. f.role < roles_in self.old) failed.now }
@@ -102,7 +102,7 @@ impl GuidedSession {
         taken
     }
 
-    // Answers what failures took back, where the incarnations were these before. Fails where there is no memory for it.
+    // Answers what failures took back. Before them the incarnations were these. Fails if there is no memory for it.
     fn say_taken(
         &self,
         alloc: Global,
@@ -152,7 +152,7 @@ impl GuidedSession {
         None
     }
 
-    /// Hears that roles failed, and answers who goes back. Fails where there is no memory for the answer.
+    /// Hears that roles failed, and answers who goes back. Fails if there is no memory for the answer.
     pub fn hear_fail(
         &mut self,
         alloc: Global,
@@ -227,7 +227,7 @@ impl GuidedSession {
         }
     }
 
-    /// Hears that a role which is down is started anew, and answers who goes back. Fails where there is no memory for the
+    /// Hears that a role which is down is started anew, and answers who goes back. Fails if there is no memory for the
     /// answer.
     pub fn hear_recover(
         &mut self,

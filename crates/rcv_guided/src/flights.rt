@@ -1,4 +1,4 @@
-// The messages that are on their way to some roles.
+// The messages in flight to some roles.
 
 ghost use Rattle.std.specs.Prelude.{◌≡◌, ◌<◌, ◌++◌, All, OnOk, IfOk};
 ghost use Rattle.std.specs.List.{filter, range_with_len};

@@ -12,7 +12,7 @@ use rcv_guide::news::News;
 use rcv_tree::point::Point;
 use rcv_tree::role::RoleId;
 
-// Whether a number is the right one, where it is told.
+// Whether a number is the right one, if it is told.
 fn agrees(told: Option<u64>, right: u64) -> bool
     ensures { IsTrue result ↔ Agrees told right }
 {
@@ -22,7 +22,7 @@ fn agrees(told: Option<u64>, right: u64) -> bool
     }
 }
 
-/// What is answered where another stamp is told than the right one.
+/// The answer if the told stamp isn't the right one.
 pub fn refusal_of_stamp(told: Option<u64>, right: u64) -> Option<Answer<'static>>
     ensures why { MatchOption result (Agrees told right) (IsRefusalOfStamp told right) }
     ensures named { (a : AcceptedView) → IfSome result (IsNamed a) }
@@ -34,7 +34,7 @@ pub fn refusal_of_stamp(told: Option<u64>, right: u64) -> Option<Answer<'static>
 }
 
 impl GuidedSession {
-    // What is answered where a declared role isn't heard: it is told in another incarnation, or is down.
+    // The answer if a declared role isn't heard: it is told in another incarnation, or is down.
     pub(crate) fn refusal_to_hear(&self, role: RoleId, told: Option<u64>) -> Option<Answer<'_>>
         requires { role < roles_in self.now }
         ensures why { MatchOption result (IsHeard self.now role told) (IsUnheard self.now role told) }

@@ -1,4 +1,4 @@
-// A guided session without an end: told lines, judged and answered.
+// A guided session without an end: it is told lines, judges them and answers.
 #![tactic(auto)]
 
 mod ahead;
@@ -24,5 +24,5 @@ mod states;
 mod taken;
 pub mod typed;
 
-/// Want of memory.
+/// Memory ran out.
 pub use std::alloc::AllocError as Memory;

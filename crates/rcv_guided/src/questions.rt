@@ -30,7 +30,7 @@ fn lines_in(text: &[u8]) -> u64
     text.iter().filter(|byte| **byte == b'\n').count() as u64
 }
 
-// The messages that are on their way to all roles, by receiver. Fails if memory runs out.
+// The messages in flight to all roles, by receiver. Fails if memory runs out.
 fn all_flights(alloc: Global, guide: &Guide) -> Result<Vec<Flight>, AllocError>
     ensures value { IfOk result (λ found. found.items ≡ flights_to_all guide.now (range_with_len 0 (roles_of guide.now))) }
     ensures declared { IfOk result (λ found. All (IsFlight guide.now) found.items) }
@@ -87,7 +87,7 @@ impl GuidedSession {
         self.say_found(text, &Some(answer))
     }
 
-    // The messages that are on their way to a role, or to all.
+    // The messages in flight to a role, or to all.
     fn flights_to(&self, alloc: Global, to: Option<RoleId>) -> Result<Vec<Flight>, AllocError>
         requires { IfSome to (λ role. role < roles_in self.now) }
         ensures value { IfOk result (λ flights. AreFlightsTo self.now to flights.items) }
@@ -101,7 +101,7 @@ impl GuidedSession {
         Ok(found)
     }
 
-    // The same, answered.
+    // The same, as an answer.
     fn say_flight(
         &self,
         alloc: Global,
@@ -166,7 +166,7 @@ impl GuidedSession {
         }
     }
 
-    // A question. Before a snapshot is given, what is stable is forgotten: so it is short.
+    // A question. Before a snapshot is given, what is stable is forgotten: so the snapshot is short.
     pub(crate) fn hear_asked(
         &mut self,
         alloc: Global,

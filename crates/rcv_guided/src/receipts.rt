@@ -1,4 +1,4 @@
-// Told receipts.
+// Told receives.
 
 ghost use Rattle.std.specs.Prelude.{◌≡◌, ◌⊎◌, ◌↔◌, [], IsTrue, MatchOption, IfSome, OnOk, slice_get};
 ghost use Rattle.rcv_dialogue.specs.declared.line.Line.TheVariants as line;
@@ -44,7 +44,7 @@ impl GuidedSession {
         }
     }
 
-    // The stamp of the message that is told: where it isn't told, that of the message in front.
+    // The stamp of the told message. If it isn't told, it is that of the message in front.
     fn stamp_told(&self, told: &ToldRecv) -> u64
         requires { IsToldRecv self.now told.now }
         ensures { result ≡ stamp_told told.now.sent (channel_of self.now told.now) }
@@ -56,7 +56,7 @@ impl GuidedSession {
         }
     }
 
-    // What is answered where another message is in front.
+    // The answer if another message is in front.
     fn other_in_front(&self, told: &ToldRecv) -> Option<Answer<'_>>
         requires { IsToldRecv self.now told.now }
         ensures why { MatchOption result (channel_of self.now told.now ≡ []) (SaysFront self.now told.now) }
@@ -68,7 +68,7 @@ impl GuidedSession {
         Some(Answer::Illegal(Cause::Front(front)))
     }
 
-    // What is answered where a receipt of a role that is heard isn't timely, or is mistaken.
+    // The answer if a receive of a role that is heard isn't timely, or is mistaken.
     fn mistake_in_receipt(&self, told: &ToldRecv) -> Option<Answer<'_>>
         requires told { IsToldRecv self.now told.now }
         requires new { IsNewReceipt self.now told.now }
@@ -88,7 +88,7 @@ impl GuidedSession {
         }
     }
 
-    // What is answered where a receipt isn't taken.
+    // The answer if a receive isn't taken.
     pub(crate) fn refusal_of_receipt(&self, told: &ToldRecv) -> Option<Answer<'_>>
         requires { IsToldRecv self.now told.now }
         ensures why { MatchOption result (MayReceive self.now told.now)
@@ -104,7 +104,7 @@ impl GuidedSession {
         self.mistake_in_receipt(told)
     }
 
-    // Takes a receipt that may come.
+    // Takes a receive that may come.
     pub(crate) fn take_receipt(&mut self, told: &ToldRecv) -> Answer<'static>
         requires told { IsToldRecv self.old told.now }
         requires may { MayReceive self.old told.now }

@@ -41,7 +41,7 @@ fn standing(told: &ToldStanding) -> Standing
 }
 
 impl GuidedSession {
-    // Whether nothing was told but lines of a snapshot, its first one among them.
+    // Whether only lines of a snapshot were told, its first one among them.
     fn is_restoring(&self) -> bool
         ensures { IsTrue result ↔ IsRestoring self.now }
     {
@@ -173,7 +173,7 @@ impl GuidedSession {
         Answer::Done
     }
 
-    // Restores what the line says, where it fits.
+    // Restores what the line says, if it fits.
     fn restore(&mut self, alloc: Global, told: &Again) -> Answer<'static>
         requires { IsAgain (accepted_of self.old) told.now }
         ensures comes { Restores self.old told.now result [] self.new }

@@ -1,4 +1,4 @@
-// Room for what is told: where none is left, what is stable is forgotten.
+// Room for what is told: if none is left, the session forgets what is stable.
 
 ghost use Rattle.std.specs.Prelude.{◌≡◌, ◌<◌, ◌≤◌, [], length, replicate, OnOk, OnErr};
 ghost use Rattle.rcv_guide.specs.Guide.{roles_of, MayForget};
@@ -72,8 +72,8 @@ impl GuidedSession {
         self.guide.forget(alloc, &[0; 8], 2 * room)
     }
 
-    // Makes room for one event, where none is left: what is stable is forgotten, and the room is doubled where it is
-    // half full still. Fails if memory runs out.
+    // Makes room for one event if none is left: forgets what is stable, and doubles the room if it is still half full.
+    // Fails if memory runs out.
     pub(crate) fn make_room(&mut self, alloc: Global) -> Result<(), AllocError>
         ensures judging { IsJudging self.old self.new }
         ensures history { GoesOnBy self.old [] self.new }

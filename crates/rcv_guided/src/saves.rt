@@ -15,7 +15,7 @@ use rcv_text::writer::Writer;
 use std::alloc::AllocError;
 
 impl GuidedSession {
-    // What is answered where a save isn't taken.
+    // The answer if a save isn't taken.
     pub(crate) fn refusal_of_save(&self, told: &ToldSave) -> Option<Answer<'_>>
         requires { IsToldSave self.now told.now }
         ensures why { MatchOption result (MaySave self.now told.now) (IsRefusalOfSave self.now told.now) }

@@ -17,7 +17,7 @@ use rcv_text::writer::Writer;
 use std::alloc::{AllocError, Global};
 
 impl GuidedSession {
-    // What is answered where a send of a role that is heard is mistaken.
+    // The answer if a send of a role that is heard is mistaken.
     fn mistake_in_send(&self, told: &ToldSend) -> Option<Answer<'_>>
         requires told { IsToldSend self.now told.now }
         requires heard { IsHeard self.now told.now.role told.now.incarnation }
@@ -34,7 +34,7 @@ impl GuidedSession {
         }
     }
 
-    // What is answered where a send isn't taken.
+    // The answer if a send isn't taken.
     pub(crate) fn refusal_of_send(&self, told: &ToldSend) -> Option<Answer<'_>>
         requires { IsToldSend self.now told.now }
         ensures why { MatchOption result (MaySend self.now told.now)

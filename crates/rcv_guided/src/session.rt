@@ -21,14 +21,14 @@ use std::marker::Model;
 // There is room for so many events at first.
 const FIRST_ROOM: u32 = 1024;
 
-/// A session whose roles run elsewhere, which has no end: what is stable is forgotten as it goes on.
+/// A session without an end, whose roles run elsewhere. It forgets what is stable as it goes on.
 #[derive(Drop)]
 pub struct GuidedSession {
     pub(crate) guide: Guide,
     pub(crate) saves: Saves,
     // For each role of the protocol.
     pub(crate) incarnations: Vec<u64>,
-    // How much was told of the session whose snapshot was told to this one, if one was.
+    // If a snapshot was told to this session: how much was told of the session that gave it.
     pub(crate) restored: Option<u64>,
 }
 
@@ -47,8 +47,8 @@ impl Model for GuidedSession {
 }
 
 impl GuidedSession {
-    /// A session before its first line, with a plan that was read for the protocol's roles: of its lines those on hosts
-    /// count, and, where roles save by their plan, those that say how often. Fails if memory runs out.
+    /// A session before its first line, with a plan that was read for the protocol's roles. Of the plan's lines those
+    /// on hosts count and, if roles save by their plan, those that say how often. Fails if memory runs out.
     pub fn new(
         alloc: Global,
         accepted: Accepted,
@@ -89,7 +89,7 @@ impl GuidedSession {
         write(text, self.accepted(), said)
     }
 
-    // The text goes on with an answer, or with `memory`, where there was none for it. Fails if memory runs out.
+    // The text goes on with an answer, or with `memory` if there was none for it. Fails if memory runs out.
     pub(crate) fn say_found(
         &self,
         text: &mut Writer,

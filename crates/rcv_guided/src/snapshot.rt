@@ -67,7 +67,7 @@ impl GuidedSession {
         })
     }
 
-    // Adds where each role stands. Fails if memory runs out, as all that follows.
+    // Adds where each role stands. Fails if memory runs out, like all that follows.
     fn add_roles(&self, lines: &mut Vec<Again>) -> Result<(), AllocError>
         ensures value { OnOk result (lines.new.items ≡ lines.old.items ++ map (role_again self.now) (range_with_len 0 (roles_in self.now))) }
         ensures named { OnOk result (All (NamesInAgain (accepted_of self.now)) lines.old.items
@@ -149,7 +149,7 @@ impl GuidedSession {
         Ok(lines)
     }
 
-    // The same, answered.
+    // The same, as an answer.
     pub(crate) fn say_snapshot(&self, alloc: Global, text: &mut Writer) -> Result<(), AllocError>
         ensures { OnOk result (Says (accepted_of self.now) text.old text.new (AnswersSnapshot self.now)) }
     {

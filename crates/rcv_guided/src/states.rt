@@ -12,7 +12,7 @@ use rcv_dialogue::answer::{RoleState, State};
 use rcv_dialogue::few::Kept;
 use rcv_tree::role::RoleId;
 
-// What stands behind the declared roles.
+// What stands after the declared roles.
 const NO_COUNT: Kept = Kept {
     role: RoleId(0),
     count: 0,

@@ -1,4 +1,4 @@
-// What failures took back, as it is answered.
+// What failures took back, as answers say it.
 
 ghost use Rattle.std.specs.Prelude.{◌≡◌, ◌<◌, ◌≤◌, ◌+◌, ◌^◌, ◌↔◌, ◌||◌, ℕ, false, IfOk, IsTrue, length, map, slice_index};
 ghost use Rattle.std.specs.List.{filter, range_with_len};
@@ -107,7 +107,7 @@ pub fn backs(
     Ok(all)
 }
 
-/// The answer where this was taken back.
+/// The answer if this was taken back.
 pub fn answer<'a>(undone: Undone<'a>, back: &'a [Back], flight: &'a [Flight]) -> Answer<'a>
     ensures { result ≡ Answer.Recovered undone.entry back.entry flight.entry }
 {
@@ -140,7 +140,7 @@ fn are_same(ones: &[Kept], others: &[Kept]) -> bool
     true
 }
 
-/// Whether what is said to be taken back, if that is said, is this.
+/// Whether this is what is said to be taken back, if anything is said of that.
 pub fn is_stated_as(stated: &Option<Stated>, undone: &Undone<'_>) -> bool
     ensures { IsTrue result ↔ IsStatedAs stated.now undone.now }
 {

@@ -1,4 +1,4 @@
-// Events that are told as values: how they were heard is answered, and no text is written.
+// Events that are told as values: the answer says how they were heard, and no text is written.
 
 ghost use Rattle.std.specs.Prelude.{◌≡◌};
 ghost use Rattle.rcv_dialogue.specs.declared.line.Line.TheVariants as line;
@@ -23,7 +23,7 @@ pub enum Heard {
     Memory,
 }
 
-// How an event was heard that has this answer. Events have no answers but of these kinds.
+// How an event with this answer was heard. Events have only answers of these kinds.
 fn heard_of(said: &Answer<'_>) -> Heard
     ensures { result ≡ heard_of said.now }
 {
@@ -39,7 +39,7 @@ fn heard_of(said: &Answer<'_>) -> Heard
 
 impl GuidedSession {
     /// A role sends a message, as the line `send` tells it: the session hears that line, and this says which kind of
-    /// answer it has. Where it isn't taken the session is as before, but that some of what is stable may be forgotten.
+    /// answer it has. If it isn't taken, the session is as before, except that some of what is stable may be forgotten.
     pub fn tell_send(&mut self, alloc: Global, told: &ToldSend) -> Heard
         requires { IsToldSend self.old told.now }
         ensures heard { IsHeardAs self.old (line.Send told.now) self.new result }
@@ -55,7 +55,7 @@ impl GuidedSession {
         heard_of(&answer)
     }
 
-    /// A role receives a message, as the line `recv` tells it; else as `tell_send`.
+    /// A role receives a message, as the line `recv` tells it; all else is as for `tell_send`.
     pub fn tell_receipt(&mut self, alloc: Global, told: &ToldRecv) -> Heard
         requires { IsToldRecv self.old told.now }
         ensures heard { IsHeardAs self.old (line.Recv told.now) self.new result }
@@ -71,7 +71,7 @@ impl GuidedSession {
         heard_of(&answer)
     }
 
-    /// A role has saved its state, as the line `save` tells it; else as `tell_send`.
+    /// A role has saved its state, as the line `save` tells it; all else is as for `tell_send`.
     pub fn tell_save(&mut self, told: &ToldSave) -> Heard
         requires { IsToldSave self.old told.now }
         ensures heard { IsHeardAs self.old (line.Save told.now) self.new result }

@@ -25,7 +25,7 @@ use Rattle.rcv_model.proofs.Accepting.{one_refusal}
 use Rattle.rcv_model.proofs.Decided.{faultless}
 use Rattle.rcv_lexer.specs.declared.token.Span.{Span}
 use Rattle.rcv_lexer.specs.declared.token.Token.{Token}
-use Rattle.rcv_lexer.specs.declared.token.TextError.TheVariants as errors
+use Rattle.rcv_tree.specs.declared.refusal.TextError.TheVariants as errors
 use Rattle.rcv_lexer.specs.Parts.{parts_of}
 use Rattle.rcv_lexer.specs.Tokens.{AreTokens, IsLetter, line_at}
 use Rattle.rcv_lexer.proofs.Once.{one_reading}

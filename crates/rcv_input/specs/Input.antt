@@ -29,7 +29,8 @@ AreScriptTokens input tokens = AreTokens input (parts_of input).scripts tokens
 abbrev pub ArePlanTokens : List ℕ → List Token → Type 0
 ArePlanTokens input tokens = AreTokens input (parts_of input).plan tokens
 
--- The input's text is this protocol: the tokens of its protocol part are read as a module, of which it is the expansion.
+-- The input's text is this protocol: the tokens of its protocol part are read as a module, and the protocol is the module's
+-- expansion.
 pub record IsProtocolOf (input : List ℕ) (p : Protocol) : Type 0 where
   pub tokens : List Token
   pub whole : Module

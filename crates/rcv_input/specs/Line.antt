@@ -3,8 +3,8 @@ use Rattle.std.specs.Prelude.{ℕ, ◌==◌, codes, decimal, List, [], ◌∷◌
 use Rattle.rcv_input.specs.declared.refused.Refused.{Refused}
 use Rattle.rcv_input.specs.declared.refused.Refused.TheVariants.{Line, Rule, NoRole, TooMuch}
 
--- The codes with their names, of both programs: of a text, of a protocol, of a command, of scripts, of a plan, of a
--- journal that stands behind an input, which only `rcv-show` reads, and of several sessions.
+-- The codes with their names, of both programs: of a text, of a protocol, of a command, of scripts, of a plan, of a journal that
+-- stands after an input, which only `rcv-show` reads, and of several sessions.
 abbrev pub code_names : List (ℕ × List ℕ)
 code_names =
     (10, codes "Letter") ∷ (11, codes "Token") ∷ (12, codes "Deep") ∷ (13, codes "Name") ∷ (14, codes "Twice") ∷ (15, codes "SelfMessage")
@@ -20,7 +20,7 @@ code_names =
     ∷ (50, codes "NoJournal") ∷ (51, codes "Journal")
     ∷ (52, codes "Arity") ∷ (53, codes "Recursive") ∷ (54, codes "EmptyDo") ∷ (55, codes "TooMuch") ∷ []
 
--- The name that stands beside a code in the list; none where the code isn't in it.
+-- The name that stands beside a code in the list; none if the code isn't in it.
 abbrev pub name_in : List (ℕ × List ℕ) → ℕ → List ℕ
 name_in [] code = []
 name_in (e ∷ es) code = if code == e.0 then e.1 else name_in es code

@@ -9,8 +9,8 @@ use Rattle.rcv_model.specs.Script as model
 use Rattle.rcv_model.specs.Accept.{IsRefusal}
 use Rattle.rcv_module.specs.Answers as modules
 use Rattle.rcv_lexer.specs.declared.token.Token.{Token}
-use Rattle.rcv_lexer.specs.declared.token.TextError.{TextError}
-use Rattle.rcv_lexer.specs.declared.token.TextError.TheVariants as errors
+use Rattle.rcv_tree.specs.declared.refusal.TextError.{TextError}
+use Rattle.rcv_tree.specs.declared.refusal.TextError.TheVariants as errors
 use Rattle.rcv_lexer.specs.Parts.{parts_of}
 use Rattle.rcv_lexer.specs.Tokens.{IsLetter, line_at}
 use Rattle.rcv_reader.specs.Refusals as reader

@@ -17,8 +17,8 @@ use rcv_plan::plan::Plan;
 use rcv_script::scripts::Scripts;
 use std::alloc::Global;
 
-/// What an input is taken as: an accepted protocol, the scripts of its roles, and a plan; and where the protocol's points
-/// come from in the text of its module, and in how many inner blocks each call of that stands.
+/// What an input is taken as: an accepted protocol, the scripts of its roles, and a plan; and where the protocol's
+/// points come from in the text of its module, and in how many inner blocks each call of the module stands.
 #[derive(Drop)]
 pub struct Input {
     pub accepted: Accepted,
@@ -30,11 +30,18 @@ pub struct Input {
 
 /// The accepted protocol, the scripts and the plan that the input's text says. The input has fewer than 2^32 - 1 bytes.
 ///
-/// Refused with the first of these that holds: 10 at a bad letter of the protocol part; 11 to 19 and 29 where the
-/// reader refuses the module; 13 and 52 to 54 at the first call at which one holds; 12 and then 18 where the expansion is
-/// too large; 20 to 26 and 28 where a rule of acceptance fails, at a role and a number; 10 at a bad letter of the scripts;
-/// 30 to 36 where the scripts are refused; 10 at a bad letter of the plan; 40 to 43 where the plan is refused.
-/// docs/FORMATS.md lists the codes. `Memory` where no memory is left.
+/// Refused with the first of these that holds:
+/// - 10 at a bad letter of the protocol part;
+/// - 11 to 19 and 29 if the reader refuses the module;
+/// - 13 and 52 to 54 at the first call at which one holds;
+/// - 12 and then 18 if the expansion is too large;
+/// - 20 to 26 and 28 if a rule of acceptance fails, at a role and a number;
+/// - 10 at a bad letter of the scripts;
+/// - 30 to 36 if the scripts are refused;
+/// - 10 at a bad letter of the plan;
+/// - 40 to 43 if the plan is refused.
+///
+/// docs/FORMATS.md lists the codes. `Memory` if no memory is left.
 pub fn read_input(alloc: Global, input: &[u8]) -> Result<Input, InputError>
     requires { length input.now + 1 < 2 ^ 32 }
     ensures taken { MatchResult result

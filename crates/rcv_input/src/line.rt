@@ -53,8 +53,8 @@ fn name_of(code: u8) -> &'static [u8]
     }
 }
 
-/// What is written for a refusal, as `refused 11 Token line 2`, `refused 24 NotEnabled C 0`, `refused 27 NoRole` or
-/// `refused 55 TooMuch`, and a line end. It fails if memory runs out.
+/// What is written for a refusal, such as `refused 11 Token line 2`, `refused 24 NotEnabled C 0`, `refused 27 NoRole`
+/// or `refused 55 TooMuch`, and a line end. It fails if memory runs out.
 pub fn refusal_line(alloc: Global, refused: &Refused) -> Result<Vec<u8>, AllocError>
     ensures { IfOk result (λ text. text.items ≡ refusal_line refused.now) }
 {

@@ -9,10 +9,11 @@ ghost use Rattle.rcv_input.specs.Refusals.{IsUnplanned};
 
 use crate::place::line_at;
 use rcv_accept::accepted::Accepted;
-use rcv_lexer::token::{Span, TextError};
+use rcv_lexer::token::Span;
 use rcv_lexer::tokens;
 use rcv_plan::plan::Plan;
 use rcv_plan::read_plan;
+use rcv_tree::refusal::TextError;
 use std::alloc::Global;
 
 /// The plan of the input's plan part, for the accepted protocol of its protocol part.

@@ -14,13 +14,13 @@ use crate::refused::{InputError, Refused};
 use rcv_accept::accept;
 use rcv_accept::accepted::Accepted;
 use rcv_do::{call_depths, expand_traced};
-use rcv_lexer::token::{Span, TextError};
+use rcv_lexer::token::Span;
 use rcv_lexer::tokens;
 use rcv_module::Origins;
 use rcv_reader::read_module;
 use rcv_tree::name::{Name, Names};
 use rcv_tree::protocol::Protocol;
-use rcv_tree::refusal::Refusal;
+use rcv_tree::refusal::{Refusal, TextError};
 use rcv_tree::role::RoleId;
 use std::alloc::{AllocError, Global};
 
@@ -84,7 +84,7 @@ pub fn accepted_of(alloc: Global, protocol: Protocol) -> Result<Accepted, InputE
     requires names { HasNames protocol.roles (body_of protocol.body) }
     ensures { MatchResult result (λ a. a.protocol ≡ protocol) (IsRuledOut protocol) }
 {
-    // The protocol is gone where it isn't accepted.
+    // The protocol is gone if it isn't accepted.
     let roles = protocol.roles.share()?;
     match accept(alloc, protocol) {
         Ok(accepted) => Ok(accepted),

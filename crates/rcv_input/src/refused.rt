@@ -2,13 +2,12 @@
 
 ghost use Rattle.std.specs.Prelude.{◌≡◌, ℕ};
 ghost use Rattle.rcv_tree.specs.declared.refusal.Refusal.TheVariants.{Text};
-ghost use Rattle.rcv_lexer.specs.declared.token.TextError.TheVariants as errors;
+ghost use Rattle.rcv_tree.specs.declared.refusal.TextError.TheVariants as errors;
 ghost use Rattle.rcv_input.specs.Refusals.{IsTextError};
 ghost use Rattle.rcv_input.specs.declared.refused.InputError.TheVariants.{Memory, Refused};
 
-use rcv_lexer::token::TextError;
 use rcv_tree::name::Name;
-use rcv_tree::refusal::Refusal;
+use rcv_tree::refusal::{Refusal, TextError};
 use std::alloc::{AllocError, AllocFailed};
 
 /// A refusal, as a user reads it. docs/FORMATS.md lists the codes.
@@ -49,7 +48,7 @@ impl<T: Drop> From<AllocFailed<T>> for InputError {
     }
 }
 
-/// An error that has a line, where it is a refusal.
+/// An error that has a line, if it is a refusal.
 pub fn at_line(error: TextError) -> InputError
     requires { IsTextError error }
     ensures refused { (code line : ℕ) → error ≡ errors.Refused (Text code line)

@@ -8,10 +8,11 @@ ghost use Rattle.rcv_input.specs.Refusals.{IsUnscripted};
 
 use crate::place::line_at;
 use rcv_accept::accepted::Accepted;
-use rcv_lexer::token::{Span, TextError};
+use rcv_lexer::token::Span;
 use rcv_lexer::tokens;
 use rcv_script::read_scripts;
 use rcv_script::scripts::Scripts;
+use rcv_tree::refusal::TextError;
 use std::alloc::Global;
 
 /// The scripts of the input's scripts part, for the accepted protocol of its protocol part.

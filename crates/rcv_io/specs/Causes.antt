@@ -9,7 +9,7 @@ counted before n = min (before + n) (2 ^ 64 - 1)
 abbrev pub Rose : ℕ → ℕ → Type 0
 Rose before now = counted before 1 ≤ now
 
--- the count of faults didn't fall, and where the call failed it rose
+-- the count of faults didn't fall, and if the call failed it rose
 pub record HasCause {T E : Type 0} (before now : ℕ) (result : Result T E) : Type 0 where
   pub later : before ≤ now
   pub failed : OnErr result (Rose before now)

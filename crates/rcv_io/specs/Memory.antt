@@ -38,11 +38,11 @@ pub record SinkState : Type 0 where
   pub calls : ℕ
   pub faults : ℕ
 
--- the next call of the sink fails if it is offered these bytes: by its number, or since no room is left for any
+-- the next call of the sink fails if it is offered these bytes: because of its number, or because no room is left
 abbrev pub SinkFails : SinkState → List ℕ → Type 0
 SinkFails s offered = Contains s.failing (counted s.calls 1) ⊎ ((s.room ≡ 0) × (0 < length offered))
 
--- after a call that took the first n bytes of those offered
+-- after a call that took the first n of the bytes that it was offered
 abbrev pub after_write : SinkState → List ℕ → ℕ → SinkState
 after_write s offered n = record s {
   written = s.written ++ take n offered;

@@ -1,4 +1,4 @@
-//! The traits of the outside, where bytes come from and go to: all bytes, or a fault that was counted.
+//! The traits for the outside, where bytes come from and go to: all bytes, or a fault that was counted.
 #![tactic(auto)]
 
 mod fault;

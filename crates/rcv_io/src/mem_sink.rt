@@ -7,7 +7,7 @@ use crate::{Failed, Memory, Sink};
 use std::alloc::Global;
 use std::marker::Model;
 
-/// A sink that keeps what is written, each call at most `piece` bytes, as long as there is room.
+/// A sink that keeps what is written, at most `piece` bytes a call, as long as there is room.
 #[derive(Drop)]
 pub struct MemSink {
     bytes: Vec<u8>,
@@ -40,7 +40,7 @@ impl MemSink {
     /// A sink with room for `room` bytes, all of it reserved here, so that no write takes memory. A call takes at
     /// most `piece` bytes. The calls whose numbers, from 1, stand in `failing` fail.
     ///
-    /// `Memory` comes where the room couldn't be reserved.
+    /// `Memory` comes if memory runs out when it reserves the room.
     pub fn new(
         alloc: Global,
         piece: usize,

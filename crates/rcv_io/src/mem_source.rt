@@ -7,7 +7,7 @@ ghost use Rattle.rcv_io.specs.Memory.{SourceFails, after_read, after_failed_read
 use crate::{Failed, Source};
 use std::marker::Model;
 
-/// A source that gives these bytes, each call at most `piece` of them.
+/// A source that gives these bytes, at most `piece` of them a call.
 #[derive(Drop)]
 pub struct MemSource {
     bytes: Vec<u8>,

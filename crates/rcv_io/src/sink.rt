@@ -12,15 +12,15 @@ use crate::Failed;
 /// Over memory it tells what was written. Over a real stream it tells nothing of that, and the clauses on content
 /// say nothing either.
 pub trait Sink {
-    /// The bytes that were written, where that is told.
+    /// The bytes that were written, if that is told.
     ghost written: { Self → Option (List ℕ) };
 
     /// How often a call has failed. This count never falls and stops at the last `u64`.
     ghost faults: { Self → ℕ };
 
-    /// Writes some bytes from the front of `piece`, and answers how many: 0 only where `piece` is empty.
+    /// Writes some bytes from the front of `piece`, and answers how many: 0 only if `piece` is empty.
     ///
-    /// `Failed` comes only where the count of faults rose, and nothing was written then. `Ok` leaves the count as it
+    /// `Failed` comes only if the count of faults rose, and nothing was written then. `Ok` leaves the count as it
     /// was.
     fn write(&mut self, piece: &[u8]) -> Result<usize, Failed>
         ensures bound { WritesAtMost result piece.now }

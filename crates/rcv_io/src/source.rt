@@ -12,7 +12,7 @@ use crate::Failed;
 /// Over memory it tells what is left. Over a real stream it tells nothing of that, and the clauses on content say
 /// nothing either.
 pub trait Source {
-    /// The bytes that are left, where that is told.
+    /// The bytes that are left, if that is told.
     ghost rest: { Self → Option (List ℕ) };
 
     /// How many bytes its calls have given. This count stops at the last `u64`.
@@ -21,10 +21,10 @@ pub trait Source {
     /// How often a call has failed. This count never falls and stops at the last `u64`.
     ghost faults: { Self → ℕ };
 
-    /// Reads some bytes into the front of `buf`, and answers how many: 0 only at the end, or where `buf` is empty.
-    /// Nothing is said of `buf` behind these bytes.
+    /// Reads some bytes into the front of `buf`, and answers how many: 0 only at the end, or if `buf` is empty.
+    /// It says nothing of `buf` after these bytes.
     ///
-    /// `Failed` comes only where the count of faults rose, and nothing was taken then. `Ok` leaves the count as it was.
+    /// `Failed` comes only if the count of faults rose, and nothing was taken then. `Ok` leaves the count as it was.
     fn read(&mut self, buf: &mut [u8]) -> Result<usize, Failed>
         ensures bound { ReadsAtMost result buf.new }
         ensures bytes { IfOk result

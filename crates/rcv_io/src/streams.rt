@@ -42,7 +42,7 @@ impl<R: Read> Source for StdSource<R> {
     ghost faults = { source_faults };
 
     fn read(&mut self, buf: &mut [u8]) -> Result<usize, Failed>
-        // Where the reader tells its bytes, these are they.
+        // If the reader tells its bytes, these are they.
         ensures passes_on { ReadConsumes (R.remaining (inner_reader self.old))
             (R.remaining (inner_reader self.new)) result buf.new }
 
@@ -98,7 +98,7 @@ impl<W: Write> Sink for StdSink<W> {
     ghost faults = { sink_faults };
 
     fn write(&mut self, piece: &[u8]) -> Result<usize, Failed>
-        // Where the writer tells what it holds, the piece was appended to that.
+        // If the writer tells what it holds, the piece was appended to that.
         ensures passes_on { WriteAppends (W.contents (inner_writer self.old))
             (W.contents (inner_writer self.new)) result piece.now }
 

@@ -1,4 +1,4 @@
-// The adapters over std's streams, of whose content no clause speaks.
+// The adapters over std's streams. No clause says anything of their content.
 use super::*;
 use std::test::Fail;
 

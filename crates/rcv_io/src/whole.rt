@@ -8,13 +8,13 @@ ghost use Rattle.rcv_io.specs.Sink.{WroteBeginning};
 use crate::{ReadError, Sink, Source, WriteFault};
 use std::alloc::Global;
 
-// How many bytes a call of a source is asked for.
+// How many bytes it asks a call of a source for.
 const BUFFER: usize = 4096;
 
 /// Every byte of the source to its end, at most `most` of them.
 ///
-/// `most` is at most 1,048,576. `ReadFault` comes only where the source's count of faults rose in this call, and always
-/// where it is greater than before. `TooLong` comes exactly where more than `most` bytes were taken from the source.
+/// `most` is at most 1,048,576. `ReadFault` comes only if the source's count of faults rose in this call, and always
+/// if it is greater than before. `TooLong` comes exactly if more than `most` bytes were taken from the source.
 /// What was taken before an error is gone from it.
 pub fn read_all<S: Source>(alloc: Global, source: &mut S, most: usize) -> Result<Vec<u8>, ReadError>
     requires { most ≤ 1048576 }
@@ -54,7 +54,7 @@ pub fn read_all<S: Source>(alloc: Global, source: &mut S, most: usize) -> Result
 
 /// Writes all of `bytes`.
 ///
-/// `WriteFault` comes only where the sink's count of faults rose in this call, and `Ok` leaves the count as it was.
+/// `WriteFault` comes only if the sink's count of faults rose in this call, and `Ok` leaves the count as it was.
 /// After `WriteFault` a beginning of `bytes` was written, and not all of them.
 pub fn write_all_of<K: Sink>(sink: &mut K, bytes: &[u8]) -> Result<(), WriteFault>
     ensures all { OnOk result (K.written sink.new ≡ append_known (K.written sink.old) bytes.now) }

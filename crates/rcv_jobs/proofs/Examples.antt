@@ -12,7 +12,7 @@ use Rattle.rcv_core.specs.Skips.{no_skip}
 use Rattle.rcv_journal.specs.declared.line.RoleLine.{RoleLine}
 use Rattle.rcv_journal.specs.JournalText.{journal_text}
 use Rattle.rcv_journal.specs.Lines.{AreLinesOf}
-use Rattle.rcv_form.specs.Json.{journal_data, json_text}
+use Rattle.rcv_journal.specs.Json.{journal_data, json_text}
 use Rattle.rcv_jobs.specs.Texts.{IsWritten, EndsWell, IsAloneText}
 use Rattle.rcv_jobs.specs.Running.{IsRunning}
 use Rattle.rcv_jobs.specs.Left.{left_behind, left_before}

@@ -7,14 +7,14 @@ use Rattle.rcv_jobs.specs.Left.{left_behind, left_before}
 use Rattle.rcv_jobs.specs.declared.stage.Stage.{Stage}
 use Rattle.rcv_jobs.specs.declared.stage.Stage.TheVariants.{Waiting, Running, Written, Stopped}
 
--- How far a job has come: not begun; so many entries made; at its end, with its text; or stopped for want of memory.
+-- How far a job has come: not begun; so many entries made; at its end, with its text; or stopped because memory ran out.
 pub data StageView : Type 0 where
   Waits : StageView
   Runs : (entries : List Entry) → StageView
   Ends : (completed : Bool) (text : List ℕ) → StageView
   Stops : StageView
 
--- A job's session, whether it is to be written as JSON, and how far it has come.
+-- A job's session, whether it is written as JSON, and how far it has come.
 pub record JobView : Type 0 where
   pub session : SessionView
   pub json : Bool
@@ -36,11 +36,11 @@ IsJob session json (Running book) = book.setup ≡ session
 IsJob session json (Written completed text) = IsAloneText session json completed text.items
 IsJob session json Stopped = Unit {0}
 
--- Both are of one session, to be written in one form.
+-- Both are of one session, and are written in one form.
 abbrev pub IsSameJob : JobView → JobView → Type 0
 IsSameJob old new = (new.session ≡ old.session) × (new.json ≡ old.json)
 
--- The session has been written; and want of memory has stopped it.
+-- The session has been written (`HasEnded`); it has stopped because memory ran out (`HasStopped`).
 abbrev pub HasEnded : StageView → Type 0
 HasEnded (Ends completed text) = Unit {0}
 HasEnded _ = ⊥
@@ -56,7 +56,7 @@ left_of session (Runs entries) = left_behind (record { setup = session; entries 
 left_of session (Ends completed text) = 0
 left_of session Stops = 0
 
--- No session has been written and stopped.
+-- No session has both been written and stopped.
 pub not_both : (s : StageView) → HasEnded s → HasStopped s → ⊥
 not_both Waits e s = e
 not_both (Runs entries) e s = e

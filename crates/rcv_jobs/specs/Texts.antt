@@ -5,7 +5,7 @@ use Rattle.rcv_model.specs.Journal.{Rules, State, reading, IsLegal}
 use Rattle.rcv_model.specs.Final.{IsFinal, AreDone, HasOneAtLimit, IsOneThread}
 use Rattle.rcv_session.specs.Session.{SessionView, rules_of}
 use Rattle.rcv_journal.specs.Lines.{IsTextOf}
-use Rattle.rcv_form.specs.Json.{IsJsonOf}
+use Rattle.rcv_journal.specs.Json.{IsJsonOf}
 
 -- The bytes are the journal's JSON, or its text.
 abbrev pub IsWritten : Bool → SessionView → List Entry → List ℕ → Type 0

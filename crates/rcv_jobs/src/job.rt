@@ -53,7 +53,7 @@ impl<'a> Job<'a> {
     }
 
     /// Whether the session completed, and its text, once it has been written: its journal is the one that one thread
-    /// makes. None before that, and where memory has run out. It takes no memory.
+    /// makes. None before that, and if memory has run out. It takes no memory.
     pub fn text(&self) -> Option<(bool, &[u8])>
         ensures some { IfSome result (λ t. IsAloneText self.now.session self.now.json t.0 t.1.now) }
         ensures none { IfNone result (HasEnded self.now.stage → ⊥) }

@@ -6,5 +6,5 @@ pub mod run;
 mod running;
 mod stage;
 
-/// Want of memory.
+/// Memory ran out.
 pub use std::alloc::AllocError as Memory;

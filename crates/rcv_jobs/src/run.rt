@@ -9,7 +9,7 @@ use rcv_many::run_all;
 use std::thread::Threads;
 
 /// Opens, runs and writes the session of each job, by at most so many threads at a time, from 1 to 8, and joins them.
-/// The gate is told of each step of each session, by several threads at one time. A job stops where it finds no memory.
+/// The gate is told of each step of each session, by several threads at one time. A job stops if it finds no memory.
 pub fn run_jobs<'a, R: Threads + Sync, G: Gate + Sync>(
     rt: &R,
     gate: &G,

@@ -1,4 +1,4 @@
-// Journals one behind another.
+// Journals, one after the other.
 
 ghost use Rattle.std.specs.Prelude.{[], true, false, ◌<◌, ◌≤◌, length, map, OnOk, OnErr};
 ghost use Rattle.rcv_page.specs.Page.{Adds, at, state};
@@ -7,10 +7,11 @@ ghost use Rattle.rcv_joined.specs.Joined.{heading, joined};
 use rcv_io::{Sink, WriteFault};
 use rcv_page::Page;
 
-/// Writes the journals of at most 64 sessions through a page, in the order in which they are given: each text behind
-/// the line that says which session it is, from `session 1` on; JSON without such lines. It takes no memory.
+/// Writes the journals of at most 64 sessions through a page, in the order in which they are given. Before each text it
+/// writes the line that says which session it is, from `session 1` on; it writes JSON without such lines. It takes no
+/// memory.
 ///
-/// `WriteFault` comes exactly where some call of the sink failed since the page was made.
+/// `WriteFault` comes exactly if some call of the sink failed since the page was made.
 pub fn write_journals<K: Sink>(
     mut page: Page,
     sink: &mut K,
@@ -29,7 +30,7 @@ pub fn write_journals<K: Sink>(
     page.finish(sink)
 }
 
-// The journals, each behind its heading.
+// The journals, each after its heading.
 fn write_all<K: Sink>(page: &mut Page, sink: &mut K, texts: &[&[u8]], json: bool)
     requires { length texts.now ≤ 64 }
     ensures { Adds (at K.written K.faults sink.old page.old) (at K.written K.faults sink.new page.new)

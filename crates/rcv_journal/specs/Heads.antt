@@ -6,12 +6,12 @@ use Rattle.rcv_tree.specs.declared.event.Event.{Event}
 use Rattle.rcv_session.specs.Session.{SessionView, net_for}
 use Rattle.rcv_journal.specs.JournalText.{name_of}
 
--- `KIND ROLE POINT LABEL `, where the kind ends in a space.
+-- `KIND ROLE POINT LABEL `. The kind ends in a space.
 abbrev pub head_text : SessionView → List ℕ → ℕ → ℕ → List ℕ
 head_text setup kind r p =
     kind ++ name_of setup r ++ codes " " ++ decimal p ++ codes " " ++ (net_for setup).label p ++ codes " "
 
--- How a line begins of a Send, and of a Recv.
+-- How the line of a Send begins, and that of a Recv.
 pub record HeadView : Type 0 where
   pub send : List ℕ
   pub recv : List ℕ
@@ -32,6 +32,6 @@ heads_to setup count = map (head_of setup) (range_with_len 1 count)
 abbrev pub AreHeads : SessionView → List HeadView → Type 0
 AreHeads setup heads = heads ≡ heads_to setup (net_for setup).count
 
--- What stands behind it: `VALUE @STAMP`.
+-- What stands after it: `VALUE @STAMP`.
 abbrev pub rest_text : Event → List ℕ
 rest_text e = signed_decimal e.value ++ codes " @" ++ decimal e.stamp

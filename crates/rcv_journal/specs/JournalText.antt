@@ -49,7 +49,7 @@ event_text setup e =
     name_of setup e.role ++ codes " " ++ decimal e.point ++ codes " " ++ (net_for setup).label e.point
     ++ codes " " ++ signed_decimal e.value ++ codes " @" ++ decimal e.stamp
 
--- What a recovery says of role q: ` ROLE KEPT` where the role is concerned, else nothing.
+-- What a recovery says of role q: ` ROLE KEPT` if the role is concerned, else nothing.
 abbrev pub kept_text : SessionView → ℕ → List ℕ → ℕ → List ℕ
 kept_text setup concerned kept q =
     if has_bit concerned q then codes " " ++ name_of setup q ++ codes " " ++ decimal (slice_index kept q) else []
@@ -86,17 +86,17 @@ is_limit Done = false
 is_limit Limit = true
 is_limit Waits = false
 
--- A space and the role's name where the line has the word `limit`, else nothing.
+-- A space and the role's name if the line has the word `limit`, else nothing.
 abbrev pub limit_text : SessionView → RoleLine → List ℕ
 limit_text setup line = if is_limit line.word then codes " " ++ name_of setup line.role else []
 
--- How the session ended: completed where all roles are done, else which roles are at the limit.
+-- How the session ended: completed if all roles are done, else which roles are at the limit.
 abbrev pub last_line : SessionView → List RoleLine → List ℕ
 last_line setup lines =
     if list_all (λ line. is_done line.word) lines then codes "completed\n"
     else codes "limited" ++ flat_map (limit_text setup) lines ++ codes "\n"
 
--- What stands behind the entries: the lines of the roles, and the last line.
+-- What stands after the entries: the lines of the roles, and the last line.
 abbrev pub closing_text : SessionView → List RoleLine → List ℕ
 closing_text setup lines = flat_map (role_line setup) lines ++ last_line setup lines
 

@@ -20,7 +20,7 @@ abbrev pub JournalsHaveOneText : Type 0
 JournalsHaveOneText =
     (setup : SessionView) (entries : List Entry) (a b : List ℕ) → IsTextOf setup entries a → IsTextOf setup entries b → a ≡ b
 
--- The last line is `completed` exactly where all roles are done.
+-- The last line is `completed` exactly if all roles are done.
 abbrev pub CompletedIsWritten : Type 0
 CompletedIsWritten =
     (setup : SessionView) (s : State) (lines : List RoleLine)

@@ -4,3 +4,6 @@ pub mod JournalText
 pub mod Laws
 pub mod Lines
 pub mod Writing
+pub mod Recorded
+pub mod Form
+pub mod Json

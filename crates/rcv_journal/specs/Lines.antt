@@ -10,7 +10,7 @@ use Rattle.rcv_journal.specs.declared.line.RoleWord.{RoleWord}
 use Rattle.rcv_journal.specs.declared.line.RoleWord.TheVariants.{Done, Limit, Waits}
 use Rattle.rcv_journal.specs.JournalText.{journal_text}
 
--- The word of role r: done where nothing is next; else limit where its raw count is the limit; else waits.
+-- The word of role r: done if nothing is next; else limit if its raw count is the limit; else waits.
 abbrev pub IsWordOf : Rules → State → ℕ → RoleWord → Type 0
 IsWordOf rules s r Done = IsDone rules.net r s.kept
 IsWordOf rules s r Limit = (IsDone rules.net r s.kept → ⊥) × (slice_index s.raw r ≡ rules.limit)

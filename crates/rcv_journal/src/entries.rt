@@ -19,7 +19,7 @@ use rcv_tree::event::Event;
 use rcv_tree::point::Point;
 use rcv_tree::role::{RoleId, RoleSet};
 
-// What a Send and a Recv have in common behind how they begin: `VALUE @STAMP`.
+// What a Send and a Recv have in common after how they begin: `VALUE @STAMP`.
 #[inline(always)]
 fn write_rest<K: Sink>(page: &mut Page, sink: &mut K, event: &Event)
     ensures { Adds (at K.written K.faults sink.old page.old) (at K.written K.faults sink.new page.new)
@@ -30,7 +30,7 @@ fn write_rest<K: Sink>(page: &mut Page, sink: &mut K, event: &Event)
     page.number(sink, event.stamp);
 }
 
-// The line of a Send. The setup only tells the proof of which text it is an event.
+// The line of a Send. The setup only tells the proof which text the event belongs to.
 #[inline(always)]
 fn write_send<K: Sink>(page: &mut Page, sink: &mut K, setup: &Setup, heads: &[Head], event: &Event)
     requires heads { AreHeads setup.now heads.now }
@@ -172,7 +172,7 @@ pub fn write_entries<K: Sink>(
     }
 }
 
-// How a line of this kind begins where it tells of a declared role at a point of the text.
+// How a line of this kind begins if it tells of a declared role at a point of the text.
 fn write_head<K: Sink>(
     page: &mut Page,
     sink: &mut K,
@@ -196,7 +196,7 @@ fn write_head<K: Sink>(
     page.byte(sink, b' ');
 }
 
-// `KIND ROLE POINT LABEL VALUE @STAMP` of an event that any role makes, where the kind ends in a space.
+// `KIND ROLE POINT LABEL VALUE @STAMP` of an event that any role makes. The kind ends in a space.
 fn write_event<K: Sink>(page: &mut Page, sink: &mut K, setup: &Setup, kind: &[u8], event: &Event)
     requires { IsNamedEvent setup.now event.now }
     ensures { Adds (at K.written K.faults sink.old page.old) (at K.written K.faults sink.new page.new)

@@ -30,7 +30,7 @@ impl Model for Head {
     ghost view = { λ a. record { send = a.send.items; recv = a.recv.items } };
 }
 
-// How a line of this kind begins where it tells of a declared role at a point of the text. Fails if memory runs out.
+// How a line of this kind begins if it tells of a declared role at a point of the text. Fails if memory runs out.
 fn beginning(
     alloc: Global,
     setup: &Setup,

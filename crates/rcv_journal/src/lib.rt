@@ -1,4 +1,4 @@
-// The text of a journal.
+// The text of a journal, and journals that are read back.
 #![tactic(auto)]
 
 ghost use Rattle.rcv_journal.specs.Laws.{LegalJournalsAreNamed, JournalsHaveOneText, CompletedIsWritten};
@@ -9,14 +9,15 @@ mod head;
 mod journal;
 pub mod line;
 pub mod name;
+pub mod recorded;
 pub mod role_lines;
 mod roles;
 pub mod text;
 mod vec_sink;
 
-pub use fault::TextError;
+pub use fault::WriteError;
 
-/// Want of memory, where nothing else can fail.
+/// Memory ran out: the error if nothing else can fail.
 pub use std::alloc::AllocError as Memory;
 
 /// Each role and each point in a legal journal of an accepted protocol has a name, and its events are made by the ends
@@ -30,7 +31,7 @@ pub fn journals_have_one_text()
     ensures { JournalsHaveOneText }
 {}
 
-/// The last line is `completed` exactly where all roles are done.
+/// The last line is `completed` exactly if all roles are done.
 pub fn completed_is_written()
     ensures { CompletedIsWritten }
 {}

@@ -12,7 +12,7 @@ use rcv_core::book::Book;
 use rcv_tree::role::RoleId;
 use std::alloc::{AllocError, Global};
 
-// How a role ended that is done or not, and made so many events of those that it may make.
+// How a role ended: by whether it is done, and how many events it made of those that it may make.
 fn word_of(done: bool, raw: u32, limit: u32) -> RoleWord
     ensures { result ≡ (if done then Done else (if raw == limit then Limit else Waits)) }
 {
@@ -54,7 +54,7 @@ fn lines_to(alloc: Global, book: &Book<'_>, roles: usize) -> Result<Vec<RoleLine
 
 /// What is said of each role, in order.
 ///
-/// The error comes where no memory was left.
+/// The error comes if no memory was left.
 pub fn lines_of(alloc: Global, book: &Book<'_>) -> Result<Vec<RoleLine>, AllocError>
     ensures lines { IfOk result (λ lines. AreLinesOf (rules_of book.now.setup) (state_of book.now) lines.items) }
     ensures declared { IfOk result (λ lines. HaveRoles book.now.setup lines.items) }

@@ -9,7 +9,7 @@ ghost use Rattle.rcv_journal.specs.Lines.{IsTextOf};
 ghost use Rattle.rcv_journal.specs.Writing.{WroteText, BrokeText, IsUntouched};
 
 use crate::entries::write_alone;
-use crate::fault::TextError;
+use crate::fault::WriteError;
 use crate::head::heads;
 use crate::journal::write_journal;
 use crate::line::RoleLine;
@@ -23,24 +23,24 @@ use rcv_page::Page;
 use rcv_tree::entry::Entry;
 use std::alloc::{AllocError, Global};
 
-// The line of an entry has about so many bytes at most, where names are short.
+// The line of an entry has about so many bytes at most, if names are short.
 const LINE: usize = 48;
 
-// The last line has about so many bytes at most, where names are short.
+// The last line has about so many bytes at most, if names are short.
 const LAST: usize = 64;
 
 /// Writes the text of a final journal, page by page: a line for each entry, a line for each role, and a last one that
 /// says whether the session is completed.
 ///
-/// `WriteFault` comes exactly where a call of the sink failed: a beginning of the text was written then, and not all of
+/// `WriteFault` comes exactly if a call of the sink failed: a beginning of the text was written then, and not all of
 /// it. `Memory` comes only before the first call of the sink, so what is told of it is as before.
-pub fn write_text<K: Sink>(alloc: Global, book: &Book<'_>, sink: &mut K) -> Result<(), TextError>
+pub fn write_text<K: Sink>(alloc: Global, book: &Book<'_>, sink: &mut K) -> Result<(), WriteError>
     requires { IsFinal (rules_of book.now.setup) (state_of book.now) }
     ensures whole { OnOk result (WroteText book.now.setup book.now.entries
         (K.written sink.old) (K.written sink.new) (K.faults sink.old) (K.faults sink.new)) }
-    ensures fault { IsErrOf result TextError.WriteFault → BrokeText book.now.setup book.now.entries
+    ensures fault { IsErrOf result WriteError.WriteFault → BrokeText book.now.setup book.now.entries
         (K.written sink.old) (K.written sink.new) (K.faults sink.old) (K.faults sink.new) }
-    ensures memory { IsErrOf result TextError.Memory
+    ensures memory { IsErrOf result WriteError.Memory
         → IsUntouched (K.written sink.old) (K.written sink.new) (K.faults sink.old) (K.faults sink.new) }
     ensures later { K.faults sink.old ≤ K.faults sink.new }
 {
@@ -102,7 +102,7 @@ pub fn entry_line_of(alloc: Global, setup: &Setup, entry: &Entry) -> Result<Vec<
     }
 }
 
-/// The lines behind a journal's entries alone, from what is said of the roles. It fails if memory runs out.
+/// The lines after a journal's entries alone, from what is said of the roles. It fails if memory runs out.
 pub fn closing_of(alloc: Global, setup: &Setup, lines: &[RoleLine]) -> Result<Vec<u8>, AllocError>
     requires { HaveRoles setup.now lines.now }
     ensures { IfOk result (λ text. text.items ≡ closing_text setup.now lines.now) }

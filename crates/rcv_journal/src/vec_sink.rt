@@ -24,7 +24,7 @@ impl Model for VecSink {
 impl VecSink {
     /// An empty sink, with room for so many bytes at once; it takes more as it grows.
     ///
-    /// The error comes where no memory was left for them.
+    /// The error comes if no memory was left for them.
     pub fn with_room(alloc: Global, room: usize) -> Result<VecSink, AllocError>
         ensures { IfOk result (λ sink. sink ≡ record { bytes = []; faults = 0 }) }
     {

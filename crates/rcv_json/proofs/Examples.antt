@@ -10,7 +10,7 @@ use Rattle.rcv_session.specs.Session.{SessionView, net_for}
 use Rattle.rcv_journal.specs.declared.line.RoleLine.{RoleLine}
 use Rattle.rcv_journal.specs.declared.line.RoleWord.{RoleWord}
 use Rattle.rcv_journal.specs.declared.line.RoleWord.TheVariants.{Done, Limit, Waits}
-use Rattle.rcv_form.specs.Json.{IsJsonOf, json_text}
+use Rattle.rcv_journal.specs.Json.{IsJsonOf, json_text}
 use Rattle.rcv_json.specs.Pieces.{entry_json}
 
 -- ping from A to B, pong from B to A

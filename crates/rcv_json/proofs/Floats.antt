@@ -11,7 +11,7 @@ use Rattle.rcv_tree.specs.declared.entry.Entry.TheVariants.{Send, Recv, Crash, R
 use Rattle.rcv_session.specs.Session.{SessionView, roles_of}
 use Rattle.rcv_journal.specs.declared.line.RoleLine.{RoleLine}
 use Rattle.rcv_journal.specs.JournalText.{is_limit}
-use Rattle.rcv_form.specs.Json.{count, cut_data, entry_data, limit_data, limited_data, line_data, list_of, role_data}
+use Rattle.rcv_journal.specs.Json.{count, cut_data, entry_data, limit_data, limited_data, line_data, list_of, role_data}
 
 whole : (z : ℤ) → is_float (of_integer z) ≡ false
 whole (pos n) = refl

@@ -4,7 +4,7 @@ use Rattle.rcv_tree.specs.declared.entry.Entry.{Entry}
 use Rattle.rcv_model.specs.Journal.{reading}
 use Rattle.rcv_session.specs.Session.{SessionView, rules_of}
 use Rattle.rcv_journal.proofs.OneText.{same_lines}
-use Rattle.rcv_form.specs.Json.{IsJsonOf, json_text}
+use Rattle.rcv_journal.specs.Json.{IsJsonOf, json_text}
 
 pub one_json : (setup : SessionView) (entries : List Entry) (a b : List ℕ) → IsJsonOf setup entries a → IsJsonOf setup entries b → a ≡ b
 one_json setup entries a b i j =

@@ -12,7 +12,7 @@ use Rattle.rcv_tree.specs.declared.entry.Entry.TheVariants.{Send, Recv}
 use Rattle.rcv_session.specs.Session.{SessionView, net_for}
 use Rattle.rcv_journal.specs.declared.line.RoleLine.{RoleLine}
 use Rattle.rcv_journal.specs.JournalText.{name_of}
-use Rattle.rcv_form.specs.Json.{entry_data, json_text, limited_data, line_data, list_of}
+use Rattle.rcv_journal.specs.Json.{entry_data, json_text, limited_data, line_data, list_of}
 use Rattle.rcv_json.specs.Heads.{event_json, string_json}
 use Rattle.rcv_json.specs.Pieces.{entry_json, next_json, entries_json, opening, limited_key, roles_key, closing, pieces}
 

@@ -39,7 +39,7 @@ heads_to setup count = map (head_of setup) (range_with_len 1 count)
 abbrev pub AreHeads : SessionView → List HeadView → Type 0
 AreHeads setup heads = heads ≡ heads_to setup (net_for setup).count
 
--- What stands behind it: `VALUE,STAMP`.
+-- What stands after it: `VALUE,STAMP`.
 abbrev pub rest_json : Event → List ℕ
 rest_json e = signed_decimal e.value ++ codes "," ++ decimal e.stamp
 

@@ -2,7 +2,7 @@
 use Rattle.std.specs.Prelude.{◌≡◌, ℕ, List}
 use Rattle.rcv_tree.specs.declared.entry.Entry.{Entry}
 use Rattle.rcv_session.specs.Session.{SessionView}
-use Rattle.rcv_form.specs.Json.{IsJsonOf}
+use Rattle.rcv_journal.specs.Json.{IsJsonOf}
 
 -- A journal has at most one JSON.
 abbrev pub JournalsHaveOneJson : Type 0

@@ -4,9 +4,9 @@ use Rattle.serde_json.specs.Written.{compact_text}
 use Rattle.rcv_tree.specs.declared.entry.Entry.{Entry}
 use Rattle.rcv_session.specs.Session.{SessionView}
 use Rattle.rcv_journal.specs.declared.line.RoleLine.{RoleLine}
-use Rattle.rcv_form.specs.Json.{entry_data, limited_data, line_data, list_of}
+use Rattle.rcv_journal.specs.Json.{entry_data, limited_data, line_data, list_of}
 
--- An entry, and an entry behind another one.
+-- An entry, and an entry after another one.
 abbrev pub entry_json : SessionView → Entry → List ℕ
 entry_json setup e = compact_text (entry_data setup e)
 
@@ -18,7 +18,7 @@ abbrev pub entries_json : SessionView → List Entry → List ℕ
 entries_json setup [] = []
 entries_json setup (e ∷ more) = entry_json setup e ++ flat_map (next_json setup) more
 
--- What stands in front of the entries, behind them, between the lists of roles, and at the end.
+-- What stands before the entries, after them, between the lists of roles, and at the end.
 unfoldable pub opening : List ℕ
 opening = codes "{\"entries\":["
 

@@ -15,7 +15,7 @@ use rcv_tree::entry::Entry;
 use rcv_tree::event::Event;
 use std::alloc::{AllocError, Global};
 
-// What a Send and a Recv have in common behind how they begin: `VALUE,STAMP`.
+// What a Send and a Recv have in common after their beginnings: `VALUE,STAMP`.
 #[inline(always)]
 fn write_rest(text: &mut Writer, event: &Event) -> Result<(), AllocError>
     ensures { OnOk result (text.new ≡ text.old ++ rest_json event.now) }
@@ -25,7 +25,7 @@ fn write_rest(text: &mut Writer, event: &Event) -> Result<(), AllocError>
     text.large_number(event.stamp)
 }
 
-// The list of a Send, but for its end. The setup only tells the proof of which text it is an event.
+// The list of a Send, except for its end. The setup only tells the proof whose text the event belongs to.
 #[inline(always)]
 fn write_send(
     text: &mut Writer,
@@ -96,7 +96,7 @@ fn write_entry(
     }
 }
 
-// Each of these entries, behind a comma.
+// Each of these entries, after a comma.
 fn write_more(
     alloc: Global,
     text: &mut Writer,

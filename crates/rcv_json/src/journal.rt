@@ -5,7 +5,7 @@ ghost use Rattle.rcv_model.specs.Final.{IsFinal};
 ghost use Rattle.rcv_session.specs.Session.{rules_of};
 ghost use Rattle.rcv_core.specs.Book.{state_of};
 ghost use Rattle.rcv_journal.specs.JournalText.{AreNamed, HaveRoles};
-ghost use Rattle.rcv_form.specs.Json.{IsJsonOf};
+ghost use Rattle.rcv_journal.specs.Json.{IsJsonOf};
 ghost use Rattle.rcv_json.specs.Pieces.{pieces};
 
 use crate::entries::write_entries;
@@ -19,7 +19,7 @@ use rcv_text::writer::Writer;
 use rcv_tree::entry::Entry;
 use std::alloc::{AllocError, Global};
 
-// An entry has about so many bytes at most, where names are short.
+// An entry has about so many bytes at most, if names are short.
 const ENTRY: usize = 56;
 
 // The JSON of entries and of what is said of the roles at the end, written piece by piece.

@@ -13,7 +13,7 @@ mod values;
 
 pub use journal::json_of;
 
-/// Want of memory, which is the one error of the calls of this crate.
+/// Memory ran out. This is the one error of the calls of this crate.
 pub use std::alloc::AllocError as Memory;
 
 /// A journal has at most one JSON.

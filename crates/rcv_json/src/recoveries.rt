@@ -4,7 +4,7 @@ ghost use Rattle.std.specs.Prelude.{◌≡◌, ◌<◌, ◌++◌, map, IfOk, OnO
 ghost use Rattle.serde_json.specs.View.{view};
 ghost use Rattle.rcv_tree.specs.declared.entry.Entry.TheVariants.{Crash, Recover};
 ghost use Rattle.rcv_session.specs.Session.{roles_of};
-ghost use Rattle.rcv_form.specs.Json.{cut_data, cuts_data, entry_data};
+ghost use Rattle.rcv_journal.specs.Json.{cut_data, cuts_data, entry_data};
 
 use crate::texts::role_text;
 use rcv_core::setup::Setup;

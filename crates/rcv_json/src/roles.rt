@@ -4,7 +4,7 @@ ghost use Rattle.std.specs.Prelude.{◌≡◌, ◌<◌, map, IfOk};
 ghost use Rattle.serde_json.specs.View.{view};
 ghost use Rattle.rcv_session.specs.Session.{roles_of};
 ghost use Rattle.rcv_journal.specs.JournalText.{HaveRoles, word_text};
-ghost use Rattle.rcv_form.specs.Json.{line_data, limited_data, list_of};
+ghost use Rattle.rcv_journal.specs.Json.{line_data, limited_data, list_of};
 
 use crate::texts::role_text;
 use rcv_core::setup::Setup;

@@ -1,4 +1,4 @@
--- What the lines behind the entries of a journal have to say, and the first of them that says something else.
+-- What the lines after the entries of a journal must say, and the first of them that says something else.
 use Rattle.std.specs.Prelude.{◌≡◌, ◌⊎◌, ℕ, ◌<◌, ◌≤◌, ◌↔◌, Option, Some, MatchOption, List, [], length, map, slice_get}
 use Rattle.std.specs.List.{filter}
 use Rattle.rcv_tree.specs.declared.entry.Entry.{Entry}
@@ -14,8 +14,8 @@ use Rattle.rcv_journal.specs.Lines.{IsLineOf, AreLinesOf}
 abbrev pub limited_in : List RoleLine → List ℕ
 limited_in lines = map (λ line. line.role) (filter (λ line. is_limit line.word) lines)
 
--- The state behind the entries is final, the lines of the roles are those of this state, and the last line names those of
--- them that are at the limit: none exactly where all roles are done.
+-- The state after the entries is final. The lines of the roles are those of this state. The last line names those of them that
+-- are at the limit: none exactly if all roles are done.
 pub record Closes (rules : Rules) (s : State) (roles : List RoleLine) (limited : List ℕ) : Type 0 where
   pub final : IsFinal rules s
   pub lines : AreLinesOf rules s roles
@@ -25,7 +25,7 @@ pub record Closes (rules : Rules) (s : State) (roles : List RoleLine) (limited :
 abbrev pub ClosesRight : SessionView → List Entry → List RoleLine → List ℕ → Type 0
 ClosesRight session entries roles limited = Closes (rules_of session) (reading (rules_of session) entries) roles limited
 
--- Behind the entries, line r, counted from 0, is the line of role r.
+-- After the entries, line r, counted from 0, is the line of role r.
 abbrev pub HasLineOf : Rules → State → List RoleLine → ℕ → Type 0
 HasLineOf rules s roles r = (line : RoleLine) × (slice_get roles r ≡ Some line) × IsLineOf rules s r line
 
@@ -43,7 +43,7 @@ pub record IsFirstOther (lines found : List RoleLine) (k : ℕ) : Type 0 where
   pub before : (r : ℕ) → r < k → slice_get found r ≡ slice_get lines r
   pub other : slice_get found k ≡ slice_get lines k → ⊥
 
--- That line, or none where each is found.
+-- That line, or none if each is found.
 abbrev pub IsFound : List RoleLine → List RoleLine → Option ℕ → Type 0
 IsFound lines found other =
     MatchOption other ((r : ℕ) → r < length lines → slice_get found r ≡ slice_get lines r) (IsFirstOther lines found)

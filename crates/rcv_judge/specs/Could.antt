@@ -1,4 +1,4 @@
--- What a role can do next behind a journal, whether or not its channels have room.
+-- What a role can do next after a journal, whether or not its channels have room.
 use Rattle.std.specs.Prelude.{◌≡◌, ◌≢◌, ℕ, List, [], Option, MatchOption, slice_index}
 use Rattle.rcv_tree.specs.declared.entry.Entry.{Entry}
 use Rattle.rcv_tree.specs.declared.event.Event.{Event}
@@ -38,8 +38,8 @@ IsCould book r (Awaits from) =
     NoneMay book r × (IsDoneIn book r → ⊥) × (slice_index (state_of book).raw r ≢ (rules_of book.setup).limit)
     × books.Awaits book r from × (in_channel book from r ≡ [])
 
--- These are the role's next points, of which there are some. This role sends each; if it is another one, the role
--- receives each.
+-- These are the role's next points, and there are some. The sender sends each; if it is another role, the role itself receives
+-- each.
 pub record HasSender (book : BookView) (r from : ℕ) : Type 0 where
   pub zs : List ℕ
   pub next : AreNext (net_for book.setup) r (place (state_of book) r) zs
@@ -47,7 +47,7 @@ pub record HasSender (book : BookView) (r from : ℕ) : Type 0 where
   pub sends : (z : ℕ) → IsIn z zs → (net_for book.setup).sender z ≡ from
   pub receives : from ≢ r → (z : ℕ) → IsIn z zs → (net_for book.setup).receiver z ≡ r
 
--- Who sends at the role's next points; none where it is done.
+-- Who sends at the role's next points; none if it is done.
 abbrev pub IsNextSender : BookView → ℕ → Option ℕ → Type 0
 IsNextSender book r sender = MatchOption sender (IsDoneIn book r) (HasSender book r)
 

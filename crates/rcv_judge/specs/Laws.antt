@@ -29,7 +29,7 @@ EntriesOfARoleAreOne =
     (rules : Rules) (s : State) (d e : Entry) → HasTwoEnds rules.net → role_of d ≡ role_of e → May rules s d → May rules s e
     → d ≡ e
 
--- At most one closing line is the first wrong one, and none is where the journal closes right.
+-- At most one closing line is the first wrong one. If the journal closes right, none is.
 pub record OneClosing (rules : Rules) (s : State) (roles : List RoleLine) (limited : List ℕ) (k l : ℕ) : Type 0 where
   pub same : IsFirstWrongClosing rules s roles limited k → IsFirstWrongClosing rules s roles limited l → k ≡ l
   pub none : Closes rules s roles limited → IsFirstWrongClosing rules s roles limited k → ⊥

@@ -1,4 +1,4 @@
-// The lines behind the entries of a journal: what its roles did, and how the session ended.
+// The lines after the entries of a journal: what its roles did, and how the session ended.
 
 ghost use Rattle.std.specs.Prelude.{◌≡◌, ◌<◌, ◌^◌, ◌↔◌, ℕ, false, length, slice_get, IsTrue, [], ◌∷◌, ◌++◌, IfOk, OnOk};
 ghost use Rattle.std.specs.Prelude.{IfSome, IfNone};
@@ -10,7 +10,7 @@ ghost use Rattle.rcv_judge.specs.Closing.{limited_in, Closes, ClosesRight, IsFir
 use crate::same::{are_same_roles, is_same_line};
 use rcv_core::book::Book;
 use rcv_core::outcome::Outcome;
-use rcv_form::journal::Journal;
+use rcv_journal::recorded::Journal;
 use rcv_journal::line::{RoleLine, RoleWord};
 use rcv_journal::role_lines::lines_of;
 use rcv_tree::role::RoleId;
@@ -26,7 +26,7 @@ fn is_at(found: &[RoleLine], number: usize, line: &RoleLine) -> bool
     }
 }
 
-// The number of the first of these lines that isn't found in its place; none where all are.
+// The number of the first of these lines that isn't found in its place; none if all are.
 fn first_other(lines: &[RoleLine], found: &[RoleLine]) -> Option<u32>
     requires { length lines.now < 2 ^ 32 }
     ensures { IsFound lines.now found.now result }
@@ -74,8 +74,8 @@ fn is_ended(book: &Book<'_>) -> bool
     }
 }
 
-// Whether the last line of a journal says how the session ended, where the lines of the roles are found there, and
-// these roles are at the limit.
+// Whether the last line of a journal says how the session ended. The lines of the roles are found there, and these
+// roles are at the limit.
 fn closes(book: &Book<'_>, journal: &Journal, lines: &[RoleLine], limited: &[RoleId]) -> bool
     requires lines { AreLinesOf (rules_of book.now.setup) (state_of book.now) lines.now }
     requires found { (r : ℕ) → r < length lines.now → slice_get journal.now.roles r ≡ slice_get lines.now r }
@@ -93,9 +93,9 @@ fn closes(book: &Book<'_>, journal: &Journal, lines: &[RoleLine], limited: &[Rol
 }
 
 /// The first closing line that isn't what the entries of a book leave: the lines of the roles have the numbers from 0
-/// on, and the last line has the number behind them. None where all are right, and the session is at its end.
+/// on, and the last line has the number after them. None if all are right and the session is at its end.
 ///
-/// The error comes where no memory was left.
+/// The error comes if no memory was left.
 pub fn wrong_closing(
     alloc: Global,
     book: &Book<'_>,

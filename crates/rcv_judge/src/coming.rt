@@ -1,4 +1,4 @@
-// Whether an entry may come behind others. A channel may hold more than its room.
+// Whether an entry may come after others. A channel may hold more than its room.
 
 ghost use Rattle.std.specs.Prelude.{◌≡◌, ◌↔◌, IsTrue};
 ghost use Rattle.rcv_tree.specs.declared.entry.Entry.TheVariants.{Send};
@@ -13,7 +13,7 @@ use rcv_core::book::Book;
 use rcv_tree::entry::Entry;
 use rcv_tree::event::Event;
 
-// Whether a Send, whose role needn't be declared, may come. Where it isn't the role's step it may come all the same, if
+// Whether a Send, whose role needn't be declared, may come. If it isn't the role's step, it may come all the same if
 // its channel has no room.
 #[inline(always)]
 fn may_be_sent(book: &Book<'_>, entry: &Entry, event: &Event) -> bool
@@ -29,7 +29,7 @@ fn may_be_sent(book: &Book<'_>, entry: &Entry, event: &Event) -> bool
     }
 }
 
-/// Whether an entry may come behind those of a book.
+/// Whether an entry may come after those of a book.
 #[inline(always)]
 pub fn may_come(book: &Book<'_>, entry: &Entry) -> bool
     ensures { IsTrue result ↔ May (rules_of book.now.setup) (state_of book.now) entry.now }

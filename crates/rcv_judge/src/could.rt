@@ -26,8 +26,8 @@ pub enum Could {
     AtLimit,
 }
 
-/// What a declared role can do next behind the entries of a book: a crashed one makes its Recover, a due one its Crash,
-/// and else it makes its step. A Send can come whether or not its channel has room.
+/// What a declared role can do next after the entries of a book: a crashed one makes its Recover, a due one its Crash,
+/// and any other makes its step. A Send can come whether or not its channel has room.
 pub fn could_do(book: &Book<'_>, role: RoleId) -> Could
     requires { role < roles_of book.now.setup }
     ensures { IsCould book.now role result }
@@ -46,7 +46,7 @@ pub fn could_do(book: &Book<'_>, role: RoleId) -> Could
     }
 }
 
-// The same of a role that is neither crashed nor due, at whose next points this role sends.
+// The same of a role that is neither crashed nor due. This role sends at its next points.
 fn running(book: &Book<'_>, role: RoleId, sender: RoleId) -> Could
     requires declared { role < roles_of book.now.setup }
     requires calm { IsCrashed (state_of book.now) role → ⊥ }

@@ -16,7 +16,7 @@ use thiserror::Error;
 /// Why entries have no book.
 #[derive(Clone, Copy, Debug, PartialEq, Eq, Error)]
 pub enum JudgeError {
-    /// The first entry, counted from 0, that may not come behind those before it.
+    /// The first entry, counted from 0, that may not come after those before it.
     #[error("entry {0} may not come")]
     Entry(u32),
     /// No memory was left.
@@ -32,9 +32,8 @@ impl From<AllocError> for JudgeError {
     }
 }
 
-/// The book of a session with these entries, of which there are fewer than 2^32: a legal journal, whatever the room of
-/// its channels. `Entry` comes exactly where one of them may not come behind those before it. `Memory` where memory
-/// runs out.
+/// The book of a session with these entries, fewer than 2^32: a legal journal, whatever the room of its channels.
+/// `Entry` comes exactly if one of them may not come after those before it. `Memory` comes if memory runs out.
 pub fn judge<'a>(alloc: Global, setup: &'a Setup, entries: &[Entry]) -> Result<Book<'a>, JudgeError>
     requires { length entries.now < 2 ^ 32 }
     ensures ok { IfOk result (λ book. book ≡ record { setup = setup.now; entries = entries.now }) }

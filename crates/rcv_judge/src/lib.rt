@@ -31,12 +31,12 @@ pub fn entries_of_a_role_are_one()
     ensures { EntriesOfARoleAreOne }
 {}
 
-/// At most one closing line is the first wrong one, and none is where the journal closes right.
+/// At most one closing line is the first wrong one. If the journal closes right, none is.
 pub fn one_closing_is_first_wrong()
     ensures { OneClosingIsFirstWrong }
 {}
 
-/// The lines behind a legal journal are right, or they aren't.
+/// The lines after a legal journal are right, or they aren't.
 pub fn closings_are_judged()
     ensures { ClosingsAreJudged }
 {}

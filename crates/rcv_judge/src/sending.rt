@@ -1,5 +1,5 @@
 // Sends that may come, whether or not their channels have room: a role's script is asked for its choice, with the
-// variables that the book has behind what the role did.
+// variables that the book has after what the role did.
 
 ghost use Rattle.std.specs.Prelude.{◌≡◌, ◌<◌, ◌↔◌, IsTrue};
 ghost use Rattle.rcv_model.specs.Next.{AreNext};
@@ -57,7 +57,7 @@ fn next_points<'a>(book: &Book<'a>, role: RoleId) -> &'a [Point]
     setup.next(role, place(book, role))
 }
 
-/// The one role that sends at the next points of a declared role; none where nothing is next for it.
+/// The one role that sends at the next points of a declared role; none if nothing is next for it.
 pub fn next_sender(book: &Book<'_>, role: RoleId) -> Option<RoleId>
     requires { role < roles_of book.now.setup }
     ensures { IsNextSender book.now role result }
@@ -72,7 +72,7 @@ pub fn next_sender(book: &Book<'_>, role: RoleId) -> Option<RoleId>
     Some(setup.sender(*first))
 }
 
-/// The Send that the script of a role chooses that may make a step, and sends at its next points.
+/// The Send that a role's script chooses. The role may make a step, and sends at its next points.
 pub fn chosen(book: &Book<'_>, role: RoleId) -> Event
     requires free { IsFree (rules_of book.now.setup) (state_of book.now) role }
     requires next { HasSender book.now role role }
@@ -98,8 +98,8 @@ pub fn chosen(book: &Book<'_>, role: RoleId) -> Event
     }
 }
 
-// Whether an event of a role that may make a step, at whose next points this role sends, is the Send that its script
-// chooses.
+// Whether an event is the Send that its role's script chooses. The role may make a step, and this role sends at its
+// next points.
 fn is_chosen(book: &Book<'_>, sender: RoleId, event: &Event) -> bool
     requires free { IsFree (rules_of book.now.setup) (state_of book.now) event.now.role }
     requires next { HasSender book.now event.now.role sender }

@@ -1,4 +1,4 @@
-// What comes next of a role, which an entry is compared with: it is one entry.
+// What comes next of a role, to compare an entry with: it is one entry.
 
 ghost use Rattle.std.specs.Prelude.{◌↔◌, IsTrue};
 ghost use Rattle.rcv_tree.specs.declared.entry.Entry.TheVariants.{Crash};

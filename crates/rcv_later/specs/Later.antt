@@ -4,7 +4,7 @@ use Rattle.rcv_session.specs.Session.{SessionView}
 use Rattle.rcv_input.specs.Input.{IsTaken}
 use Rattle.rcv_plan.specs.Shifted.{shifted}
 
--- Session i of several, counted from 0: the same, but that each crash line has a count that is i more.
+-- Session i of several, counted from 0: the same, except that each crash line has a count that is i more.
 abbrev pub later : SessionView → ℕ → SessionView
 later session i = record { protocol = session.protocol; scripts = session.scripts; plan = shifted i session.plan }
 

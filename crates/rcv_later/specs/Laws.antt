@@ -21,8 +21,8 @@ pub record IsPlannedSession (session : SessionView) : Type 0 where
   pub accepted : IsAcceptedProtocol session.protocol
   pub planned : IsPlanned (roles_of session) session.plan
 
--- Of an accepted protocol with a plan whose counts are as they may be read, each later session is one of an accepted
--- protocol with a plan for its roles. So it is with what an input is taken as.
+-- If a session is of an accepted protocol, with a plan for its roles whose counts are as they may be read, each later session
+-- is of an accepted protocol with a plan for its roles. The same holds for what an input is taken as.
 pub record LaterSessionsArePlanned : Type 0 where
   pub counted : (session : SessionView) (i : ℕ) → i ≤ 63 → All HasReadCount session.plan → IsPlannedSession session
       → IsPlannedSession (later session i)
@@ -36,7 +36,7 @@ pub record LaterSessionsSayTheSame : Type 0 where
   pub one : (input : List ℕ) (session t : SessionView) (i : ℕ) → IsTaken input session → IsLaterOf input i t
       → AreSame (later session i) t
 
--- The rules are the same but for the counts at which roles crash, each of which is i more.
+-- The rules are the same, except for the counts at which roles crash: each is i more.
 pub record AreLaterRules (i : ℕ) (rules other : Rules) : Type 0 where
   pub net : other.net ≡ rules.net
   pub roles : other.roles ≡ rules.roles
@@ -48,6 +48,6 @@ pub record AreLaterRules (i : ℕ) (rules other : Rules) : Type 0 where
   pub limit : other.limit ≡ rules.limit
   pub room : other.room ≡ rules.room
 
--- A later session is run by the rules of the session, but for the counts at which roles crash.
+-- A later session is run by the rules of the session, except for the counts at which roles crash.
 abbrev pub LaterRulesAreTheRules : Type 0
 LaterRulesAreTheRules = (session : SessionView) (i : ℕ) → AreLaterRules i (rules_of session) (rules_of (later session i))

@@ -7,7 +7,7 @@ use Rattle.rcv_later.specs.Later.{IsLaterOf}
 use Rattle.rcv_later.specs.declared.preparation.Stage.{Stage}
 use Rattle.rcv_later.specs.declared.preparation.Stage.TheVariants.{Unread, Ready, Stopped}
 
--- How far a preparation has come: not begun; at its end, with the setup of this session; or stopped for want of memory.
+-- How far a preparation has come: not begun; at its end, with the setup of this session; or stopped because memory ran out.
 pub data StageView : Type 0 where
   Waits : StageView
   Prepared : (setup : SessionView) → StageView
@@ -27,7 +27,7 @@ seen Unread = Waits
 seen (Ready setup) = Prepared setup
 seen Stopped = Stops
 
--- Where there is a setup it is that of this session.
+-- If there is a setup, it is that of this session.
 abbrev pub IsReadyFor : List ℕ → ℕ → Stage → Type 0
 IsReadyFor input by Unread = Unit {0}
 IsReadyFor input by (Ready setup) = IsLaterOf input by setup
@@ -44,7 +44,7 @@ pub record IsPreparation (input : List ℕ) (by : ℕ) (stage : Stage) : Type 0 
   pub few : by ≤ 63
   pub ready : IsReadyFor input by stage
 
--- The setup has been made; and want of memory has stopped it.
+-- The setup has been made; or memory ran out, and that stopped the preparation.
 abbrev pub IsReady : StageView → Type 0
 IsReady (Prepared setup) = Unit {0}
 IsReady _ = ⊥

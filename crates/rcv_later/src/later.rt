@@ -13,7 +13,7 @@ use std::alloc::{AllocError, Global};
 /// The setup of one of several sessions of what an input was taken as: with so many, from 0 to 63, added to each crash
 /// count. The scripts and the plan are as `read_input` gives them.
 ///
-/// The error comes where no memory was left.
+/// The error comes if no memory was left.
 pub fn later_setup(alloc: Global, taken: Input, by: u32) -> Result<Setup, AllocError>
     requires by { by ≤ 63 }
     requires belong { AreScriptsFor taken.accepted.protocol taken.scripts }

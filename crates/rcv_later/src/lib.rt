@@ -10,7 +10,7 @@ pub mod prepare;
 #[cfg(test)]
 mod tests;
 
-/// Want of memory, which is the one error of the calls of this crate.
+/// Memory ran out. This is the one error of the calls of this crate.
 pub use std::alloc::AllocError as Memory;
 
 /// The first of several sessions is the session itself.
@@ -28,7 +28,7 @@ pub fn later_sessions_say_the_same()
     ensures { LaterSessionsSayTheSame }
 {}
 
-/// A later session is run by the rules of the session, but for the counts at which roles crash.
+/// A later session is run by the rules of the session, except for the counts at which roles crash.
 pub fn later_rules_are_the_rules()
     ensures { LaterRulesAreTheRules }
 {}

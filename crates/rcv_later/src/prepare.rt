@@ -12,9 +12,9 @@ use std::thread::Threads;
 
 /// Makes the setups of so many sessions, at most 64, of an input that is taken and has at most 1,048,576 bytes, by at
 /// most so many threads at a time, from 1 to 8, and joins them. In each session the crash counts are one more than in
-/// the one before; in the first one they are as they were read. A preparation stops where it finds no memory.
+/// the one before; in the first one they are as they were read. A preparation stops if it finds no memory.
 ///
-/// The error comes where no memory was left for the list of them.
+/// The error comes if no memory was left for the list of them.
 pub fn prepare<'a, R: Threads + Sync>(
     rt: &R,
     alloc: Global,

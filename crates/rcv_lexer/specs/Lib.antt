@@ -3,3 +3,4 @@ pub mod Tokens
 pub mod Parts
 pub mod Laws
 pub mod Seen
+pub mod Symbols

@@ -13,12 +13,12 @@ abbrev pub begins_with_lf : List ℕ → Bool
 begins_with_lf [] = false
 begins_with_lf (b ∷ bs) = b == 10
 
--- behind n bytes of a line: how long it is with its end, where it ends here
+-- after n bytes of a line: how long it is with its end, if it ends here
 abbrev pub line_end : ℕ → List ℕ → Option ℕ
 line_end n [] = Some n
 line_end n (b ∷ bs) = if b == 10 then Some (n + 1) else (if b == 13 && begins_with_lf bs then Some (n + 2) else None)
 
--- how long the first line is with its end, where it is exactly this word
+-- how long the first line is with its end, if it is exactly this word
 abbrev pub line_of : List ℕ → List ℕ → Option ℕ
 line_of word text = if starts_with nat_eq text word then line_end (length word) (drop (length word) text) else None
 
@@ -36,7 +36,7 @@ separator_at place plan (Some len) other = Some (record { place = place; behind 
 abbrev pub plan_here : ℕ → List ℕ → Option Separator
 plan_here place text = separator_at place true (line_of plan_word text) None
 
--- the separator that begins a text at a place, where a line begins there
+-- the separator that begins a text at a place, if a line begins there
 abbrev pub here : Bool → Bool → ℕ → List ℕ → Option Separator
 here scripts false place text = None
 here true true place text = separator_at place false (line_of scripts_word text) (plan_here place text)

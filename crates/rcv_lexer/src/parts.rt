@@ -6,7 +6,7 @@ ghost use Rattle.rcv_lexer.specs.Parts.{first_from, parts_of, span};
 
 use crate::token::Span;
 
-/// The parts of a bundle: what stands before, between and behind its separator lines. One that is missing is empty.
+/// The parts of a bundle: what stands before, between and after its separator lines. One that is missing is empty.
 #[derive(Clone, Copy, Debug, PartialEq, Eq)]
 pub struct Parts {
     pub protocol: Span,
@@ -14,7 +14,7 @@ pub struct Parts {
     pub plan: Span,
 }
 
-/// A line that begins a part: where it stands, where the part begins behind it, and whether that is the plan.
+/// A line that begins a part: where it stands, where the part begins after it, and whether that is the plan.
 #[derive(Clone, Copy, Debug, PartialEq, Eq)]
 pub struct Separator {
     pub place: usize,
@@ -22,7 +22,7 @@ pub struct Separator {
     pub plan: bool,
 }
 
-// How long the first line is with its end, where it is exactly this word.
+// How long the first line is with its end, if it is exactly this word.
 fn line_of(word: &[u8], text: &[u8]) -> Option<usize>
     ensures is { result ≡ line_of word.now text.now }
     ensures within { IfSome result (λ m. m ≤ length text.now) }
@@ -39,7 +39,7 @@ fn line_of(word: &[u8], text: &[u8]) -> Option<usize>
     }
 }
 
-// The separator that begins a text at a place, where a line begins there.
+// The separator that begins a text at a place, if a line begins there.
 fn here(scripts: bool, fresh: bool, place: usize, text: &[u8]) -> Option<Separator>
     requires { place + length text.now < 2 ^ 63 }
     ensures is { result ≡ here scripts fresh place text.now }
@@ -87,7 +87,7 @@ fn span(start: usize, end: usize) -> Span
     Span { start, end }
 }
 
-/// The parts of a bundle. The scripts begin behind the first line `%% scripts`, the plan behind the first line
+/// The parts of a bundle. The scripts begin after the first line `%% scripts`, the plan after the first line
 /// `%% plan`, and the scripts come first. It takes no memory.
 pub fn split(bundle: &[u8]) -> Parts
     ensures parts { result ≡ parts_of bundle.now }

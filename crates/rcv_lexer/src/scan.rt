@@ -7,8 +7,8 @@ ghost use Rattle.rcv_lexer.specs.Parts.{LiesIn};
 ghost use Rattle.rcv_lexer.specs.Tokens.{AreTokens, HasTokens, IsLetterAt, IsRefused, token_at};
 
 use crate::piece::piece_at;
-use crate::token::{Span, TextError, Token};
-use rcv_tree::refusal::Refusal;
+use crate::token::{Span, Token};
+use rcv_tree::refusal::{Refusal, TextError};
 use std::alloc::Global;
 
 /// How many line feeds stand among the bytes.
@@ -28,9 +28,9 @@ pub fn line_feeds(bytes: &[u8]) -> u32
 
 /// The tokens of a part of the bundle, in order.
 ///
-/// Refused with code 10 and a line where a byte can begin neither a token nor a separator nor a comment, or what it
-/// begins is not whole, as a text without its second quote, a comment without its end or a word of 65 bytes: the line
-/// is that of the byte. `Memory` where the list can't grow.
+/// Refused with code 10 and a line if a byte can begin neither a token nor a separator nor a comment, or if what it
+/// begins isn't whole, such as a text without its second quote, a comment without its end or a word of 65 bytes. The
+/// line is that of the byte. `Memory` if the list can't grow.
 pub fn tokens(alloc: Global, bundle: &[u8], part: Span) -> Result<Vec<Token>, TextError>
     requires short { length bundle.now + 1 < 2 ^ 32 }
     requires inside { LiesIn bundle.now part }

@@ -1,16 +1,12 @@
 // Pieces of a bundle, tokens, and why there are none.
 
 ghost use Rattle.std.specs.Prelude.{◌≡◌};
-ghost use Rattle.rcv_lexer.specs.declared.token.TextError.TheVariants.{Memory};
 ghost use Rattle.rcv_lexer.specs.Seen.{token};
 
-use rcv_tree::refusal::Refusal;
-use std::alloc::{AllocError, AllocFailed};
 use std::marker::Model;
 use std::mem::size_of;
-use thiserror::Error;
 
-/// A stretch of the bundle: the place of its first byte, and the place behind its last one. Places are counted from 0.
+/// A stretch of the bundle: the place of its first byte, and the place after its last one. Places are counted from 0.
 #[derive(Clone, Copy, Debug, PartialEq, Eq)]
 pub struct Span {
     pub start: usize,
@@ -87,32 +83,5 @@ impl Token {
         ensures { result ≡ self.now.line }
     {
         self.line
-    }
-}
-
-/// Why a part has no tokens.
-#[derive(Clone, Copy, Debug, PartialEq, Eq, Error)]
-pub enum TextError {
-    /// No token, separator or comment can begin or end as the text does.
-    #[error("the text is refused")]
-    Refused(Refusal),
-    /// No memory was left.
-    #[error("no memory is left")]
-    Memory,
-}
-
-impl From<AllocError> for TextError {
-    ghost from_gives = { λ _ e. e ≡ Memory };
-
-    fn from(_e: AllocError) -> TextError {
-        TextError::Memory
-    }
-}
-
-impl<T: Drop> From<AllocFailed<T>> for TextError {
-    ghost from_gives = { λ _ e. e ≡ Memory };
-
-    fn from(_e: AllocFailed<T>) -> TextError {
-        TextError::Memory
     }
 }

@@ -16,7 +16,7 @@ use Rattle.rcv_journal.specs.declared.line.RoleLine.{RoleLine}
 use Rattle.rcv_journal.specs.declared.line.RoleWord.{RoleWord}
 use Rattle.rcv_journal.specs.declared.line.RoleWord.TheVariants.{Done, Limit, Waits}
 use Rattle.rcv_journal.specs.JournalText.{entry_line, role_line}
-use Rattle.rcv_form.specs.Form.{end_line}
+use Rattle.rcv_journal.specs.Form.{end_line}
 use Rattle.rcv_lines.specs.Line.{LineView, EntryLine, RoleLineOf, EndLine, SaysLine}
 use Rattle.rcv_lines.specs.Named.{IsAscending}
 use Rattle.rcv_lines.proofs.Ascending.{ascend}

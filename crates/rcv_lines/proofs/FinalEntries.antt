@@ -30,8 +30,8 @@ use Rattle.rcv_session.specs.Session.{SessionView, text_of, roles_of, net_for, r
 use Rattle.rcv_core.proofs.Ranges.{ranges, few_crash_lines}
 use Rattle.rcv_journal.specs.JournalText.{IsNamed}
 use Rattle.rcv_journal.proofs.Named.{legal_is_named}
-use Rattle.rcv_form.specs.Journal.{bare}
-use Rattle.rcv_form.specs.Form.{IsFormedEntry, IsFormedRecovery}
+use Rattle.rcv_journal.specs.Recorded.{bare}
+use Rattle.rcv_journal.specs.Form.{IsFormedEntry, IsFormedRecovery}
 use Rattle.rcv_lines.specs.FinalTexts.{HasFittingValue}
 
 -- ---- a number whose higher bits aren't set is small

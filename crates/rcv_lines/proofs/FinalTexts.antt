@@ -21,8 +21,8 @@ use Rattle.rcv_journal.specs.declared.line.RoleWord.TheVariants.{Done, Limit, Wa
 use Rattle.rcv_journal.specs.JournalText.{entry_line, role_line, is_done, is_limit, limit_text, last_line, name_of}
 use Rattle.rcv_journal.specs.Lines.{IsWordOf, AreLinesOf}
 use Rattle.rcv_journal.proofs.OneText.{completed_is_written}
-use Rattle.rcv_form.specs.Journal.{JournalView, bare}
-use Rattle.rcv_form.specs.Form.{IsFormed, Spells, end_line, journal_lines}
+use Rattle.rcv_journal.specs.Recorded.{JournalView, bare}
+use Rattle.rcv_journal.specs.Form.{IsFormed, Spells, end_line, journal_lines}
 use Rattle.rcv_lines.specs.FinalTexts.{limited_in, FinalTextsAreReadBack}
 use Rattle.rcv_lines.proofs.FinalEntries.{formed}
 use Rattle.rcv_lines.proofs.OneJournal.{lines_spell}

@@ -4,8 +4,8 @@ use Rattle.std.proofs.lemmas.Bool.{cases_lt}
 use Rattle.std.proofs.lemmas.List.{take-append-drop}
 use Rattle.std.proofs.Math.Seq.{take-append_seam}
 use Rattle.rcv_session.specs.Session.{SessionView, roles_of}
-use Rattle.rcv_form.specs.Journal.{JournalView}
-use Rattle.rcv_form.specs.Form.{MayBegin, Spells, IsFirstWrong, lines_of}
+use Rattle.rcv_journal.specs.Recorded.{JournalView}
+use Rattle.rcv_journal.specs.Form.{MayBegin, Spells, IsFirstWrong, lines_of}
 use Rattle.rcv_lines.specs.Line.{LineView, SaysLine}
 use Rattle.rcv_lines.specs.Reading.{ReadingView, Follows, IsRead, TakesText}
 use Rattle.rcv_lines.specs.declared.text.LinesError.{LinesError}

@@ -4,8 +4,8 @@ use Rattle.std.proofs.lemmas.List.Elements.{All-nil, All-cons, All-head, All-tai
 use Rattle.rcv_tree.specs.declared.entry.Entry.{Entry}
 use Rattle.rcv_session.specs.Session.{SessionView}
 use Rattle.rcv_journal.specs.declared.line.RoleLine.{RoleLine}
-use Rattle.rcv_form.specs.Journal.{JournalView}
-use Rattle.rcv_form.specs.Form.{IsFormed, Spells, journal_lines}
+use Rattle.rcv_journal.specs.Recorded.{JournalView}
+use Rattle.rcv_journal.specs.Form.{IsFormed, Spells, journal_lines}
 use Rattle.rcv_lines.specs.Line.{LineView, EntryLine, RoleLineOf, EndLine, IsFormedLine, line_text}
 use Rattle.rcv_lines.proofs.Views.{SaysOne, same_said}
 use Rattle.rcv_lines.proofs.Progress.{whole_said, whole_formed, whole_texts}

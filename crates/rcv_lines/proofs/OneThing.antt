@@ -18,7 +18,7 @@ use Rattle.rcv_accept.specs.Accepted.{IsAcceptedProtocol}
 use Rattle.rcv_journal.specs.declared.line.RoleWord.{RoleWord}
 use Rattle.rcv_journal.specs.declared.line.RoleWord.TheVariants.{Done, Limit, Waits}
 use Rattle.rcv_journal.specs.JournalText.{name_of, word_text}
-use Rattle.rcv_form.specs.Form.{IsFormedEvent, IsFormedRecovery}
+use Rattle.rcv_journal.specs.Form.{IsFormedEvent, IsFormedRecovery}
 use Rattle.rcv_lines.specs.Cutting.{joined}
 use Rattle.rcv_lines.specs.Fields.{event_fields, line_fields}
 use Rattle.rcv_lines.specs.Laws.{LinesSayOneThing}

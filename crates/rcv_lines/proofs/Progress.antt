@@ -8,8 +8,8 @@ use Rattle.rcv_session.specs.Session.{SessionView, roles_of}
 use Rattle.rcv_journal.specs.declared.line.RoleLine.{RoleLine}
 use Rattle.rcv_journal.specs.declared.line.RoleWord.TheVariants.{Waits}
 use Rattle.rcv_journal.specs.JournalText.{entry_line, role_line}
-use Rattle.rcv_form.specs.Journal.{JournalView}
-use Rattle.rcv_form.specs.Form.{IsFormed, IsFormedEntry, MayBegin, Spells, journal_lines, lines_of, end_line}
+use Rattle.rcv_journal.specs.Recorded.{JournalView}
+use Rattle.rcv_journal.specs.Form.{IsFormed, IsFormedEntry, MayBegin, Spells, journal_lines, lines_of, end_line}
 use Rattle.rcv_lines.specs.Line.{LineView, EntryLine, RoleLineOf, EndLine, AreLimited, IsFormedLine, IsFormedRoleLine, SaysLine, line_text}
 use Rattle.rcv_lines.specs.Reading.{ReadingView, MayCome, Follows, IsRead, nothing_read, with_line, Takes, TakesText}
 use Rattle.rcv_lines.proofs.Order.{Ordered, ordered, at_places, ordered_more}

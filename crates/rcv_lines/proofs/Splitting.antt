@@ -7,7 +7,7 @@ use Rattle.std.proofs.lemmas.List.{take_all}
 use Rattle.std.proofs.lemmas.List.Quantifiers.{position-Some}
 use Rattle.std.proofs.lemmas.List.Sums.{fails_before_first}
 use Rattle.std.specs.List.{position_or_len}
-use Rattle.rcv_form.specs.Form.{lines_from, lines_of}
+use Rattle.rcv_journal.specs.Form.{lines_from, lines_of}
 
 -- one byte more
 pub goes_on : (begun : List ℕ) (b : ℕ) (rest : List ℕ) → lines_from begun (b ∷ rest) ≡ cond (b == 10) ((begun ++ b ∷ []) ∷ lines_from [] rest) (lines_from (begun ++ b ∷ []) rest)

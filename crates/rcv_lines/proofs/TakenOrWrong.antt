@@ -2,8 +2,8 @@
 use Rattle.std.proofs.Common.{◌≡◌, ◌∙◌, ◌+◌, ℕ, Bool, true, false, List, [], ◌∷◌, ◌++◌, length, refl, sym, subst, ◌⊎◌, inl, inr, ⊎_elim, append_assoc, append-nil}
 use Rattle.std.proofs.lemmas.Bool.{cases_eq}
 use Rattle.rcv_session.specs.Session.{SessionView, roles_of}
-use Rattle.rcv_form.specs.Journal.{JournalView, bare}
-use Rattle.rcv_form.specs.Form.{Spells, IsFirstWrong, lines_of}
+use Rattle.rcv_journal.specs.Recorded.{JournalView, bare}
+use Rattle.rcv_journal.specs.Form.{Spells, IsFirstWrong, lines_of}
 use Rattle.rcv_lines.specs.Line.{LineView, EntryLine, RoleLineOf, EndLine, SaysLine}
 use Rattle.rcv_lines.specs.Reading.{ReadingView, MayCome, Follows, IsRead, nothing_read, with_line}
 use Rattle.rcv_lines.specs.ReadingLaws.{TextsAreTakenOrWrong}

@@ -12,12 +12,12 @@ use Rattle.rcv_tree.specs.declared.protocol.Protocol.{Protocol}
 use Rattle.rcv_session.specs.Session.{net_for, roles_of}
 use Rattle.rcv_journal.specs.declared.line.RoleLine.{RoleLine}
 use Rattle.rcv_journal.specs.declared.line.RoleWord.TheVariants.{Done, Limit, Waits}
-use Rattle.rcv_form.specs.Journal.{JournalView, bare}
-use Rattle.rcv_form.specs.Form.{IsFormed, IsFormedEntry, Spells, IsFirstWrong, lines_of, journal_lines}
+use Rattle.rcv_journal.specs.Recorded.{JournalView, bare}
+use Rattle.rcv_journal.specs.Form.{IsFormed, IsFormedEntry, Spells, IsFirstWrong, lines_of, journal_lines}
 use Rattle.std.specs.Fmt.{signed_decimal}
 use Rattle.std.proofs.lemmas.List.Folds.{list_any-append}
 use Rattle.rcv_journal.specs.JournalText.{entry_line, role_line, event_text, name_of}
-use Rattle.rcv_form.specs.Form.{end_line}
+use Rattle.rcv_journal.specs.Form.{end_line}
 use Rattle.rcv_lines.specs.Line.{LineView, EntryLine, RoleLineOf, EndLine, line_text}
 use Rattle.rcv_lines.specs.Reading.{IsRead}
 use Rattle.rcv_model.specs.Script.{Literal, SendLine}

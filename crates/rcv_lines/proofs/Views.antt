@@ -7,7 +7,7 @@ use Rattle.rcv_tree.specs.declared.entry.Entry.{Entry}
 use Rattle.rcv_session.specs.Session.{SessionView}
 use Rattle.rcv_journal.specs.declared.line.RoleLine.{RoleLine}
 use Rattle.rcv_journal.specs.JournalText.{entry_line, role_line}
-use Rattle.rcv_form.specs.Form.{IsFormedEntry}
+use Rattle.rcv_journal.specs.Form.{IsFormedEntry}
 use Rattle.rcv_lines.specs.Line.{LineView, EntryLine, RoleLineOf, EndLine, IsFormedLine, IsFormedRoleLine, line_text}
 use Rattle.rcv_lines.specs.Reading.{end_read}
 

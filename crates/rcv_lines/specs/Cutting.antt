@@ -14,7 +14,7 @@ fields_from begun (b ∷ rest) = if b == 32 then begun ∷ fields_from [] rest e
 abbrev pub fields_of : List ℕ → List (List ℕ)
 fields_of text = fields_from [] text
 
--- The text of fields: a space between each two of them.
+-- The text of fields, with a space before each field after the first.
 abbrev pub spaced : List ℕ → List ℕ
 spaced field = 32 ∷ field
 

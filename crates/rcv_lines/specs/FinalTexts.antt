@@ -11,8 +11,8 @@ use Rattle.rcv_session.specs.Session.{SessionView, roles_of, rules_of}
 use Rattle.rcv_journal.specs.declared.line.RoleLine.{RoleLine}
 use Rattle.rcv_journal.specs.JournalText.{is_limit}
 use Rattle.rcv_journal.specs.Lines.{AreLinesOf, IsTextOf}
-use Rattle.rcv_form.specs.Journal.{bare}
-use Rattle.rcv_form.specs.Form.{Spells}
+use Rattle.rcv_journal.specs.Recorded.{bare}
+use Rattle.rcv_journal.specs.Form.{Spells}
 
 -- The number that the entry carries, if it carries one, fits 64 bits.
 abbrev pub HasFittingValue : Entry → Type 0

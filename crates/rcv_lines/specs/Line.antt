@@ -4,9 +4,9 @@ use Rattle.rcv_tree.specs.declared.entry.Entry.{Entry}
 use Rattle.rcv_session.specs.Session.{SessionView, roles_of}
 use Rattle.rcv_journal.specs.declared.line.RoleLine.{RoleLine}
 use Rattle.rcv_journal.specs.JournalText.{entry_line, role_line}
-use Rattle.rcv_form.specs.Form.{IsFormedEntry, end_line}
+use Rattle.rcv_journal.specs.Form.{IsFormedEntry, end_line}
 
--- An entry, how a role ended, or how the session ended: the roles at the limit, none where it is completed.
+-- An entry, how a role ended, or how the session ended: the roles at the limit, or none if it is completed.
 pub data LineView : Type 0 where
   EntryLine : (entry : Entry) → LineView
   RoleLineOf : (line : RoleLine) → LineView

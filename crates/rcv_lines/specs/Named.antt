@@ -29,7 +29,7 @@ abbrev pub BeginOtherwise : List ℕ → List (List ℕ) → Type 0
 BeginOtherwise name [] = Unit {0}
 BeginOtherwise name (field ∷ fields) = field ≡ name → ⊥
 
--- Where the fields say a cut of the role with this name first, these are the fields behind it; they say no cut.
+-- If the fields first say a cut of the role with this name, these are the fields after it; and: they say no such cut.
 abbrev pub OnlyLeaves : List ℕ → List (List ℕ) → List (List ℕ) → Type 0
 OnlyLeaves name fields left =
     (kept : Option ℕ) (rest : List (List ℕ)) → FitsCut kept → BeginOtherwise name rest → fields ≡ cut_fields name kept ++ rest → left ≡ rest
@@ -38,14 +38,14 @@ abbrev pub SayNoCut : List ℕ → List (List ℕ) → Type 0
 SayNoCut name fields =
     (kept : Option ℕ) (rest : List (List ℕ)) → FitsCut kept → BeginOtherwise name rest → fields ≡ cut_fields name kept ++ rest → ⊥
 
--- What it says of role q, where it names these roles with these counts.
+-- What the recovery says of role q, if it names these roles with these counts.
 abbrev pub cut_at : ℕ → List ℕ → ℕ → Option ℕ
 cut_at concerned kept q = if has_bit concerned q then Some (slice_index kept q) else None
 
 abbrev pub kept_fields : List (List ℕ) → ℕ → List ℕ → ℕ → List (List ℕ)
 kept_fields names concerned kept q = cut_fields (name_at names q) (cut_at concerned kept q)
 
--- What it says of the first so many roles.
+-- What it says of the first roles, so many of them.
 abbrev pub cuts_fields : List (List ℕ) → ℕ → List ℕ → ℕ → List (List ℕ)
 cuts_fields names concerned kept count = flat_map (kept_fields names concerned kept) (range_with_len 0 count)
 

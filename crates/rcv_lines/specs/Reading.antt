@@ -3,8 +3,8 @@ use Rattle.std.specs.Prelude.{◌≡◌, ◌≤◌, ◌<◌, ◌^◌, ◌⊎◌,
 use Rattle.rcv_session.specs.Session.{SessionView, roles_of}
 use Rattle.rcv_journal.specs.declared.line.RoleLine.{RoleLine}
 use Rattle.rcv_journal.specs.JournalText.{entry_line, role_line}
-use Rattle.rcv_form.specs.Journal.{JournalView}
-use Rattle.rcv_form.specs.Form.{IsFormedEntry, end_line}
+use Rattle.rcv_journal.specs.Recorded.{JournalView}
+use Rattle.rcv_journal.specs.Form.{IsFormedEntry, end_line}
 use Rattle.rcv_lines.specs.Line.{LineView, EntryLine, RoleLineOf, EndLine, AreLimited, SaysLine}
 
 -- What was read so far: the entries and the lines of roles, and whether the last line was read too.
@@ -15,17 +15,17 @@ pub record ReadingView : Type 0 where
 abbrev pub nothing_read : ReadingView
 nothing_read = record { journal = record { entries = []; roles = []; limited = [] }; over = false }
 
--- The line may come behind so many lines of roles: an entry behind none, the roles in order, the last line behind all.
+-- The line may come after so many lines of roles: an entry after none, the roles in order, the last line after all.
 abbrev pub MayCome : ℕ → ℕ → LineView → Type 0
 MayCome roles n (EntryLine e) = n ≡ 0
 MayCome roles n (RoleLineOf line) = line.role ≡ n
 MayCome roles n (EndLine limited) = n ≡ roles
 
--- The line may come next; none comes behind the last one.
+-- The line may come next. None comes after the last one.
 abbrev pub Follows : ℕ → ReadingView → LineView → Type 0
 Follows roles r said = (r.over ≡ false) × MayCome roles (length r.journal.roles) said
 
--- What was read with one line more.
+-- What was read, with one more line.
 abbrev pub with_line : ReadingView → LineView → ReadingView
 with_line r (EntryLine e) = record {
   journal = record { entries = r.journal.entries ++ e ∷ []; roles = r.journal.roles; limited = r.journal.limited };
@@ -40,7 +40,7 @@ with_line r (EndLine limited) = record {
   over = true;
 }
 
--- The last line, where it was read.
+-- The last line, if it was read.
 abbrev pub end_read : SessionView → Bool → List ℕ → List (List ℕ)
 end_read setup over limited = if over then end_line setup limited ∷ [] else []
 
@@ -59,11 +59,11 @@ pub record IsRead (setup : SessionView) (lines : List (List ℕ)) (r : ReadingVi
   pub all : r.over ≡ true → length r.journal.roles ≡ roles_of setup
   pub are_lines : lines ≡ lines_read setup r
 
--- The line was read, where it may come next; else it can't come.
+-- The line may come next, and was read; or it can't come.
 abbrev pub Takes : ℕ → ReadingView → LineView → Bool → ReadingView → Type 0
 Takes roles old said taken new = MatchBool taken (Follows roles old said × (new ≡ with_line old said)) (Follows roles old said → ⊥)
 
--- A line's text was read, where what it says may come next; else it says nothing, or what can't come.
+-- What a line's text says may come next, and was read; or the text says nothing, or what can't come.
 abbrev pub TakesText : SessionView → ReadingView → List ℕ → Bool → ReadingView → Type 0
 TakesText setup old text taken new =
     MatchBool taken

@@ -3,8 +3,8 @@ use Rattle.std.specs.Prelude.{◌≡◌, ◌⊎◌, ℕ, List, flat_map}
 use Rattle.rcv_tree.specs.declared.protocol.Protocol.{Protocol}
 use Rattle.rcv_accept.specs.Accepted.{IsAcceptedProtocol}
 use Rattle.rcv_session.specs.Session.{SessionView}
-use Rattle.rcv_form.specs.Journal.{JournalView, bare}
-use Rattle.rcv_form.specs.Form.{IsFormed, Spells, IsFirstWrong, journal_lines}
+use Rattle.rcv_journal.specs.Recorded.{JournalView, bare}
+use Rattle.rcv_journal.specs.Form.{IsFormed, Spells, IsFirstWrong, journal_lines}
 
 -- The text of a journal of the form is read as this journal.
 abbrev pub JournalsAreReadBack : Type 0

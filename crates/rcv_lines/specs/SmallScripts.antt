@@ -1,4 +1,4 @@
--- Scripts whose numbers fit 64 bits, as those that were read, send numbers that fit 64 bits.
+-- Scripts whose numbers fit 64 bits, such as those that were read, send numbers that fit 64 bits.
 use Rattle.std.specs.Prelude.{◌<◌, ◌^◌, List, All, FitsSigned}
 use mir.Syntax.{w64}
 use Rattle.rcv_tree.specs.declared.entry.Entry.{Entry}

@@ -4,8 +4,8 @@ ghost use Rattle.std.specs.Prelude.{◌≡◌, ◌<◌, ◌≤◌, ◌^◌, ◌�
 ghost use Rattle.rcv_tree.specs.declared.event.Event.{Event};
 ghost use Rattle.rcv_tree.specs.declared.event.Dir.TheVariants.{Sent, Got};
 ghost use Rattle.rcv_session.specs.Session.{net_for};
-ghost use Rattle.rcv_form.specs.Form.{IsFormedEvent};
-ghost use Rattle.rcv_form.specs.Journal.{bare};
+ghost use Rattle.rcv_journal.specs.Form.{IsFormedEvent};
+ghost use Rattle.rcv_journal.specs.Recorded.{bare};
 ghost use Rattle.rcv_lines.specs.Cutting.{texts};
 ghost use Rattle.rcv_lines.specs.Events.{SaysEvent};
 ghost use Rattle.rcv_lines.specs.Fields.{event_fields, SayNoEvent, SayNoRecv};
@@ -37,7 +37,7 @@ fn label(accepted: &Accepted, point: Point) -> &[u8]
     accepted.points().label(point)
 }
 
-// The point of this number, where there are so many.
+// The point of this number, if there are so many.
 fn point_within(number: u32, count: u16) -> Option<Point>
     ensures first { IfSome result (λ p. 1 ≤ p) }
     ensures last { IfSome result (λ p. p ≤ count) }
@@ -68,7 +68,7 @@ fn point(accepted: &Accepted, field: &[u8]) -> Option<Point>
     point_within(number, count)
 }
 
-// The event that these fields say, with this stamp of its own and as that of its Send.
+// The event that these fields say. Its own stamp is this one, and so is that of its Send.
 fn event_of(
     accepted: &Accepted,
     dir: Dir,
@@ -100,7 +100,7 @@ fn event_of(
     })
 }
 
-// The event that the six fields say, of which the first is its kind; a Send's, or a Recv's without the stamp of its
+// The event that the six fields say. The first field is its kind. It is a Send, or a Recv without the stamp of its
 // Send.
 fn event(accepted: &Accepted, dir: Dir, kind: &[u8], fields: &[&[u8]]) -> Option<Event>
     ensures formed { IfSome result (λ e. IsFormedEvent (bare accepted.now.protocol) dir e) }

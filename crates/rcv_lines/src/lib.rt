@@ -24,12 +24,12 @@ pub fn lines_end_in_feeds()
     ensures { LinesEndInFeeds }
 {}
 
-/// A line says one thing at most, where the protocol is accepted.
+/// If the protocol is accepted, a line says at most one thing.
 pub fn lines_say_one_thing()
     ensures { LinesSayOneThing }
 {}
 
-/// The text of a journal of the form is read as this journal, where the protocol is accepted.
+/// If the protocol is accepted, the text of a journal of the form is read as this journal.
 pub fn journals_are_read_back()
     ensures { JournalsAreReadBack }
 {}
@@ -59,7 +59,7 @@ pub fn final_texts_are_read_back()
     ensures { FinalTextsAreReadBack }
 {}
 
-/// The numbers that a legal journal carries fit 64 bits, where those of the scripts do.
+/// The numbers that a legal journal carries fit 64 bits, if those of the scripts do.
 pub fn values_fit()
     ensures { ValuesFit }
 {}

@@ -1,7 +1,7 @@
 // What one line of a journal says.
 
 ghost use Rattle.std.specs.Prelude.{◌≡◌, IfOk, IfSome, IfNone};
-ghost use Rattle.rcv_form.specs.Journal.{bare};
+ghost use Rattle.rcv_journal.specs.Recorded.{bare};
 ghost use Rattle.rcv_lines.specs.Line.{LineView, SaysLine};
 ghost use Rattle.rcv_lines.specs.Said.{view_of};
 
@@ -13,8 +13,8 @@ use rcv_tree::entry::Entry;
 use rcv_tree::role::RoleId;
 use std::alloc::{AllocError, Global};
 
-/// What a line of a journal says: an entry, how a role ended, or how the session ended, which is the roles at the limit
-/// in order, and none where it is completed.
+/// What a line of a journal says: an entry, how a role ended, or how the session ended. The last is the roles at the
+/// limit in order, or none if the session is completed.
 #[derive(Drop)]
 pub enum Line {
     Entry(Entry),
@@ -22,8 +22,8 @@ pub enum Line {
     End(Vec<RoleId>),
 }
 
-/// What a line of a journal of this protocol says, which is given with its line feed; none where no line of the form
-/// has this text. It fails if memory runs out.
+/// What a line of a journal of this protocol says. The line is given with its line feed. None if no line of the form
+/// has this text. Fails if memory runs out.
 #[tactic(auto, using(crate::proofs::Texts::other_end, crate::proofs::Texts::no_end))]
 pub fn read_line(
     alloc: Global,

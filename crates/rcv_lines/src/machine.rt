@@ -6,7 +6,7 @@ ghost use Rattle.rcv_lines.specs.Line.{EntryLine, RoleLineOf, EndLine};
 ghost use Rattle.rcv_lines.specs.Reading.{nothing_read, Takes};
 
 use crate::line::Line;
-use rcv_form::journal::Journal;
+use rcv_journal::recorded::Journal;
 use rcv_journal::line::RoleLine;
 use rcv_tree::entry::Entry;
 use rcv_tree::role::RoleId;
@@ -65,7 +65,7 @@ impl Reading {
         Ok(true)
     }
 
-    // Reads the last line, behind those of so many roles.
+    // Reads the last line, after those of so many roles.
     fn end(&mut self, roles: usize, limited: Vec<RoleId>) -> bool
         ensures { Takes roles self.old (EndLine limited.items) result self.new }
     {
@@ -77,8 +77,8 @@ impl Reading {
         true
     }
 
-    /// Reads a line of the journal of a protocol with so many roles, where it may come next; else it answers that it
-    /// didn't. Fails if memory runs out.
+    /// Reads a line of the journal of a protocol with so many roles, if it may come next; else answers that it didn't.
+    /// Fails if memory runs out.
     pub fn take(&mut self, roles: usize, line: Line) -> Result<bool, AllocError>
         ensures { IfOk result (λ taken. Takes roles self.old (view_of line) taken self.new) }
     {
@@ -89,7 +89,7 @@ impl Reading {
         }
     }
 
-    /// The journal, where its last line was read. It takes no memory.
+    /// The journal, if its last line was read. It takes no memory.
     pub fn finish(self) -> Option<Journal>
         ensures some { IfSome result (λ journal. (self.over ≡ true) × (journal ≡ self.journal)) }
         ensures none { IfNone result (self.over ≡ false) }

@@ -34,7 +34,8 @@ fn is_signed_written(number: i64, field: &[u8]) -> bool
     is_same(field, written.format(number).as_bytes())
 }
 
-// The number whose text this is. It is written again to see that: the parse also takes a sign and zeros in front.
+// The number whose text this is. The number is written again to check that, because the parse also takes a sign and
+// zeros in front.
 pub fn number(field: &[u8]) -> Option<u64>
     ensures some { IfSome result (λ n. field.now ≡ decimal n) }
     ensures none { IfNone result ((n : ℕ) → n < 2 ^ 64 → field.now ≡ decimal n → ⊥) }
@@ -52,7 +53,7 @@ pub fn number(field: &[u8]) -> Option<u64>
     }
 }
 
-// The number, where 32 bits hold it.
+// The number, if 32 bits hold it.
 fn short(number: u64) -> Option<u32>
     ensures some { IfSome result (λ n. n ≡ number) }
     ensures none { IfNone result ((2 ^ 32 ≤ number) × (number < 2 ^ 64)) }
@@ -86,7 +87,7 @@ pub fn signed_number(field: &[u8]) -> Option<i64>
     }
 }
 
-// The number whose text stands behind this mark.
+// The number whose text stands after this mark.
 pub fn marked_number(mark: u8, field: &[u8]) -> Option<u64>
     ensures some { IfSome result (λ n. field.now ≡ mark ∷ decimal n) }
     ensures none { IfNone result ((n : ℕ) → n < 2 ^ 64 → field.now ≡ mark ∷ decimal n → ⊥) }

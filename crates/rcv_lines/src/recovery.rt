@@ -38,7 +38,7 @@ impl Cuts {
         let _concerned = self.concerned.0;
     }
 
-    // The role, which is below 8, keeps so many events where a count is given.
+    // The role, which is below 8, keeps so many events if a count is given.
     fn with(self, role: RoleId, count: Option<u32>) -> Cuts
         requires { role < 8 }
         ensures none { count ≡ None → result ≡ self }
@@ -60,7 +60,7 @@ impl Cuts {
     }
 }
 
-// How many events the role with this name keeps, where the fields say it first, and the fields behind that.
+// How many events the role with this name keeps, if the fields say it first, and the fields after that.
 fn cut<'a, 'b>(name: &[u8], fields: &'a [&'b [u8]]) -> Option<(Option<u32>, &'a [&'b [u8]])>
     ensures some { IfSome result (λ read. texts fields.entry.now ≡ cut_fields name.now read.0 ++ texts read.1.now) }
     ensures fits { IfSome result (λ read. FitsCut read.0) }

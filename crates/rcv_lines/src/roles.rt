@@ -1,7 +1,7 @@
 // Fields that say how a role, or the session, ended.
 
 ghost use Rattle.std.specs.Prelude.{◌≡◌, ◌∷◌, ℕ, List, [], codes, true, false, IfOk, IfSome, IfNone};
-ghost use Rattle.rcv_form.specs.Journal.{bare};
+ghost use Rattle.rcv_journal.specs.Recorded.{bare};
 ghost use Rattle.rcv_journal.specs.declared.line.RoleLine.{RoleLine};
 ghost use Rattle.rcv_journal.specs.declared.line.RoleWord.{RoleWord};
 ghost use Rattle.rcv_journal.specs.JournalText.{word_text};
@@ -111,8 +111,8 @@ fn limited(
     roles_in_order(alloc, accepted.protocol().roles.as_slice(), rest)
 }
 
-// The roles at the limit that the fields of the last line say; none where the session is completed. Fails where memory
-// runs out.
+// The roles at the limit that the fields of the last line say; none if the session is completed. Fails if memory runs
+// out.
 #[tactic(auto, using(crate::proofs::Ends::completed_said, crate::proofs::Ends::limited_said, crate::proofs::Ends::neither_said))]
 pub fn end(
     alloc: Global,

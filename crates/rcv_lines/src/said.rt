@@ -1,7 +1,7 @@
 // What fields say.
 
 ghost use Rattle.std.specs.Prelude.{◌≡◌, IfOk, IfSome, IfNone};
-ghost use Rattle.rcv_form.specs.Journal.{bare};
+ghost use Rattle.rcv_journal.specs.Recorded.{bare};
 ghost use Rattle.rcv_lines.specs.Cutting.{texts};
 ghost use Rattle.rcv_lines.specs.Fields.{line_fields, SayNothing};
 ghost use Rattle.rcv_lines.specs.Line.{IsFormedLine};

@@ -1,15 +1,15 @@
 // A journal's text, read back line by line.
 
 ghost use Rattle.std.specs.Prelude.{◌≡◌, ◌==◌, ◌<◌, ◌≤◌, ◌-◌, ◌^◌, ◌∷◌, ℕ, length, take, drop, position, IfOk, IfErr};
-ghost use Rattle.rcv_form.specs.Journal.{bare};
-ghost use Rattle.rcv_form.specs.Form.{Spells, IsFirstWrong, lines_of};
+ghost use Rattle.rcv_journal.specs.Recorded.{bare};
+ghost use Rattle.rcv_journal.specs.Form.{Spells, IsFirstWrong, lines_of};
 ghost use Rattle.rcv_lines.specs.Reading.{TakesText};
 ghost use Rattle.rcv_lines.specs.declared.text.LinesError.TheVariants.{Line, Memory};
 
 use crate::line::read_line;
 use crate::machine::Reading;
 use rcv_accept::accepted::Accepted;
-use rcv_form::journal::Journal;
+use rcv_journal::recorded::Journal;
 use std::alloc::{AllocError, Global};
 use thiserror::Error;
 
@@ -17,7 +17,7 @@ use thiserror::Error;
 #[derive(Clone, Copy, Debug, PartialEq, Eq, Error)]
 pub enum LinesError {
     /// The first line, counted from 1, at which the text isn't of the form: no text of the form begins with the lines
-    /// up to it, but one does with those before it. It is the number of lines plus 1 where the text stops too early.
+    /// up to it, but one does with those before it. It is the number of lines plus 1 if the text stops too early.
     #[error("the text isn't of the form at its line {0}")]
     Line(u32),
     /// No memory was left.
@@ -80,8 +80,8 @@ fn read_next(
 }
 
 /// The journal of an accepted protocol that a text of fewer than 2^32 - 1 bytes says, or the first line at which the
-/// text is none of the form. Whether the entries are legal and the last lines fit them isn't asked. `Memory` where
-/// memory runs out.
+/// text isn't of the form. It doesn't check whether the entries are legal, or whether the last lines fit them. `Memory`
+/// if memory runs out.
 pub fn read_text(alloc: Global, text: &[u8], accepted: &Accepted) -> Result<Journal, LinesError>
     requires { length text.now < 2 ^ 32 - 1 }
     ensures ok { IfOk result (λ journal. Spells (bare accepted.now.protocol) text.now journal) }

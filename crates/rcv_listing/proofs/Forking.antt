@@ -6,7 +6,7 @@ use Rattle.std.proofs.lemmas.List.{get_or_past}
 use Rattle.rcv_model.specs.Net.{Net, IsIn}
 use Rattle.rcv_model.specs.Next.{has_end, is_nil, next_begins, owns, met_behind, met_by, points_in}
 use Rattle.rcv_points.specs.Follow.{PointsView, no_lane, net_in}
-use Rattle.rcv_next.specs.Ahead.{IsMetBy}
+use Rattle.rcv_points.specs.Ahead.{IsMetBy}
 use Rattle.rcv_accept.specs.Lists.{IsInText, AreInText}
 use Rattle.rcv_listing.specs.declared.written.PointLines.{PointLines}
 use Rattle.rcv_listing.specs.Lines.{choice_text, IsWay, choice, nothing}

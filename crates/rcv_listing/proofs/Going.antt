@@ -8,7 +8,7 @@ use Rattle.rcv_lexer.specs.declared.token.Token.{Token}
 use Rattle.rcv_lexer.specs.Tokens.{AreTokens, IsOfKind, bytes_of}
 use Rattle.rcv_lexer.specs.Parts.{parts_of}
 use Rattle.rcv_lexer.proofs.TokenBytes.{words_are_words}
-use Rattle.rcv_scan.specs.Symbols as scan
+use Rattle.rcv_lexer.specs.Symbols as scan
 use Rattle.rcv_syntax.specs.declared.sign.Sign.{Sign}
 use Rattle.rcv_syntax.specs.declared.sign.Sign.TheVariants.{Open, Close, Continue}
 use Rattle.rcv_syntax.specs.declared.fault.Fault.{Fault}

@@ -11,7 +11,7 @@ use Rattle.rcv_model.specs.Form.{HasForm}
 use Rattle.rcv_model.specs.Places.{net_of}
 use Rattle.rcv_model.specs.Next.{IsPlaceOf}
 use Rattle.rcv_model.specs.Accept.{Fails, subject, mixed, senders, labels, not_enabled, maybe_done, unreachable, lane_end}
-use Rattle.rcv_lexer.specs.declared.token.TextError.TheVariants as errors
+use Rattle.rcv_tree.specs.declared.refusal.TextError.TheVariants as errors
 use Rattle.rcv_points.specs.Follow.{PointsView, ChoiceView, IsChosen, ArePointsOf, net_in}
 use Rattle.rcv_points.proofs.Whole.{same_net}
 use Rattle.rcv_accept.specs.Accepted.{IsAcceptedProtocol, IsRefusedBy}

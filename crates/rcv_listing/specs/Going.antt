@@ -1,4 +1,4 @@
--- What may stand behind the tokens before a refusal goes on with them as some module does, and nothing else does.
+-- What may stand after the tokens before a refusal: some module goes on so. No module goes on with anything else.
 use Rattle.std.specs.Prelude.{ℕ, List, [], ◌∷◌, ◌++◌, take, false, Some}
 use Rattle.rcv_lexer.specs.declared.token.Kind.{Kind}
 use Rattle.rcv_lexer.specs.declared.token.Token.{Token}
@@ -10,13 +10,13 @@ use Rattle.rcv_found.specs.Things.{thing}
 use Rattle.rcv_found.specs.Stops.{IsFirstAt}
 use Rattle.rcv_found.specs.May.{IsNotHad}
 
--- A symbol that is no name but the empty one, which stands for all names.
+-- A symbol that isn't a name, or is the empty name, which stands for all names.
 abbrev pub IsTame : Symbol → Type 0
 IsTame (Word (b ∷ bs)) = ⊥
 IsTame _ = Unit {0}
 
--- With what the grammar doesn't have behind tokens no module begins that begins with these tokens. With what it has at the
--- token at which the reader refuses a text by the grammar some module does.
+-- If the reader refuses a text by the grammar at a token, some module begins with the tokens before it and any such symbol that the grammar
+-- has there. No module begins with tokens and a symbol that the grammar doesn't have after them.
 pub record ListedGoOn : Type 0 where
   pub some : (input : List ℕ) (tokens : List Token) (place : ℕ) (kind : Kind) (bytes : List ℕ) → AreProtocolTokens input tokens
       → IsFirstAt OfProtocol input tokens 11 place → IsTame (symbol_by kind bytes)

@@ -27,7 +27,7 @@ written_at input tokens = map (λ (t : Token). bytes_of input t) tokens
 abbrev pub first_lines : List ℕ → List Token → List ℕ
 first_lines input tokens = map (λ (t : Token). line_at input t.span.start) tokens
 
--- Where the tokens are read as a module, those of each protocol that are receivers name the receivers of its points, one
+-- If the tokens of a protocol part are read as a module: those of each protocol that are receivers name the receivers of its points, one
 -- for each, in order; and the lines of a listing are those of their first bytes, and of the first bytes of the words `do`.
 pub record LinesAreThoseOfReceivers : Type 0 where
   pub named : (input : List ℕ) (tokens : List Token) (m : Module) → IsRead input tokens m

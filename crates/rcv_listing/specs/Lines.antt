@@ -94,7 +94,7 @@ decides_text roles role = codes ", stands in its way. There " ++ name_of roles r
 abbrev pub choice_text : List (List ℕ) → Net → List PointLines → ℕ → List ℕ
 choice_text roles net lines p = first_text lines p ++ decides_text roles (net.sender p)
 
--- Which choice stands in the way is said for the code of a send that isn't enabled, if there is one; of other codes nothing.
+-- For the code of a send that isn't enabled, this says which choice stands in the way, if there is one. For other codes it says nothing.
 pub data IsWay (roles : List (List ℕ)) (net : Net) (lines : List PointLines) : ℕ → ℕ → ℕ → List ℕ → Type 0 where
   choice : {role number : ℕ} (p : ℕ) → IsInTheWay net role number p → IsWay roles net lines 24 role number (choice_text roles net lines p)
   nothing : {code role number : ℕ} → (code ≡ 24 → (p : ℕ) → IsInTheWay net role number p → ⊥) → IsWay roles net lines code role number []
@@ -119,7 +119,7 @@ pub record IsTold (roles : List (List ℕ)) (net : Net) (lines : List PointLines
 abbrev pub IsNumberIn : Net → ℕ → ℕ → Type 0
 IsNumberIn net code number = (number ≤ net.count) × (IsTrue (not (is_at_place code)) → 1 ≤ number)
 
--- The text goes on by what is said of a refusal.
+-- The text goes on with what is said of a refusal.
 abbrev pub AddsTold : List (List ℕ) → Net → List PointLines → ℕ → ℕ → ℕ → List ℕ → List ℕ → Type 0
 AddsTold roles net lines code role number before after =
     (told : List ℕ) × IsTold roles net lines code role number told × (after ≡ before ++ told)
@@ -128,7 +128,7 @@ AddsTold roles net lines code role number before after =
 abbrev pub IsRuleIn : Net → Refusal → Type 0
 IsRuleIn net r = (code : ℕ) × (role : ℕ) × (number : ℕ) × (r ≡ refusals.Rule code role number) × HasRule code × IsNumberIn net code number
 
--- The text goes on by what is said of this refusal.
+-- The text goes on with what is said of this refusal.
 abbrev pub AddsRefusal : List (List ℕ) → Net → List PointLines → Refusal → List ℕ → List ℕ → Type 0
 AddsRefusal roles net lines r before after =
     (code : ℕ) × (role : ℕ) × (number : ℕ) × (r ≡ refusals.Rule code role number) × AddsTold roles net lines code role number before after

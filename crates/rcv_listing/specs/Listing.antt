@@ -41,7 +41,7 @@ IsUnreadable input (errors.Refused r) = (code : ℕ) × (line : ℕ) × (r ≡ L
 abbrev pub points_of : Protocol → List PointLines → List ℕ
 points_of p lines = all_text p.roles (net_of (body_of p.body)) lines
 
--- Behind them stands what is said of the refusal by a rule.
+-- After them stands what is said of the refusal by a rule.
 abbrev pub IsRuledOut : Protocol → List PointLines → List ℕ → Type 0
 IsRuledOut p lines text =
     (code : ℕ) × (role : ℕ) × (number : ℕ) × (told : List ℕ) × IsRefusal (body_of p.body) (length p.roles) code role number
@@ -52,8 +52,8 @@ pub record AreRestRead (input : List ℕ) (p : Protocol) : Type 0 where
   pub are_scripts : IsFindingIn (OfScripts (record { protocol = p })) input (parts_of input).scripts Taken
   pub plan : IsFindingIn (OfPlan (record { protocol = p })) input (parts_of input).plan Taken
 
--- For an accepted protocol, of which a text has the points: this text if the scripts and the plan are read; else behind it an
--- empty line, and what is said of their refusal.
+-- For an accepted protocol whose points are in a text: this text if the scripts and the plan are read; else this text, an empty line, and
+-- what is said of their refusal.
 abbrev pub IsListedAs : List ℕ → Protocol → List ℕ → Listing → Type 0
 IsListedAs input p points (Accepted text) = AreRestRead input p × (text.items ≡ points)
 IsListedAs input p points (HalfRead text) = (u : unread.Unread) × IsHalfRead input p u × AddsUnread input u (points ++ codes "\n") text.items

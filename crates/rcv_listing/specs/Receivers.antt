@@ -1,13 +1,13 @@
 -- Where the receivers of messages and the calls stand among the tokens of a module.
 use Rattle.std.specs.Prelude.{ℕ, Bool, true, false, if◌then◌else◌, List, [], ◌∷◌, map}
 use Rattle.rcv_lexer.specs.declared.token.Token.{Token}
-use Rattle.rcv_scan.specs.Symbols.{symbol_of}
+use Rattle.rcv_lexer.specs.Symbols.{symbol_of}
 use Rattle.rcv_syntax.specs.declared.sign.Sign.{Sign}
 use Rattle.rcv_syntax.specs.declared.sign.Sign.TheVariants.{Global, To, Semicolon}
 use Rattle.rcv_syntax.specs.Symbols.{Symbol, Is, Word, symbol_by}
 use Rattle.rcv_syntax.specs.Trees.{is_call}
 
--- Whether a list of receivers goes on behind this sign: it begins behind `to`, and ends at a semicolon.
+-- Whether a list of receivers goes on after this sign: it begins after `to`, and ends at a semicolon.
 abbrev pub listed_behind : Bool → Sign → Bool
 listed_behind listed To = true
 listed_behind listed Semicolon = false
@@ -26,14 +26,14 @@ is_receiver listed other = false
 abbrev pub said_by : List ℕ → Token → Symbol
 said_by input token = symbol_of symbol_by input token
 
--- The tokens that are receivers, in order, behind the beginning of a list or not.
+-- The tokens that are receivers, in order. They begin inside a list of receivers or not.
 abbrev pub receivers_of : List ℕ → Bool → List Token → List Token
 receivers_of input listed [] = []
 receivers_of input listed (t ∷ ts) =
     if is_receiver listed (said_by input t) then t ∷ receivers_of input (goes_on listed (said_by input t)) ts
     else receivers_of input (goes_on listed (said_by input t)) ts
 
--- Whether a symbol is the word `global`, behind which a protocol stands.
+-- Whether a symbol is the word `global`. A protocol stands after that word.
 abbrev pub is_global : Symbol → Bool
 is_global (Is Global) = true
 is_global other = false

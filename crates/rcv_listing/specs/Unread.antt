@@ -59,7 +59,7 @@ abbrev pub wrong_part : List ℕ → Option Wrong → List ℕ
 wrong_part input None = []
 wrong_part input (Some w) = wrong_text input w
 
--- The text goes on by the refusal's line, what was found, and the rule with its repair.
+-- The text goes on with the refusal's line, what was found, and the rule with its repair.
 abbrev pub AddsUnread : List ℕ → Unread → List ℕ → List ℕ → Type 0
 AddsUnread input u before after =
     (told : List ℕ) × IsRuleTold u.code told × (after ≡ before ++ (refusal_line (Line u.code u.line) ++ wrong_part input u.wrong ++ told))

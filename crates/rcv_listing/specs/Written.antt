@@ -4,11 +4,11 @@ use Rattle.rcv_module.specs.declared.origin.Called.{Called}
 use Rattle.rcv_module.specs.declared.origin.Origin.{Origin}
 use Rattle.rcv_listing.specs.declared.written.PointLines.{PointLines}
 
--- The line of the receiver of a point that came from there, where the receivers of each protocol stand at these lines.
+-- The line of the receiver of a point that came from there, if the receivers of each protocol stand at these lines.
 abbrev pub receiver_line : List (List ℕ) → Origin → ℕ
 receiver_line receivers o = slice_index_or (slice_index_or receivers o.protocol []) (o.point - 1) 0
 
--- The lines of calls, where the words `do` of the module stand at these lines.
+-- The lines of calls, if the words `do` of the module stand at these lines.
 abbrev pub call_lines : List ℕ → List Called → List ℕ
 call_lines dos calls = map (λ (c : Called). slice_index_or dos c.number 0) calls
 

@@ -53,7 +53,7 @@ fn write_rest(text: &mut Writer, len: usize) -> Result<(), AllocError>
     }
 }
 
-// The bytes of a token, if need be cut off.
+// The bytes of a token, cut off if there are too many.
 fn write_cut(text: &mut Writer, word: &[u8]) -> Result<(), AllocError>
     ensures { OnOk result (text.new ≡ text.old ++ cut_words word.now) }
 {
@@ -89,7 +89,7 @@ fn write_found(text: &mut Writer, input: &[u8], spot: &Spot) -> Result<(), Alloc
     text.word(b"\n")
 }
 
-// Each of these things, behind a comma.
+// Each of these things, with a comma before it.
 fn write_more(text: &mut Writer, things: &[Thing]) -> Result<(), AllocError>
     ensures { OnOk result (text.new ≡ text.old ++ flat_map next_text things.now) }
 {

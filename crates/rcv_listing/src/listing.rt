@@ -18,10 +18,10 @@ use crate::unread::write_unread;
 use rcv_accept::accept;
 use rcv_accept::accepted::Accepted;
 use rcv_input::{InputError, Refused};
-use rcv_lexer::token::TextError;
 use rcv_points::filling::points_of;
 use rcv_text::writer::Writer;
 use rcv_tree::name::Names;
+use rcv_tree::refusal::TextError;
 use std::alloc::{AllocError, Global};
 
 /// The points of a protocol as text: a line for each, in text order.
@@ -29,7 +29,7 @@ use std::alloc::{AllocError, Global};
 pub enum Listing {
     /// No rule of acceptance refuses the protocol, and its scripts and its plan are read.
     Accepted(Vec<u8>),
-    /// A rule does: what its refusal says stands after the points.
+    /// A rule refuses it: what the refusal says stands after the points.
     RuledOut(Vec<u8>),
     /// The scripts or the plan are refused: what the refusal says stands after the points.
     HalfRead(Vec<u8>),
@@ -37,7 +37,7 @@ pub enum Listing {
     Unread(Vec<u8>),
 }
 
-// The listing of an accepted protocol, of which this text has the points.
+// The listing of an accepted protocol. This text has its points.
 fn listed(
     alloc: Global,
     input: &[u8],

@@ -13,7 +13,7 @@ use rcv_found::grammar::Grammar;
 use rcv_lexer::split;
 use std::alloc::{AllocError, Global};
 
-/// What is said of the protocol part, which isn't read, or whose calls are refused: at this line, by this code.
+/// What is said of a protocol part that isn't read, or whose calls are refused: at this line, by this code.
 #[tactic(auto, using(crate::proofs::Unreading::protocol_uncalled))]
 pub fn unread_protocol(
     alloc: Global,

@@ -12,11 +12,11 @@ use crate::receivers::receiver_lines;
 use crate::written::{PointLines, lines_of_points};
 use rcv_do::expand_traced;
 use rcv_input::{InputError, Refused};
-use rcv_lexer::token::{Span, TextError};
+use rcv_lexer::token::Span;
 use rcv_lexer::{line_feeds, split, tokens};
 use rcv_reader::read_module;
 use rcv_tree::protocol::Protocol;
-use rcv_tree::refusal::Refusal;
+use rcv_tree::refusal::{Refusal, TextError};
 use std::alloc::Global;
 
 /// The expansion of a module, and where each of its points is written.

@@ -3,17 +3,17 @@
 ghost use Rattle.std.specs.Prelude.{◌≡◌, false, ◌∷◌, ◌++◌, IfOk, OnOk};
 ghost use Rattle.std.specs.List.{All};
 ghost use Rattle.rcv_lexer.specs.Parts.{LiesIn};
-ghost use Rattle.rcv_scan.specs.Symbols.{symbol_in};
+ghost use Rattle.rcv_lexer.specs.Symbols.{symbol_in};
 ghost use Rattle.rcv_listing.specs.Receivers.{listed_behind, goes_on, is_receiver, is_global, said_by, up_to_next};
 ghost use Rattle.rcv_listing.specs.Receivers.{receivers_of, lines_of, receiver_lines};
 
 use rcv_lexer::token::Token;
-use rcv_scan::{Alphabet, Lexeme};
+use rcv_lexer::{Alphabet, Lexeme};
 use rcv_syntax::Sign;
 use rcv_tree::module::Lines;
 use std::alloc::{AllocError, Global};
 
-// Whether a list of receivers goes on behind a sign.
+// Whether a list of receivers goes on after a sign.
 fn listed_behind(listed: bool, sign: Sign) -> bool
     ensures { result ≡ listed_behind listed sign }
 {
@@ -24,7 +24,7 @@ fn listed_behind(listed: bool, sign: Sign) -> bool
     }
 }
 
-// Whether it goes on behind what a token says.
+// Whether it goes on after what a token says.
 fn goes_on(listed: bool, lexeme: &Lexeme<'_, Sign>) -> bool
     ensures { result ≡ goes_on listed (symbol_in lexeme.now) }
 {
@@ -53,7 +53,7 @@ fn said_by<'a>(input: &'a [u8], token: &Token) -> Lexeme<'a, Sign>
     Sign::lexeme(token.kind(), &input[span.start..span.end])
 }
 
-// Whether a token that says this is the word `global`, behind which a protocol stands.
+// Whether a token that says this is the word `global`. A protocol stands after that word.
 fn is_global(lexeme: &Lexeme<'_, Sign>) -> bool
     ensures { result ≡ is_global (symbol_in lexeme.now) }
 {

@@ -5,7 +5,7 @@ ghost use Rattle.rcv_points.specs.Follow.{net_in};
 ghost use Rattle.rcv_accept.specs.Lists.{AreInText};
 ghost use Rattle.rcv_listing.specs.Lines.{is_at_place, AreShown, IsNumberIn};
 
-use rcv_next::ahead::look_ahead;
+use rcv_points::ahead::look_ahead;
 use rcv_points::points::Points;
 use rcv_tree::point::Point;
 use rcv_tree::role::RoleId;

@@ -33,7 +33,7 @@ fn write_calls(text: &mut Writer, lines: &[u32]) -> Result<(), AllocError>
 }
 
 impl Table<'_> {
-    /// The name of a role; the empty one where there is no such role.
+    /// The name of a role; the empty one if there is no such role.
     pub fn name(&self, role: RoleId) -> &[u8]
         ensures { result.now ≡ name_of self.now.roles.now role }
     {
@@ -43,7 +43,7 @@ impl Table<'_> {
         }
     }
 
-    /// The line of a point; 0 where there is no such point.
+    /// The line of a point; 0 if there is no such point.
     pub fn line(&self, point: Point) -> u32
         ensures { result ≡ line_of self.now.lines.now point }
     {
@@ -53,7 +53,7 @@ impl Table<'_> {
         }
     }
 
-    // The lines of the calls through which a point came; none where there is no such point.
+    // The lines of the calls through which a point came; none if there is no such point.
     fn calls(&self, point: Point) -> &[u32]
         ensures { result.now ≡ calls_of self.now.lines.now point }
     {

@@ -5,12 +5,12 @@ ghost use Rattle.rcv_points.specs.Follow.{net_in};
 ghost use Rattle.rcv_accept.specs.Lists.{AreInText, IsInText};
 ghost use Rattle.rcv_listing.specs.Way.{IsInTheWay, IsForkOf};
 
-use rcv_next::chain::chain_meets;
+use rcv_points::chain::chain_meets;
 use rcv_points::points::Points;
 use rcv_tree::point::Point;
 use rcv_tree::role::RoleId;
 
-// The first of these points, where they are two at least, and the role meets just them on its chain from the place.
+// The first of these points, if they are two at least and the role meets just them on its chain from the place.
 #[tactic(auto, using(crate::proofs::Forking::too_few))]
 fn fork_of(points: &Points, role: RoleId, place: u16, offered: &[Point]) -> Option<Point>
     requires last { place ≤ length points.now.messages }
@@ -61,8 +61,8 @@ fn fork_at_lanes(points: &Points, role: RoleId, place: u16) -> Option<Point>
     None
 }
 
-/// The first message of the choice at which a role's chain from a place ends: the chain goes on where the role meets one
-/// point that isn't its own, and comes to a choice where it meets two or more. None if it comes to no choice.
+/// The first message of the choice at which a role's chain from a place ends. The chain goes on if the role meets one
+/// point that isn't its own, and comes to a choice if it meets two or more. None if it comes to no choice.
 pub fn choice_in_way(points: &Points, role: RoleId, place: u16) -> Option<Point>
     requires { place ≤ length points.now.messages }
     ensures text { IfSome result (IsInText (net_in points.now)) }

@@ -14,8 +14,8 @@ pub struct PointLines {
     pub calls: Lines,
 }
 
-// The line of the receiver of a point that came from there, where the receivers of each protocol stand at these lines; 0
-// where none of them is its.
+// The line of the receiver of a point that came from there, if the receivers of each protocol stand at these lines; 0
+// if none of them is its.
 fn receiver_line(receivers: &[Lines], origin: &Origin) -> u32
     ensures { result ≡ receiver_line receivers.now origin.now }
 {
@@ -26,7 +26,7 @@ fn receiver_line(receivers: &[Lines], origin: &Origin) -> u32
     }
 }
 
-// The lines of these calls, where the words `do` stand at these lines.
+// The lines of these calls, if the words `do` stand at these lines.
 fn call_lines(alloc: Global, dos: &[u32], calls: &[Called]) -> Result<Lines, AllocError>
     ensures { IfOk result (λ lines. lines ≡ call_lines dos.now calls.now) }
 {
@@ -37,7 +37,7 @@ fn call_lines(alloc: Global, dos: &[u32], calls: &[Called]) -> Result<Lines, All
     Ok(lines)
 }
 
-/// The lines of points that came from there, where the receivers of each protocol stand at these lines, and the words `do`
+/// The lines of points that came from there, if the receivers of each protocol stand at these lines, and the words `do`
 /// of the module at those. Fails if memory runs out.
 pub fn lines_of_points(
     alloc: Global,

@@ -1,7 +1,7 @@
 -- With which statuses answers end.
 use Rattle.std.proofs.Common.{◌≡◌, ℕ, List, [], refl, sym, subst, inl, inr}
 use Rattle.rcv_session.specs.Session.{SessionView}
-use Rattle.rcv_form.specs.Journal.{JournalView}
+use Rattle.rcv_journal.specs.Recorded.{JournalView}
 use Rattle.rcv_replay.specs.declared.replayed.Replayed.{Replayed}
 use Rattle.rcv_replay.specs.declared.replayed.Replayed.TheVariants as replays
 use Rattle.rcv_diagnosis.specs.declared.diagnosis.Finding.{Finding}

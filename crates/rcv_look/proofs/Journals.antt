@@ -11,8 +11,8 @@ use Rattle.rcv_input.specs.declared.refused.InputError.TheVariants as causes
 use Rattle.rcv_input.specs.Input.{IsTaken}
 use Rattle.rcv_input.specs.Refusals.{IsRefused}
 use Rattle.rcv_input.specs.Line.{refusal_line}
-use Rattle.rcv_form.specs.Form.{IsFirstWrong, Spells}
-use Rattle.rcv_form.specs.Journal.{JournalView, bare}
+use Rattle.rcv_journal.specs.Form.{IsFirstWrong, Spells}
+use Rattle.rcv_journal.specs.Recorded.{JournalView, bare}
 use Rattle.rcv_judge.specs.Closing.{ClosesRight, IsFirstWrongClosing}
 use Rattle.rcv_judge.specs.Judged.{IsFirstWrong as IsFirstIllegal}
 use Rattle.rcv_replay.specs.declared.cut.Cut.{Cut}

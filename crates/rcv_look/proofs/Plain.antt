@@ -8,8 +8,8 @@ use Rattle.rcv_tree.specs.declared.entry.Entry.TheVariants.{Send, Recv, Crash, R
 use Rattle.rcv_session.specs.Session.{SessionView, roles_of}
 use Rattle.rcv_journal.specs.declared.line.RoleLine.{RoleLine}
 use Rattle.rcv_journal.specs.JournalText.{entry_line, event_text, kept_text, name_of, role_line, word_text}
-use Rattle.rcv_form.specs.Form.{Spells, end_line, journal_lines, lines_from}
-use Rattle.rcv_form.specs.Journal.{JournalView}
+use Rattle.rcv_journal.specs.Form.{Spells, end_line, journal_lines, lines_from}
+use Rattle.rcv_journal.specs.Recorded.{JournalView}
 use Rattle.rcv_section.specs.Lines.{IsWhole, LineAt}
 use Rattle.rcv_section.specs.Sections.{IsHeading, heading_word}
 use Rattle.rcv_section.specs.Laws.{IsPlain}

@@ -2,7 +2,7 @@
 use Rattle.std.specs.Prelude.{ℕ, List, ⊤}
 use Rattle.rcv_look.specs.Commands.{CommandView, DrawJournal, DrawSession, DrawTold, ReplayJournal, Explain, IsCommand}
 
--- How many bytes a bundle may have, and a bundle with a journal behind it.
+-- How many bytes a bundle may have, and a bundle with a journal after it.
 abbrev pub most_of_bundle : ℕ
 most_of_bundle = 1048576
 

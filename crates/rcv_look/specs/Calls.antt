@@ -20,7 +20,7 @@ pub record Around : Type 0 where
   pub write_faults_before : ℕ
   pub write_faults_after : ℕ
 
--- This of a source, and of a sink by what it tells of its bytes and its faults.
+-- This is told of a source, and of a sink by its bytes and its faults.
 abbrev pub around : {K : Type 0} → Reading → (K → Option (List ℕ)) → (K → ℕ) → K → K → Around
 around source written faults sink sink_after =
     record {
@@ -40,18 +40,18 @@ pub record WroteNothing (call : Around) : Type 0 where
 abbrev pub Takes : Reading → List ℕ → Type 0
 Takes source input = Took source.rest_before source.rest_after source.given_before source.given_after input
 
--- The input is what the source gave. Nothing was read where the words aren't a command that works on that: where they
--- are no command, and where they are `explain`.
+-- The input is what the source gave. Nothing was read if the words aren't a command that works on that: if they are no command,
+-- and if they are `explain`.
 pub record HasTaken (words : List (List ℕ)) (call : Around) (input : List ℕ) : Type 0 where
   pub takes : Takes call.source input
   pub unread : (AskForSource words → ⊥) → ReadNothing call.source
 
--- The input is what the source gave: all that it had where the words are a command that works on that, else nothing.
+-- The input is what the source gave: all that it had if the words are a command that works on that, else nothing.
 pub record IsInput (words : List (List ℕ)) (call : Around) (input : List ℕ) : Type 0 where
   pub taken : HasTaken words call input
   pub whole : AskForSource words → IsAtEnd call.source.rest_after
 
--- The call wrote the bytes of this status, which the words and the input have.
+-- The words and the input have this status with some bytes, and the call wrote those.
 pub record Answers (words : List (List ℕ)) (call : Around) (status : Status) : Type 0 where
   pub input : List ℕ
   pub bytes : List ℕ
@@ -80,8 +80,8 @@ pub record FailsToWrite (words : List (List ℕ)) (call : Around) : Type 0 where
 abbrev pub IsWithinMost : List (List ℕ) → List ℕ → Type 0
 IsWithinMost words input = (command : CommandView) → IsCommand words command → length input ≤ most_for command
 
--- Memory was wanted: no more was taken than an input may have, and nothing was written. It may be wanted by words that
--- are no command, since words take memory to be read.
+-- Memory ran out: no more was taken than an input may have, and nothing was written. It may run out even if the words are no
+-- command, since reading words takes memory.
 pub record WantsMemory (words : List (List ℕ)) (call : Around) : Type 0 where
   pub input : List ℕ
   pub taken : HasTaken words call input
@@ -109,7 +109,7 @@ Says words call WriteFault = FailsToWrite words call
 Says words call Memory = WantsMemory words call
 Says words call TooLong = TakesTooMuch words call
 
--- The count of faults didn't fall. The call ends with this status only where it rose, and always where it is greater
+-- The count of faults didn't fall. The call ends with this status only if it rose, and always if it is greater
 -- than before.
 pub record TellsFault (before now : ℕ) (fault result : Status) : Type 0 where
   pub later : before ≤ now

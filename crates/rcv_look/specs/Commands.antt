@@ -67,8 +67,8 @@ pub record Given : Type 0 where
   pub text : Bool
   pub json : Bool
 
--- The number that is given for the option. `one_of` gives the text without a `-` in front, which only a 0 that passed
--- has.
+-- The number that is given for the option. `one_of` gives the text without a `-` in front. Of the texts that passed, only a 0
+-- has one.
 abbrev pub number_in : Text → List Row → Option ℕ
 number_in name rows = option_map (λ text. digits_value 10 (without_leading_plus text)) (one_of name rows)
 
@@ -104,7 +104,7 @@ abbrev pub journal_for : Option ℕ → CommandView
 journal_for None = DrawJournal
 journal_for (Some number) = DrawSession number
 
--- How the answer is to be written: as a command writes it, as text, or as JSON.
+-- How the answer is written: as a command writes it, as text, or as JSON.
 pub data Form : Type 0 where
   Usual : Form
   AsText : Form

@@ -63,9 +63,9 @@ most_drawn entries = 131072 + 4096 * (if nat_lt entries 450 then entries else 45
 
 -- The bytes are a picture of a session's entries: these events are kept at their end, and the roles ended so.
 --   Its groups tell of the entries: each has one group or stands in one fold, says undone exactly if it isn't kept, and each
--- arrow is a message. Shown are those that the story shows. An entry's title is its line.
+-- arrow is a message. It shows those that the story shows. An entry's title is its line.
 --   What is drawn in a group stands on one grid, by the entries' story: an event's mark in its role's column and its own row,
--- an arrow from mark to mark, a fold's counts, and of a recovery each role that goes back, stays or goes on. The feet say how
+-- an arrow from mark to mark, a fold's counts, and for a recovery each role that goes back, stays or goes on. The feet say how
 -- the roles ended.
 --   The bytes are as few as a picture of so many entries may have.
 pub record IsDrawing (session : SessionView) (entries : List Entry) (kept : List Event) (ends : List RoleEnd) (bytes : List ℕ) : Type 0 where
@@ -88,7 +88,7 @@ pub record IsDrawing (session : SessionView) (entries : List Entry) (kept : List
   pub is_text : IsTextOf picture bytes
   pub short : length bytes ≤ most_drawn (length entries)
 
--- They are one of a session's journal, whose roles ended as these lines say: the kept events are those that the journal
+-- The bytes are a picture of a session's journal, whose roles ended as these lines say: the kept events are those that the journal
 -- leaves.
 abbrev pub IsJournalDrawing : SessionView → List Entry → List RoleLine → List ℕ → Type 0
 IsJournalDrawing session entries lines bytes =
@@ -107,7 +107,8 @@ end_as states.Waits = ends.Waits
 abbrev pub told_end : RoleState → RoleEnd
 told_end own = record { role = own.role; kept = short_count own.kept; raw = short_count own.raw; end = end_as own.state }
 
--- They are one of what a guide was told: the kept events are those that it holds at the end, and the roles stand as it has them.
+-- The bytes are a picture of what a guide was told: the kept events are those that it holds at the end, and the roles stand as
+-- it has them.
 pub record IsToldDrawing (session : SessionView) (entries : List Entry) (bytes : List ℕ) : Type 0 where
   pub states : List RoleState
   pub are_states : AreStates (net_for (accepted_as session.protocol)) (roles_of (accepted_as session.protocol))
@@ -166,7 +167,7 @@ ListsAs (RuledOut text) status bytes = (status ≡ Refused) × (bytes ≡ text.i
 ListsAs (HalfRead text) status bytes = (status ≡ Refused) × (bytes ≡ text.items)
 ListsAs (Unread text) status bytes = (status ≡ Refused) × (bytes ≡ text.items)
 
--- What is answered to `points`: the listing of the input, with what its first refusal says.
+-- The answer to `points`: the listing of the input, with what its first refusal says.
 pub record ArePoints (input : List ℕ) (status : Status) (bytes : List ℕ) : Type 0 where
   pub listing : Listing
   pub is_listing : IsListing input listing
@@ -176,7 +177,7 @@ pub record ArePoints (input : List ℕ) (status : Status) (bytes : List ℕ) : T
 abbrev pub no_rule_line : ℕ → List ℕ
 no_rule_line code = codes "no rule " ++ decimal code ++ codes "\n"
 
--- What is answered to `explain`: the explanation of the rule with this code, or that there is none.
+-- The answer to `explain`: the explanation of the rule with this code, or that there is none.
 pub data IsExplanation (code : ℕ) : Status → List ℕ → Type 0 where
   explained : (e : Explanation) → IsNamed code e.name.now → IsExplanation code Drawn (spelled code e)
   unknown : (HasRule code → ⊥) → IsExplanation code Refused (no_rule_line code)

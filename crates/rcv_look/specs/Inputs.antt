@@ -17,7 +17,7 @@ pub record Reading : Type 0 where
   pub faults_before : ℕ
   pub faults_after : ℕ
 
--- This of a source, by what it tells.
+-- This is told of a source.
 abbrev pub reading_of : {S : Type 0} → (S → Option (List ℕ)) → (S → ℕ) → (S → ℕ) → S → S → Reading
 reading_of rest given faults source source_after =
     record {

@@ -2,8 +2,8 @@
 use Rattle.std.specs.Prelude.{◌≡◌, ◌+◌, ◌<◌, ◌≤◌, ℕ, false, List, [], length, slice_index_or, All}
 use Rattle.clap.specs.Words.{Text}
 use Rattle.rcv_session.specs.Session.{SessionView}
-use Rattle.rcv_form.specs.Form.{Spells}
-use Rattle.rcv_form.specs.Journal.{JournalView}
+use Rattle.rcv_journal.specs.Form.{Spells}
+use Rattle.rcv_journal.specs.Recorded.{JournalView}
 use Rattle.rcv_joined.specs.Joined.{joined}
 use Rattle.rcv_section.specs.declared.section.Section.{Section}
 use Rattle.rcv_section.specs.Sections.{IsSection, section_text}
@@ -17,7 +17,7 @@ WordsAreOneCommand = (words : List Text) (a b : CommandView) → IsCommand words
 abbrev pub IsOfForm : SessionView → List ℕ → Type 0
 IsOfForm session text = (j : JournalView) × Spells session text j
 
--- Of journals of the form, one behind another, each behind the line of its session, section I is journal I.
+-- If journals of the form stand one after another, each after the line of its session, section I is journal I.
 abbrev pub SectionsAreJournals : Type 0
 SectionsAreJournals =
     (session : SessionView) (texts : List (List ℕ)) (i : ℕ) → length texts ≤ 64 → All (IsOfForm session) texts

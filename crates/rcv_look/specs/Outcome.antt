@@ -8,8 +8,8 @@ use Rattle.rcv_input.specs.declared.refused.Refused.TheVariants.{Line}
 use Rattle.rcv_input.specs.Input.{IsTaken}
 use Rattle.rcv_input.specs.Refusals.{IsFirstRefusal}
 use Rattle.rcv_input.specs.Line.{refusal_line}
-use Rattle.rcv_form.specs.Form as form
-use Rattle.rcv_form.specs.Journal.{JournalView, bare}
+use Rattle.rcv_journal.specs.Form as form
+use Rattle.rcv_journal.specs.Recorded.{JournalView, bare}
 use Rattle.rcv_judge.specs.Closing.{ClosesRight, IsFirstWrongClosing}
 use Rattle.rcv_judge.specs.Judged.{IsFirstWrong as IsFirstIllegal}
 use Rattle.rcv_retold.specs.Text.{IsToldText, IsFirstWrong}
@@ -42,7 +42,7 @@ number_of Memory = 6
 number_of TooLong = 7
 number_of Illegal = 8
 
--- What is written where the words are no command.
+-- What is written if the words are no command.
 abbrev pub usage_line : List ℕ
 usage_line = codes "usage: rcv-show journal|told|replay|table|role|protocol|points|failures|explain [--session I] [--role R] [--code N] [--text] [--json]\n"
 
@@ -58,18 +58,18 @@ malformed_line line = refusal_line (Line 51 line)
 abbrev pub illegal_line : ℕ → List ℕ
 illegal_line line = codes "illegal line " ++ decimal line ++ codes "\n"
 
--- What is written of the first entry that can't come, counted from 0: the line of the input at which it stands, or, of JSON,
+-- What is written of the first entry that can't come, counted from 0: the line of the input at which it stands, or, for JSON,
 -- its number, counted from 1.
 abbrev pub illegal_entry_line : Written → ℕ → List ℕ
 illegal_entry_line (Lines feeds) k = illegal_line (feeds + 1 + k)
 illegal_entry_line Json k = codes "illegal entry " ++ decimal (k + 1) ++ codes "\n"
 
--- And of the first closing line that isn't what so many entries leave.
+-- What is written of the first closing line that isn't what so many entries leave.
 abbrev pub illegal_closing_line : Written → ℕ → ℕ → List ℕ
 illegal_closing_line (Lines feeds) entries k = illegal_line (feeds + 1 + entries + k)
 illegal_closing_line Json entries k = codes "illegal end\n"
 
--- What is answered to a journal of the form that is written so: its first entry that can't come; or its first closing line
+-- The answer to a journal of the form that is written so: its first entry that can't come; or its first closing line
 -- that isn't what the entries leave; or a picture of it.
 pub data IsVerdict (session : SessionView) (j : JournalView) (written : Written) : Status → List ℕ → Type 0 where
   illegal :
@@ -83,8 +83,8 @@ pub data IsVerdict (session : SessionView) (j : JournalView) (written : Written)
       {bytes : List ℕ} → IsLegal (rules_of session) j.entries → ClosesRight session j.entries j.roles j.limited
       → IsJournalDrawing session j.entries j.roles bytes → IsVerdict session j written Drawn bytes
 
--- What is answered to the text behind so many line feeds of the input. Of lines: the first at which it isn't a journal of the
--- form, counted over the whole input, or what the journal's verdict is. Of JSON: that it is no journal of the form, by its
+-- The answer to the text after so many line feeds of the input. For lines: the first at which it isn't a journal of the
+-- form, counted over the whole input, or what the journal's verdict is. For JSON: that it is no journal of the form, by its
 -- first line, or the verdict.
 pub data IsTextAnswer (session : SessionView) (text : List ℕ) (feeds : ℕ) : Status → List ℕ → Type 0 where
   malformed :
@@ -101,8 +101,8 @@ pub data IsTextAnswer (session : SessionView) (text : List ℕ) (feeds : ℕ) : 
       {status : Status} {bytes : List ℕ} (j : JournalView) → is_json text ≡ true → IsJsonOf session.protocol text j
       → IsVerdict session j Json status bytes → IsTextAnswer session text feeds status bytes
 
--- What is answered to a bundle with a text behind so many line feeds of the input: the bundle's first refusal, or what
--- the session's text is answered.
+-- The answer to a bundle with a text after so many line feeds of the input: the bundle's first refusal, or the
+-- answer to the session's text.
 pub data IsBundleAnswer (bundle text : List ℕ) (feeds : ℕ) : Status → List ℕ → Type 0 where
   refused :
       (refusal : refusals.Refused) → IsFirstRefusal bundle refusal
@@ -111,8 +111,8 @@ pub data IsBundleAnswer (bundle text : List ℕ) (feeds : ℕ) : Status → List
       {status : Status} {bytes : List ℕ} (session : SessionView) → IsTaken bundle session
       → IsTextAnswer session text feeds status bytes → IsBundleAnswer bundle text feeds status bytes
 
--- What is answered to `journal` without an option: that the input has no line `%% journal`, at the line of its end; the bundle before that
--- line is too long; or what the bundle and the text behind the line are answered.
+-- The answer to `journal` without an option: that the input has no line `%% journal`, at the line of its end; that the
+-- bundle before that line is too long; or the answer to the bundle and the text after the line.
 pub data IsJournalAnswer (input : List ℕ) : Status → List ℕ → Type 0 where
   uncut : cut_of input ≡ None → IsJournalAnswer input Refused (no_journal_line (line_of_end input))
   long : (cut : Cut) → cut_of input ≡ Some cut → most_of_bundle < cut.end → IsJournalAnswer input TooLong []
@@ -121,8 +121,8 @@ pub data IsJournalAnswer (input : List ℕ) : Status → List ℕ → Type 0 whe
       → IsBundleAnswer (bundle_of input cut) (journal_of input cut) (feeds_before input cut) status bytes
       → IsJournalAnswer input status bytes
 
--- What is answered to a bundle with the text of its session i, counted from 0, behind so many line feeds of the input:
--- the bundle's first refusal, or what the text is answered as one of this session. It has the same plan, but that each
+-- The answer to a bundle with the text of its session i, counted from 0, after so many line feeds of the input:
+-- the bundle's first refusal, or the answer to the text as one of this session. It has the same plan, except that each
 -- crash count is i more.
 pub data IsLaterAnswer (i : ℕ) (bundle text : List ℕ) (feeds : ℕ) : Status → List ℕ → Type 0 where
   refused :
@@ -132,13 +132,13 @@ pub data IsLaterAnswer (i : ℕ) (bundle text : List ℕ) (feeds : ℕ) : Status
       {status : Status} {bytes : List ℕ} (session : SessionView) → IsLaterOf bundle i session
       → IsTextAnswer session text feeds status bytes → IsLaterAnswer i bundle text feeds status bytes
 
--- How many line feeds stand before the section of the text behind a cut.
+-- How many line feeds stand before the section of the text after a cut.
 abbrev pub feeds_up_to : List ℕ → Cut → Section → ℕ
 feeds_up_to input cut section = feeds_in (take (cut.behind + section.begin) input)
 
--- What is answered to `journal --session I`: that the input has no line `%% journal`, at the line of its end; the
--- bundle before that line is too long; that no line behind it is `session I`, at the line of the input's end, too; or
--- what the bundle and the section of session I, counted from 1, are answered.
+-- The answer to `journal --session I`: that the input has no line `%% journal`, at the line of its end; that the bundle
+-- before that line is too long; that no line after it is `session I`, at the line of the input's end, too; or the answer to
+-- the bundle and the section of session I, counted from 1.
 pub data IsSessionAnswer (number : ℕ) (input : List ℕ) : Status → List ℕ → Type 0 where
   uncut : cut_of input ≡ None → IsSessionAnswer number input Refused (no_journal_line (line_of_end input))
   long : (cut : Cut) → cut_of input ≡ Some cut → most_of_bundle < cut.end → IsSessionAnswer number input TooLong []
@@ -152,8 +152,8 @@ pub data IsSessionAnswer (number : ℕ) (input : List ℕ) : Status → List ℕ
       (feeds_up_to input cut section) status bytes
       → IsSessionAnswer number input status bytes
 
--- What is answered to the text behind so many line feeds of the input, as that of a journal that a guide was told: its first
--- wrong line, counted over the whole input, whether it isn't of the form or may not come there; or a picture of it, where the
+-- The answer to the text after so many line feeds of the input, as that of a journal that a guide was told: its first
+-- wrong line, counted over the whole input, whether it isn't of the form or may not come there; or a picture of it, in which the
 -- kept events are those that the guide holds at the end.
 pub data IsToldTextAnswer (session : SessionView) (text : List ℕ) (feeds : ℕ) : Status → List ℕ → Type 0 where
   wrong : (k : ℕ) → IsFirstWrong session text k → IsToldTextAnswer session text feeds Illegal (illegal_line (feeds + k))
@@ -162,8 +162,8 @@ pub data IsToldTextAnswer (session : SessionView) (text : List ℕ) (feeds : ℕ
       → IsToldDrawing session entries bytes
       → IsToldTextAnswer session text feeds Drawn bytes
 
--- What is answered to a bundle with such a text behind so many line feeds of the input: the bundle's first refusal, or what
--- the text is answered.
+-- The answer to a bundle with such a text after so many line feeds of the input: the bundle's first refusal, or the
+-- answer to the text.
 pub data IsToldBundleAnswer (bundle text : List ℕ) (feeds : ℕ) : Status → List ℕ → Type 0 where
   refused :
       (refusal : refusals.Refused) → IsFirstRefusal bundle refusal
@@ -172,8 +172,8 @@ pub data IsToldBundleAnswer (bundle text : List ℕ) (feeds : ℕ) : Status → 
       {status : Status} {bytes : List ℕ} (session : SessionView) → IsTaken bundle session
       → IsToldTextAnswer session text feeds status bytes → IsToldBundleAnswer bundle text feeds status bytes
 
--- What is answered to `told`: that the input has no line `%% journal`, at the line of its end; the bundle before that line is
--- too long; or what the bundle and the text behind the line are answered.
+-- The answer to `told`: that the input has no line `%% journal`, at the line of its end; that the bundle before that line
+-- is too long; or the answer to the bundle and the text after the line.
 pub data IsToldAnswer (input : List ℕ) : Status → List ℕ → Type 0 where
   uncut : cut_of input ≡ None → IsToldAnswer input Refused (no_journal_line (line_of_end input))
   long : (cut : Cut) → cut_of input ≡ Some cut → most_of_bundle < cut.end → IsToldAnswer input TooLong []
@@ -189,7 +189,7 @@ status_of findings.Wrong = Illegal
 status_of findings.Refused = Refused
 status_of findings.TooLong = TooLong
 
--- What is answered to `replay`: the diagnosis of the journal behind the input's bundle.
+-- The answer to `replay`: the diagnosis of the journal after the input's bundle.
 pub record IsReplayAnswer (input : List ℕ) (status : Status) (bytes : List ℕ) : Type 0 where
   pub finding : Finding
   pub diagnosis : IsDiagnosis input finding bytes
@@ -210,7 +210,7 @@ Draws session ListPoints status bytes = ⊥
 Draws session ListFailures status bytes = (status ≡ Drawn) × IsLossesText session bytes
 Draws session (Explain code) status bytes = ⊥
 
--- What is answered to them: the first refusal of the input, or what they make of its session.
+-- The answer to them: the first refusal of the input, or what they make of its session.
 pub data IsChartAnswer (command : CommandView) (input : List ℕ) : Status → List ℕ → Type 0 where
   refused :
       (refusal : refusals.Refused) → IsFirstRefusal input refusal → IsChartAnswer command input Refused (refusal_line refusal)

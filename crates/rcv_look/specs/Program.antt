@@ -18,7 +18,7 @@ flag_rule name = record (text_rule name) { action = Some SetTrue; parser = Some 
 abbrev pub number_rule : Text → ℕ → ℕ → Rule
 number_rule name least most = record (text_rule name) { parser = Some (vp.Signed (pos least) (pos most)) }
 
--- The word that says what to do has to be there.
+-- The word that says what to do must be there.
 abbrev pub command_rule : Rule
 command_rule = record (new_rule (codes "command")) { required = true }
 

@@ -1,4 +1,4 @@
-// What is answered to `table`, `role` and `protocol`.
+// The answer to `table`, `role` and `protocol`.
 
 ghost use Rattle.std.specs.Prelude.{◌≡◌, ◌≤◌, length, IfOk};
 ghost use Rattle.rcv_look.specs.Commands.{DrawTable, DrawRole, DrawProtocol};
@@ -35,8 +35,8 @@ pub fn table_answer(alloc: Global, input: &[u8]) -> Result<Output, AllocError>
     }
 }
 
-/// The picture of what the role with this name does, or the line for a role that isn't declared; as `table_answer`
-/// else.
+/// The picture of what the role with this name does, or the line for a role that isn't declared; else as
+/// `table_answer`.
 pub fn role_answer(alloc: Global, input: &[u8], name: &[u8]) -> Result<Output, AllocError>
     requires { length input.now ≤ 1048576 }
     ensures { IfOk result (λ output. IsChartAnswer (DrawRole name.now) input.now output.status output.bytes.items) }
@@ -47,7 +47,7 @@ pub fn role_answer(alloc: Global, input: &[u8], name: &[u8]) -> Result<Output, A
     }
 }
 
-/// The picture of the protocol; as `table_answer` else.
+/// The picture of the protocol; else as `table_answer`.
 pub fn protocol_answer(alloc: Global, input: &[u8]) -> Result<Output, AllocError>
     requires { length input.now ≤ 1048576 }
     ensures { IfOk result (λ output. IsChartAnswer DrawProtocol input.now output.status output.bytes.items) }
@@ -97,7 +97,7 @@ fn draw_role(alloc: Global, accepted: &Accepted, name: &[u8]) -> Result<Output, 
     drawn(alloc, &picture)
 }
 
-// Draws an expansion whose points came from there, where each call stands in so many inner blocks.
+// Draws an expansion whose points came from there, and in which each call stands in so many inner blocks.
 fn draw_protocol(
     alloc: Global,
     protocol: &Protocol,

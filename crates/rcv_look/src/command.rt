@@ -5,13 +5,13 @@ use rcv_tree::name::Name;
 /// A command.
 #[derive(Drop)]
 pub enum Command {
-    /// Draws the journal that stands behind the bundle.
+    /// Draws the journal that stands after the bundle.
     Journal,
-    /// Draws the journal of the session with this number, from 1 to 64, of those that stand behind the bundle.
+    /// Draws the journal of the session with this number, from 1 to 64, of those that stand after the bundle.
     Session { number: u32 },
-    /// Draws the journal that a guide was told, which stands behind the bundle.
+    /// Draws the journal that a guide was told, which stands after the bundle.
     Told,
-    /// Says of the journal that stands behind the bundle whether it is legal, and what of it is wrong.
+    /// Says of the journal that stands after the bundle whether it is legal, and what of it is wrong.
     Replay,
     /// Draws who restarts where, for each role and each point at which it may fail.
     Table,

@@ -24,8 +24,8 @@ fn most_drawn(entries: usize) -> usize
     131_072 + 4_096 * counted
 }
 
-// The text of a picture of so many entries, where it isn't longer than it may be. None is known that is, since what
-// isn't shown is folded; one that is counts as want of memory.
+// The text of a picture of so many entries, if it isn't longer than it may be. No picture is known to be longer, since
+// what isn't shown is folded; a longer one counts as if memory ran out.
 fn short(text: Vec<u8>, entries: usize) -> Result<Vec<u8>, AllocError>
     ensures { IfOk result (λ kept. (kept.items ≡ text.items) × (length kept.items ≤ most_drawn entries)) }
 {

@@ -1,4 +1,4 @@
-// What is answered to `table --json` and `role --json`.
+// The answer to `table --json` and `role --json`.
 
 ghost use Rattle.std.specs.Prelude.{◌≡◌, ◌<◌, ◌≤◌, length, IfOk};
 ghost use Rattle.rcv_accept.specs.Accepted.{roles_of};
@@ -30,7 +30,7 @@ pub fn table_json_answer(alloc: Global, input: &[u8]) -> Result<Output, AllocErr
     }
 }
 
-/// What the role with this name does, as JSON, or the line for a role that isn't declared; as `table_json_answer` else.
+/// What the role with this name does, as JSON, or the line for a role that isn't declared; else as `table_json_answer`.
 pub fn role_json_answer(alloc: Global, input: &[u8], name: &[u8]) -> Result<Output, AllocError>
     requires { length input.now ≤ 1048576 }
     ensures { IfOk result (λ output. IsChartAnswer (ExportRole name.now) input.now output.status output.bytes.items) }

@@ -1,4 +1,4 @@
-// What is answered to `failures`: what each crash would cost.
+// The answer to `failures`: what each crash would cost.
 
 ghost use Rattle.std.specs.Prelude.{◌≡◌, ◌≤◌, length, IfOk};
 ghost use Rattle.rcv_losses.specs.LossText.{IsLossesText};
@@ -13,8 +13,8 @@ use rcv_input::read_input;
 use rcv_losses::losses_text;
 use std::alloc::{AllocError, Global};
 
-/// What each crash of the input's session would cost, a line for each, or the input's first refusal. The input has at most
-/// 1,048,576 bytes. Fails if memory runs out.
+/// What each crash of the input's session would cost, a line for each, or the input's first refusal. The input has at
+/// most 1,048,576 bytes. Fails if memory runs out.
 pub fn failures_text_answer(alloc: Global, input: &[u8]) -> Result<Output, AllocError>
     requires { length input.now ≤ 1048576 }
     ensures { IfOk result (λ output. IsChartAnswer ListFailures input.now output.status output.bytes.items) }

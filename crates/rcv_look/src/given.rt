@@ -63,7 +63,7 @@ impl<'a> Given<'a> {
         }
     }
 
-    // No option and no flag but that of the session.
+    // No option and no flag except that of the session.
     fn journal(&self) -> Option<Command>
         ensures some { IfSome result (λ command. (view_of command ≡ journal_for self.now.session)
             × (self.now.role ≡ None) × (self.now.code ≡ None) × AreFlags Usual self.now.text self.now.json) }

@@ -14,7 +14,7 @@ use std::alloc::Global;
 /// How many bytes a bundle may have.
 pub const MOST_OF_BUNDLE: usize = 1_048_576;
 
-/// How many bytes a bundle may have together with the journal behind it.
+/// How many bytes a bundle may have together with the journal after it.
 const MOST_WITH_JOURNAL: usize = 134_217_728;
 
 // How many bytes the input of a command may have.
@@ -32,8 +32,8 @@ fn most_for(command: &Command) -> usize
 
 /// What the source gives to its end; `explain` reads nothing, and its input is empty.
 ///
-/// `ReadFault` comes only where the source's count of faults rose, and always where it is greater than before.
-/// `TooLong` comes exactly where more bytes were taken from the source than the command's input may have. `Memory` says
+/// `ReadFault` comes only if the source's count of faults rose, and always if it is greater than before.
+/// `TooLong` comes exactly if more bytes were taken from the source than the command's input may have. `Memory` says
 /// that no memory was left.
 pub fn input_of<S: Source>(
     alloc: Global,

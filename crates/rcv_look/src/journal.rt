@@ -1,9 +1,9 @@
-// What is answered to `journal`.
+// The answer to `journal`.
 
 ghost use Rattle.std.specs.Prelude.{◌≡◌, ◌≤◌, ◌<◌, ◌^◌, Some, true, false, length, IfOk};
 ghost use Rattle.rcv_model.specs.Journal.{IsLegal};
 ghost use Rattle.rcv_session.specs.Session.{rules_of};
-ghost use Rattle.rcv_decode.specs.Reading.{IsReadAs};
+ghost use Rattle.rcv_json_reader.specs.Reading.{IsReadAs};
 ghost use Rattle.rcv_diagnosis.specs.Diagnosing.{is_json};
 ghost use Rattle.rcv_replay.specs.Cutting.{cut_of};
 ghost use Rattle.rcv_look.specs.Outcome.{IsVerdict, IsTextAnswer, IsBundleAnswer, IsJournalAnswer};
@@ -15,9 +15,9 @@ use crate::output::Output;
 use crate::status::Status;
 use rcv_core::book::Book;
 use rcv_core::setup::Setup;
-use rcv_decode::{JsonError, read_json};
+use rcv_json_reader::{JsonError, read_json};
 use rcv_diagnosis::written::{Written, is_json};
-use rcv_form::journal::Journal;
+use rcv_journal::recorded::Journal;
 use rcv_input::read_input;
 use rcv_judge::closing::wrong_closing;
 use rcv_judge::judge::{JudgeError, judge};
@@ -26,7 +26,7 @@ use rcv_lines::text::{LinesError, read_text};
 use rcv_replay::cut::{Cut, cut_of};
 use std::alloc::{AllocError, Global};
 
-/// The picture of the journal that stands behind the input's bundle, or why there is none. The input has at most
+/// The picture of the journal that stands after the input's bundle, or why there is none. The input has at most
 /// 134,217,728 bytes. Fails if memory runs out.
 pub fn journal_answer(alloc: Global, input: &[u8]) -> Result<Output, AllocError>
     requires { length input.now ≤ 134217728 }
@@ -38,7 +38,7 @@ pub fn journal_answer(alloc: Global, input: &[u8]) -> Result<Output, AllocError>
     }
 }
 
-// What is answered to an input that is cut here.
+// The answer to an input that is cut here.
 fn cut_answer(alloc: Global, input: &[u8], cut: Cut) -> Result<Output, AllocError>
     requires cut { cut_of input.now ≡ Some cut }
     requires order { cut.end ≤ cut.behind }
@@ -56,7 +56,7 @@ fn cut_answer(alloc: Global, input: &[u8], cut: Cut) -> Result<Output, AllocErro
     bundle_answer(alloc, &input[..cut.end], &input[cut.behind..], feeds)
 }
 
-// What is answered to a bundle with this text behind it, and so many line feeds before the text.
+// The answer to a bundle with this text after it, and so many line feeds before the text.
 fn bundle_answer(
     alloc: Global,
     bundle: &[u8],
@@ -77,9 +77,9 @@ fn bundle_answer(
     }
 }
 
-/// What is answered to the text of a session behind so many line feeds of the input: its picture, or why there is none. The
-/// text is lines or JSON. It has at most 134,217,728 bytes, and so many line feeds stand before it at most. Fails if memory
-/// runs out.
+/// The answer to the text of a session after so many line feeds of the input: its picture, or why there is none.
+/// The text is lines or JSON. It has at most 134,217,728 bytes, and so many line feeds stand before it at most. Fails
+/// if memory runs out.
 pub fn text_answer(
     alloc: Global,
     setup: &Setup,
@@ -97,7 +97,7 @@ pub fn text_answer(
     }
 }
 
-// What is answered to lines.
+// The answer to lines.
 fn lines_answer(
     alloc: Global,
     setup: &Setup,
@@ -116,7 +116,7 @@ fn lines_answer(
     }
 }
 
-// What is answered to JSON.
+// The answer to JSON.
 fn json_answer(
     alloc: Global,
     setup: &Setup,
@@ -134,7 +134,7 @@ fn json_answer(
     }
 }
 
-// What is answered to a journal that the JSON says.
+// The answer to a journal that the JSON says.
 fn decoded_answer(
     alloc: Global,
     setup: &Setup,
@@ -155,7 +155,7 @@ fn decoded_answer(
     verdict(alloc, setup, journal, Written::Json)
 }
 
-// What is answered to a journal of the form that is written so.
+// The answer to a journal of the form that is written so.
 fn verdict(
     alloc: Global,
     setup: &Setup,
@@ -172,7 +172,7 @@ fn verdict(
     }
 }
 
-// What is answered to a journal with these entries.
+// The answer to a journal with these entries.
 fn close(
     alloc: Global,
     book: &Book<'_>,

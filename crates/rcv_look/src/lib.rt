@@ -33,7 +33,7 @@ pub fn words_are_one_command()
     ensures { WordsAreOneCommand }
 {}
 
-/// Where at most 64 journals stand one behind another, each behind the line of its session, section I is journal I: the
+/// If at most 64 journals stand one after another, each after the line of its session, section I is journal I: the
 /// journals are of the form of one protocol.
 pub fn sections_are_journals()
     ensures { SectionsAreJournals }

@@ -109,7 +109,7 @@ pub fn refused(alloc: Global, refused: &Refused) -> Result<Output, AllocError>
     })
 }
 
-/// Says why an input isn't taken. Fails where memory ran out.
+/// Says why an input isn't taken. Fails if memory ran out.
 pub fn refuse(alloc: Global, error: InputError) -> Result<Output, AllocError>
     ensures { IfOk result (λ output. (refusal : refusals.Refused) × (error ≡ InputError.Refused refusal)
         × (output.status ≡ Status.Refused) × (output.bytes.items ≡ refusal_line refusal)) }

@@ -1,4 +1,4 @@
-// What is answered to `replay`.
+// The answer to `replay`.
 
 ghost use Rattle.std.specs.Prelude.{◌≡◌, ◌≤◌, length, IfOk};
 ghost use Rattle.rcv_look.specs.Outcome.{IsReplayAnswer, status_of};
@@ -8,7 +8,7 @@ use crate::status::Status;
 use rcv_diagnosis::diagnosis::{Finding, diagnose};
 use std::alloc::{AllocError, Global};
 
-/// The diagnosis of the journal that stands behind the input's bundle. The input has at most 134,217,728 bytes. Fails
+/// The diagnosis of the journal that stands after the input's bundle. The input has at most 134,217,728 bytes. Fails
 /// if memory runs out.
 pub fn replay_answer(alloc: Global, input: &[u8]) -> Result<Output, AllocError>
     requires { length input.now ≤ 134217728 }

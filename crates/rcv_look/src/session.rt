@@ -1,4 +1,4 @@
-// What is answered to `journal --session I`.
+// The answer to `journal --session I`.
 
 ghost use Rattle.std.specs.Prelude.{◌≡◌, ◌≤◌, ◌+◌, ◌-◌, Some, length, IfOk};
 ghost use Rattle.rcv_replay.specs.Cutting.{cut_of, journal_of};
@@ -17,7 +17,7 @@ use rcv_replay::cut::{Cut, cut_of};
 use rcv_section::section::{Section, section_of};
 use std::alloc::{AllocError, Global};
 
-/// The picture of the journal of session `number`, from 1 to 64, of those that stand behind the input's bundle, or why
+/// The picture of the journal of session `number`, from 1 to 64, of those that stand after the input's bundle, or why
 /// there is none. The input has at most 134,217,728 bytes. Fails if memory runs out.
 pub fn session_answer(alloc: Global, input: &[u8], number: u32) -> Result<Output, AllocError>
     requires least { 1 ≤ number }
@@ -31,7 +31,7 @@ pub fn session_answer(alloc: Global, input: &[u8], number: u32) -> Result<Output
     }
 }
 
-// What is answered to an input that is cut here.
+// The answer to an input that is cut here.
 fn cut_answer(alloc: Global, input: &[u8], number: u32, cut: Cut) -> Result<Output, AllocError>
     requires least { 1 ≤ number }
     requires most { number ≤ 64 }
@@ -54,7 +54,7 @@ fn cut_answer(alloc: Global, input: &[u8], number: u32, cut: Cut) -> Result<Outp
     }
 }
 
-// What is answered to an input that is cut here, with this section of the session behind the cut.
+// The answer to an input that is cut here, with this section of the session after the cut.
 fn section_answer(
     alloc: Global,
     input: &[u8],
@@ -85,7 +85,7 @@ fn section_answer(
     )
 }
 
-// What is answered to a bundle with this text of one of its sessions, counted from 0, behind so many line feeds.
+// The answer to a bundle with this text of one of its sessions, counted from 0, after so many line feeds.
 fn later_answer(
     alloc: Global,
     bundle: &[u8],

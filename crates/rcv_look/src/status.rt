@@ -3,7 +3,7 @@
 ghost use Rattle.std.specs.Prelude.{◌≡◌};
 ghost use Rattle.rcv_look.specs.Outcome.{number_of};
 
-/// How a call ended. The numbers are those of `rcv`, with one more; what 3 says there comes never here.
+/// How a call ended. The numbers are those of `rcv`, with one more; what 3 says there never comes here.
 #[derive(Clone, Copy, Debug, PartialEq, Eq)]
 pub enum Status {
     /// The picture or the text was written; or the journal is legal, and that was.

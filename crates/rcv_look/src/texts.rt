@@ -1,4 +1,4 @@
-// What is answered to `points` and `explain`.
+// The answer to `points` and `explain`.
 
 ghost use Rattle.std.specs.Prelude.{◌≡◌, ◌≤◌, length, IfOk};
 ghost use Rattle.rcv_look.specs.Drawing.{ArePoints, IsExplanation, ListsAs};
@@ -10,8 +10,8 @@ use rcv_explain::explanation_text;
 use rcv_listing::{Listing, points_text};
 use std::alloc::{AllocError, Global};
 
-/// The points of the input's protocol, and what the input's first refusal says, if there is one: then it is a refusal. The
-/// input has at most 1,048,576 bytes. Fails if memory runs out.
+/// The points of the input's protocol, and what the input's first refusal says, if there is one: then it is a refusal.
+/// The input has at most 1,048,576 bytes. Fails if memory runs out.
 pub fn points_answer(alloc: Global, input: &[u8]) -> Result<Output, AllocError>
     requires { length input.now ≤ 1048576 }
     ensures { IfOk result (λ output. ArePoints input.now output.status output.bytes.items) }
@@ -43,7 +43,7 @@ fn short(code: u32) -> u8
     code as u8
 }
 
-/// The explanation of the rule with this code, which is at most 255, or that there is none. Fails where memory runs
+/// The explanation of the rule with this code, which is at most 255, or that there is none. Fails if memory runs
 /// out.
 pub fn explain_answer(alloc: Global, code: u32) -> Result<Output, AllocError>
     requires { code ≤ 255 }

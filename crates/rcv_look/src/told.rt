@@ -1,4 +1,4 @@
-// What is answered to `told`.
+// The answer to `told`.
 
 ghost use Rattle.std.specs.Prelude.{◌≡◌, ◌≤◌, ◌<◌, ◌^◌, List, map, Some, drop, length, IfOk};
 ghost use Rattle.rcv_input.specs.Input.{IsTaken};
@@ -30,7 +30,7 @@ use rcv_retold::text::{Front, ToldError, judge, read_front};
 use rcv_scene::ends::{End, RoleEnd};
 use std::alloc::{AllocError, Global};
 
-/// The picture of the journal that a guide was told, which stands behind the input's bundle, or why there is none. The
+/// The picture of the journal that a guide was told, which stands after the input's bundle, or why there is none. The
 /// input has at most 134,217,728 bytes. Fails if memory runs out.
 pub fn told_answer(alloc: Global, input: &[u8]) -> Result<Output, AllocError>
     requires { length input.now ≤ 134217728 }
@@ -42,7 +42,7 @@ pub fn told_answer(alloc: Global, input: &[u8]) -> Result<Output, AllocError>
     }
 }
 
-// What is answered to an input that is cut here.
+// The answer to an input that is cut here.
 fn cut_answer(alloc: Global, input: &[u8], cut: Cut) -> Result<Output, AllocError>
     requires cut { cut_of input.now ≡ Some cut }
     requires order { cut.end ≤ cut.behind }
@@ -60,7 +60,7 @@ fn cut_answer(alloc: Global, input: &[u8], cut: Cut) -> Result<Output, AllocErro
     bundle_answer(alloc, &input[..cut.end], &input[cut.behind..], feeds)
 }
 
-// What is answered to a bundle with this text behind it, and so many line feeds before the text.
+// The answer to a bundle with this text after it, and so many line feeds before the text.
 fn bundle_answer(
     alloc: Global,
     bundle: &[u8],
@@ -80,8 +80,8 @@ fn bundle_answer(
     }
 }
 
-// The guide of the session that a bundle was taken as, with room for so many events. It keeps a protocol of its own, so the
-// bundle is read again. Fails if memory runs out.
+// The guide of the session that a bundle was taken as, with room for so many events. It keeps a protocol of its own, so
+// the bundle is read again. Fails if memory runs out.
 fn guide_of(alloc: Global, setup: &Setup, bundle: &[u8], room: u32) -> Result<Guide, AllocError>
     requires bundle { length bundle.now ≤ 1048576 }
     requires taken { IsTaken bundle.now setup.now }
@@ -141,7 +141,8 @@ fn told_ends(alloc: Global, states: &[RoleState]) -> Result<Vec<RoleEnd>, AllocE
     Ok(ends)
 }
 
-// The picture of a told journal whose record this is, with its roles where the guide has them. Fails if memory runs out.
+// The picture of a told journal whose record this is, with its roles where the guide has them. Fails if memory runs
+// out.
 fn picture(alloc: Global, record: &Record<'_>, guide: &Guide) -> Result<Vec<u8>, AllocError>
     ensures { IfOk result (λ text. (m : Remembered) (kept : List Event) → IsMemory guide.now m → HasKept record.now kept
         → IsPictureOf guide.now m record.now kept text.items) }
@@ -151,7 +152,7 @@ fn picture(alloc: Global, record: &Record<'_>, guide: &Guide) -> Result<Vec<u8>,
     draw(alloc, record, ends.as_slice())
 }
 
-// What is answered to a told journal with these entries at its front, by a guide that was told nothing yet.
+// The answer to a told journal with these entries at its front, by a guide that was told nothing yet.
 fn judged(
     alloc: Global,
     setup: &Setup,
@@ -177,7 +178,8 @@ fn judged(
     }
 }
 
-// What is answered to the text of a told journal behind so many line feeds, for the session that the bundle was taken as.
+// The answer to the text of a told journal after so many line feeds, for the session that the
+// bundle was taken as.
 fn text_answer(
     alloc: Global,
     setup: &Setup,

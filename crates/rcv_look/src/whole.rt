@@ -13,8 +13,8 @@ const BUFFER: usize = 4096;
 
 /// Every byte of the source to its end, at most `most` of them, which is at most 134,217,728.
 ///
-/// `ReadFault` comes only where the source's count of faults rose in this call, and always where it is greater than
-/// before. `TooLong` comes exactly where more than `most` bytes were taken from the source. `Memory` says that no
+/// `ReadFault` comes only if the source's count of faults rose in this call, and always if it is greater than
+/// before. `TooLong` comes exactly if more than `most` bytes were taken from the source. `Memory` says that no
 /// memory was left.
 pub fn read_whole<S: Source>(
     alloc: Global,

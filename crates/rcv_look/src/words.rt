@@ -37,7 +37,7 @@ fn reason_of(error: &Error) -> WordsError
 
 /// The command that the words are. `Usage` says that they are none, `Memory` that no memory was left.
 ///
-/// Of an `Explain` the code is at most 255, of a `Session` the number is from 1 to 64.
+/// The code of an `Explain` is at most 255, the number of a `Session` is from 1 to 64.
 pub fn read_words(alloc: Global, words: &[String]) -> Result<Command, WordsError>
     ensures command { IfOk result (λ command. IsCommand (texts_of words.now) (view_of command)) }
     ensures within { IfOk result (λ command. IsWithin (view_of command)) }

@@ -57,7 +57,7 @@ cost_text session cost = where_text session cost ++ loss_text cost ++ reach_text
 abbrev pub cost_line : SessionView → Cost → List ℕ
 cost_line session cost = cost_text session cost ++ codes "\n"
 
--- Every how many counts are looked at, if not each is.
+-- Says that one of every so many counts is looked at, if not each is.
 abbrev pub sampled_line : ℕ → List ℕ
 sampled_line step = codes "sampled: every " ++ decimal step ++ codes " counts\n"
 

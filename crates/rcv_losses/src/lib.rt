@@ -11,7 +11,7 @@ mod tests;
 mod totals;
 
 pub use answers::losses_text;
-/// Want of memory, which is the one error of this crate.
+/// Memory ran out. This is the one error of this crate.
 pub use std::alloc::AllocError as Memory;
 
 /// What is found is the worst cost: the first of those that undo the most events.

@@ -150,8 +150,8 @@ fn write_reach(text: &mut Writer, setup: &Setup, cost: &Cost) -> Result<(), Allo
     write_again(text, cost)
 }
 
-/// The text goes on with what one crash costs, of a declared role between events at points of the text: without the end of
-/// the line. Fails if memory runs out.
+/// The text goes on with what one crash of a declared role costs, between events at points of the text: without the end
+/// of the line. Fails if memory runs out.
 #[tactic(auto, unfolding(crate::specs::LossText::cost_text))]
 pub(crate) fn write_cost(text: &mut Writer, setup: &Setup, cost: &Cost) -> Result<(), AllocError>
     requires { IsNamedCost setup.now cost.now }
@@ -174,7 +174,7 @@ fn write_costs(text: &mut Writer, setup: &Setup, costs: &[Cost]) -> Result<(), A
     Ok(())
 }
 
-// Every how many counts are looked at.
+// Says that one of every so many counts is looked at.
 fn write_sampled(text: &mut Writer, step: u32) -> Result<(), AllocError>
     ensures { OnOk result (text.new ≡ text.old ++ sampled_line step) }
 {
@@ -183,7 +183,7 @@ fn write_sampled(text: &mut Writer, step: u32) -> Result<(), AllocError>
     text.word(b" counts\n")
 }
 
-// The same, if not each is.
+// The same, if not each count is looked at.
 fn write_step(text: &mut Writer, step: u32) -> Result<(), AllocError>
     ensures { OnOk result (text.new ≡ text.old ++ step_line step) }
 {

@@ -2,7 +2,7 @@
 use Rattle.std.specs.Prelude.{◌≡◌, ◌↔◌, List, [], ◌∷◌, ◌++◌}
 use Rattle.rcv_machine.specs.Words.{Fault, Token, Symbol, IsDerived, IsBeginning, IsFree, IsFirst, Answer, Taken, Refuses, reading}
 
--- At left the first wrong symbol stands, or the end where it comes too early: the symbols before are the beginning
+-- The first wrong symbol stands at left, or the end if it comes too early: the symbols before are the beginning
 -- of a list that the grammar derives, and with this symbol they are not; at the end the whole list isn't derived.
 abbrev pub IsFirstWrong : List Symbol → List Symbol → Type 0
 IsFirstWrong symbols [] = IsBeginning symbols × (IsDerived symbols → ⊥)
@@ -23,7 +23,7 @@ IsFair symbols (Refuses _ left) = IsSoFar symbols left
 abbrev pub CodesAreFair : Type 0
 CodesAreFair = (symbols : List Symbol) → IsFair symbols (reading symbols)
 
--- A text is taken exactly where the grammar derives it and no code holds.
+-- A text is taken exactly if the grammar derives it and no code holds.
 abbrev pub TextsAreTakenExactly : Type 0
 TextsAreTakenExactly = (symbols : List Symbol) → (reading symbols ≡ Taken) ↔ (IsDerived symbols × IsFree symbols)
 

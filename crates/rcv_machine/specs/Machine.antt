@@ -78,7 +78,7 @@ pub data Outcome : Type 0 where
   On : (state : State) (items : List Item) → Outcome
   Wrong : (fault : Fault) → Outcome
 
--- Behind a statement no walk comes without a message.
+-- After a statement no walk comes without a message.
 abbrev pub behind : Place → Bool → Place
 behind p ended = record { depth = p.depth; recs = p.recs; comes = 0; ended = ended; earlier = p.earlier }
 
@@ -88,11 +88,11 @@ inside p = record { depth = p.depth + 1; recs = p.recs; comes = p.comes; ended =
 abbrev pub inside_rec : Place → List ℕ → Place
 inside_rec p name = record { depth = p.depth; recs = p.recs ++ name ∷ []; comes = p.comes + 1; ended = false; earlier = p.earlier }
 
--- where a par stands, for a block of it behind those that name these roles
+-- where a par stands, for a block of it after those that name these roles
 abbrev pub beside : Place → Named → Place
 beside p earlier = record { depth = p.depth; recs = p.recs; comes = 0; ended = false; earlier = earlier }
 
--- the fault where the test holds, else what follows
+-- the fault if the test holds, else what follows
 abbrev pub unless : Bool → Fault → Outcome → Outcome
 unless test fault next = cond test (Wrong fault) next
 
@@ -119,7 +119,7 @@ meets (Text a) (Text b) = bytes_eq a b
 meets (Number a) (Number b) = a == b
 meets _ _ = false
 
--- What is awaited behind the symbol, where k is awaited behind the item. One sign, or the other with which the item ends.
+-- What is awaited after the symbol, if k is awaited after the item. One sign, or the other with which the item ends.
 abbrev pub either : State → Symbol → Sign → List Item → Sign → List Item → Outcome
 either s t sign next other k = cond (meets t (Is sign)) (On s next) (cond (meets t (Is other)) (On s k) (Wrong Token))
 
@@ -165,12 +165,12 @@ abbrev pub opens : State → Place → Symbol → List Item → Outcome
 opens s p (Is Open) k = unless (nat_le 32 p.depth) Deep (On s (First (inside p) ∷ k))
 opens s p _ k = Wrong Token
 
--- The name behind `continue` is that of a recursion from the start of whose body a walk comes here without a message.
+-- From the start of the body of the recursion that `continue` names, a walk comes here without a message.
 abbrev pub is_open : Place → List Symbol → Bool
 is_open p (Word n ∷ ts) = is_among n (drop (length p.recs - p.comes) p.recs)
 is_open p _ = false
 
--- the first symbol of a statement, with the symbols behind it
+-- the first symbol of a statement, with the symbols after it
 abbrev pub begins : State → Place → Symbol → List Symbol → List Item → Outcome
 begins s p (Word n) ts k =
     unless p.ended AfterContinue (On s (This (Is Left) ∷ Sorts ∷ This (Is From) ∷ Sender p.earlier ∷ Rest (behind p false) ∷ k))
@@ -201,7 +201,7 @@ later s p t ts k = ends s (behind p false) t ts k
 abbrev pub outermost : Place
 outermost = record { depth = 1; recs = []; comes = 0; ended = false; earlier = nobody }
 
--- the name of a protocol, with what stands behind it
+-- the name of a protocol, with what stands after it
 abbrev pub declares_protocol : State → List Item → List ℕ → Outcome
 declares_protocol s k n =
     unless (is_among n s.protocols) Twice
@@ -248,7 +248,7 @@ pub data Answer : Type 0 where
   Taken : Answer
   Refuses : (fault : Fault) (left : List Symbol) → Answer
 
--- Behind a protocol the text may end.
+-- After a protocol the text may end.
 abbrev pub at_end : List Item → Answer
 at_end (MoreProtocols ∷ []) = Taken
 at_end k = Refuses Token []

@@ -12,13 +12,13 @@ pub fn codes_are_fair()
     ensures { CodesAreFair }
 {}
 
-/// A text is taken exactly where the grammar derives it and no code of the table holds at a token, nor at the end.
+/// A text is taken exactly if the grammar derives it and no code of the table holds at a token, nor at the end.
 pub fn texts_are_taken_exactly()
     ensures { TextsAreTakenExactly }
 {}
 
-/// A text is refused with a code exactly at the first token, or the end, at which a code of the table holds, and where
-/// this is the least that holds there.
+/// A text is refused with a code exactly at the first token, or the end, at which a code of the table holds, and if it
+/// is the least that holds there.
 pub fn texts_are_refused_exactly()
     ensures { TextsAreRefusedExactly }
 {}

@@ -64,16 +64,15 @@ WasFull old new = LooksOnce old.base new.base × (length new.list + new.dropped 
 abbrev pub WasEmpty : End → End → Type 0
 WasEmpty old new = LooksOnce old.base new.base × (length new.list + new.dropped ≡ new.base.seen)
 
--- Where some message that was taken isn't received, it is received next, and nothing else changes; else the front of
--- the ring is taken.
+-- If some message that was taken isn't received, it is received next, and nothing else changes. Else the front of the ring is taken.
 abbrev pub ReceivesAgain : End → End → Type 0
 ReceivesAgain old new = old.got < length old.list → new ≡ received old (old.got + 1)
 
 abbrev pub TakesFront : End → End → Message → Type 0
 TakesFront old new m = old.got ≡ length old.list → new.list ≡ old.list ++ m ∷ []
 
--- The list is what went through the ring without what was dropped: as long, and behind its first `rewound` messages the
--- same. (Those came through the ring before; what was dropped lies behind them there.)
+-- The list is what went through the ring without what was dropped: as long, and the same after its first `rewound` messages. (Those came
+-- through the ring before; what was dropped lies after them there.)
 pub record Follows (all : List Message) (dropped rewound : ℕ) (list : List Message) : Type 0 where
   pub count : length all ≡ dropped + length list
   pub within : rewound ≤ length list
@@ -86,7 +85,7 @@ pub record IsPost (base : Shown) (list : List Message) (reserved limit dropped r
   pub few : length list ≤ limit
   pub sent_few : length base.sent ≤ 2 ^ 62
 
--- What an inbox keeps: also that what it took are messages of its points.
+-- What an inbox keeps: room is reserved for as many messages as the limit, and what it took are messages of its points.
 pub record IsInbox (base : Shown) (list : List Message) (reserved got limit dropped rewound : ℕ) : Type 0 where
   pub follows : Follows base.taken dropped rewound list
   pub room : limit ≤ reserved

@@ -42,9 +42,9 @@ impl Model for Inbox {
 }
 
 impl Inbox {
-    /// Receives the next message, where fewer than `limit` are received: one that was taken before and is to be
-    /// received again, else the front of the channel. Where nothing is left to receive again and a look of this call
-    /// found the channel empty it is None, and nothing is received. It never waits, and takes no memory.
+    /// Receives the next message: one that was taken before and will be received again, else the front of the channel.
+    /// Fewer than `limit` are received before the call. If nothing is left to receive again and a look of this call
+    /// found the channel empty, the answer is None, and nothing is received. It never waits, and takes no memory.
     pub fn receive(&mut self) -> Option<Message>
         requires { self.old.got < self.old.limit }
         ensures some { IfSome result (λ m. slice_get (taken self.new) self.old.got ≡ Some m) }
@@ -68,7 +68,7 @@ impl Inbox {
     }
 
     /// Tells that what this end took begins what the other one put. The answer is how many messages lie between: those
-    /// on their way. It takes no memory.
+    /// in flight. It takes no memory.
     pub fn meet(&mut self, beside: &mut Post) -> u32
         requires { IsChannel beside.old self.old }
         ensures begins { Begins (taken self.old) (put beside.old) }
@@ -85,8 +85,8 @@ impl Inbox {
         self.puller.meet(&mut beside.pusher)
     }
 
-    /// Goes back, with what is on its way: of what was put the first `drop_from` messages stay, all of them taken, and
-    /// of those the first `keep` are received. What was put behind them is dropped. It takes no memory.
+    /// Goes back, with what is in flight. The first `drop_from` messages that were put stay, all of them taken. The
+    /// first `keep` of those are received. What was put after them all is dropped. It takes no memory.
     pub fn rewind(&mut self, keep: u32, beside: &mut Post, drop_from: u32)
         requires channel { IsChannel beside.old self.old }
         requires keep { (keep ≤ self.old.got) × (keep ≤ drop_from) }
@@ -107,7 +107,7 @@ impl Inbox {
         self.cut(keep, drop_from);
     }
 
-    /// Goes back alone: the first `keep` messages stay received, and those behind them will be received again. Nothing
+    /// Goes back alone: the first `keep` messages stay received, and those after them will be received again. Nothing
     /// is dropped. It takes no memory.
     pub fn rewind_alone(&mut self, keep: u32)
         requires { keep ≤ self.old.got }
@@ -129,7 +129,7 @@ impl Inbox {
         self.taken[at]
     }
 
-    // Takes the front of the ring, where all that was taken is received.
+    // Takes the front of the ring. All that was taken is received.
     fn front(&mut self) -> Option<Message>
         requires limit { self.old.got < self.old.limit }
         requires all { self.old.got ≡ length (taken self.old) }
@@ -195,7 +195,7 @@ impl Inbox {
         self.taken.push_reserved(message);
     }
 
-    // Drops what was taken behind the first messages, of which the first ones stay received.
+    // Drops what was taken after the first `drop_from` messages. The first `keep` of those stay received.
     fn cut(&mut self, keep: u32, drop_from: u32)
         requires cut { (keep ≤ drop_from) × (drop_from ≤ length (taken self.old)) }
         requires few { self.old.dropped + length (taken self.old) ≤ 2 ^ 62 }

@@ -11,5 +11,5 @@ pub use inbox::Inbox;
 pub use make::channel;
 pub use post::{Full, Post};
 
-/// Want of memory, which is the one error of `channel`. No other call takes any.
+/// Memory ran out. This is the one error of `channel`. No other call takes memory.
 pub use std::alloc::AllocError as Memory;

@@ -9,8 +9,8 @@ use rcv_ring::ring;
 use rcv_tree::point::PointSet;
 use std::alloc::{AllocError, Global};
 
-/// Makes a channel for messages of these points, with room for so many on their way, 1 to 1,024, and reserves room to
-/// keep `limit` messages at each end, any number, so that no later call takes memory. Fails if memory runs out.
+/// Makes a channel for messages of these points, with room for so many in flight, 1 to 1,024. Reserves room to keep
+/// `limit` messages at each end, any number, so that no later call takes memory. Fails if memory runs out.
 pub fn channel(
     alloc: Global,
     room: u32,

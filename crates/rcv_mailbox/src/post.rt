@@ -39,9 +39,9 @@ impl Model for Post {
 }
 
 impl Post {
-    /// Sends a message of one of the channel's points, with a stamp up to 2^62, where fewer than `limit` messages are
-    /// put. Where a look of this call found no room it comes back, and nothing is sent. It never waits, and takes no
-    /// memory.
+    /// Sends a message of one of the channel's points, with a stamp up to 2^62. Fewer than `limit` messages are put
+    /// before the call. If a look of this call found no room, the message comes back, and nothing is sent. It never
+    /// waits, and takes no memory.
     pub fn send(&mut self, message: Message) -> Result<(), Full>
         requires passes { CanPass self.old.base.points message }
         requires through { through self.old < 2 ^ 62 }
@@ -76,7 +76,7 @@ impl Post {
         Ok(())
     }
 
-    /// Drops what was put behind the first messages, so many. The ring holds nothing.
+    /// Drops what was put after so many of the first messages. The ring holds nothing.
     pub(crate) fn cut(&mut self, drop_from: u32)
         requires { drop_from ≤ length (put self.old) }
         ensures put { put self.new ≡ first_of drop_from (put self.old) }

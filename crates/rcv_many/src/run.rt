@@ -12,14 +12,14 @@ use std::thread::{Threads, join_mut};
 // How many turns of an item a worker makes between two looks for idle workers.
 const TURNS: u32 = 64;
 
-/// Makes turns of each item, with what the caller lends to them, until it has ended or stopped, by at most so many
-/// threads at a time, from 1 to 8, and joins them.
+/// Makes turns of each item, with what the caller lends to them, until it has ended or stopped. At most so many threads
+/// do this at a time, from 1 to 8, and the call joins them.
 ///
-/// An item's turns are made one after another, by one thread at a time. A worker goes on with its item until that is
-/// over, so no more items are begun and not over at one time than there are workers. Before it begins one, and behind
-/// each 64 turns, it looks for an idle worker, and hands it a part of the items that it hasn't begun. So no worker is
-/// idle for longer than that, as long as one has an item that it hasn't begun. It takes no memory, and waits for
-/// nothing but the threads that it has started.
+/// One thread at a time makes an item's turns, one after another. A worker goes on with its item until that is over, so
+/// no more items are begun and not over at one time than there are workers. Before it begins one, and after each 64
+/// turns, it looks for an idle worker, and hands it a part of the items that it hasn't begun. So no worker is idle for
+/// longer than that, as long as one has an item that it hasn't begun. It takes no memory, and waits for nothing but the
+/// threads that it has started.
 pub fn run_all<R: Threads + Sync, C: Sync, T: Turns<C> + Send>(
     rt: &R,
     with: &C,
@@ -34,8 +34,8 @@ pub fn run_all<R: Threads + Sync, C: Sync, T: Turns<C> + Send>(
     work(rt, with, &hands, items);
 }
 
-// A worker goes through its items, one after another, and has nothing to do from then on. Where workers were found
-// idle, those that are left are shared with one of them, and both go on so.
+// A worker goes through its items, one after another, and has nothing to do from then on. If workers were found idle,
+// it shares those that are left with one of them, and both go on so.
 #[cycle(workers)]
 fn work<R: Threads + Sync, C: Sync, T: Turns<C> + Send>(
     rt: &R,
@@ -45,7 +45,7 @@ fn work<R: Threads + Sync, C: Sync, T: Turns<C> + Send>(
 )
     ensures { AreDone T.ended T.stopped T.goes items.old items.new }
 {
-    // Tells the proof that turns behind turns are turns.
+    // Tells the proof that turns after turns are turns.
     turns_join::<C, T>();
     for next in 0..items.len() {
         let others = items.len() - next > 1;
@@ -57,7 +57,7 @@ fn work<R: Threads + Sync, C: Sync, T: Turns<C> + Send>(
     hands.give();
 }
 
-// Where so many workers were idle, one takes an equal part of the items, the last ones, and this one the others.
+// If so many workers were idle, one takes an equal part of the items, the last ones, and this one the others.
 #[cycle(workers)]
 fn share<R: Threads + Sync, C: Sync, T: Turns<C> + Send>(
     rt: &R,
@@ -81,11 +81,12 @@ fn share<R: Threads + Sync, C: Sync, T: Turns<C> + Send>(
         requires { IsSync R.row × IsSync C.row × IsSend T.row }
         ensures { AreDone T.ended T.stopped T.goes mine.entry.now mine.exit.now }
     { work(rt, with, hands, mine) };
-    // The new thread has what isn't begun; where none can be made, that comes last.
+    // The new thread has what isn't begun. If none can be made, that comes last.
     join_mut(rt, &mut back, &mut front);
 }
 
-// Makes turns of an item until it is over, or until workers were found idle who may take others: how many these were.
+// Makes turns of an item until it is over, or until workers were found idle who may take others. Says how many these
+// were.
 fn run_one<C, T: Turns<C>>(with: &C, hands: &Hands, item: &mut T, others: bool) -> Option<usize>
     ensures goes { T.goes item.old item.new }
     ensures over { IfNone result (IsOver T.ended T.stopped item.new) }
@@ -101,7 +102,7 @@ fn run_one<C, T: Turns<C>>(with: &C, hands: &Hands, item: &mut T, others: bool) 
     }
 }
 
-// Makes some turns of an item. Whether it is over.
+// Makes some turns of an item, and says whether it is over.
 fn run_some<C, T: Turns<C>>(with: &C, item: &mut T) -> bool
     ensures goes { T.goes item.old item.new }
     ensures over { result ≡ true → IsOver T.ended T.stopped item.new }
@@ -117,7 +118,7 @@ fn run_some<C, T: Turns<C>>(with: &C, item: &mut T) -> bool
     false
 }
 
-// Turns behind turns are turns.
+// Turns after turns are turns.
 fn turns_join<C, T: Turns<C>>()
     ensures { (x y z : T) → T.goes x y → T.goes y z → T.goes x z }
 {}

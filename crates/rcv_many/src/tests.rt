@@ -9,7 +9,7 @@ use std::sync::atomic::{AtomicU64, Ordering};
 use std::test::Fail;
 use std::thread;
 
-// Counts down. It stops where no more are left than its last ones, and some are.
+// Counts down. It stops if no more are left than its last ones, and some are.
 #[derive(Drop)]
 struct Counter {
     start: u32,
@@ -72,7 +72,7 @@ fn no_items_are_done_at_once(rt: HostRuntime) {
 // How often an item looks for others at most.
 const LOOKS: u64 = 10_000_000;
 
-// Tells that an item has come, and waits until so many have. Whether they did.
+// Tells that an item has come, waits until so many have, and says whether they did.
 fn meet(come: &AtomicU64, all: u64) -> bool {
     come.fetch_add(1, Ordering::SeqCst);
     for _ in 0..LOOKS {

@@ -9,11 +9,11 @@ pub enum Step {
     More,
     /// There was nothing left to do.
     Ended,
-    /// Memory is wanted, by this turn or by an earlier one. The item makes no further turn.
+    /// Memory ran out, in this turn or in an earlier one. The item makes no further turn.
     Stopped,
 }
 
-/// Something that is done turn by turn. What its turns need of the caller is a `C`, which is lent to each.
+/// Something that is done turn by turn. What its turns need of the caller is a `C`. The caller lends it to each.
 ///
 /// Its meaning is what proofs say of it: whether nothing is left to do (`ended`), whether it has stopped (`stopped`),
 /// how many turns are left at most (`left`), and what any number of turns may make of it (`goes`).
@@ -21,7 +21,7 @@ pub trait Turns<C> {
     /// Nothing is left to do.
     ghost ended: { Self → Type 0 };
 
-    /// It makes no further turn, for want of memory.
+    /// It makes no further turn, because memory ran out.
     ghost stopped: { Self → Type 0 };
 
     /// How many turns are left at most.
@@ -45,6 +45,6 @@ pub trait Turns<C> {
     /// No turn is some number of turns.
     ghost stays: { (x : Self) → goes x x };
 
-    /// Turns behind turns are turns.
+    /// Turns after turns are turns.
     ghost joins: { (x y z : Self) → goes x y → goes y z → goes x z };
 }

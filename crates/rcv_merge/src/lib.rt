@@ -6,5 +6,5 @@ mod round;
 mod tests;
 
 pub use round::merge_round;
-/// Want of memory, which is the one error of this crate.
+/// Memory ran out: the one error of this crate.
 pub use std::alloc::AllocError as Memory;

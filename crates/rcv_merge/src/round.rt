@@ -20,9 +20,9 @@ struct Front {
     stamp: u64,
 }
 
-/// The entries of these logs, one for each of at most eight roles, in none of which stamps fall, each once: by stamp,
-/// then role, then position in the role's log. They come into a list, in place of what is in it. Fails where memory runs
-/// out.
+/// The entries of these logs, each once: by stamp, then role, then position in the role's log. There is one log for
+/// each of at most eight roles, and in none of them do stamps fall. The entries come into a list, instead of what is
+/// in it. Fails if memory runs out.
 pub fn merge_round(logs: &[&[Timed]], merged: &mut Vec<Entry>) -> Result<(), AllocError>
     requires few { length logs.now ≤ 8 }
     requires rise { All NeverFalls (lists_in logs.now) }
@@ -39,7 +39,7 @@ pub fn merge_round(logs: &[&[Timed]], merged: &mut Vec<Entry>) -> Result<(), All
     Ok(())
 }
 
-// How many entries the logs have, for what is to be reserved.
+// How many entries the logs have, which says how much to reserve.
 fn count_of(logs: &[&[Timed]]) -> usize {
     let mut count: usize = 0;
     for log in logs {
@@ -58,7 +58,7 @@ fn stamp_at(log: &[Timed], place: usize) -> Option<u64>
     }
 }
 
-// The entry at a place of the log, behind which there is a place, too.
+// The entry at a place of the log; there is a place after it, too.
 fn entry_at(log: &[Timed], place: usize) -> Entry
     requires { place < length log.now }
     ensures entry { result ≡ (slice_index_or log.now place nobody).step }
@@ -79,7 +79,7 @@ fn first_stamps(logs: &[&[Timed]]) -> [Option<u64>; ROLES]
     stamps
 }
 
-// The next entry of a role, behind which its head stands afterwards.
+// The next entry of a role. Afterwards its head stands after that entry.
 fn take(
     logs: &[&[Timed]],
     heads: &mut [usize; ROLES],
@@ -101,7 +101,7 @@ fn take(
     entry
 }
 
-// The role whose next entry is the first of all. None where no role has one.
+// The role whose next entry is the first of all. None if no role has one.
 fn first(stamps: &[Option<u64>; ROLES]) -> Option<Front>
     ensures { MatchOption result (AreDry stamps.now 8) (IsFront stamps.now) }
 {
@@ -114,7 +114,7 @@ fn first(stamps: &[Option<u64>; ROLES]) -> Option<Front>
     best
 }
 
-// The one of two that comes first: the former, where they have one stamp.
+// The one of two that comes first: the former, if they have one stamp.
 fn first_of(former: Option<Front>, latter: Front) -> Front
     ensures { IsFirstOfBoth former latter result }
 {

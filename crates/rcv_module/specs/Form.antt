@@ -14,8 +14,8 @@ abbrev pub AreArguments : ℕ → List ℕ → Type 0
 AreArguments roles [] = Unit {0}
 AreArguments roles (r ∷ rs) = (r < roles) × (IsIn r rs → ⊥) × AreArguments roles rs
 
--- Each block is full, as `IsFull` says, but that calls may stand where messages may: a call counts as a message, and its
--- arguments are declared roles that differ. No par.
+-- Each block is full, as `IsFull` says, except that calls may stand where messages may: a call counts as a message, and its arguments are
+-- declared roles that differ. No par.
 abbrev mutual
   pub IsFilled : ℕ → List (List ℕ) → List (List ℕ) → Body → Type 0
   IsFilled roles recs bare End = Unit {0}
@@ -55,8 +55,7 @@ abbrev pub ShareNoRole : Bodies → Type 0
 ShareNoRole NoMore = Unit {0}
 ShareNoRole (Or b bs) = ((r : ℕ) → HasRole r b → SomeHasRole r bs → ⊥) × ShareNoRole bs
 
--- The same as `IsFilled` for a text, of which a par may stand in its own block: each of its blocks is full, and no role
--- stands in two of them.
+-- The same as `IsFilled` for a text, in whose own block a par may stand: each block of the par is full, and no role stands in two of them.
 abbrev pub IsFilledText : ℕ → Body → Type 0
 IsFilledText roles End = Unit {0}
 IsFilledText roles (Single label sorts s r p rest) = IsFilledText roles rest

@@ -20,8 +20,8 @@ use Rattle.rcv_module.specs.Refusing.{AreCallable, IsFree, IsRefusedAt}
 use Rattle.rcv_module.specs.Short.{AreShort}
 use Rattle.rcv_module.specs.Walks.{IsWalkOfModule, IsWalkOfText}
 
--- The messages that walks through a module give are those that walks of its expansion give; where a par stands in the
--- first protocol's own block alone, as the form says, and no call comes back to the protocol that holds it.
+-- Walks through a module give the messages that walks of its expansion give. That holds if a par stands only in the first protocol's own
+-- block, as the form says, and no call comes back to the protocol that holds it.
 abbrev pub ExpansionKeepsWalks : Type 0
 ExpansionKeepsWalks =
     (parts : List Part) (body : Body) (ms : List SingleMessage) → AreFormed parts → AreCallable parts → IsExpansion parts body
@@ -31,13 +31,13 @@ ExpansionKeepsWalks =
 abbrev pub FreeModulesAreNotRefused : Type 0
 FreeModulesAreNotRefused = (parts : List Part) (f : Fault) (n : ℕ) → IsFree parts → IsRefusedAt parts f n → ⊥
 
--- Where a module has the form and isn't refused, its expansion has the form that acceptance asks for.
+-- If a module has the form and isn't refused, its expansion has the form that acceptance asks for.
 abbrev pub ExpansionsHaveForm : Type 0
 ExpansionsHaveForm =
     (parts : List Part) (main : Part) (body : Body) → AreFormed parts → IsFree parts → slice_get parts 0 ≡ Some main
     → IsExpansion parts body → HasForm body main.roles × IsFullText body × All (λ m. IsWord m.1.label) (singles body)
 
--- A module has one refusal at most, and one expansion at most.
+-- A module has at most one refusal, and at most one expansion.
 abbrev pub RefusalsAreOne : Type 0
 RefusalsAreOne =
     (parts : List Part) (f g : Fault) (n m : ℕ) → IsRefusedAt parts f n → IsRefusedAt parts g m → (f ≡ g) × (n ≡ m)
@@ -50,8 +50,8 @@ ExpansionsAreOne = (parts : List Part) (a b : Body) → IsExpansion parts a → 
 abbrev pub ModulesHaveAnswers : Type 0
 ModulesHaveAnswers = (m : Module) → HasModuleForm m → AreShort m → ((p : Protocol) × IsExpanded m p) ⊎ ((r : Refusal) × IsRefused m r)
 
--- These calls lead from one protocol to another: the first one is held by the one, each next one by the protocol that the
--- one before names, and the last one names the other.
+-- These calls lead from one protocol to another. The one protocol holds the first call. The protocol that a call names holds the next one,
+-- and the last call names the other protocol.
 abbrev pub IsChain : List Part → ℕ → List Called → ℕ → Type 0
 IsChain parts holder [] to = to ≡ holder
 IsChain parts holder (c ∷ cs) to =

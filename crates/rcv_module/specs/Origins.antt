@@ -61,7 +61,7 @@ pub record AreOrigins (parts : List Part) (os : List Origin) : Type 0 where
   pub calls : ℕ
   pub come : Come parts 0 [] 0 main.body os calls
 
--- The same of a module, with the names of its protocols.
+-- The same for a module, with the names of its protocols.
 pub record AreOriginsOf (m : Module) (os : Origins) : Type 0 where
   pub named : os.names ≡ map (λ (p : Part). p.name) (parts_of m)
   pub points : AreOrigins (parts_of m) os.points.items

@@ -20,11 +20,11 @@ abbrev mutual
   extent_of NoMore = 0
   extent_of (Or b bs) = 1 + (extent b + extent_of bs)
 
--- There are fewer than 2^62 of them. That is so of each text that was read, since a statement, and a branch, takes two tokens
--- at least.
+-- There are fewer than 2^62 of them. That holds for each text that was read, because each statement and each branch takes at least two
+-- tokens.
 abbrev pub IsShort : Part → Type 0
 IsShort p = extent p.body < 2 ^ 62
 
--- So it is of each protocol of a module.
+-- The same for each protocol of a module.
 abbrev pub AreShort : Module → Type 0
 AreShort m = AllByRecursion IsShort (parts_of m)

@@ -12,7 +12,7 @@ pub record Left : Type 0 where
   pub body : Body
   pub roles : Stands
 
--- What encloses it: a choice or a call, or a rec with its body; each with what stands behind it.
+-- What encloses it: a choice or a call, or a rec with its body; each with what stands after it.
 pub data Around : Type 0 where
   Behind : (rest : Left) → Around
   Inside : (name : List ℕ) (body : Body) (rest : Left) → Around
@@ -34,8 +34,8 @@ todo body roles around = record { left = record { body = body; roles = roles }; 
 abbrev pub said : List ℕ → List (List ℕ) → ℕ → ℕ → SingleMessage
 said label sorts s r = record { label = label; sorts = sorts; sender = s; receiver = r }
 
--- One step takes a message from the front, and leaves a configuration. A par stands in the first protocol's own block
--- alone, and so in no lane.
+-- One step takes a message from the front, and leaves a configuration. A par stands only in the first protocol's own block, and so in no
+-- lane.
 pub data Takes (parts : List Part) : Todo → SingleMessage → Todo → Type 0 where
   message : {label : List ℕ} {sorts : List (List ℕ)} {s r p : ℕ} {rest : Body} {st : Stands} {fs : List Around}
       → Takes parts (todo (Single label sorts s r p rest) st fs) (said label sorts (st s) (st r)) (todo rest st fs)
@@ -57,7 +57,7 @@ pub data Takes (parts : List Part) : Todo → SingleMessage → Todo → Type 0 
       → IsNamed parts name p
       → Takes parts (todo p.body (called_with st roles) (Behind (record { body = rest; roles = st }) ∷ fs)) m new
       → Takes parts (todo (Call name roles rest) st fs) m new
-  -- where nothing is left of a block, what stands behind it is next
+  -- if nothing is left of a block, what stands after it is next
   behind : {st : Stands} {rest : Left} {fs : List Around} {m : SingleMessage} {new : Todo}
       → Takes parts (todo rest.body rest.roles fs) m new → Takes parts (todo End st (Behind rest ∷ fs)) m new
   behind_loop : {name : List ℕ} {body : Body} {st : Stands} {rest : Left} {fs : List Around} {m : SingleMessage} {new : Todo}
@@ -67,7 +67,7 @@ pub data Takes (parts : List Part) : Todo → SingleMessage → Todo → Type 0 
 abbrev pub IsOver : List Part → Todo → Type 0
 IsOver parts now = (m : SingleMessage) (new : Todo) → Takes parts now m new → ⊥
 
--- What is still to be done in each lane of a text: at first all of its statements; and where one lane has gone on.
+-- What is still to be done in each lane of a text: at first all of its statements; and after one lane has gone on.
 abbrev pub InLanes : Type 0
 InLanes = ℕ → Todo
 
@@ -77,12 +77,12 @@ at_first text l = todo (lane_at text l).body themselves []
 abbrev pub gone_on : InLanes → ℕ → Todo → InLanes
 gone_on now l new k = if k == l then new else now k
 
--- A lane takes a message, where each lane of an earlier stage is over.
+-- A lane takes a message, if each lane of an earlier stage is over.
 pub record LaneTakes (parts : List Part) (text : Body) (now : InLanes) (l : ℕ) (m : SingleMessage) (new : Todo) : Type 0 where
   pub takes : Takes parts (now l) m new
   pub over : (k : ℕ) → (lane_at text k).stage < (lane_at text l).stage → IsOver parts (now k)
 
--- These messages can be taken, one after another, and by lanes of one stage in any order; a walk may stop behind each.
+-- These messages can be taken, one after another, and by lanes of one stage in any order. A walk may stop after each.
 abbrev pub IsModuleWalk : List Part → Body → InLanes → List SingleMessage → Type 0
 IsModuleWalk parts text now [] = Unit {0}
 IsModuleWalk parts text now (m ∷ ms) =

@@ -9,8 +9,8 @@ mod origin;
 pub use fault::Fault;
 pub use origin::{Called, Origin, Origins};
 
-/// The messages that walks through a module give, calls entered and nothing expanded, are those that the walks of its
-/// expansion give.
+/// Walks through a module, which enter calls and expand nothing, give the messages that the walks of its expansion
+/// give.
 pub fn expansion_keeps_walks()
     ensures { ExpansionKeepsWalks }
 {}
@@ -26,24 +26,24 @@ pub fn expansions_have_form()
     ensures { ExpansionsHaveForm }
 {}
 
-/// A module is refused with one code at one call at most.
+/// A module has at most one refusal: one code at one call.
 pub fn refusals_are_one()
     ensures { RefusalsAreOne }
 {}
 
-/// A module has one expansion at most.
+/// A module has at most one expansion.
 pub fn expansions_are_one()
     ensures { ExpansionsAreOne }
 {}
 
-/// Each module that has the reader's form, and in each text fewer than 2^62 statements and branches, has an answer: the first
-/// protocol with its calls expanded, or a refusal with its line.
+/// Each module that has the reader's form, with fewer than 2^62 statements and branches in each text, has an answer:
+/// the first protocol with its calls expanded, or a refusal with its line.
 pub fn modules_have_answers()
     ensures { ModulesHaveAnswers }
 {}
 
-/// The origins of an expansion are as many as its points, and each is one of its point: the protocol's text has the
-/// message at that point, and the calls lead to it from the first protocol.
+/// An expansion has as many origins as points, and each is one of its point: the protocol's text has the message at
+/// that point, and the calls lead to it from the first protocol.
 pub fn origins_are_of_points()
     ensures { OriginsAreOfPoints }
 {}

@@ -1,4 +1,4 @@
--- A text on its way to a sink: its front was written, and its end is held by a page.
+-- A text on its way to a sink: its front was written, and a page holds its end.
 use Rattle.std.specs.Prelude.{◌≡◌, ℕ, ◌≤◌, Bool, true, false, List, ◌++◌}
 use Rattle.std.specs.declared.option.Option.{Option}
 use Rattle.std.specs.Io.KnownBytes.{append_known}
@@ -10,7 +10,7 @@ pub record PageView : Type 0 where
   pub held : List ℕ
   pub failed : Bool
 
--- A page in front of a sink, of which this is told: what was written to it, and how often a call has failed.
+-- A page in front of a sink, and what the sink tells: what was written to it, and how often a call has failed.
 pub record PageState : Type 0 where
   pub written : Option (List ℕ)
   pub faults : ℕ
@@ -24,16 +24,14 @@ state written faults held failed = record { written = written; faults = faults; 
 abbrev pub at : {K : Type 0} → (K → Option (List ℕ)) → (K → ℕ) → K → PageView → PageState
 at written faults sink page = state (written sink) (faults sink) page.held page.failed
 
--- Of a text that began on a sink of which `start` and `before` were told, no call has failed: the front of the text was
--- written, and the rest is held.
+-- A text began on a sink that told `start` and `before`, and no call has failed: the front of the text was written, and the rest is held.
 pub record Waits (start : Option (List ℕ)) (before : ℕ) (s : PageState) (text : List ℕ) : Type 0 where
   pub front : List ℕ
   pub whole : front ++ s.held ≡ text
   pub written : s.written ≡ append_known start front
   pub calm : s.faults ≡ before
 
--- Of a text that began on a sink of which `start` and `before` were told, a call has failed: a beginning of the text was
--- written, not all of it.
+-- A text began on a sink that told `start` and `before`, and a call has failed: a beginning of the text was written, not all of it.
 pub record Broke (start : Option (List ℕ)) (before : ℕ) (s : PageState) (text : List ℕ) : Type 0 where
   pub beginning : WroteBeginning start s.written text
   pub later : before ≤ s.faults

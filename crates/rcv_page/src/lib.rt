@@ -6,5 +6,5 @@ pub mod page;
 mod tests;
 
 pub use page::Page;
-/// Want of memory, which comes where a page is made and nowhere else.
+/// Memory ran out. This comes only when a page is made.
 pub use std::alloc::AllocError as Memory;

@@ -14,8 +14,8 @@ const PAGE: usize = 65_536;
 
 /// What is still to be written to a sink: at most 65,536 bytes.
 ///
-/// No call but `new` takes memory, and no call but `finish` says whether the sink failed: behind a failed call of the
-/// sink nothing more is written.
+/// Only `new` takes memory, and only `finish` says whether the sink failed. After a failed call of the sink nothing
+/// more is written.
 #[derive(Drop)]
 pub struct Page {
     bytes: Vec<u8>,
@@ -36,7 +36,7 @@ impl Model for Page {
 impl Page {
     /// An empty page, with its whole room reserved.
     ///
-    /// The error comes where no memory was left for it.
+    /// The error comes if no memory was left for it.
     pub fn new(alloc: Global) -> Result<Page, AllocError>
         ensures { IfOk result (λ page. page ≡ record { held = []; failed = false }) }
     {
@@ -46,7 +46,7 @@ impl Page {
         })
     }
 
-    /// The text goes on with these bytes. Where they don't fit in, what the page holds is written first.
+    /// The text goes on with these bytes. If they don't fit in, what the page holds is written first.
     #[inline(always)]
     pub fn word<K: Sink>(&mut self, sink: &mut K, word: &[u8])
         ensures { Adds (at K.written K.faults sink.old self.old) (at K.written K.faults sink.new self.new) word.now }
@@ -58,7 +58,7 @@ impl Page {
         }
     }
 
-    /// The text goes on with this byte. Where the page is full, what it holds is written first.
+    /// The text goes on with this byte. If the page is full, what it holds is written first.
     #[inline(always)]
     pub fn byte<K: Sink>(&mut self, sink: &mut K, byte: u8)
         ensures { Adds (at K.written K.faults sink.old self.old) (at K.written K.faults sink.new self.new) (byte ∷ []) }
@@ -76,7 +76,7 @@ impl Page {
         ensures { Adds (at K.written K.faults sink.old self.old) (at K.written K.faults sink.new self.new)
             (decimal number) }
     {
-        // One or two digits, as many numbers have, need no buffer.
+        // Many numbers have one or two digits, and need no buffer.
         if number < 10 {
             self.byte(sink, b'0' + number as u8);
         } else if number < 100 {
@@ -88,7 +88,7 @@ impl Page {
         }
     }
 
-    /// The text goes on with a number in decimal, with a minus in front where it is below 0.
+    /// The text goes on with a number in decimal, with a minus in front if it is below 0.
     #[inline(always)]
     pub fn signed_number<K: Sink>(&mut self, sink: &mut K, number: i64)
         ensures { Adds (at K.written K.faults sink.old self.old) (at K.written K.faults sink.new self.new)
@@ -104,7 +104,7 @@ impl Page {
 
     /// Writes what the page holds: then the whole text was written.
     ///
-    /// `WriteFault` comes exactly where some call of the sink failed since the page was made.
+    /// `WriteFault` comes exactly if some call of the sink failed since the page was made.
     pub fn finish<K: Sink>(self, sink: &mut K) -> Result<(), WriteFault>
         ensures done { OnOk result
             (Adds (at K.written K.faults sink.old self) (state (K.written sink.new) (K.faults sink.new) [] false) []) }
@@ -128,7 +128,7 @@ impl Page {
         self.bytes.clear();
     }
 
-    // The text goes on with a byte behind a page that is full.
+    // The text goes on with a byte after a page that is full.
     #[inline(never)]
     fn byte_behind<K: Sink>(&mut self, sink: &mut K, byte: u8)
         ensures { Adds (at K.written K.faults sink.old self.old) (at K.written K.faults sink.new self.new) (byte ∷ []) }
@@ -137,7 +137,7 @@ impl Page {
         self.bytes.push(byte).unwrap();
     }
 
-    // The text goes on with a word that doesn't fit behind what the page holds.
+    // The text goes on with a word that doesn't fit after what the page holds.
     #[inline(never)]
     fn word_behind<K: Sink>(&mut self, sink: &mut K, word: &[u8])
         ensures { Adds (at K.written K.faults sink.old self.old) (at K.written K.faults sink.new self.new) word.now }

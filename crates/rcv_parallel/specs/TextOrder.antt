@@ -12,13 +12,13 @@ pub record HasLanesInOrder (net : Net) (roles lanes : ℕ) : Type 0 where
   pub has_lane : (p : ℕ) → net.lane p < lanes
   pub rising : (l m : ℕ) → l ≤ m → m < lanes → net.stage l ≤ net.stage m
 
--- A walk within lane l from its start: the first point is one that the lane begins with, and each other one is offered at
--- the place behind the one before it.
+-- A walk within lane l from its start: the first point is one that the lane begins with, and each other one is offered at the
+-- place after the point before it.
 abbrev pub IsWalkFromStart : Net → ℕ → List ℕ → Type 0
 IsWalkFromStart net l [] = Unit {0}
 IsWalkFromStart net l (p ∷ w) = IsIn p (net.begins l) × IsLaneWalk net p w
 
--- It is ended where nothing is offered at its last point; without a point, where the lane begins with nothing.
+-- It is ended if nothing is offered at its last point. Without a point, it is ended if the lane begins with nothing.
 abbrev pub IsEndedFromStart : Net → ℕ → List ℕ → Type 0
 IsEndedFromStart net l [] = net.begins l ≡ []
 IsEndedFromStart net l (p ∷ w) = IsLaneEnded net p w
@@ -30,14 +30,14 @@ pub record IsEndedIn (net : Net) (k l : ℕ) (w : List ℕ) : Type 0 where
   pub later : net.stage (net.lane k) < net.stage l → IsEndedFromStart net l w
 
 -- What a walk from place k has in each lane: a walk from k in the lane of k, walks from their starts in lanes of later
--- stages, and nothing in other lanes. Where a lane has a point, each lane of an earlier stage is ended.
+-- stages, and nothing in other lanes. If a lane has a point, each lane of an earlier stage is ended.
 pub record AreLaneWalks (net : Net) (lanes k : ℕ) (walks : ℕ → List ℕ) : Type 0 where
   pub own : IsLaneWalk net k (walks (net.lane k))
   pub later : (l : ℕ) → l < lanes → net.stage (net.lane k) < net.stage l → IsWalkFromStart net l (walks l)
   pub shut : (l : ℕ) → l < lanes → (l ≡ net.lane k → ⊥) → net.stage l ≤ net.stage (net.lane k) → walks l ≡ []
   pub in_turn : (l m : ℕ) → l < lanes → m < lanes → net.stage l < net.stage m → (walks m ≡ [] → ⊥) → IsEndedIn net k l (walks l)
 
--- The first n lists, one behind another.
+-- The first n lists, one after another.
 abbrev pub joined : ℕ → (ℕ → List ℕ) → List ℕ
 joined zero lists = []
 joined (suc n) lists = joined n lists ++ lists n
@@ -48,7 +48,7 @@ pub record IsInTextOrder (net : Net) (lanes k : ℕ) (w : List ℕ) : Type 0 whe
   pub are : AreLaneWalks net lanes k walks
   pub whole : joined lanes walks ≡ w
 
--- It is ended where each of its lane walks is.
+-- It is ended if each of its lane walks is.
 abbrev pub AreEnded : Net → ℕ → ℕ → (ℕ → List ℕ) → Type 0
 AreEnded net lanes k walks = (l : ℕ) → l < lanes → IsEndedIn net k l (walks l)
 

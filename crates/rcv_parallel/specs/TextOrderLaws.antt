@@ -1,4 +1,4 @@
--- Laws: walks are walks in text order, but for the order of points of lanes that go side by side.
+-- Laws: walks are walks in text order, except for the order of points of lanes that go side by side.
 use Rattle.std.specs.Prelude.{◌≡◌, ℕ, ◌≤◌, ◌↔◌, List, length}
 use Rattle.rcv_tree.specs.declared.event.Event.{Event}
 use Rattle.rcv_model.specs.Text.{Body}
@@ -13,13 +13,13 @@ use Rattle.rcv_parallel.specs.TextOrder.{HasLanesInOrder, IsInTextOrder, AreEnde
 abbrev pub FormHasLanesInOrder : Type 0
 FormHasLanesInOrder = (body : Body) (roles : ℕ) → HasForm body roles → HasLanesInOrder (net_of body) roles (length (lanes_of body))
 
--- Each walk in text order is a walk, ended where it says so.
+-- Each walk in text order is a walk. It is ended as a walk exactly if it is ended in text order.
 abbrev pub TextOrderIsAWalk : Type 0
 TextOrderIsAWalk =
     (net : Net) (roles lanes k : ℕ) (w : List ℕ) → HasLanesInOrder net roles lanes → (t : IsInTextOrder net lanes k w)
     → IsWalk net k w × (AreEnded net lanes k t.walks ↔ IsEnded net k w)
 
--- Each walk, sorted by lanes, is a walk in text order, ended where the walk is.
+-- Each walk, sorted by lanes, is a walk in text order. That is ended exactly if the walk is.
 abbrev pub WalksSortIntoTextOrder : Type 0
 WalksSortIntoTextOrder =
     (net : Net) (roles lanes k : ℕ) (w : List ℕ) → HasLanesInOrder net roles lanes → IsWalk net k w
@@ -37,7 +37,7 @@ SortingKeepsEachRole =
     (net : Net) (roles lanes k r : ℕ) (w : List ℕ) → HasLanesInOrder net roles lanes → IsWalk net k w
     → part net r (by_lanes net lanes w) ≡ part net r w
 
--- So events are a run just where they follow a walk in text order.
+-- So events are a run exactly if they follow a walk in text order.
 abbrev pub RunsFollowTextOrder : Type 0
 RunsFollowTextOrder =
     (net : Net) (roles lanes : ℕ) (h : List Event) → HasLanesInOrder net roles lanes → IsRun net h ↔ FollowsTextOrder net lanes h
@@ -47,14 +47,14 @@ abbrev pub NextFollowsTextOrder : Type 0
 NextFollowsTextOrder =
     (net : Net) (roles lanes r k z : ℕ) → HasLanesInOrder net roles lanes → IsNext net r k z ↔ IsNextInOrder net lanes r k z
 
--- Where there is one lane, walks in text order are those of the lane, and ended where those are.
+-- If there is one lane, walks in text order are those of the lane, and they are ended exactly if those are.
 abbrev pub OneLaneNeedsNoOrder : Type 0
 OneLaneNeedsNoOrder =
     (net : Net) (lanes k : ℕ) (w : List ℕ) → HasOneLane net → 1 ≤ lanes
     → (IsInTextOrder net lanes k w ↔ IsLaneWalk net k w)
     × ((t : IsInTextOrder net lanes k w) → AreEnded net lanes k t.walks ↔ IsLaneEnded net k w)
 
--- So it is in a text without par.
+-- The same holds for a text without par.
 abbrev pub TextsWithoutParNeedNoOrder : Type 0
 TextsWithoutParNeedNoOrder =
     (body : Body) (k : ℕ) (w : List ℕ) → HasNoPar body

@@ -1,6 +1,6 @@
-// The model's walks, in which points of lanes side by side stand in any order, are walks in text order but for that order.
-// Laws alone; nothing stands on them but worked examples. Beside them stands a worked session with lanes, to which the laws
-// of the crates below are applied (proofs/LaneSession.antt).
+// In the model's walks, points of lanes side by side stand in any order. Except for that order, the walks are walks in
+// text order. These are laws alone; nothing stands on them but worked examples. Beside them stands a worked session
+// with lanes (proofs/LaneSession.antt), to which the laws of the crates below are applied.
 #![tactic(auto)]
 
 ghost use Rattle.rcv_parallel.specs.ByStages.{TextOrderGoesByStages};
@@ -18,12 +18,12 @@ pub fn text_order_goes_by_stages()
     ensures { TextOrderGoesByStages }
 {}
 
-/// Each walk in text order is a walk, ended where it says so.
+/// Each walk in text order is a walk. It is ended as a walk exactly if it is ended in text order.
 pub fn text_order_is_a_walk()
     ensures { TextOrderIsAWalk }
 {}
 
-/// Each walk, sorted by lanes, is a walk in text order, ended where the walk is.
+/// Each walk, sorted by lanes, is a walk in text order. That is ended exactly if the walk is.
 pub fn walks_sort_into_text_order()
     ensures { WalksSortIntoTextOrder }
 {}
@@ -38,7 +38,7 @@ pub fn sorting_keeps_each_role()
     ensures { SortingKeepsEachRole }
 {}
 
-/// Events are a run just where they follow a walk in text order.
+/// Events are a run exactly if they follow a walk in text order.
 pub fn runs_follow_text_order()
     ensures { RunsFollowTextOrder }
 {}
@@ -48,12 +48,12 @@ pub fn next_follows_text_order()
     ensures { NextFollowsTextOrder }
 {}
 
-/// Where there is one lane, walks in text order are those of the lane.
+/// If there is one lane, walks in text order are those of the lane.
 pub fn one_lane_needs_no_order()
     ensures { OneLaneNeedsNoOrder }
 {}
 
-/// So it is in a text without par.
+/// The same holds for a text without par.
 pub fn texts_without_par_need_no_order()
     ensures { TextsWithoutParNeedNoOrder }
 {}

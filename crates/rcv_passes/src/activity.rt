@@ -6,7 +6,7 @@
 pub struct Activity {
     /// So many passes over a worker's places moved one of them.
     pub moves: u64,
-    /// Behind so many of these no other worker was at work: each waited, had left, or hadn't begun.
+    /// After so many of these no other worker was at work: each waited, had left, or hadn't begun.
     pub alone: u64,
 }
 

@@ -2,7 +2,7 @@
 
 use std::sync::atomic::{AtomicU64, Ordering};
 
-/// So many workers share a round at most.
+/// At most so many workers share a round.
 pub const MOST_WORKERS: usize = 8;
 
 /// How a worker stands. `Waiting(moves)`: in a whole pass it moved none of its places, and before that pass so many
@@ -15,7 +15,7 @@ pub enum Mark {
     Waiting(u64),
 }
 
-// As these a mark lies in a word, and as this one and those above it one that waits.
+// A mark lies in a word as one of these; a mark that waits, as the last one or as a number above it.
 const AWAY: u64 = 0;
 
 const BUSY: u64 = 1;
@@ -38,8 +38,8 @@ impl Mark {
 /// A mark of each worker and a count of moves, which any worker may change at any time. No clause says what they are:
 /// they decide who does how much, and not what comes of it.
 ///
-/// A worker counts a move when it comes to a stop behind passes that moved, and before it shows that it waits. So where
-/// all wait since the same count, each has gone in vain over its places behind the last move of all: nobody can go on.
+/// A worker counts a move when it comes to a stop after passes that moved, and before it shows that it waits. So if all
+/// wait since the same count, each has gone in vain over its places after the last move of all: nobody can go on.
 #[derive(Drop)]
 pub struct Board {
     workers: usize,

@@ -42,7 +42,7 @@ pub trait Place<T, C> {
     /// Tools of the kind of a third one are of one kind.
     ghost transitive: { (t u v : T) → like t u → like u v → like t v };
 
-    /// Runs behind runs are runs.
+    /// Runs after runs are runs.
     ghost joins: { (t : T) (x y z : Self) → ran t x y → ran t y z → ran t x z };
 
     /// Runs with a tool are runs with any other of its kind.

@@ -15,9 +15,9 @@ use std::thread::{Threads, join_mut};
 ///
 /// There are as many workers, and threads, as there are tools, from 1 to 8, but no more than places: each has a tool
 /// and an equal part of the places. It goes over these pass after pass, and runs each place that isn't over once in a
-/// pass. Where none of them moves it waits for those of the others, for a short while between two passes, and leaves
-/// where all wait in vain, where workers only move in turn for some time, or behind a bounded number of passes in vain.
-/// A single worker never waits.
+/// pass. If none of them moves, it waits for those of the others, for a short while between two passes. It leaves if
+/// all wait in vain, if workers only move in turn for some time, or after a bounded number of passes in vain. A single
+/// worker never waits.
 ///
 /// The threads are joined. It takes no memory.
 pub fn run_round<R: Threads + Sync, C: Sync, T: Send, P: Place<T, C> + Send>(
@@ -43,7 +43,8 @@ pub fn run_round<R: Threads + Sync, C: Sync, T: Send, P: Place<T, C> + Send>(
     share(rt, with, &board, 0, crew, places)
 }
 
-// The workers whose numbers go on from this one go over the places: in halves at one time, each by half of them.
+// The workers whose numbers go on from this one go over the places: in halves at one time, each half by half of the
+// workers.
 #[cycle(share)]
 fn share<R: Threads + Sync, C: Sync, T: Send, P: Place<T, C> + Send>(
     rt: &R,

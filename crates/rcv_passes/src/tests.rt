@@ -14,7 +14,7 @@ use std::test::Fail;
 use std::thread;
 use std::thread::Threads;
 
-// Takes one step behind each of the place before it, or is ahead of that by so many.
+// Takes one step after each step of the place before it, or is ahead of that place by so many.
 #[derive(Drop)]
 struct Link<'a> {
     before: &'a AtomicU64,
@@ -74,7 +74,7 @@ impl<'a> Place<u64, ()> for Link<'a> {
     ghost carries = { Prim.search rules };
 }
 
-// Each of eight links takes so many steps behind the one before it, and the first one is ahead of the last one by so
+// Each of eight links takes so many steps after the one before it, and the first one is ahead of the last one by so
 // many: a ring in which one moves at a time, or a chain whose first link can take all of its steps at once.
 fn linked<'a>(
     counts: &'a [AtomicU64],
@@ -128,7 +128,7 @@ const STEPS: u64 = 100;
 const ROUNDS: u32 = 50;
 
 // How many laps of a ring some round makes, and in how many rounds at most. Most rounds make more on an idle machine; a
-// busy one may give a round's workers their turns one after another. Where a worker left at its first pass in vain, each
+// busy one may give a round's workers their turns one after another. If a worker left at its first pass in vain, each
 // round would make one.
 const LAPS: u64 = 4;
 
@@ -239,7 +239,7 @@ impl Place<u64, ()> for Stone {
     ghost carries = { Prim.search rules };
 }
 
-// How often a place is run at most in a round of eight of which none can move.
+// How often a place is run at most in a round of eight in which none can move.
 fn most_runs<R: Threads + Sync>(rt: &R, alloc: Global, workers: usize) -> Result<u64, AllocError> {
     let mut stones = Vec::new(alloc);
     for _ in 0..8 {
@@ -257,7 +257,7 @@ fn a_single_worker_ends_behind_its_first_pass_in_vain(rt: HostRuntime) -> Result
     Ok(())
 }
 
-// Where a processor is late, the others wait for it: so a round of many counts.
+// If a processor is late, the others wait for it. So the test takes the best of many rounds.
 #[test]
 fn where_nobody_can_move_the_round_ends_soon(rt: HostRuntime) -> Result<(), Fail> {
     for workers in [2usize, 3, 4, 8] {
@@ -283,7 +283,7 @@ fn a_worker_ends_where_the_other_never_begins(rt: HostRuntime) {
 // How often a place looks for others at most.
 const LOOKS: u64 = 10_000_000;
 
-// Tells that one more has come, and waits until so many have. Whether they did.
+// Tells that one more has come, and waits until so many have. It answers whether they did.
 fn meet(come: &AtomicU64, all: u64) -> bool {
     come.fetch_add(1, Ordering::SeqCst);
     for _ in 0..LOOKS {

@@ -8,10 +8,10 @@ use crate::place::Place;
 use crate::progress::Progress;
 use crate::worker::Worker;
 
-// So many passes are made at most.
+// At most so many passes are made.
 const PASSES: u32 = 1 << 20;
 
-/// Runs all places once, and then again and again those that aren't over, until the worker is to go on no more.
+/// Runs all places once, and then again and again those that aren't over, until the worker goes on no more.
 pub fn work<C, T, P: Place<T, C>>(
     with: &C,
     board: &Board,

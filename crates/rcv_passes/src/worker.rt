@@ -5,15 +5,15 @@ use crate::board::{Board, Mark};
 use crate::progress::Progress;
 use std::{hint, thread};
 
-// So many passes in vain are made behind one another at most.
+// At most so many passes in vain are made one after another.
 const TRIES: u32 = 10_000;
-// Behind so many of them workers that haven't begun aren't expected any longer: where no threads can be made, they
-// begin when this one has left.
+// After so many of them, workers that haven't begun aren't expected any longer: if no threads can be made, they begin
+// when this one has left.
 const EXPECTED: u32 = 1_000;
-// Behind so many of them a wait lets others run; before that it is a short one of twice the length each time.
+// After so many of them a wait lets others run; before that it is a short one, twice as long each time.
 const SHORT: u32 = 6;
-// So often, and less the times when it didn't, it comes to a stop behind moves during which it was alone, and leaves:
-// workers that only move in turn gain nothing, and on a busy machine each turn may have to wait for a processor.
+// A stop after moves during which it was alone counts one up, any other stop one down. At so many it leaves: workers
+// that only move in turn gain nothing, and on a busy machine each turn may have to wait for a processor.
 const LONE_STOPS: u32 = 16;
 
 /// A worker that stands between two passes over its places.
@@ -24,12 +24,12 @@ pub struct Worker {
     mark: Mark,
     // Whether it has moved places and hasn't counted that yet.
     moving: bool,
-    // Whether no other worker was busy behind any of these moves.
+    // Whether no other worker was busy after any of these moves.
     lone: bool,
     lone_stops: u32,
     // How many moves were counted before its pass.
     seen: u64,
-    // How many passes in vain lie behind it since it last moved.
+    // How many passes in vain it has made since it last moved.
     tries: u32,
     activity: Activity,
 }
@@ -51,9 +51,9 @@ impl Worker {
         worker
     }
 
-    /// Whether to make another pass behind this one. It says no where all places are over, where nobody can move, where
-    /// it has only moved in turn with others, and behind a number of passes in vain. Where the pass was in vain, it has
-    /// waited for a little while.
+    /// Whether to make another pass after this one. It says no if all places are over, if nobody can move, if it has
+    /// only moved in turn with others, and after a number of passes in vain. If the pass was in vain, it has waited for
+    /// a little while.
     pub fn goes_on(&mut self, board: &Board, pass: &Progress) -> bool {
         if pass.has_moved() {
             self.has_moved(board);
@@ -85,7 +85,7 @@ impl Worker {
         self.activity = self.activity.with_move(alone);
     }
 
-    // Behind a pass in vain: whether there is to be another one.
+    // After a pass in vain: whether to make another one.
     fn tries_again(&mut self, board: &Board) -> bool {
         if self.moving {
             return self.stops(board);
@@ -103,7 +103,8 @@ impl Worker {
         true
     }
 
-    // Behind the first pass in vain: only one that begins with what it moved counted can show that nobody moves.
+    // After the first pass in vain. Only a pass that begins when the moves of its worker are counted can show that
+    // nobody moves.
     fn stops(&mut self, board: &Board) -> bool {
         self.moving = false;
         board.count_move();
@@ -124,7 +125,7 @@ impl Worker {
     }
 }
 
-// Waits a little while, behind so many passes in vain.
+// Waits a little while, after so many passes in vain.
 fn wait(tries: u32) {
     if tries > SHORT {
         thread::yield_now();

@@ -24,11 +24,11 @@ number name value = attribute name (decimal value)
 abbrev pub class : Look → Attribute
 class look = attribute (codes "class") (class_of look)
 
--- an element that holds a text alone
+-- an element that holds only a text
 abbrev pub words_in : List ℕ → List Attribute → List ℕ → Node
 words_in name attributes words = Element name attributes (nodes (Words words ∷ []))
 
--- Which part of a text stands at its place, in the words of SVG.
+-- Which part of a text stands at its place, in SVG's words.
 abbrev pub anchor_word : Anchor → List ℕ
 anchor_word Start = codes "start"
 anchor_word Middle = codes "middle"
@@ -38,7 +38,7 @@ anchor_word End = codes "end"
 abbrev pub place_text : At → List ℕ
 place_text at = codes " " ++ decimal at.x.0 ++ codes " " ++ decimal at.y.0
 
--- `M x y x y`: a way that begins at the first place and goes straight to each that follows.
+-- `M x y x y`: a way that begins at the first place and goes straight to each next one.
 abbrev pub way : List At → List ℕ
 way places = codes "M" ++ flat_map place_text places
 
@@ -78,7 +78,7 @@ shape_text shape = spelled (shape_node shape)
 abbrev pub class_if_undone : List ℕ → Bool → Attribute
 class_if_undone word undone = attribute (codes "class") (if undone then word ++ codes " undone" else word)
 
--- What a group says, in its tag. Entries are counted from 1 there.
+-- What a group says, in its tag. It counts entries from 1.
 abbrev pub tag_of : Says → List Attribute
 tag_of Nothing = []
 tag_of (Entry place undone) =
@@ -106,7 +106,7 @@ undone_words counts = decimal counts.undone ++ codes " undone"
 unfoldable pub fold_words : ℕ → ℕ → Counts → List ℕ
 fold_words first end counts = run_words first end ++ event_words counts ++ crash_words counts ++ undone_words counts
 
--- no title where there are no words for it
+-- no title if there are no words for it
 abbrev pub title_nodes : List ℕ → List Node
 title_nodes [] = []
 title_nodes (c ∷ cs) = words_in (codes "title") [] (c ∷ cs) ∷ []
@@ -128,7 +128,7 @@ group_node group = tagged group.says group.title.items group.shapes.items
 unfoldable pub group_line : Group → List ℕ
 group_line group = codes "\n" ++ spelled (group_node group)
 
--- how large each head of an arrow is, and that it points as its line does
+-- how large each head of an arrow is, and that it points in the direction of its line
 unfoldable pub head_sizes : List Attribute
 head_sizes =
     attribute (codes "viewBox") (codes "0 0 14 14")
@@ -160,7 +160,7 @@ background width height =
     (attribute (codes "class") (codes "background")
     ∷ number (codes "width") width ∷ number (codes "height") height ∷ [])
 
--- each behind a line feed, and one at the end
+-- each after a line feed, and a line feed at the end
 abbrev pub on_lines : List Node → List Node
 on_lines [] = Words (codes "\n") ∷ []
 on_lines (n ∷ ns) = Words (codes "\n") ∷ n ∷ on_lines ns

@@ -8,7 +8,7 @@ use Rattle.rcv_picture.specs.WellFormed.{is_name, is_among, IsDocument}
 abbrev pub name_of : Attribute → List ℕ
 name_of a = a.name
 
--- each has a name, and no two have one
+-- each has a name, and no two have the same
 abbrev pub are_proper_attributes : List Attribute → Bool
 are_proper_attributes [] = true
 are_proper_attributes (a ∷ more) =
@@ -32,7 +32,7 @@ TreesAreWellFormed =
     (name : List ℕ) (attributes : List Attribute) (children : Nodes)
     → is_proper (Element name attributes children) ≡ true → IsDocument (spelled (Element name attributes children))
 
--- Each picture's text is one.
+-- Each picture's text is a document.
 abbrev pub PicturesAreWellFormed : Type 0
 PicturesAreWellFormed =
     (picture : Picture) → (is_proper (tree_of picture) ≡ true) × IsDocument (spelled (tree_of picture))

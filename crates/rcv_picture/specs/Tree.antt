@@ -24,7 +24,7 @@ nodes (n ∷ ns) = Beside n (nodes ns)
 abbrev pub is_shown : ℕ → Bool
 is_shown c = (c == 10) || nat_lt 31 c
 
--- A byte as it is written in texts and values: what marks up as an entity, and what a document can't have as `?`.
+-- A byte as it is written in texts and values: one that marks up as an entity, and one that a document can't have as `?`.
 abbrev pub escape : ℕ → List ℕ
 escape c =
     if c == 38 then codes "&amp;" else

@@ -1,5 +1,5 @@
 -- Documents that are well formed: nested elements with equal names at both ends, attributes with distinct names, and
--- texts and values in which what marks up stands as an entity alone.
+-- texts and values in which bytes that mark up stand only as entities.
 use Rattle.std.specs.Prelude.{◌≡◌, ◌⊎◌, ℕ, Bool, true, false, not, ◌&&◌, ◌||◌, ◌==◌, List, [], ◌∷◌, ◌++◌, codes, bytes_eq}
 use Rattle.std.specs.Char.{is_ascii_digit, is_ascii_alphabetic}
 use Rattle.rcv_picture.specs.Tree.{is_shown}
@@ -12,7 +12,7 @@ abbrev pub are_name_bytes : List ℕ → Bool
 are_name_bytes [] = true
 are_name_bytes (c ∷ cs) = is_name_byte c && are_name_bytes cs
 
--- A letter, and such bytes behind it.
+-- A letter, and such bytes after it.
 abbrev pub is_name : List ℕ → Bool
 is_name [] = false
 is_name (c ∷ cs) = is_ascii_alphabetic c && are_name_bytes cs
@@ -38,7 +38,7 @@ pub data IsValue : List ℕ → Type 0 where
   ByteOfValue : (c : ℕ) (rest : List ℕ) → is_plain_in_value c ≡ true → IsValue rest → IsValue (c ∷ rest)
   EntityOfValue : (entity rest : List ℕ) → IsEntity entity → IsValue rest → IsValue (entity ++ rest)
 
--- ` name="value"` for each, and the names, of which no two are equal.
+-- ` name="value"` for each attribute, and the names: no two are equal.
 pub data AreAttributes : List (List ℕ) → List ℕ → Type 0 where
   NoAttribute : AreAttributes [] []
   OneAttribute :

@@ -12,12 +12,12 @@ pub struct Counts {
     pub undone: u32,
 }
 
-/// What a group says of the journal that is drawn. Entries are counted from 0.
+/// What a group says of the journal that is drawn. It counts entries from 0.
 #[derive(Clone, Copy, Debug, PartialEq, Eq)]
 pub enum Says {
     /// Nothing of its own.
     Nothing,
-    /// This entry stands here, and whether it is an event that isn't kept at the end.
+    /// This entry stands here; and whether it is an event that isn't kept at the end.
     Entry {
         place: u32,
         undone: bool,
@@ -28,7 +28,7 @@ pub enum Says {
         end: u32,
         counts: Counts,
     },
-    /// The message of one entry, a Send, is received by the other, a Recv, and whether that isn't kept at the end.
+    /// The message of one entry, a Send, which the other, a Recv, receives; and whether the Recv isn't kept at the end.
     Arrow {
         send: u32,
         receive: u32,
@@ -36,7 +36,7 @@ pub enum Says {
     },
 }
 
-/// Shapes that belong together, with what they say and a text that a viewer shows where the pointer rests.
+/// Shapes that belong together, with what they say and a text that a viewer shows when the pointer rests on them.
 #[derive(Drop)]
 pub struct Group {
     pub says: Says,

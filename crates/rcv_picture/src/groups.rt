@@ -20,7 +20,7 @@ fn number_of(place: u32) -> u64
     place as u64 + 1
 }
 
-// Puts the tag of an entry's group behind the text.
+// Adds the tag of an entry's group to the text.
 #[tactic(auto, unfolding(crate::specs::Tree::attribute_text))]
 fn put_entry(text: &mut Writer, place: u32, undone: bool) -> Result<(), AllocError>
     ensures { OnOk result (text.new ≡ text.old
@@ -37,7 +37,7 @@ fn put_entry(text: &mut Writer, place: u32, undone: bool) -> Result<(), AllocErr
     text.word(b"\">")
 }
 
-// Puts the tag of folded entries behind the text.
+// Adds the tag of folded entries to the text.
 #[tactic(auto, unfolding(crate::specs::Tree::attribute_text))]
 fn put_fold(text: &mut Writer, first: u32, end: u32, counts: Counts) -> Result<(), AllocError>
     ensures { OnOk result (text.new ≡ text.old
@@ -50,7 +50,7 @@ fn put_fold(text: &mut Writer, first: u32, end: u32, counts: Counts) -> Result<(
     text.word(b"\">")
 }
 
-// Puts the tag of an arrow behind the text.
+// Adds the tag of an arrow to the text.
 #[tactic(auto, unfolding(crate::specs::Tree::attribute_text))]
 fn put_arrow(text: &mut Writer, send: u32, receive: u32, undone: bool) -> Result<(), AllocError>
     ensures { OnOk result (text.new ≡ text.old
@@ -69,7 +69,7 @@ fn put_arrow(text: &mut Writer, send: u32, receive: u32, undone: bool) -> Result
     text.word(b"\">")
 }
 
-// Puts the tag of a group behind the text.
+// Adds the tag of a group to the text.
 fn put_tag(text: &mut Writer, says: Says) -> Result<(), AllocError>
     ensures { OnOk result (text.new ≡ text.old ++ codes "<g" ++ attributes_text (tag_of says) ++ codes ">") }
 {
@@ -85,7 +85,7 @@ fn put_tag(text: &mut Writer, says: Says) -> Result<(), AllocError>
     }
 }
 
-// Puts which entries are folded behind the text.
+// Adds to the text which entries are folded.
 #[tactic(auto, unfolding(crate::specs::Drawn::run_words))]
 fn put_run(text: &mut Writer, first: u32, end: u32) -> Result<(), AllocError>
     ensures { OnOk result (text.new ≡ text.old ++ escaped (run_words first end)) }
@@ -97,7 +97,7 @@ fn put_run(text: &mut Writer, first: u32, end: u32) -> Result<(), AllocError>
     text.word(b": ")
 }
 
-// Puts how many events there are behind the text.
+// Adds to the text how many events there are.
 fn put_events(text: &mut Writer, counts: Counts) -> Result<(), AllocError>
     ensures { OnOk result (text.new ≡ text.old ++ escaped (event_words counts)) }
 {
@@ -107,7 +107,7 @@ fn put_events(text: &mut Writer, counts: Counts) -> Result<(), AllocError>
     text.word(b" received, ")
 }
 
-// Puts how many crashes and recoveries there are behind the text.
+// Adds to the text how many crashes and recoveries there are.
 #[tactic(auto, unfolding(crate::specs::Drawn::crash_words))]
 fn put_crashes(text: &mut Writer, counts: Counts) -> Result<(), AllocError>
     ensures { OnOk result (text.new ≡ text.old ++ escaped (crash_words counts)) }
@@ -118,7 +118,7 @@ fn put_crashes(text: &mut Writer, counts: Counts) -> Result<(), AllocError>
     text.word(b" recoveries; ")
 }
 
-// Puts how many events aren't kept behind the text.
+// Adds to the text how many events aren't kept.
 #[tactic(auto, unfolding(crate::specs::Drawn::undone_words))]
 fn put_undone(text: &mut Writer, counts: Counts) -> Result<(), AllocError>
     ensures { OnOk result (text.new ≡ text.old ++ escaped (undone_words counts)) }
@@ -127,7 +127,7 @@ fn put_undone(text: &mut Writer, counts: Counts) -> Result<(), AllocError>
     text.word(b" undone")
 }
 
-// Puts the words for folded entries behind the text, made of their numbers.
+// Adds the words for folded entries to the text, made of their numbers.
 fn put_numbers(text: &mut Writer, first: u32, end: u32, counts: Counts) -> Result<(), AllocError>
     ensures { OnOk result (text.new ≡ text.old ++ escaped (fold_words first end counts)) }
 {
@@ -137,7 +137,7 @@ fn put_numbers(text: &mut Writer, first: u32, end: u32, counts: Counts) -> Resul
     put_undone(text, counts)
 }
 
-// Puts the title of folded entries behind the text.
+// Adds the title of folded entries to the text.
 fn put_fold_title(text: &mut Writer, first: u32, end: u32, counts: Counts) -> Result<(), AllocError>
     ensures { OnOk result (text.new ≡ text.old ++ spelled (words_in (codes "title") [] (fold_words first end counts))) }
 {
@@ -146,7 +146,7 @@ fn put_fold_title(text: &mut Writer, first: u32, end: u32, counts: Counts) -> Re
     text.word(b"</title>")
 }
 
-// Puts a title behind the text, if it has words.
+// Adds a title to the text, if it has words.
 fn put_title(text: &mut Writer, title: &[u8]) -> Result<(), AllocError>
     ensures { OnOk result (text.new ≡ text.old ++ all_spelled (nodes (title_nodes title.now))) }
 {
@@ -156,7 +156,7 @@ fn put_title(text: &mut Writer, title: &[u8]) -> Result<(), AllocError>
     put_words_in(text, b"title", title)
 }
 
-// Puts the title of a group behind the text, if it has one.
+// Adds the title of a group to the text, if it has one.
 fn put_group_title(text: &mut Writer, says: Says, title: &[u8]) -> Result<(), AllocError>
     ensures { OnOk result (text.new ≡ text.old ++ all_spelled (nodes (titles_of says title.now))) }
 {
@@ -166,7 +166,7 @@ fn put_group_title(text: &mut Writer, says: Says, title: &[u8]) -> Result<(), Al
     }
 }
 
-// Puts shapes behind the text, in a group that says this.
+// Adds shapes to the text, in a group that says this.
 fn put_tagged(
     text: &mut Writer,
     says: Says,
@@ -181,7 +181,7 @@ fn put_tagged(
     text.word(b"</g>")
 }
 
-// Puts a group on a line behind the text.
+// Adds a group on a line to the text.
 #[tactic(auto, unfolding(crate::specs::Drawn::group_line))]
 fn put_line_of(text: &mut Writer, group: &Group) -> Result<(), AllocError>
     ensures { OnOk result (text.new ≡ text.old ++ group_line group.now) }
@@ -195,7 +195,7 @@ fn put_line_of(text: &mut Writer, group: &Group) -> Result<(), AllocError>
     )
 }
 
-/// Puts groups behind the text, each behind a line feed. Fails if memory runs out.
+/// Adds groups to the text, each after a line feed. Fails if memory runs out.
 pub fn put_groups(text: &mut Writer, groups: &[Group]) -> Result<(), AllocError>
     ensures { OnOk result (text.new ≡ text.old ++ flat_map group_line groups.now) }
 {

@@ -18,10 +18,10 @@ mod tests;
 mod text;
 
 pub use text::picture_text;
-/// Want of memory, which is the one error of the calls of this crate.
+/// Memory ran out: the one error of the calls of this crate.
 pub use std::alloc::AllocError as Memory;
 
-/// What an element spells is a well-formed document, where it and all elements in it have names, and attributes with
+/// What an element spells is a well-formed document, if it and all elements in it have names, and attributes with
 /// distinct names.
 pub fn trees_are_well_formed()
     ensures { TreesAreWellFormed }

@@ -1,4 +1,4 @@
-// Pieces of markup behind a text.
+// Pieces of markup, added to a text.
 
 ghost use Rattle.std.specs.Prelude.{◌≡◌, [], ◌++◌, OnOk, decimal};
 ghost use Rattle.rcv_picture.specs.Tree.{escape, escaped, attribute_text, spelled};
@@ -9,7 +9,7 @@ use crate::pixels::Pixels;
 use rcv_text::writer::Writer;
 use std::alloc::AllocError;
 
-// Puts a byte behind the text, escaped where it must be.
+// Adds a byte to the text, escaped where it must be.
 #[inline(always)]
 fn put_byte(text: &mut Writer, byte: u8) -> Result<(), AllocError>
     ensures { OnOk result (text.new ≡ text.old ++ escape byte) }
@@ -24,7 +24,7 @@ fn put_byte(text: &mut Writer, byte: u8) -> Result<(), AllocError>
     }
 }
 
-/// Puts the words behind the text, escaped where they must be. Fails if memory runs out.
+/// Adds the words to the text, escaped where they must be. Fails if memory runs out.
 pub fn put_words(text: &mut Writer, words: &[u8]) -> Result<(), AllocError>
     ensures { OnOk result (text.new ≡ text.old ++ escaped words.now) }
 {
@@ -34,7 +34,7 @@ pub fn put_words(text: &mut Writer, words: &[u8]) -> Result<(), AllocError>
     Ok(())
 }
 
-/// Puts a number behind the text. Fails if memory runs out.
+/// Adds a number to the text. Fails if memory runs out.
 #[tactic(auto, using(crate::proofs::Escapes::number_stays))]
 pub fn put_digits(text: &mut Writer, number: u64) -> Result<(), AllocError>
     ensures { OnOk result (text.new ≡ text.old ++ escaped (decimal number)) }
@@ -42,7 +42,7 @@ pub fn put_digits(text: &mut Writer, number: u64) -> Result<(), AllocError>
     text.large_number(number)
 }
 
-/// Puts an attribute behind the text, as ` name="value"`. Fails if memory runs out.
+/// Adds an attribute to the text, as ` name="value"`. Fails if memory runs out.
 #[tactic(auto, unfolding(crate::specs::Tree::attribute_text))]
 pub fn put_attribute(text: &mut Writer, name: &[u8], value: &[u8]) -> Result<(), AllocError>
     ensures { OnOk result (text.new ≡ text.old ++ attribute_text (attribute name.now value.now)) }
@@ -54,7 +54,7 @@ pub fn put_attribute(text: &mut Writer, name: &[u8], value: &[u8]) -> Result<(),
     text.byte(b'"')
 }
 
-/// Puts an attribute behind the text whose value is a number. Fails if memory runs out.
+/// Adds an attribute whose value is a number to the text. Fails if memory runs out.
 #[tactic(auto, unfolding(crate::specs::Tree::attribute_text))]
 pub fn put_number(text: &mut Writer, name: &[u8], value: Pixels) -> Result<(), AllocError>
     ensures { OnOk result (text.new ≡ text.old ++ attribute_text (number name.now value.0)) }
@@ -66,14 +66,14 @@ pub fn put_number(text: &mut Writer, name: &[u8], value: Pixels) -> Result<(), A
     text.byte(b'"')
 }
 
-/// Puts the class of a look behind the text, as an attribute. Fails if memory runs out.
+/// Adds the class of a look to the text, as an attribute. Fails if memory runs out.
 pub fn put_class(text: &mut Writer, look: Look) -> Result<(), AllocError>
     ensures { OnOk result (text.new ≡ text.old ++ attribute_text (class look)) }
 {
     put_attribute(text, b"class", look.class())
 }
 
-/// Puts an element without attributes that holds these words alone. Fails if memory runs out.
+/// Adds an element without attributes that holds only these words. Fails if memory runs out.
 pub fn put_words_in(text: &mut Writer, name: &[u8], words: &[u8]) -> Result<(), AllocError>
     ensures { OnOk result (text.new ≡ text.old ++ spelled (words_in name.now [] words.now)) }
 {

@@ -13,7 +13,7 @@ use crate::shape::{Anchor, Shape};
 use rcv_text::writer::Writer;
 use std::alloc::AllocError;
 
-// Puts a straight line behind the text.
+// Adds a straight line to the text.
 fn put_line(text: &mut Writer, from: At, to: At, look: Look) -> Result<(), AllocError>
     ensures { OnOk result (text.new ≡ text.old ++ spelled (shape_node (Line from to look))) }
 {
@@ -26,7 +26,7 @@ fn put_line(text: &mut Writer, from: At, to: At, look: Look) -> Result<(), Alloc
     text.word(b"/>")
 }
 
-// Puts a rectangle behind the text.
+// Adds a rectangle to the text.
 fn put_rect(
     text: &mut Writer,
     corner: At,
@@ -47,7 +47,7 @@ fn put_rect(
     text.word(b"/>")
 }
 
-// Puts a circle behind the text.
+// Adds a circle to the text.
 fn put_circle(text: &mut Writer, center: At, radius: Pixels, look: Look) -> Result<(), AllocError>
     ensures { OnOk result (text.new ≡ text.old ++ spelled (shape_node (Circle center radius look))) }
 {
@@ -59,7 +59,7 @@ fn put_circle(text: &mut Writer, center: At, radius: Pixels, look: Look) -> Resu
     text.word(b"/>")
 }
 
-// Puts a place of a way behind the text.
+// Adds a place of a way to the text.
 fn put_place(text: &mut Writer, at: &At) -> Result<(), AllocError>
     ensures { OnOk result (text.new ≡ text.old ++ escaped (place_text at.now)) }
 {
@@ -69,7 +69,7 @@ fn put_place(text: &mut Writer, at: &At) -> Result<(), AllocError>
     put_digits(text, at.y.0 as u64)
 }
 
-// Puts the places of a way behind the text.
+// Adds the places of a way to the text.
 fn put_places(text: &mut Writer, places: &[At]) -> Result<(), AllocError>
     ensures { OnOk result (text.new ≡ text.old ++ flat_map (λ at. escaped (place_text at)) places.now) }
 {
@@ -79,7 +79,7 @@ fn put_places(text: &mut Writer, places: &[At]) -> Result<(), AllocError>
     Ok(())
 }
 
-// Puts a way behind the text, as an attribute.
+// Adds a way to the text, as an attribute.
 fn put_way(text: &mut Writer, places: &[At]) -> Result<(), AllocError>
     ensures { OnOk result (text.new ≡ text.old ++ attribute_text (attribute (codes "d") (way places.now))) }
 {
@@ -88,7 +88,7 @@ fn put_way(text: &mut Writer, places: &[At]) -> Result<(), AllocError>
     text.byte(b'"')
 }
 
-// Puts straight lines from place to place behind the text.
+// Adds straight lines from place to place to the text.
 fn put_path(text: &mut Writer, places: &[At], look: Look) -> Result<(), AllocError>
     ensures { OnOk result (text.new ≡ text.old ++ spelled (path_node places.now look)) }
 {
@@ -98,7 +98,7 @@ fn put_path(text: &mut Writer, places: &[At], look: Look) -> Result<(), AllocErr
     text.word(b"/>")
 }
 
-// Which part of a text stands at its place, in the words of SVG.
+// Which part of a text stands at its place, in SVG's words.
 fn word_of(anchor: Anchor) -> &'static [u8]
     ensures { result.now ≡ anchor_word anchor }
 {
@@ -109,7 +109,7 @@ fn word_of(anchor: Anchor) -> &'static [u8]
     }
 }
 
-// Puts which part of a text stands at its place behind the text, as an attribute.
+// Adds to the text which part of a text stands at its place, as an attribute.
 fn put_anchor(text: &mut Writer, anchor: Anchor) -> Result<(), AllocError>
     ensures { OnOk result (text.new ≡ text.old
         ++ attribute_text (attribute (codes "text-anchor") (anchor_word anchor))) }
@@ -117,7 +117,7 @@ fn put_anchor(text: &mut Writer, anchor: Anchor) -> Result<(), AllocError>
     put_attribute(text, b"text-anchor", word_of(anchor))
 }
 
-// Puts the tag of a text behind the text.
+// Adds the tag of a text to the text.
 fn put_text_tag(text: &mut Writer, place: At, anchor: Anchor, look: Look) -> Result<(), AllocError>
     ensures { OnOk result (text.new ≡ text.old
         ++ codes "<text" ++ attributes_text (text_attributes place anchor look) ++ codes ">") }
@@ -130,7 +130,7 @@ fn put_text_tag(text: &mut Writer, place: At, anchor: Anchor, look: Look) -> Res
     text.byte(b'>')
 }
 
-// Puts words in one line behind the text.
+// Adds words in one line to the text.
 fn put_text(
     text: &mut Writer,
     place: At,
@@ -145,7 +145,7 @@ fn put_text(
     text.word(b"</text>")
 }
 
-// Puts a shape behind the text.
+// Adds a shape to the text.
 #[tactic(auto, unfolding(crate::specs::Drawn::shape_text))]
 fn put_shape(text: &mut Writer, shape: &Shape) -> Result<(), AllocError>
     ensures { OnOk result (text.new ≡ text.old ++ shape_text shape.now) }
@@ -174,7 +174,7 @@ fn put_shape(text: &mut Writer, shape: &Shape) -> Result<(), AllocError>
     }
 }
 
-/// Puts shapes behind the text, one after another. Fails if memory runs out.
+/// Adds shapes to the text, one after another. Fails if memory runs out.
 pub fn put_shapes(text: &mut Writer, shapes: &[Shape]) -> Result<(), AllocError>
     ensures { OnOk result (text.new ≡ text.old ++ flat_map shape_text shapes.now) }
 {

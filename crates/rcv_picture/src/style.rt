@@ -3,8 +3,8 @@
 ghost use Rattle.std.specs.Prelude.{◌≡◌};
 ghost use Rattle.rcv_picture.specs.Drawn.{style};
 
-// How thick and how dashed, in what type, and which arrow head; then the colours, and those of a dark screen. The
-// groups of what isn't kept at the end make what is in them grey, whatever its own look.
+// How thick and how dashed, in what type, and which arrow head; then the colours, and those for a dark screen. The
+// groups of what isn't kept at the end make all that is in them grey, whatever its own look.
 const STYLE: &[u8] = b"
 text{font-family:'DejaVu Sans Mono',Menlo,Consolas,monospace;font-size:11px}
 .bold,.head,.big{font-weight:bold}

@@ -10,7 +10,7 @@ use crate::text::picture_text;
 use std::alloc::{AllocError, Global};
 use std::test::Fail;
 
-// What stands in front of the style sheet, and what behind it.
+// What stands before the style sheet, and what stands after it.
 const BEFORE: &[u8] =
     b"<svg xmlns=\"http://www.w3.org/2000/svg\" width=\"320\" height=\"90\" viewBox=\"0 0 320 90\" role=\"img\">
 <title>A &lt;&amp;&quot;&gt; B</title>

@@ -14,7 +14,7 @@ use crate::style::style;
 use rcv_text::writer::Writer;
 use std::alloc::{AllocError, Global};
 
-// Puts which part of the plane is seen behind the text, as an attribute.
+// Adds to the text which part of the plane is seen, as an attribute.
 fn put_view_box(text: &mut Writer, width: Pixels, height: Pixels) -> Result<(), AllocError>
     ensures { OnOk result (text.new ≡ text.old ++ attribute_text (view_box width.0 height.0)) }
 {
@@ -25,7 +25,7 @@ fn put_view_box(text: &mut Writer, width: Pixels, height: Pixels) -> Result<(), 
     text.byte(b'"')
 }
 
-// Puts the tag of the picture behind the text.
+// Adds the tag of the picture to the text.
 fn put_root(text: &mut Writer, width: Pixels, height: Pixels) -> Result<(), AllocError>
     ensures { OnOk result (text.new ≡ text.old
         ++ codes "<svg" ++ attributes_text (root_attributes width.0 height.0) ++ codes ">") }
@@ -39,7 +39,7 @@ fn put_root(text: &mut Writer, width: Pixels, height: Pixels) -> Result<(), Allo
     text.byte(b'>')
 }
 
-// Puts how large each head of an arrow is behind the text, as attributes.
+// Adds to the text how large each head of an arrow is, as attributes.
 #[tactic(auto, unfolding(crate::specs::Tree::attribute_text, crate::specs::Drawn::head_sizes))]
 fn put_head_sizes(text: &mut Writer) -> Result<(), AllocError>
     ensures { OnOk result (text.new ≡ text.old ++ attributes_text head_sizes) }
@@ -50,7 +50,7 @@ fn put_head_sizes(text: &mut Writer) -> Result<(), AllocError>
     )
 }
 
-// Puts the shape of the head of an arrow behind the text.
+// Adds the shape of the head of an arrow to the text.
 fn put_head_shape(text: &mut Writer, class: &[u8]) -> Result<(), AllocError>
     ensures { OnOk result (text.new ≡ text.old ++ spelled (head_shape class.now)) }
 {
@@ -60,7 +60,7 @@ fn put_head_shape(text: &mut Writer, class: &[u8]) -> Result<(), AllocError>
     text.word(b"/>")
 }
 
-// Puts the head of arrows behind the text that has this name and class.
+// Adds the head of arrows with this name and class to the text.
 fn put_arrow_head(text: &mut Writer, name: &[u8], class: &[u8]) -> Result<(), AllocError>
     ensures { OnOk result (text.new ≡ text.old ++ spelled (arrow_head name.now class.now)) }
 {
@@ -72,7 +72,7 @@ fn put_arrow_head(text: &mut Writer, name: &[u8], class: &[u8]) -> Result<(), Al
     text.word(b"</marker>")
 }
 
-// Puts the heads of arrows behind the text.
+// Adds the heads of arrows to the text.
 fn put_arrow_heads(text: &mut Writer) -> Result<(), AllocError>
     ensures { OnOk result (text.new ≡ text.old ++ spelled arrow_heads) }
 {
@@ -84,7 +84,7 @@ fn put_arrow_heads(text: &mut Writer) -> Result<(), AllocError>
     text.word(b"</defs>")
 }
 
-// Puts what lies behind all behind the text.
+// Adds to the text what lies behind all.
 fn put_background(text: &mut Writer, width: Pixels, height: Pixels) -> Result<(), AllocError>
     ensures { OnOk result (text.new ≡ text.old ++ spelled (background width.0 height.0)) }
 {
@@ -95,14 +95,14 @@ fn put_background(text: &mut Writer, width: Pixels, height: Pixels) -> Result<()
     text.word(b"/>")
 }
 
-// Puts the style sheet behind the text.
+// Adds the style sheet to the text.
 fn put_style(text: &mut Writer) -> Result<(), AllocError>
     ensures { OnOk result (text.new ≡ text.old ++ spelled (words_in (codes "style") [] style)) }
 {
     put_words_in(text, b"style", style())
 }
 
-// Puts a picture of this size behind the text, with this title, this description and these groups.
+// Adds a picture of this size to the text, with this title, this description and these groups.
 fn put_picture(
     text: &mut Writer,
     width: Pixels,
@@ -129,7 +129,7 @@ fn put_picture(
     text.word(b"\n</svg>")
 }
 
-/// The picture as an SVG that stands alone: its tree, spelled. It has no line feed at its end. Fails where memory runs
+/// The picture as an SVG that stands alone: its tree, spelled. It has no line feed at its end. Fails if memory runs
 /// out.
 pub fn picture_text(alloc: Global, picture: &Picture) -> Result<Vec<u8>, AllocError>
     ensures { IfOk result (λ text. text.items ≡ spelled (tree_of picture.now)) }

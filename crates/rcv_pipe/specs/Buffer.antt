@@ -2,7 +2,7 @@
 use Rattle.std.specs.Prelude.{ℕ, ◌≤◌, List, drop, vec_len, vec_capacity}
 use Rattle.rcv_pipe.specs.declared.buffer.Buffer.{Buffer}
 
--- So many bytes find room, and where so many are held, there is room for the next ones.
+-- There is room for so many bytes; and with so many held, there is still room for the next ones.
 abbrev pub room : ℕ
 room = 65536
 

@@ -25,7 +25,7 @@ pub record IsOther (line : List ℕ) : Type 0 where
   pub one : HasNoFeed line
   pub other : IsEvents line → ⊥
 
--- Bytes begin with this text, up to the first line that ends it, and these stand behind that.
+-- Bytes begin with this text, up to the first line that ends it, and these stand after that line.
 pub record Opens (bytes text behind : List ℕ) : Type 0 where
   pub lines : List (List ℕ)
   pub others : All IsOther lines
@@ -38,15 +38,15 @@ pub record Opens (bytes text behind : List ℕ) : Type 0 where
 abbrev pub OpensNone : List ℕ → Type 0
 OpensNone bytes = (text behind : List ℕ) → Opens bytes text behind → ⊥
 
--- So many bytes a text may have.
+-- A text may have so many bytes.
 abbrev pub most : ℕ
 most = 1048576
 
--- Whatever stands behind these bytes, their text is too long.
+-- Whatever stands after these bytes, their text is too long.
 abbrev pub IsTooLong : List ℕ → Type 0
 IsTooLong bytes = (more text behind : List ℕ) → Opens (bytes ++ more) text behind → most < length text
 
--- What was taken opens with the text, and the pipe holds what stands behind; or there is no text, for this reason.
+-- What was taken opens with the text, and the pipe holds what stands after the line that ends it; or there is no text, for this reason.
 abbrev pub IsOpening : Option (List ℕ) → List ℕ → PipeView → Result (Vec ℕ Global) OpeningError → Type 0
 IsOpening rest taken pipe (Ok text) = Opens taken text.items pipe.held × (length text.items ≤ most)
 IsOpening rest taken pipe (Err NoEvents) = OpensNone taken × IsAtEnd rest
@@ -54,7 +54,7 @@ IsOpening rest taken pipe (Err TooLong) = IsTooLong taken
 IsOpening rest taken pipe (Err ReadFault) = OpensNone taken
 IsOpening rest taken pipe (Err Memory) = Unit {0}
 
--- A call took some bytes of a source, of which this is told, and that is what came of them.
+-- A call took some bytes of a source, and that is what came of them. This is told of the source.
 pub record Takes (rest_old rest_new : Option (List ℕ)) (given_old given_new : ℕ) (pipe : PipeView) (result : Result (Vec ℕ Global) OpeningError) : Type 0 where
   pub taken : List ℕ
   pub took : Took rest_old rest_new given_old given_new taken

@@ -13,15 +13,15 @@ pub record PipeView : Type 0 where
 abbrev pub empty : PipeView
 empty = record { held = []; long = false }
 
--- The pipe where there is room: what leaves too little of it, which is the front of a line, is dropped.
+-- The pipe when it has room: if what it held left too little room, that was the front of a line, and is dropped.
 abbrev pub roomy : PipeView → PipeView
 roomy p = if nat_lt most_held (length p.held) then record { held = []; long = true } else p
 
--- The pipe behind these bytes more.
+-- The pipe with these bytes more at its end.
 abbrev pub with_more : PipeView → List ℕ → PipeView
 with_more p bytes = record { held = p.held ++ bytes; long = p.long }
 
--- These bytes wait: the pipe holds them, or of a line that is too long for it what isn't dropped.
+-- These bytes wait: the pipe holds them; or, if their line is too long for it, what isn't dropped of them.
 pub record Waits (p : PipeView) (bytes : List ℕ) : Type 0 where
   pub dropped : List ℕ
   pub whole : bytes ≡ dropped ++ p.held
@@ -29,7 +29,7 @@ pub record Waits (p : PipeView) (bytes : List ℕ) : Type 0 where
   pub front : HasNoFeed dropped
   pub long : p.long ≡ true → most_held < length dropped
 
--- A call read so many bytes of a source, of which this is told, and what was held goes on with them; none only at the end.
+-- A call read so many bytes of a source, and what was held goes on with them; none only at the end. This is told of the source.
 pub record Reads (held_old held_new : List ℕ) (rest_old rest_new : Option (List ℕ)) (given_old given_new count : ℕ) : Type 0 where
   pub read : List ℕ
   pub held : held_new ≡ held_old ++ read

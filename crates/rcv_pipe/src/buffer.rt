@@ -23,7 +23,7 @@ pub struct Buffer {
 impl Buffer {
     /// An empty one, with its whole room.
     ///
-    /// The error comes where no memory was left for it.
+    /// The error comes if memory runs out.
     pub fn new(alloc: Global) -> Result<Buffer, AllocError>
         ensures is { IfOk result IsBuffer }
         ensures held { IfOk result (λ buffer. held_in buffer ≡ []) }
@@ -87,9 +87,10 @@ impl Buffer {
         self.start = 0;
     }
 
-    /// Reads some bytes of a source behind those that are held, and answers how many: 0 only at its end.
+    /// Reads some bytes of a source, adds them to the end of those that are held, and answers how many: 0 only at the
+    /// end of the source.
     ///
-    /// `Failed` comes only where the source's count of faults rose; then nothing was read.
+    /// `Failed` comes only if the source's count of faults rose; then nothing was read.
     pub fn fill<S: Source>(&mut self, source: &mut S) -> Result<usize, Failed>
         requires is { IsBuffer self.old }
         requires front { self.old.start ≡ 0 }

@@ -1,4 +1,4 @@
-//! Lines of a source, one at a time: a text up to a line that ends it, and the lines behind it.
+//! Lines of a source, one at a time: a text up to a line that ends it, and the lines after it.
 #![tactic(auto)]
 
 mod buffer;

@@ -45,12 +45,12 @@ impl From<AllocError> for OpeningError {
     }
 }
 
-/// The text that stands before the first line `%% events`, which may end with a CR; the pipe, which is empty before,
-/// holds what was read behind that line.
+/// The text before the first line `%% events`, which may end with a CR. The pipe is empty before the call. After it the
+/// pipe holds what was read after that line.
 ///
-/// `NoEvents` comes where the source ends before that. `TooLong` comes where the text has more than 1,048,576 bytes,
-/// whatever stands behind what was taken, and only there. `ReadFault` comes only where the source's count of faults rose, and always where
-/// it is greater than before. What was taken before an error is gone from the source.
+/// `NoEvents` comes if the source ends before that line. `TooLong` comes exactly if the text has more than 1,048,576
+/// bytes, whatever stands after what was taken. `ReadFault` comes only if the source's count of faults rose, and always
+/// if it is greater than before. What was taken before an error is gone from the source.
 pub fn read_text<S: Source>(
     alloc: Global,
     pipe: &mut Pipe,

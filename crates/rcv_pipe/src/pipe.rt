@@ -12,7 +12,7 @@ use std::marker::Model;
 
 /// Bytes that were read of a source, up to 65,536 of them.
 ///
-/// Of a line that doesn't fit in the front is dropped: then it is long.
+/// If a line doesn't fit in, its front is dropped: then the pipe is long.
 #[derive(Drop)]
 pub struct Pipe {
     buffer: Buffer,
@@ -33,7 +33,7 @@ impl Model for Pipe {
 impl Pipe {
     /// An empty pipe, with its whole room.
     ///
-    /// The error comes where no memory was left for it.
+    /// The error comes if memory runs out.
     pub fn new(alloc: Global) -> Result<Pipe, AllocError>
         ensures { IfOk result (λ pipe. pipe ≡ empty) }
     {
@@ -82,10 +82,10 @@ impl Pipe {
         self.buffer.clear();
     }
 
-    /// Reads some bytes more, and answers how many: 0 only at the end. Where what is held, a line's front, takes all the
-    /// room, it is dropped for that.
+    /// Reads some bytes more, and answers how many: 0 only at the end. If what is held takes all the room, it is the
+    /// front of a line, and the pipe drops it first.
     ///
-    /// `Failed` comes only where the source's count of faults rose; then nothing was read.
+    /// `Failed` comes only if the source's count of faults rose; then nothing was read.
     pub fn fill<S: Source>(&mut self, source: &mut S) -> Result<usize, Failed>
         ensures reads { IfOk result (Reads (roomy self.old).held self.new.held (S.rest source.old) (S.rest source.new)
             (S.given source.old) (S.given source.new)) }

@@ -8,8 +8,8 @@ use Rattle.rcv_plan.specs.declared.sign.Sign.TheVariants.{Equals, Comma}
 use Rattle.rcv_plan.specs.Symbols.{Symbol, Word, Is}
 use Rattle.rcv_plan.specs.declared.fault.Fault.{Fault}
 use Rattle.rcv_plan.specs.declared.fault.Fault.TheVariants.{Token, Role, Twice, Range}
-use Rattle.rcv_plan.specs.declared.fault.ReadError.{ReadError}
-use Rattle.rcv_plan.specs.declared.fault.ReadError.TheVariants as causes
+use Rattle.rcv_plan.specs.declared.fault.PlanError.{PlanError}
+use Rattle.rcv_plan.specs.declared.fault.PlanError.TheVariants as causes
 use Rattle.rcv_plan.proofs.Shifting.{read_fits, read_counts}
 use Rattle.std.specs.List.{All}
 use Rattle.rcv_plan.specs.Lines.{IsReadPlan, HasReadCount, AreOnce, IsPlanned}
@@ -240,7 +240,7 @@ stop roles symbols left new k f h some e = go (subst (λ (s : Step KnownView). T
               (free_there roles [] (plan_text h.items ++ t.front) new before others x cut free) g y;
         }
 
-pub fails : (e : ReadError) (roles : List (List ℕ)) (symbols left new : List Symbol) (k k' : KnownView) → SoFar roles symbols left k → (left ≡ [] → ⊥) → Goes {X = Unit {0}} {Y = KnownView} (Err e) (λ x. k') new (next_item roles k left)
+pub fails : (e : PlanError) (roles : List (List ℕ)) (symbols left new : List Symbol) (k k' : KnownView) → SoFar roles symbols left k → (left ≡ [] → ⊥) → Goes {X = Unit {0}} {Y = KnownView} (Err e) (λ x. k') new (next_item roles k left)
     → Ends roles e symbols new
 fails causes.Memory roles symbols left new k k' h some g = tt
 fails (causes.Refused f) roles symbols left new k k' h some g = stop roles symbols left new k f h some g

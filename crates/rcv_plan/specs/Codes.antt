@@ -1,5 +1,5 @@
--- The codes from 41 on, each by the symbols alone. Everywhere back are the symbols before, the nearest first, t is the
--- symbol at which the code is to hold, and ts are the symbols behind it.
+-- The codes from 41 on, each by the symbols alone. Everywhere back are the symbols before, the nearest first, t is the symbol at
+-- which the code may hold, and ts are the symbols after it.
 use Rattle.std.specs.Prelude.{◌≡◌, ℕ, nat_le, Bool, true, false, not, ◌&&◌, ◌||◌, codes, if◌then◌else◌, List, [], ◌∷◌, ◌++◌}
 use Rattle.std.specs.List.{list_any}
 use Rattle.std.specs.Str.{bytes_eq}
@@ -15,8 +15,8 @@ is_among name names = list_any (λ other. bytes_eq other name) names
 
 -- ---- what stands where
 
--- An item may begin here: at the start, behind a number, and behind a role that stands behind a comma. No word is
--- reserved, so a word begins an item by its place alone.
+-- An item may begin here: at the start, after a number, or after a role that follows a comma. No word is reserved, so a word
+-- begins an item by its place alone.
 abbrev pub is_between : List Symbol → Bool
 is_between [] = true
 is_between (Number n ∷ back) = true
@@ -56,7 +56,7 @@ with_role [] q = []
 with_role (HostLine qs ∷ []) q = HostLine (qs ++ q ∷ []) ∷ []
 with_role (line ∷ lines) q = line ∷ with_role lines q
 
--- a role behind a = begins a host, and one behind a comma goes on with it
+-- a role after a = begins a host, and one after a comma goes on with it
 abbrev pub with_hosted : List Symbol → List PlanLine → ℕ → List PlanLine
 with_hosted (Is m ∷ back) lines q = if is_equals m then lines ++ HostLine (q ∷ []) ∷ [] else with_role lines q
 with_hosted _ lines q = lines
@@ -82,8 +82,8 @@ is_unknown roles back (Word r) =
     (is_behind (codes "every") back || is_behind (codes "crash") back || is_in_list back) && not (is_role roles r)
 is_unknown roles back _ = false
 
--- 42: the first word of a second every of the role behind it, where that is declared, or of a second limit or room; the
--- number of a crash line that stands before; the name of a host that stands before; and a role that has a host
+-- 42: the first word of a second every of the role after it, if that is declared, or of a second limit or room; the number of a
+-- crash line that stands before; the name of a host that stands before; and a role that has a host
 abbrev pub is_second_every : List (List ℕ) → List PlanLine → List Symbol → Bool
 is_second_every roles lines (Word r ∷ ts) = is_role roles r && has_every (place roles r) lines
 is_second_every roles lines _ = false

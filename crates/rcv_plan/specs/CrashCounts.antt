@@ -1,4 +1,4 @@
--- Where roles crash, as a set of roles for each count.
+-- When roles crash, as a set of roles for each count.
 use Rattle.std.specs.Prelude.{ℕ, Bool, List, slice_index_or}
 use Rattle.rcv_tree.specs.declared.role.RoleSet.{RoleSet}
 use Rattle.rcv_tree.specs.Bits.{has_bit}

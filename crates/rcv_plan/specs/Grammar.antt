@@ -36,7 +36,7 @@ IsDerived symbols = (ws : List Written) × (symbols ≡ plan_text ws)
 abbrev pub IsBeginning : List Symbol → Type 0
 IsBeginning front = (more : List Symbol) × IsDerived (front ++ more)
 
--- the place of a role's name, counted from 0; behind all of them where it isn't declared
+-- the place of a role's name, counted from 0; none if it isn't declared
 abbrev pub place_of : List (List ℕ) → List ℕ → Option ℕ
 place_of roles name = position (λ other. bytes_eq other name) roles
 

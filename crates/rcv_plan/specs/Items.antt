@@ -9,8 +9,8 @@ use Rattle.rcv_plan.specs.declared.sign.Sign.TheVariants.{Equals, Comma, Foreign
 use Rattle.rcv_plan.specs.Symbols.{Symbol, Word, Number, Is}
 use Rattle.rcv_plan.specs.declared.fault.Fault.{Fault}
 use Rattle.rcv_plan.specs.declared.fault.Fault.TheVariants.{Token, Role, Twice, Range}
-use Rattle.rcv_plan.specs.declared.fault.ReadError.{ReadError}
-use Rattle.rcv_plan.specs.declared.fault.ReadError.TheVariants as errors
+use Rattle.rcv_plan.specs.declared.fault.PlanError.{PlanError}
+use Rattle.rcv_plan.specs.declared.fault.PlanError.TheVariants as errors
 use Rattle.rcv_plan.specs.Lines.{has_crash, is_hosted}
 use Rattle.rcv_plan.specs.CrashCounts.{crashes_at}
 use Rattle.rcv_plan.specs.Grammar.{place_of}
@@ -21,11 +21,11 @@ pub record KnownView : Type 0 where
   pub lines : List PlanLine
   pub names : List (List ℕ)
 
--- A role crashes at a count exactly where a crash line says so.
+-- A role crashes at a count exactly if a crash line says so.
 abbrev pub AreFound : List RoleSet → List PlanLine → Type 0
 AreFound sets lines = (r n : ℕ) → r < 8 → crashes_at r n sets ≡ has_crash r n lines
 
--- Something is taken, and this is left behind it; or the reader stops where this is left.
+-- Something is taken, and this is left after it; or the reader stops, with this left.
 pub data Step (X : Type 0) : Type 0 where
   Takes : (x : X) (left : List Symbol) → Step X
   Stops : (fault : Fault) (left : List Symbol) → Step X
@@ -35,7 +35,7 @@ goes_on (Takes x left) k = k x left
 goes_on (Stops f left) k = Stops f left
 
 -- A function of the reader did this, and left that.
-abbrev pub Goes : {X Y : Type 0} → Result X ReadError → (X → Y) → List Symbol → Step Y → Type 0
+abbrev pub Goes : {X Y : Type 0} → Result X PlanError → (X → Y) → List Symbol → Step Y → Type 0
 Goes (Ok x) said new step = step ≡ Takes (said x) new
 Goes (Err errors.Memory) said new step = Unit {0}
 Goes (Err (errors.Refused f)) said new step = step ≡ Stops f new
@@ -72,7 +72,7 @@ abbrev pub next_name : KnownView → List Symbol → Step (List ℕ)
 next_name k (Word h ∷ ts) = if is_among h k.names then Stops Twice (Word h ∷ ts) else Takes h ts
 next_name k ts = Stops Token ts
 
--- a role of a host, behind these
+-- a role of a host, after these
 abbrev pub unhosted : KnownView → List ℕ → List Symbol → ℕ → List Symbol → Step (List ℕ)
 unhosted k qs here p after = if is_listed qs p || is_hosted p k.lines then Stops Twice here else Takes (qs ++ p ∷ []) after
 
@@ -91,7 +91,7 @@ with_line k line = record { lines = k.lines ++ line ∷ []; names = k.names }
 abbrev pub with_host : KnownView → List ℕ → List ℕ → KnownView
 with_host k name qs = record { lines = k.lines ++ HostLine qs ∷ []; names = k.names ++ name ∷ [] }
 
--- what stands behind the first word of an item
+-- what stands after the first word of an item
 abbrev pub every_line : List (List ℕ) → KnownView → List Symbol → Step KnownView
 every_line roles k ts =
     goes_on (next_role roles ts) (λ p us. goes_on (next_number 1 100000 us) (λ n vs. Takes (with_line k (EveryLine p n)) vs))

@@ -30,7 +30,7 @@ abbrev pub HasReadCount : PlanLine → Type 0
 HasReadCount (CrashLine q n) = n ≤ 100000
 HasReadCount _ = ⊤
 
--- So they are but for a crash count, which is up to 63 more in a later one of several sessions.
+-- The same, except that a crash count may be up to 63 more, as in a later one of several sessions.
 abbrev pub IsLineFor : ℕ → PlanLine → Type 0
 IsLineFor roles (EveryLine q n) = (q < roles) × (1 ≤ n) × (n ≤ 100000)
 IsLineFor roles (CrashLine q n) = (q < roles) × (n ≤ 100063)

@@ -7,11 +7,11 @@ use Rattle.rcv_plan.specs.Lines.{is_any_crash}
 abbrev pub calm_lines : List PlanLine → List PlanLine
 calm_lines plan = filter (λ line. not (is_any_crash line)) plan
 
--- They, and then the one crash line.
+-- These lines, and then the one crash line.
 abbrev pub with_one_crash : ℕ → ℕ → List PlanLine → List PlanLine
 with_one_crash r n plan = calm_lines plan ++ CrashLine r n ∷ []
 
--- It says of crashes that this role has one, at this count, and no other role any; of all else it says what the plan says.
+-- Of crashes it says that this role has one, at this count, and no other role has any. Of all else it says what the plan says.
 pub record OneCrashIsAlone : Type 0 where
   pub crashes : (r n : ℕ) (plan : List PlanLine) (q : ℕ)
       → crashes_in (with_one_crash r n plan) q ≡ (if r == q then n ∷ [] else [])

@@ -3,14 +3,14 @@
 use Rattle.std.specs.Prelude.{◌≡◌, ℕ, ◌<◌, List, [], ◌∷◌, ◌++◌, length, map}
 use Rattle.rcv_tree.specs.declared.refusal.Refusal.TheVariants as refusals
 use Rattle.rcv_lexer.specs.declared.token.Token.{Token}
-use Rattle.rcv_lexer.specs.declared.token.TextError.{TextError}
-use Rattle.rcv_lexer.specs.declared.token.TextError.TheVariants as errors
+use Rattle.rcv_tree.specs.declared.refusal.TextError.{TextError}
+use Rattle.rcv_tree.specs.declared.refusal.TextError.TheVariants as errors
 use Rattle.rcv_model.specs.Plan.{PlanLine}
 use Rattle.rcv_plan.specs.Symbols.{Symbol, symbols_of, line_before}
 use Rattle.rcv_plan.specs.declared.fault.Fault.{Fault}
 use Rattle.rcv_plan.specs.declared.fault.Fault.TheVariants as faults
-use Rattle.rcv_plan.specs.declared.fault.ReadError.{ReadError}
-use Rattle.rcv_plan.specs.declared.fault.ReadError.TheVariants as causes
+use Rattle.rcv_plan.specs.declared.fault.PlanError.{PlanError}
+use Rattle.rcv_plan.specs.declared.fault.PlanError.TheVariants as causes
 use Rattle.rcv_plan.specs.Grammar.{Written, plan_text, IsDerived, IsBeginning, said}
 use Rattle.rcv_plan.specs.Codes.{Holds}
 
@@ -25,9 +25,9 @@ abbrev pub backward : List Symbol → List Symbol → List Symbol
 backward [] back = back
 backward (t ∷ ts) back = backward ts (t ∷ back)
 
--- The code holds where front stands before and left begins with the symbol at which it is to hold; at the end nothing is
--- left. Code 40 is at a symbol that the grammar doesn't have there, and at the end of what isn't whole. No other code is
--- at the end.
+-- The code holds here: front stands before, and left begins with the symbol at which the code holds; at the end nothing is left.
+-- Code 40 holds at a symbol that the grammar doesn't have there, and at the end of what isn't whole. No other code holds at the
+-- end.
 abbrev pub HoldsAt : List (List ℕ) → Fault → List Symbol → List Symbol → Type 0
 HoldsAt roles faults.Token front [] = IsBeginning front × (IsDerived front → ⊥)
 HoldsAt roles faults.Token front (t ∷ ts) = IsBeginning front × (IsBeginning (front ++ t ∷ []) → ⊥)
@@ -62,6 +62,6 @@ IsRefused bundle list last roles (errors.Refused r) =
     × (r ≡ refusals.Text (code_of fault) (line_before list last (length left)))
 
 -- The reader stopped for the first code of the list, which holds at what is left.
-abbrev pub Ends : List (List ℕ) → ReadError → List Symbol → List Symbol → Type 0
+abbrev pub Ends : List (List ℕ) → PlanError → List Symbol → List Symbol → Type 0
 Ends roles causes.Memory old new = Unit {0}
 Ends roles (causes.Refused f) old new = IsFirst roles old f new

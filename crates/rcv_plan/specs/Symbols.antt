@@ -4,11 +4,11 @@ use Rattle.std.specs.Str.{bytes_eq}
 use Rattle.rcv_lexer.specs.declared.token.Kind.{Kind}
 use Rattle.rcv_lexer.specs.declared.token.Kind.TheVariants as kinds
 use Rattle.rcv_lexer.specs.declared.token.Token.{Token}
-use Rattle.rcv_scan.specs.Symbols as scan
-use Rattle.rcv_scan.specs.Symbols.{number_of, unquoted}
+use Rattle.rcv_lexer.specs.Symbols as scan
+use Rattle.rcv_lexer.specs.Symbols.{number_of, unquoted}
 use Rattle.rcv_plan.specs.declared.sign.Sign.{Sign}
 use Rattle.rcv_plan.specs.declared.sign.Sign.TheVariants.{Equals, Comma, Foreign}
-pub use Rattle.rcv_scan.specs.Symbols.{Is, Word, Number, Text, IsNotNext, line_before}
+pub use Rattle.rcv_lexer.specs.Symbols.{Is, Word, Number, Text, IsNotNext, line_before}
 
 abbrev pub Symbol : Type 0
 Symbol = scan.Symbol Sign

@@ -8,7 +8,7 @@ use std::alloc::{AllocError, Global};
 use std::marker::Model;
 
 /// For each count the roles that crash at it, so that one is found without a search. It holds a byte for each count up
-/// to the greatest one so far: at most 100,001, where counts go up to 100,000.
+/// to the greatest one so far: at most 100,001 bytes, if counts go up to 100,000.
 #[derive(Drop)]
 pub struct CrashCounts {
     sets: Vec<RoleSet>,
@@ -58,7 +58,7 @@ impl CrashCounts {
     }
 }
 
-// Makes the list hold this count, with no roles where it held nothing.
+// Makes the list hold this count. Counts that it didn't hold get no roles.
 fn reach(sets: &mut Vec<RoleSet>, number: u32) -> Result<(), AllocError>
     ensures same { OnOk result ((r n : ℕ) → crashes_at r n sets.new.items ≡ crashes_at r n sets.old.items) }
     ensures holds { OnOk result (number < length sets.new.items) }

@@ -1,7 +1,7 @@
 // Why no plan was read.
 
 ghost use Rattle.std.specs.Prelude.{◌≡◌};
-ghost use Rattle.rcv_plan.specs.declared.fault.ReadError.TheVariants.{Memory};
+ghost use Rattle.rcv_plan.specs.declared.fault.PlanError.TheVariants.{Memory};
 ghost use Rattle.rcv_plan.specs.Refusing.{code_of};
 
 use std::alloc::{AllocError, AllocFailed};
@@ -35,24 +35,24 @@ impl Fault {
 
 /// Why the reader stopped.
 #[derive(Clone, Copy, Debug, PartialEq, Eq)]
-pub enum ReadError {
+pub enum PlanError {
     /// The fault is at the token that is next, or at the end.
     Refused(Fault),
     Memory,
 }
 
-impl From<AllocError> for ReadError {
+impl From<AllocError> for PlanError {
     ghost from_gives = { λ _ e. e ≡ Memory };
 
-    fn from(_e: AllocError) -> ReadError {
-        ReadError::Memory
+    fn from(_e: AllocError) -> PlanError {
+        PlanError::Memory
     }
 }
 
-impl<T: Drop> From<AllocFailed<T>> for ReadError {
+impl<T: Drop> From<AllocFailed<T>> for PlanError {
     ghost from_gives = { λ _ e. e ≡ Memory };
 
-    fn from(_e: AllocFailed<T>) -> ReadError {
-        ReadError::Memory
+    fn from(_e: AllocFailed<T>) -> PlanError {
+        PlanError::Memory
     }
 }

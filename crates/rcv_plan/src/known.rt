@@ -8,7 +8,7 @@ ghost use Rattle.rcv_plan.specs.Items.{with_line, with_host};
 
 use crate::crash_counts::CrashCounts;
 use crate::line::Line;
-use rcv_scan::is;
+use rcv_lexer::is;
 use rcv_tree::name::Name;
 use rcv_tree::role::{RoleId, Roles};
 use std::alloc::{AllocError, Global};
@@ -18,7 +18,7 @@ use std::marker::Model;
 #[derive(Drop)]
 pub struct Known<'a> {
     lines: Vec<Line>,
-    // Where their crash lines let roles crash, to find one.
+    // The counts at which their crash lines let roles crash, to find one.
     crashes: CrashCounts,
     names: Vec<&'a [u8]>,
 }

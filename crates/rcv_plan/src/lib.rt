@@ -31,7 +31,8 @@ pub fn read_plans_are_planned()
     ensures { ReadPlansArePlanned }
 {}
 
-/// A plan in which one role alone crashes, once, says of crashes this alone, and of all else what the plan says.
+/// The plan in which one role alone crashes, once, says only that of crashes. Of all else it says the same as the plan
+/// that it comes from.
 pub fn one_crash_is_alone()
     ensures { OneCrashIsAlone }
 {}

@@ -13,7 +13,7 @@ use std::alloc::{AllocError, Global};
 /// A line of a plan.
 #[derive(Drop)]
 pub enum Line {
-    /// The role saves a state each so many events.
+    /// The role saves a state every so many events.
     Every { role: RoleId, number: u32 },
     /// The role crashes at this count of its events.
     Crash { role: RoleId, number: u32 },

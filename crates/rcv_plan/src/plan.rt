@@ -68,8 +68,8 @@ impl Plan {
         })
     }
 
-    /// The plan of a later one of several sessions: with so many added to each crash count. The counts of this one
-    /// are at most 100,000. Fails if memory runs out.
+    /// The plan of a later one of several sessions: with so many added to each crash count. The counts of this plan are
+    /// at most 100,000. Fails if memory runs out.
     pub fn shifted(&self, alloc: Global, by: u32) -> Result<Plan, AllocError>
         requires by { by ≤ 63 }
         requires counts { All HasReadCount self.now }
@@ -80,8 +80,8 @@ impl Plan {
         Plan::of(alloc, self.rows.len() as u8, lines)
     }
 
-    /// The same plan but for its crash lines: this role alone crashes, once, at this count of its events. So many roles
-    /// are declared. Fails if memory runs out.
+    /// The same plan, except for its crash lines: this role alone crashes, once, at this count of its events. So many
+    /// roles are declared. Fails if memory runs out.
     pub fn with_one_crash(
         &self,
         alloc: Global,
@@ -107,7 +107,7 @@ impl Plan {
         host_name(self.lines.as_slice(), role)
     }
 
-    // What the lines say of a role, where they say anything.
+    // What the lines say of a role, if they say anything.
     fn said_of(&self, role: RoleId) -> Option<&Row>
         ensures some { IfSome result (λ row. IsRow self.now role row.now) }
         ensures none { IfNone result (IsSilentOn self.now role) }
@@ -116,7 +116,7 @@ impl Plan {
         self.rows.as_slice().get(role.0 as usize)
     }
 
-    /// A role saves a state each so many of its events: 1 to 100,000. It takes no memory.
+    /// A role saves a state every so many of its events: 1 to 100,000. It takes no memory.
     pub fn every(&self, role: RoleId) -> u32
         ensures value { result ≡ every_in self.now role }
         ensures first { 1 ≤ result }
@@ -205,7 +205,7 @@ fn calm_lines(alloc: Global, lines: &[Line]) -> Result<Vec<Line>, AllocError>
     Ok(calm)
 }
 
-// They, and then the one crash line.
+// These lines, and then the one crash line.
 fn lines_with_one_crash(
     alloc: Global,
     lines: &[Line],
@@ -233,7 +233,7 @@ fn host_name(lines: &[Line], role: RoleId) -> Option<&[u8]>
     None
 }
 
-// Whether the count that stands behind so many others has been reached.
+// Whether the count that comes after so many others has been reached.
 fn is_due(counts: &[u32], raw: u32, crashes: u32) -> bool
     requires { IsNonDecreasing counts.now }
     ensures { result ≡ nat_lt crashes (count_by (λ n. nat_le n raw) counts.now) }
@@ -309,7 +309,7 @@ fn crashes_of(alloc: Global, lines: &[Line], role: RoleId) -> Result<Vec<u32>, A
     Ok(counts)
 }
 
-// The roles of the host that names a role; none where none does.
+// The roles of the host that names a role; none if no host does.
 fn host_of<'a>(lines: &'a [Line], role: RoleId) -> &'a [RoleId]
     ensures { result.now ≡ host_in (map line_in lines.now) role }
 {

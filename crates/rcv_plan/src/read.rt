@@ -9,15 +9,15 @@ ghost use Rattle.rcv_plan.specs.Lines.{IsPlanned, HasReadCount};
 ghost use Rattle.rcv_plan.specs.Refusing.{IsRead, IsRefused};
 ghost use Rattle.rcv_plan.specs.Refusing.{Ends};
 
-use crate::fault::ReadError;
+use crate::fault::PlanError;
 use crate::known::Known;
 use crate::plan::Plan;
 use crate::reader::Reader;
 use rcv_accept::accepted::Accepted;
-use rcv_lexer::token::{TextError, Token};
-use rcv_scan::{Ahead, line_before};
+use rcv_lexer::token::Token;
+use rcv_lexer::{Ahead, line_before};
 use rcv_tree::name::Names;
-use rcv_tree::refusal::Refusal;
+use rcv_tree::refusal::{Refusal, TextError};
 use std::alloc::Global;
 
 // Takes all items.
@@ -26,7 +26,7 @@ fn items<'a>(
     reader: &mut Reader<'a>,
     roles: &Names,
     known: &mut Known<'a>,
-) -> Result<(), ReadError>
+) -> Result<(), PlanError>
     requires few { length roles.now ≤ 8 }
     requires fresh { (known.old.lines ≡ []) × (known.old.names ≡ []) }
     ensures ok { OnOk result (IsRead roles.now reader.old.rest known.new.lines) }
@@ -44,11 +44,14 @@ fn items<'a>(
 /// end. A part without tokens is the plan without lines.
 ///
 /// Refused at the first token at which a code holds, or at the part's end, with the least code at it and its line:
-/// 40 where the grammar doesn't have the token or the end there; 41 at a role that isn't declared; 42 at the first word
-/// of a second `every` of one role, of a second `limit` or `room`, at the number of a `crash` line that stands before,
-/// at the name of a host that stands before, and at a role that stands before in a host; 43 at a number that isn't in
-/// its range, which is 1 to 100,000 for `every` and `limit`, 0 to 100,000 for `crash`, and 1 to 1,024 for `room`.
-/// `Memory` where no memory is left.
+/// - 40: the grammar doesn't have the token or the end there.
+/// - 41: a role that isn't declared.
+/// - 42: the first word of a second `every` of one role, or of a second `limit` or `room`; the number of a `crash` line
+///   that stands before; the name of a host that stands before; or a role that stands before in a host.
+/// - 43: a number that isn't in its range. The range is 1 to 100,000 for `every` and `limit`, 0 to 100,000 for `crash`,
+///   and 1 to 1,024 for `room`.
+///
+/// `Memory` if no memory is left.
 pub fn read_plan(
     alloc: Global,
     bundle: &[u8],
@@ -68,8 +71,8 @@ pub fn read_plan(
     let mut known = Known::new(alloc);
     match items(alloc, &mut reader, &accepted.protocol().roles, &mut known) {
         Ok(()) => Ok(Plan::of(alloc, accepted.roles(), known.into_lines())?),
-        Err(ReadError::Memory) => Err(TextError::Memory),
-        Err(ReadError::Refused(fault)) => Err(TextError::Refused(Refusal::Text {
+        Err(PlanError::Memory) => Err(TextError::Memory),
+        Err(PlanError::Refused(fault)) => Err(TextError::Refused(Refusal::Text {
             code: fault.code(),
             line: line_before(list, last, reader.rest.len()),
         })),

@@ -24,11 +24,11 @@ ghost use Rattle.rcv_plan.specs.Items.{
   next_item,
 };
 
-use crate::fault::{Fault, ReadError};
+use crate::fault::{Fault, PlanError};
 use crate::known::Known;
 use crate::line::{Line, is_listed};
 use crate::sign::Sign;
-use rcv_scan::{Ahead, is};
+use rcv_lexer::{Ahead, is};
 use rcv_tree::name::{Name, Names};
 use rcv_tree::role::{RoleId, Roles};
 use std::alloc::Global;
@@ -60,12 +60,12 @@ fn in_range(number: u64, low: u32, high: u32) -> Option<u32>
 
 impl<'a> Reader<'a> {
     // Takes this mark.
-    fn expect(&mut self, sign: Sign) -> Result<(), ReadError>
+    fn expect(&mut self, sign: Sign) -> Result<(), PlanError>
         ensures goes { Goes result (λ _. sign) self.new.rest (next_sign sign self.old.rest) }
         ensures shorter { length self.new.rest ≤ length self.old.rest }
     {
         let Some(after) = self.rest.sign(sign) else {
-            return Err(ReadError::Refused(Fault::Token));
+            return Err(PlanError::Refused(Fault::Token));
         };
         self.rest = after;
         Ok(())
@@ -85,66 +85,66 @@ impl<'a> Reader<'a> {
     }
 
     // Takes a role that is declared.
-    fn role(&mut self, roles: &Names) -> Result<RoleId, ReadError>
+    fn role(&mut self, roles: &Names) -> Result<RoleId, PlanError>
         requires { length roles.now ≤ 8 }
         ensures goes { Goes result (λ role. role) self.new.rest (next_role roles.now self.old.rest) }
         ensures few { IfOk result (λ role. role < 8) }
         ensures shorter { length self.new.rest ≤ length self.old.rest }
     {
         let Some((name, after)) = self.rest.word() else {
-            return Err(ReadError::Refused(Fault::Token));
+            return Err(PlanError::Refused(Fault::Token));
         };
         let Some(place) = place_of(roles.as_slice(), name) else {
-            return Err(ReadError::Refused(Fault::Role));
+            return Err(PlanError::Refused(Fault::Role));
         };
         self.rest = after;
         Ok(RoleId(place as u8))
     }
 
     // Takes a number in a range.
-    fn number(&mut self, low: u32, high: u32) -> Result<u32, ReadError>
+    fn number(&mut self, low: u32, high: u32) -> Result<u32, PlanError>
         ensures goes { Goes result (λ n. n) self.new.rest (next_number low high self.old.rest) }
         ensures shorter { length self.new.rest ≤ length self.old.rest }
     {
         let Some((number, after)) = self.rest.number() else {
-            return Err(ReadError::Refused(Fault::Token));
+            return Err(PlanError::Refused(Fault::Token));
         };
         let Some(number) = in_range(number, low, high) else {
-            return Err(ReadError::Refused(Fault::Range));
+            return Err(PlanError::Refused(Fault::Range));
         };
         self.rest = after;
         Ok(number)
     }
 
     // Takes the number of a crash line that doesn't stand before.
-    fn count(&mut self, known: &Known<'a>, role: RoleId) -> Result<u32, ReadError>
+    fn count(&mut self, known: &Known<'a>, role: RoleId) -> Result<u32, PlanError>
         requires { role < 8 }
         ensures goes { Goes result (λ n. n) self.new.rest (next_count known.now role self.old.rest) }
         ensures shorter { length self.new.rest ≤ length self.old.rest }
     {
         let Some((number, after)) = self.rest.number() else {
-            return Err(ReadError::Refused(Fault::Token));
+            return Err(PlanError::Refused(Fault::Token));
         };
         let Some(number) = in_range(number, 0, 100_000) else {
-            return Err(ReadError::Refused(Fault::Range));
+            return Err(PlanError::Refused(Fault::Range));
         };
         if known.has_crash(role, number) {
-            return Err(ReadError::Refused(Fault::Twice));
+            return Err(PlanError::Refused(Fault::Twice));
         }
         self.rest = after;
         Ok(number)
     }
 
     // Takes the name of a host that doesn't stand before.
-    fn name(&mut self, known: &Known<'a>) -> Result<&'a [u8], ReadError>
+    fn name(&mut self, known: &Known<'a>) -> Result<&'a [u8], PlanError>
         ensures goes { Goes result (λ h. h.now) self.new.rest (next_name known.now self.old.rest) }
         ensures shorter { length self.new.rest ≤ length self.old.rest }
     {
         let Some((name, after)) = self.rest.word() else {
-            return Err(ReadError::Refused(Fault::Token));
+            return Err(PlanError::Refused(Fault::Token));
         };
         if known.has_name(name) {
-            return Err(ReadError::Refused(Fault::Twice));
+            return Err(PlanError::Refused(Fault::Twice));
         }
         self.rest = after;
         Ok(name)
@@ -156,21 +156,21 @@ impl<'a> Reader<'a> {
         roles: &Names,
         known: &Known<'a>,
         members: &mut Roles,
-    ) -> Result<(), ReadError>
+    ) -> Result<(), PlanError>
         requires { length roles.now ≤ 8 }
         ensures goes { Goes result (λ _. members.new) self.new.rest
             (next_member roles.now known.now members.old self.old.rest) }
         ensures shorter { length self.new.rest ≤ length self.old.rest }
     {
         let Some((name, after)) = self.rest.word() else {
-            return Err(ReadError::Refused(Fault::Token));
+            return Err(PlanError::Refused(Fault::Token));
         };
         let Some(place) = place_of(roles.as_slice(), name) else {
-            return Err(ReadError::Refused(Fault::Role));
+            return Err(PlanError::Refused(Fault::Role));
         };
         let role = RoleId(place as u8);
         if is_listed(members.as_slice(), role) || known.is_hosted(role) {
-            return Err(ReadError::Refused(Fault::Twice));
+            return Err(PlanError::Refused(Fault::Twice));
         }
         members.push(role)?;
         self.rest = after;
@@ -183,7 +183,7 @@ impl<'a> Reader<'a> {
         roles: &Names,
         known: &Known<'a>,
         members: &mut Roles,
-    ) -> Result<(), ReadError>
+    ) -> Result<(), PlanError>
         requires { length roles.now ≤ 8 }
         ensures goes { Goes result (λ _. members.new) self.new.rest
             (next_members roles.now known.now members.old self.old.rest) }
@@ -201,7 +201,7 @@ impl<'a> Reader<'a> {
         alloc: Global,
         roles: &Names,
         known: &Known<'a>,
-    ) -> Result<Roles, ReadError>
+    ) -> Result<Roles, PlanError>
         requires { length roles.now ≤ 8 }
         ensures goes { Goes result (λ qs. qs) self.new.rest (host_roles roles.now known.now self.old.rest) }
         ensures shorter { length self.new.rest ≤ length self.old.rest }
@@ -238,8 +238,8 @@ impl<'a> Reader<'a> {
             || (is(word, b"room") && known.has_room())
     }
 
-    // Takes what stands behind `every`.
-    fn every(&mut self, roles: &Names, known: &mut Known<'a>) -> Result<(), ReadError>
+    // Takes what stands after `every`.
+    fn every(&mut self, roles: &Names, known: &mut Known<'a>) -> Result<(), PlanError>
         requires { length roles.now ≤ 8 }
         ensures goes { Goes result (λ _. known.new) self.new.rest (every_line roles.now known.old self.old.rest) }
         ensures shorter { length self.new.rest ≤ length self.old.rest }
@@ -250,8 +250,8 @@ impl<'a> Reader<'a> {
         Ok(())
     }
 
-    // Takes what stands behind `crash`.
-    fn crash(&mut self, roles: &Names, known: &mut Known<'a>) -> Result<(), ReadError>
+    // Takes what stands after `crash`.
+    fn crash(&mut self, roles: &Names, known: &mut Known<'a>) -> Result<(), PlanError>
         requires { length roles.now ≤ 8 }
         ensures goes { Goes result (λ _. known.new) self.new.rest (crash_line roles.now known.old self.old.rest) }
         ensures shorter { length self.new.rest ≤ length self.old.rest }
@@ -262,8 +262,8 @@ impl<'a> Reader<'a> {
         Ok(())
     }
 
-    // Takes what stands behind `limit`.
-    fn limit(&mut self, known: &mut Known<'a>) -> Result<(), ReadError>
+    // Takes what stands after `limit`.
+    fn limit(&mut self, known: &mut Known<'a>) -> Result<(), PlanError>
         ensures goes { Goes result (λ _. known.new) self.new.rest (limit_line known.old self.old.rest) }
         ensures shorter { length self.new.rest ≤ length self.old.rest }
     {
@@ -272,8 +272,8 @@ impl<'a> Reader<'a> {
         Ok(())
     }
 
-    // Takes what stands behind `room`.
-    fn room(&mut self, known: &mut Known<'a>) -> Result<(), ReadError>
+    // Takes what stands after `room`.
+    fn room(&mut self, known: &mut Known<'a>) -> Result<(), PlanError>
         ensures goes { Goes result (λ _. known.new) self.new.rest (room_line known.old self.old.rest) }
         ensures shorter { length self.new.rest ≤ length self.old.rest }
     {
@@ -282,8 +282,8 @@ impl<'a> Reader<'a> {
         Ok(())
     }
 
-    // Takes what stands behind `host`.
-    fn host(&mut self, alloc: Global, roles: &Names, known: &mut Known<'a>) -> Result<(), ReadError>
+    // Takes what stands after `host`.
+    fn host(&mut self, alloc: Global, roles: &Names, known: &mut Known<'a>) -> Result<(), PlanError>
         requires { length roles.now ≤ 8 }
         ensures goes { Goes result (λ _. known.new) self.new.rest (host_line roles.now known.old self.old.rest) }
         ensures shorter { length self.new.rest ≤ length self.old.rest }
@@ -295,14 +295,14 @@ impl<'a> Reader<'a> {
         Ok(())
     }
 
-    // Takes what stands behind the first word of an item, which is this one.
+    // Takes what stands after this word, the first of an item.
     fn line(
         &mut self,
         alloc: Global,
         word: &[u8],
         roles: &Names,
         known: &mut Known<'a>,
-    ) -> Result<(), ReadError>
+    ) -> Result<(), PlanError>
         requires { length roles.now ≤ 8 }
         ensures goes { Goes result (λ _. known.new) self.new.rest (line_by roles.now known.old word.now self.old.rest) }
         ensures shorter { length self.new.rest ≤ length self.old.rest }
@@ -326,20 +326,20 @@ impl<'a> Reader<'a> {
         alloc: Global,
         roles: &Names,
         known: &mut Known<'a>,
-    ) -> Result<(), ReadError>
+    ) -> Result<(), PlanError>
         requires { length roles.now ≤ 8 }
         ensures goes { Goes result (λ _. known.new) self.new.rest (next_item roles.now known.old self.old.rest) }
         ensures shorter { OnOk result (length self.new.rest < length self.old.rest) }
     {
         let Some((word, after)) = self.rest.word() else {
-            return Err(ReadError::Refused(Fault::Token));
+            return Err(PlanError::Refused(Fault::Token));
         };
         let behind = Reader { rest: after };
         if behind.is_second(word, roles, known) {
-            return Err(ReadError::Refused(Fault::Twice));
+            return Err(PlanError::Refused(Fault::Twice));
         }
         if !is_first_word(word) {
-            return Err(ReadError::Refused(Fault::Token));
+            return Err(PlanError::Refused(Fault::Token));
         }
         self.rest = behind.rest;
         self.line(alloc, word, roles, known)

@@ -4,7 +4,7 @@ ghost use Rattle.std.specs.Prelude.{◌≡◌};
 ghost use Rattle.rcv_plan.specs.Symbols.{mark};
 
 use rcv_lexer::token::Kind;
-use rcv_scan::{Alphabet, Lexeme, is, number_of, unquoted};
+use rcv_lexer::{Alphabet, Lexeme, is, number_of, unquoted};
 
 /// A mark of the grammar, or any other one.
 #[derive(Clone, Copy, Debug, PartialEq, Eq, Drop)]
@@ -16,7 +16,7 @@ pub enum Sign {
 }
 
 impl Alphabet for Sign {
-    ghost use Rattle.rcv_scan.specs.Symbols.{greatest};
+    ghost use Rattle.rcv_lexer.specs.Symbols.{greatest};
     ghost use Rattle.rcv_plan.specs.Symbols.{symbol_by};
 
     ghost symbol_by = { symbol_by };

@@ -68,8 +68,8 @@ net_in points =
       begins = λ l. (lane_of points l).begins;
     }
 
--- What holds of all points: at most 256 of them, with a place behind each; what places and lanes offer ascends and stands in
--- the text; each place has its lane; and the stages of lanes rise.
+-- What holds of all points: at most 256 of them, with a place after each; what places and lanes offer ascends and stands in the text; each
+-- place has its lane; and the stages of lanes rise.
 pub record AreWithin (points : PointsView) : Type 0 where
   pub few : length points.messages ≤ 256
   pub all : length points.places ≡ length points.messages + 1
@@ -103,8 +103,8 @@ IsChosen (v ∷ vs) s p = ((v.subject ≡ s) × IsIn p v.offered) ⊎ IsChosen v
 abbrev pub IsSetOfRole : Net → ℕ → List ℕ → Type 0
 IsSetOfRole net r ps = (p : ℕ) → IsIn p ps ↔ ((1 ≤ p) × (p ≤ net.count) × IsOf net r p)
 
--- These are the points of a text: each place offers what the definition says, messages are those of the text, and a point is
--- chosen by a role where it is among the first points of some choice at it. Lanes are the text's, and each place has its own.
+-- These are the points of a text. Each place offers what the definition says, and messages are those of the text. A role chooses a point if
+-- the point is among the first points of some choice at the role. Lanes are the text's, and each place has its own.
 pub record ArePointsOf (body : Body) (points : PointsView) : Type 0 where
   pub all : length points.places ≡ (net_of body).count + 1
   pub offered : (k : ℕ) → k ≤ (net_of body).count → offered_at points k ≡ (net_of body).offers k

@@ -15,8 +15,8 @@ pub struct LaneText<'a> {
     pub stmts: &'a [Stmt],
 }
 
-/// The lanes of a text, in order: what stands before the first par, the blocks of a par beside each other, what stands behind
-/// them, and so on. Fails if memory runs out.
+/// The lanes of a text, in order: what stands before the first par, the blocks of a par beside each other, what stands
+/// after them, and so on. Fails if memory runs out.
 pub fn lanes_of<'a>(alloc: Global, body: &'a Block) -> Result<Vec<LaneText<'a>>, AllocError>
     requires { length (lanes_of (body_of body.now)) ≤ 513 }
     ensures { IfOk result (λ lanes. map lane_text lanes.items ≡ lanes_of (body_of body.now)) }

@@ -6,7 +6,7 @@ use Rattle.rcv_tree.specs.declared.protocol.Protocol.{Protocol}
 use Rattle.rcv_grammar.specs.Canonical.{name_at, names_at}
 use Rattle.rcv_model.specs.Text.{Body, End, Single, Choose, Loop, Again, Parallel, Call, Bodies, NoMore, Or, body_of}
 
--- Words, one behind another.
+-- Words, one after another.
 abbrev pub words : List (List ℕ) → List ℕ → List ℕ
 words [] next = next
 words (w ∷ ws) next = w ++ words ws next
@@ -35,7 +35,7 @@ abbrev pub decl_lines : List Decl → List ℕ → List ℕ
 decl_lines [] next = next
 decl_lines (d ∷ ds) next = decl_line d (decl_lines ds next)
 
--- `label(S, T) from A to B;` on a line, behind the margin
+-- `label(S, T) from A to B;` on a line, after the margin
 abbrev pub message_line : List ℕ → List ℕ → List (List ℕ) → List ℕ → List ℕ → List ℕ → List ℕ
 message_line margin label sorts sender receiver next =
     words (margin ∷ label ∷ codes "(" ∷ [])
@@ -45,7 +45,7 @@ message_line margin label sorts sender receiver next =
 abbrev pub inner : List ℕ → List ℕ
 inner margin = margin ++ codes "  "
 
--- The statements of a body, one on a line, each behind the margin; and blocks, with one word before the brace of the
+-- The statements of a body, one on a line, each after the margin; and blocks, with one word before the brace of the
 -- first and another one before the brace of each that follows.
 abbrev mutual
   pub body_text : List (List ℕ) → List ℕ → Body → List ℕ → List ℕ

@@ -11,7 +11,7 @@ use rcv_tree::name::Names;
 use rcv_tree::protocol::Decls;
 use std::alloc::AllocError;
 
-// Puts the module's line behind the text.
+// Puts the module's line after the text.
 pub fn put_module(text: &mut Writer, module: &Names) -> Result<(), AllocError>
     ensures { OnOk result (Puts text.old text.new (module_line «module».now)) }
 {
@@ -20,7 +20,7 @@ pub fn put_module(text: &mut Writer, module: &Names) -> Result<(), AllocError>
     put(text, b";\n")
 }
 
-// Puts the lines of the declarations behind the text.
+// Puts the lines of the declarations after the text.
 pub fn put_decls(text: &mut Writer, decls: &Decls) -> Result<(), AllocError>
     ensures { OnOk result (Puts text.old text.new (decl_lines (declarations decls.now))) }
 {
@@ -44,7 +44,7 @@ pub fn put_decls(text: &mut Writer, decls: &Decls) -> Result<(), AllocError>
     Ok(())
 }
 
-// Puts the line with the protocol's name and its roles behind the text.
+// Puts the line with the protocol's name and its roles after the text.
 pub fn put_head(text: &mut Writer, name: &[u8], roles: &Names) -> Result<(), AllocError>
     ensures { OnOk result (Puts text.old text.new (head_line name.now roles.now)) }
 {

@@ -10,10 +10,10 @@ mod printer;
 mod statements;
 
 pub use printer::print_protocol;
-/// Want of memory, which is the one error of the calls of this crate.
+/// Memory ran out: the one error of the calls of this crate.
 pub use std::alloc::AllocError as Memory;
 
-/// Where the names of a protocol are names of the grammar, its canonical text is one part, and its tokens spell the
+/// If the names of a protocol are names of the grammar, its canonical text is one part, and its tokens spell the
 /// protocol with one receiver for each message.
 pub fn canonical_texts_are_spelled()
     ensures { CanonicalTextsAreSpelled }
@@ -24,8 +24,8 @@ pub fn read_protocols_are_printable()
     ensures { ReadProtocolsArePrintable }
 {}
 
-/// The canonical text of the first protocol of a module that was read is one part, and its tokens are read as this protocol
-/// alone, with its calls.
+/// The canonical text of the first protocol of a module that was read is one part, and its tokens are read as this
+/// protocol alone, with its calls.
 pub fn canonical_texts_read_back()
     ensures { CanonicalTextsReadBack }
 {}
@@ -35,8 +35,8 @@ pub fn canonical_texts_stay()
     ensures { CanonicalTextsStay }
 {}
 
-/// The canonical text of the expansion of a module that was read is one part, and its tokens are read as this expansion alone,
-/// in which no call is left.
+/// The canonical text of the expansion of a module that was read is one part, and its tokens are read as this expansion
+/// alone, in which no call is left.
 pub fn expansions_read_back()
     ensures { ExpansionsReadBack }
 {}

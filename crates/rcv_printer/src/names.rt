@@ -1,4 +1,4 @@
-// What is put behind a text: words, and lists of names.
+// What is put after a text: words, and lists of names.
 
 ghost use Rattle.std.specs.Prelude.{◌≡◌, ◌++◌, OnOk, map};
 ghost use Rattle.rcv_grammar.specs.Canonical.{name_at, names_at};
@@ -10,14 +10,14 @@ use rcv_tree::name::Names;
 use rcv_tree::role::{RoleId, Roles};
 use std::alloc::AllocError;
 
-// Puts the word behind the text.
+// Puts the word after the text.
 pub fn put(text: &mut Writer, word: &[u8]) -> Result<(), AllocError>
     ensures { OnOk result (Puts text.old text.new (λ next. word.now ++ next)) }
 {
     text.word(word)
 }
 
-// Puts the words behind the text, one behind another.
+// Puts the words after the text, one after another.
 pub fn put_words(text: &mut Writer, all: &[&[u8]]) -> Result<(), AllocError>
     ensures { OnOk result (Puts text.old text.new (words (map (λ word. word.now) all.now))) }
 {
@@ -37,7 +37,7 @@ pub fn name_of(roles: &Names, role: RoleId) -> &[u8]
     }
 }
 
-// Puts names behind the text, with one word before the first and another one before each that follows.
+// Puts names after the text, with one word before the first and another one before each that follows.
 pub fn put_list(
     text: &mut Writer,
     before: &[u8],
@@ -54,7 +54,7 @@ pub fn put_list(
     Ok(())
 }
 
-// Puts the names of roles behind the text, with commas between.
+// Puts the names of roles after the text, with commas between.
 pub fn put_roles(text: &mut Writer, roles: &Names, places: &Roles) -> Result<(), AllocError>
     ensures { OnOk result (Puts text.old text.new (comma_list (names_at roles.now places.now))) }
 {

@@ -12,7 +12,7 @@ use std::alloc::{AllocError, Global};
 
 /// The canonical text of a protocol: the line of the module, a line for each declaration, an empty line, the line with
 /// the protocol's name and its roles, and the body with one statement on a line, two spaces further in for each block
-/// around it. Each line ends with a line feed. A role that isn't declared has the empty name. It fails where memory
+/// around it. Each line ends with a line feed. A role that isn't declared has the empty name. It fails if memory
 /// runs out.
 pub fn print_protocol(alloc: Global, protocol: &Protocol) -> Result<Vec<u8>, AllocError>
     ensures { IfOk result (λ text. text.items ≡ canonical protocol.now) }

@@ -21,7 +21,7 @@ fn inner(alloc: Global, margin: &[u8]) -> Result<Vec<u8>, AllocError>
     Ok(more)
 }
 
-// Puts the statements of a block behind the text, each behind the margin.
+// Puts the statements of a block after the text, with the margin before each.
 #[cycle(statements)]
 pub fn put_block(
     alloc: Global,
@@ -38,7 +38,7 @@ pub fn put_block(
     Ok(())
 }
 
-// Puts blocks behind the text, with one word before the first brace and another one before each that follows, and ends
+// Puts blocks after the text, with one word before the first brace and another one before each that follows, and ends
 // the line.
 #[cycle(statements)]
 fn put_blocks(
@@ -65,7 +65,7 @@ fn put_blocks(
     Ok(())
 }
 
-// Puts a statement behind the text, behind the margin.
+// Puts the margin and a statement after the text.
 #[cycle(statements)]
 fn put_stmt(
     alloc: Global,

@@ -4,7 +4,7 @@ use Rattle.rcv_tree.specs.declared.protocol.Protocol.{Protocol}
 use Rattle.rcv_tree.specs.declared.refusal.Refusal.{Refusal}
 use Rattle.rcv_tree.specs.declared.refusal.Refusal.TheVariants as refusals
 use Rattle.rcv_lexer.specs.declared.token.Token.{Token}
-use Rattle.rcv_lexer.specs.declared.token.TextError.TheVariants as errors
+use Rattle.rcv_tree.specs.declared.refusal.TextError.TheVariants as errors
 use Rattle.rcv_machine.specs.Words.{Fault, Symbol, symbols_of, line_before, Reads, code_of, Taken, Refuses, reading}
 use Rattle.rcv_machine.proofs.Exactly.{taken_is_free, texts_are_taken_exactly, texts_are_refused_exactly}
 use Rattle.rcv_reader.specs.Refusals.{AreReadAs, IsRefused}

@@ -25,7 +25,7 @@ place_at recs depth comes ended earlier = record { depth = depth; recs = recs; c
 abbrev pub place_of_spot : Standing → Spot → Place
 place_of_spot p spot = place_at p.recs spot.depth spot.comes spot.ended (named_in p.roles spot.earlier.0)
 
--- From what is awaited in front the machine comes to what is awaited behind, or stops; k is awaited after that.
+-- The machine goes from what is awaited in front to what is awaited behind, or stops; k is awaited after that.
 abbrev pub Halts : Stop → Standing → Standing → (List Item → List Item) → Type 0
 Halts errors.Memory old new front = Unit {0}
 Halts (errors.Refused fault) old new front = (k : List Item) → answers old (front k) ≡ Refuses fault new.rest
@@ -38,7 +38,7 @@ Takes (Err e) old new front behind = Halts e old new front
 abbrev pub Consumes : {X : Type 0} → Result X Stop → Standing → Standing → (List Item → List Item) → (X → List Item → List Item) → Type 0
 Consumes result old new front behind = Takes result old new front behind × OnOk result (length new.rest < length old.rest)
 
--- the messages of one statement, behind n points
+-- the messages of one statement, after n points
 abbrev pub messages : List ℕ → List (List ℕ) → ℕ → List ℕ → ℕ → List Stmt
 messages label sorts sender [] n = []
 messages label sorts sender (r ∷ rs) n = statements.Message label sorts sender r (n + 1) ∷ messages label sorts sender rs (n + 1)
@@ -85,8 +85,8 @@ pub record AreArguments (old new : Standing) (arguments : List ℕ) : Type 0 whe
   pub places : arguments ≡ roles_at new.roles (first ∷ others)
   pub spelled : old ≡ back_at new new.count old.since (Word first ∷ names_behind others new.rest)
 
--- Statements in front of next, behind n points and with m points behind them: how they are written, which is proper and
--- fit for these roles, with their symbols and their tree.
+-- Statements in front of next. There are n points before them, and m points with theirs. How they are written is proper and fit
+-- for these roles, and has these symbols and this tree.
 pub record AreStmts (roles : List (List ℕ)) (n m : ℕ) (body : trees.Body) (ts next : List Symbol) : Type 0 where
   pub written : Written
   pub sound : IsProper written × IsFit roles written
@@ -94,7 +94,7 @@ pub record AreStmts (roles : List (List ℕ)) (n m : ℕ) (body : trees.Body) (t
   pub counted : m ≡ n + points written
   pub tree : body ≡ tree_of roles n written
 
--- The same of blocks, each behind this word.
+-- The same of blocks, each after this word.
 pub record AreBlocks (word : Sign) (roles : List (List ℕ)) (n m : ℕ) (bodies : trees.Bodies) (ts next : List Symbol) : Type 0 where
   pub written : grammar.Blocks
   pub sound : AreProper written × AreFit roles written
@@ -102,7 +102,7 @@ pub record AreBlocks (word : Sign) (roles : List (List ℕ)) (n m : ℕ) (bodies
   pub counted : m ≡ n + points_of written
   pub tree : bodies ≡ trees_of roles n written
 
--- The whole is that of the block in front of statements; if some, there is at least one.
+-- The whole is the block in front of the tree of statements. If `some` is true, there is at least one of these.
 pub record IsBehind (some : Bool) (roles : List (List ℕ)) (n m : ℕ) (block : List Stmt) (whole : trees.Body) (ts next : List Symbol)
     : Type 0 where
   pub body : trees.Body
@@ -110,7 +110,7 @@ pub record IsBehind (some : Bool) (roles : List (List ℕ)) (n m : ℕ) (block :
   pub stmts : AreStmts roles n m body ts next
   pub begun : some ≡ true → IsBegun stmts.written
 
--- Statements were added to the block: with any that stand behind them they are statements too.
+-- Statements were added to the block: with any that stand after them they are statements too.
 pub record Adds (some : Bool) (roles : List (List ℕ)) (n n' : ℕ) (block block' : List Stmt) (old new : List Symbol) : Type 0 where
   pub front : (m : ℕ) (body : trees.Body) (next : List Symbol) → AreStmts roles n' m body new next
       → IsBehind some roles n m block (in_front block' body) old next
@@ -136,7 +136,7 @@ abbrev pub module_list : List (List ℕ) → List Symbol → List Symbol
 module_list [] next = next
 module_list (n ∷ ns) next = Word n ∷ dotted ns next
 
--- The item is awaited behind a name with which the list may end or go on, and so a list is spelled.
+-- The item is awaited after a name with which the list may end or go on. That is how a list is spelled.
 pub record IsNameList (between behind : Sign) (more : Item) (spell : List (List ℕ) → List Symbol → List Symbol)
     : Type 0 where
   pub one : (n : List ℕ) (next : List Symbol) → spell (n ∷ []) next ≡ Word n ∷ next
@@ -165,7 +165,7 @@ pub record AreTaken (ds : List Decl) (old new : Standing) : Type 0 where
   pub words : AreDecls ds
   pub spelled : old ≡ at new (decls ds new.rest)
 
--- The head of a module was read, with the word global behind it.
+-- The head of a module was read, with the word global after it.
 pub record IsHead (modules : List (List ℕ)) (ds : List Decl) (old new : Standing) : Type 0 where
   pub some_module : modules ≡ [] → ⊥
   pub words : AreDecls ds
@@ -176,14 +176,14 @@ pub record AddsProtocol (old new : Standing) (name : List ℕ) : Type 0 where
   pub added : new.protocols ≡ old.protocols ++ name ∷ []
   pub spelled : old ≡ with_protocols new old.protocols (Word name ∷ new.rest)
 
--- What stands before the body of a protocol was read, behind the word global, with its first brace.
+-- What stands between the word global and the body of a protocol was read, with the body's first brace.
 pub record IsOpened (old new : Standing) (name : List ℕ) : Type 0 where
   pub added : new.protocols ≡ old.protocols ++ name ∷ []
   pub some_role : new.roles ≡ [] → ⊥
   pub spelled : old ≡ with_roles (with_protocols new old.protocols new.rest) [] (Is Protocol ∷ Word name ∷ Is Left ∷ Is Role
       ∷ names_of_roles new.roles (Is Right ∷ Is Open ∷ new.rest))
 
--- A protocol was read, behind the word global: it is the tree of what is written, and has the form.
+-- A protocol was read, after the word global: it is the tree of what is written, and has the form.
 pub record IsProtocol (old new : Standing) (p : ProtocolTree) : Type 0 where
   pub written : WrittenProtocol
   pub tree : IsTreeOf written p

@@ -5,8 +5,8 @@ use Rattle.rcv_tree.specs.Lists.{protocols}
 use Rattle.rcv_tree.specs.declared.module.Module.{Module}
 use Rattle.rcv_tree.specs.declared.protocol.Protocol.{Protocol}
 use Rattle.rcv_lexer.specs.declared.token.Token.{Token}
-use Rattle.rcv_lexer.specs.declared.token.TextError.{TextError}
-use Rattle.rcv_lexer.specs.declared.token.TextError.TheVariants as errors
+use Rattle.rcv_tree.specs.declared.refusal.TextError.{TextError}
+use Rattle.rcv_tree.specs.declared.refusal.TextError.TheVariants as errors
 use Rattle.rcv_machine.specs.Words.{Fault, Symbol, symbols_of, line_before, code_of, IsFree, IsFirst, Reads, lines_of_calls}
 
 -- The grammar derives the symbols, no code holds at any of them nor at the end, and these are the trees of their protocols.

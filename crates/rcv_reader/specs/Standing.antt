@@ -3,7 +3,7 @@ use Rattle.std.specs.Prelude.{◌≡◌, ℕ, ◌≤◌, Bool, false, List, [], 
 use Rattle.rcv_tree.specs.Bits.{has_bit}
 use Rattle.rcv_machine.specs.Words.{place_of, Named, Symbol, Is, IsNotNext, Sign, Right, Close, Or, And, Comma, Semicolon, Dot, Token, Item, This, AnyName, MoreModules, MoreRoles, Sorts, MoreSorts, MoreReceivers, MoreArguments, First, Rest, More, Later, Answer, Refuses, behind, answer, known}
 
--- what the parser knows, and the symbols that it has still to read
+-- what the parser knows, and the symbols that are left to read
 pub record Standing : Type 0 where
   pub protocols : List (List ℕ)  -- the names of those before, and of this one
   pub roles : List (List ℕ)
@@ -47,11 +47,11 @@ has_place bits (Some r) = has_bit bits r
 abbrev pub named_in : List (List ℕ) → ℕ → Named
 named_in roles bits = λ n. has_place bits (place_of roles n)
 
--- what the machine answers from here on, where these are awaited
+-- what the machine answers from here on, if these are awaited
 abbrev pub answers : Standing → List Item → Answer
 answers p k = answer (known p.protocols p.roles p.count (named_in p.roles p.since)) k p.rest
 
--- the sign with which an item goes on, and what is awaited in its place where another symbol is next
+-- the sign with which an item goes on, and what is awaited instead if another symbol is next
 abbrev pub going_on : Item → Option Sign × Item × List Item
 going_on MoreModules = (Some Dot, This (Is Semicolon), [])
 going_on MoreRoles = (Some Comma, This (Is Right), [])

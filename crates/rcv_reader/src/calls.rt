@@ -3,12 +3,12 @@
 ghost use Rattle.std.specs.Prelude.{◌≡◌, IfOk};
 ghost use Rattle.std.specs.List.{All};
 ghost use Rattle.rcv_lexer.specs.Parts.{LiesIn};
-ghost use Rattle.rcv_scan.specs.Symbols.{symbol_of};
+ghost use Rattle.rcv_lexer.specs.Symbols.{symbol_of};
 ghost use Rattle.rcv_syntax.specs.Symbols.{symbol_by};
 ghost use Rattle.rcv_syntax.specs.Trees.{is_call, lines_of_calls};
 
 use rcv_lexer::token::Token;
-use rcv_scan::{Alphabet, Lexeme};
+use rcv_lexer::{Alphabet, Lexeme};
 use rcv_syntax::Sign;
 use rcv_tree::module::Lines;
 use std::alloc::{AllocError, Global};

@@ -12,7 +12,7 @@ ghost use Rattle.rcv_reader.specs.Descent.{IsOpened, Takes};
 
 use crate::parser::Parser;
 use crate::stop::Stop;
-use rcv_scan::{Lexeme, is};
+use rcv_lexer::{Lexeme, is};
 use rcv_syntax::{Fault, Sign};
 use rcv_tree::name::Name;
 use rcv_tree::protocol::{Decl, Decls};
@@ -20,7 +20,7 @@ use std::alloc::Global;
 use std::collections::BTreeSet;
 
 impl<'a> Parser<'a> {
-    // Takes this word or mark, and what stands between the two quotes behind it.
+    // Takes this word or mark, and what stands between the two quotes after it.
     fn quoted(&mut self, alloc: Global, sign: Sign) -> Result<Name, Stop>
         ensures goes { Takes result self.old self.new (λ k. This (Is sign) ∷ AnyQuoted ∷ k) (λ x k. k) }
         ensures read { IfOk result (λ q. self.old ≡ at self.new (Is sign ∷ Text q ∷ self.new.rest)) }
@@ -34,7 +34,7 @@ impl<'a> Parser<'a> {
         Ok(text)
     }
 
-    /// Takes the roles, each behind the word `role`, and the parenthesis and the brace behind them.
+    /// Takes the roles, each after the word `role`, and the parenthesis and the brace after them.
     pub fn role_names(&mut self, alloc: Global) -> Result<(), Stop>
         requires none { (self.old.roles ≡ []) × (self.old.since ≡ 0) }
         ensures goes { Takes result self.old self.new (λ k. This (Is Sign.Role) ∷ RoleName
@@ -52,7 +52,7 @@ impl<'a> Parser<'a> {
         }
     }
 
-    /// Takes what stands before the body of a protocol, behind the word `global`, with its first brace.
+    /// Takes what stands between the word `global` and the body of a protocol, with the body's first brace.
     pub fn heading(&mut self, alloc: Global) -> Result<Name, Stop>
         requires fresh { self.old ≡ afresh self.old.protocols self.old.rest }
         ensures goes { Takes result self.old self.new (λ k. This (Is Sign.Protocol) ∷ ProtocolName ∷ k)
@@ -153,7 +153,7 @@ impl<'a> Parser<'a> {
         })
     }
 
-    /// Takes the declarations, and the word `global` behind them.
+    /// Takes the declarations, and the word `global` after them.
     pub fn decls(&mut self, alloc: Global) -> Result<Decls, Stop>
         requires fresh { self.old ≡ at_first self.old.rest }
         ensures goes { Takes result self.old self.new (λ k. Declaring [] ∷ k) (λ x k. k) }

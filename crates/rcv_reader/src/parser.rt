@@ -3,7 +3,7 @@
 ghost use Rattle.std.specs.Prelude.{◌≡◌, ◌<◌, ◌∷◌, ◌≢◌, [], length, ℕ, List};
 ghost use Rattle.std.specs.Prelude.{All, IfSome, IfNone, OnOk, IfOk, true, false, Some};
 ghost use Rattle.rcv_lexer.specs.Parts.{LiesIn};
-ghost use Rattle.rcv_scan.specs.Symbols.{symbol_in};
+ghost use Rattle.rcv_lexer.specs.Symbols.{symbol_in};
 ghost use Rattle.rcv_syntax.specs.Symbols.{Symbol, Is, Word, symbols_of};
 ghost use Rattle.rcv_syntax.specs.Codes.{is_among};
 ghost use Rattle.rcv_syntax.specs.Trees.{place_of};
@@ -18,7 +18,7 @@ mod messages;
 
 use crate::stop::Stop;
 use rcv_lexer::token::Token;
-use rcv_scan::{Ahead, Lexeme};
+use rcv_lexer::{Ahead, Lexeme};
 use rcv_syntax::{Fault, Sign};
 use rcv_tree::name::{Name, Names};
 use rcv_tree::role::RoleSet;
@@ -38,7 +38,7 @@ pub struct Spot {
 }
 
 impl Spot {
-    // The same for a block of a `par`, of which the blocks before name these roles.
+    // The same for a block of a `par`. The blocks before it name these roles.
     fn beside(self, earlier: RoleSet) -> Spot
         ensures place { (p : Standing) → place_of_spot p result
             ≡ beside (place_of_spot p self) (named_in p.roles earlier.0) }
@@ -53,9 +53,9 @@ impl Spot {
     }
 }
 
-/// What is still to be read, and what is known from before: the names of the protocols; and of the one that is read the roles,
-/// the names of the enclosing recursions with the innermost last, the number of points, and the roles that are named since
-/// the last `par` began.
+/// What is left to read, and what is known from before: the names of the protocols. Of the protocol that is being read
+/// these are known: the roles, the names of the enclosing recursions with the innermost last, the number of points, and
+/// the roles that are named since the last `par` began.
 #[derive(Drop)]
 pub struct Parser<'a> {
     rest: Ahead<'a, Sign>,
@@ -114,7 +114,7 @@ impl<'a> Parser<'a> {
         self.rest.len()
     }
 
-    /// What the next token says, and what is left behind it.
+    /// What the next token says, and what is left after it.
     pub fn next(&self) -> Option<(Lexeme<'a, Sign>, Ahead<'a, Sign>)>
         ensures some { IfSome result (λ r. self.now ≡ at self.now (symbol_in r.0 ∷ r.1)) }
         ensures none { IfNone result (self.now.rest ≡ []) }
@@ -167,7 +167,7 @@ impl<'a> Parser<'a> {
         Ok(name)
     }
 
-    /// Takes this word or mark, and the name behind it.
+    /// Takes this word or mark, and the name after it.
     pub fn name_behind(&mut self, sign: Sign) -> Result<&'a [u8], Stop>
         ensures goes { Takes result self.old self.new (λ k. This (Is sign) ∷ AnyName ∷ k) (λ x k. k) }
         ensures read { IfOk result (λ n. self.old ≡ at self.new (Is sign ∷ Word n.now ∷ self.new.rest)) }
@@ -176,7 +176,7 @@ impl<'a> Parser<'a> {
         self.name()
     }
 
-    /// Takes names with a sign between two, and the sign behind them.
+    /// Takes names with a sign between two, and the sign after them.
     #[tactic(auto, using(crate::proofs::Reading::names_first))]
     pub fn names(&mut self, alloc: Global, between: Sign, behind: Sign) -> Result<Names, Stop>
         ensures goes { (more : Item) (spell : List (List ℕ) → List Symbol → List Symbol)
@@ -237,7 +237,7 @@ impl<'a> Parser<'a> {
         Ok(name)
     }
 
-    /// Hands out the roles, and forgets what else is known of this protocol but its name.
+    /// Hands out the roles, and forgets what else is known of this protocol, except for its name.
     pub fn begin_anew(&mut self, alloc: Global) -> Names
         requires none { self.old.recs ≡ [] }
         ensures is { result ≡ self.old.roles }

@@ -13,19 +13,19 @@ ghost use Rattle.rcv_reader.specs.Refusals.{AreReadAs, IsRead, IsRefused};
 use crate::calls::lines_of_calls;
 use crate::parser::{Parser, Spot};
 use crate::stop::Stop;
-use rcv_lexer::token::{TextError, Token};
-use rcv_scan::line_before;
+use rcv_lexer::token::Token;
+use rcv_lexer::line_before;
 use rcv_syntax::{Fault, Sign};
 use rcv_tree::module::{Module, Protocols};
 use rcv_tree::name::Names;
 use rcv_tree::protocol::{Decls, Protocol};
-use rcv_tree::refusal::Refusal;
+use rcv_tree::refusal::{Refusal, TextError};
 use rcv_tree::role::RoleSet;
 use rcv_tree::statement::Block;
 use std::alloc::Global;
 
 impl<'a> Parser<'a> {
-    // Takes what stands before the protocols, and the word `global` behind it.
+    // Takes what stands before the protocols, and the word `global` after it.
     #[tactic(auto, using(crate::proofs::Reading::modules_are_listed))]
     fn head(&mut self, alloc: Global) -> Result<(Names, Decls), Stop>
         requires fresh { self.old ≡ at_first self.old.rest }
@@ -37,8 +37,8 @@ impl<'a> Parser<'a> {
         Ok((module, self.decls(alloc)?))
     }
 
-    // Takes a protocol behind the word `global`, and forgets what is known of it but its name. The module and the
-    // declarations are put into its tree.
+    // Takes a protocol after the word `global`, and forgets what is known of it, except for its name. Puts the module
+    // and the declarations into its tree.
     fn protocol(&mut self, alloc: Global, modules: Names, decls: Decls) -> Result<Protocol, Stop>
         requires fresh { self.old ≡ afresh self.old.protocols self.old.rest }
         ensures goes { Consumes result self.old self.new (λ k. This (Is Sign.Protocol) ∷ ProtocolName ∷ k)
@@ -88,14 +88,15 @@ impl<'a> Parser<'a> {
 
 /// The module that the tokens of a part of the bundle spell. `last` is the line of the part's end.
 ///
-/// Read exactly where the grammar derives the tokens and no code holds at any of them. Else refused at the first token,
-/// or the end, at which a code holds, with the least one that holds there and the line of the token or of the part's
-/// end: 11 where the grammar doesn't have the token or the end there, 12 at the brace of the 33rd nested block, 13 at a
-/// role or an argument that the protocol doesn't declare or the name of no enclosing recursion, 14 at a protocol, a role,
-/// an alias, a receiver or an argument that stands before, 15 at a receiver that is the sender, 16 at a statement behind a
-/// `continue`, 17 at a `continue` to which a walk comes without a message and without a call, 18 at the 65th protocol, the
-/// ninth role of one or the receiver that makes its 257th point, 19 at a `par` in another block than the first protocol's
-/// own, 29 at a role in a block of a `par` that an earlier block of this `par` names. `Memory` where no memory is left.
+/// It is read exactly if the grammar derives the tokens and no code holds at any of them. Else it is refused at the
+/// first token, or the end, at which a code holds. The refusal has the least code that holds there, and the line of the
+/// token or of the part's end. The codes: 11 if the grammar doesn't have the token or the end there, 12 at the brace of
+/// the 33rd nested block, 13 at a role or an argument that the protocol doesn't declare or the name of no enclosing
+/// recursion, 14 at a protocol, a role, an alias, a receiver or an argument that stands before, 15 at a receiver that
+/// is the sender, 16 at a statement after a `continue`, 17 at a `continue` to which a walk comes without a message and
+/// without a call, 18 at the 65th protocol, the ninth role of one or the receiver that makes its 257th point, 19 at a
+/// `par` in another block than the first protocol's own, 29 at a role in a block of a `par` that an earlier block of
+/// this `par` names. `Memory` comes if no memory is left.
 pub fn read_module(
     alloc: Global,
     bundle: &[u8],

@@ -8,7 +8,7 @@ use Rattle.rcv_accept.specs.Accepted.{IsAcceptedProtocol}
 use Rattle.rcv_session.specs.Session.{SessionView, rules_of}
 use Rattle.rcv_input.specs.declared.refused.Refused.TheVariants.{Line}
 use Rattle.rcv_input.proofs.Once.{one_answer}
-use Rattle.rcv_form.specs.Journal.{JournalView}
+use Rattle.rcv_journal.specs.Recorded.{JournalView}
 use Rattle.rcv_judge.proofs.Deciding.{entries_judged}
 use Rattle.rcv_judge.proofs.ClosingsJudged.{closings_judged}
 use Rattle.rcv_lines.proofs.TakenOrWrong.{taken_or_wrong}

@@ -21,9 +21,9 @@ use Rattle.rcv_input.proofs.Once.{one_answer}
 use Rattle.rcv_journal.specs.declared.line.RoleLine.{RoleLine}
 use Rattle.rcv_journal.specs.JournalText.{entry_line, role_line, is_limit, last_line}
 use Rattle.rcv_journal.specs.Lines.{AreLinesOf}
-use Rattle.rcv_form.specs.Journal.{JournalView, bare}
-use Rattle.rcv_form.specs.Form as form
-use Rattle.rcv_form.specs.Form.{Spells, end_line, journal_lines}
+use Rattle.rcv_journal.specs.Recorded.{JournalView, bare}
+use Rattle.rcv_journal.specs.Form as form
+use Rattle.rcv_journal.specs.Form.{Spells, end_line, journal_lines}
 use Rattle.rcv_judge.specs.Closing.{Closes, ClosesRight}
 use Rattle.rcv_judge.specs.Closing as closing
 use Rattle.rcv_judge.proofs.Closings.{closed_completed, closed_limited}

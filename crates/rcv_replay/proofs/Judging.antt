@@ -8,8 +8,8 @@ use Rattle.rcv_model.specs.Journal.{reading, IsLegal}
 use Rattle.rcv_session.specs.Session.{SessionView, rules_of}
 use Rattle.rcv_input.specs.Input.{IsTaken}
 use Rattle.rcv_journal.specs.JournalText.{entry_line, role_line}
-use Rattle.rcv_form.specs.Form.{IsFirstWrong, Spells, journal_lines, lines_of, end_line}
-use Rattle.rcv_form.specs.Journal.{JournalView, bare}
+use Rattle.rcv_journal.specs.Form.{IsFirstWrong, Spells, journal_lines, lines_of, end_line}
+use Rattle.rcv_journal.specs.Recorded.{JournalView, bare}
 use Rattle.rcv_judge.specs.Closing.{ClosesRight, IsFirstWrongClosing}
 use Rattle.rcv_judge.proofs.Closings.{one_closing}
 use Rattle.rcv_replay.specs.declared.cut.Cut.{Cut}

@@ -1,7 +1,7 @@
 -- How many lines a text has.
 use Rattle.std.proofs.Common.{◌≡◌, ℕ, ◌≤◌, suc, ◌+◌, Bool, true, false, List, [], ◌∷◌, ◌++◌, length, refl, ◌∙◌, ap, arith}
 use Rattle.std.specs.Prelude.{◌==◌, if◌then◌else◌}
-use Rattle.rcv_form.specs.Form.{lines_from, lines_of}
+use Rattle.rcv_journal.specs.Form.{lines_from, lines_of}
 
 -- Whether a line has begun.
 abbrev pub is_begun : List ℕ → Bool

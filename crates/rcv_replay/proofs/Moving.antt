@@ -14,8 +14,8 @@ use Rattle.rcv_session.specs.Session.{SessionView, rules_of}
 use Rattle.rcv_input.specs.Laws.{AreSame}
 use Rattle.rcv_journal.specs.JournalText.{entry_line, role_line}
 use Rattle.rcv_journal.proofs.SameText.{same_rules, same_entry, same_role}
-use Rattle.rcv_form.specs.Journal.{JournalView, bare}
-use Rattle.rcv_form.specs.Form.{IsFormedEvent, IsFormedEntry, IsFormed, end_line, journal_lines, lines_of, Spells, MayBegin, IsFirstWrong}
+use Rattle.rcv_journal.specs.Recorded.{JournalView, bare}
+use Rattle.rcv_journal.specs.Form.{IsFormedEvent, IsFormedEntry, IsFormed, end_line, journal_lines, lines_of, Spells, MayBegin, IsFirstWrong}
 use Rattle.rcv_judge.specs.Closing.{Closes}
 use Rattle.rcv_judge.specs.Judged.{IsFirstWrong as IsFirstIllegal}
 use Rattle.rcv_replay.specs.declared.replayed.Replayed.{Replayed}

@@ -6,7 +6,7 @@ use Rattle.rcv_session.specs.Session.{SessionView, rules_of}
 use Rattle.rcv_accept.specs.Accepted.{IsAcceptedProtocol}
 use Rattle.rcv_input.specs.declared.refused.Refused.TheVariants.{Line}
 use Rattle.rcv_input.proofs.Once.{one_answer}
-use Rattle.rcv_form.specs.Journal.{JournalView, bare}
+use Rattle.rcv_journal.specs.Recorded.{JournalView, bare}
 use Rattle.rcv_judge.proofs.FirstWrong.{one_first}
 use Rattle.rcv_lines.proofs.Accepting.{says_one}
 use Rattle.rcv_lines.proofs.FirstWrong.{one_first_wrong, spells_none}

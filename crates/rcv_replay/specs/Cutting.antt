@@ -1,4 +1,4 @@
--- An input that is a bundle with a journal behind it: where the line between them stands.
+-- An input that is a bundle with a journal after it: where the line between them stands.
 use Rattle.std.specs.Prelude.{ℕ, ◌+◌, ◌==◌, Bool, true, false, List, [], ◌∷◌, take, drop, codes, count_by, Option, Some, None, option_map}
 use Rattle.rcv_lexer.specs.Parts.{line_of}
 use Rattle.rcv_replay.specs.declared.cut.Cut.{Cut}
@@ -7,8 +7,8 @@ use Rattle.rcv_replay.specs.declared.cut.Cut.{Cut}
 abbrev pub cut_at : ℕ → ℕ → Cut
 cut_at place len = record { end = place; behind = place + len }
 
--- The cut at the front of a text at a place, where a line begins there: the line is exactly `%% journal`. A line ends
--- at a line feed or at the end of the text, and a carriage return before the line feed isn't part of it.
+-- The cut at the front of a text at a place, if a line begins there and is exactly `%% journal`. A line ends at a line feed or at the end
+-- of the text, and a carriage return before the line feed isn't part of it.
 abbrev pub here : Bool → ℕ → List ℕ → Option Cut
 here false place text = None
 here true place text = option_map (cut_at place) (line_of (codes "%% journal") text)
@@ -22,11 +22,11 @@ abbrev pub first_from : Bool → ℕ → List ℕ → Option Cut
 first_from fresh place [] = None
 first_from fresh place (b ∷ bs) = or_else (here fresh place (b ∷ bs)) (first_from (b == 10) (place + 1) bs)
 
--- The cut of an input; none where no line is `%% journal`.
+-- The cut of an input; none if no line is `%% journal`.
 abbrev pub cut_of : List ℕ → Option Cut
 cut_of input = first_from true 0 input
 
--- The bundle before the cut, and the journal's text behind it.
+-- The bundle before the cut, and the journal's text after it.
 abbrev pub bundle_of : List ℕ → Cut → List ℕ
 bundle_of input cut = take cut.end input
 
@@ -41,6 +41,6 @@ feeds_in text = count_by (λ b. b == 10) text
 abbrev pub feeds_before : List ℕ → Cut → ℕ
 feeds_before input cut = feeds_in (take cut.behind input)
 
--- The number of the line at which an input ends, counted from 1: behind the last line feed.
+-- The number of the line at which an input ends, counted from 1. It is the line after the last line feed.
 abbrev pub line_of_end : List ℕ → ℕ
 line_of_end input = 1 + feeds_in input

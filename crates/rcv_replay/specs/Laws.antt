@@ -12,11 +12,11 @@ use Rattle.rcv_replay.specs.declared.replayed.Replayed.TheVariants.{Legal}
 use Rattle.rcv_replay.specs.Cutting.{cut_of, bundle_of, journal_of}
 use Rattle.rcv_replay.specs.Replaying.{IsReplay}
 
--- Of an input one thing is said.
+-- One thing is said of an input.
 abbrev pub OneReplay : Type 0
 OneReplay = (input : List ℕ) (a b : Replayed) → IsReplay input a → IsReplay input b → a ≡ b
 
--- And something is.
+-- And something is said of each.
 abbrev pub ReplaysExist : Type 0
 ReplaysExist = (input : List ℕ) → length input < 2 ^ 63 → (said : Replayed) × IsReplay input said
 
@@ -30,8 +30,7 @@ pub record IsWholeText (session : SessionView) (text : List ℕ) (count : ℕ) (
   pub is_text : IsTextOf session entries text
   pub told : (limited ≡ true) ↔ (AreDone (rules_of session) (reading (rules_of session) entries) → ⊥)
 
--- Where the bundle is taken as a session, a replay is legal exactly where the text behind it is that of a legal and final
--- journal of this session.
+-- If the bundle is taken as a session, a replay is legal exactly if the text after it is that of a legal and final journal of this session.
 abbrev pub LegalReplaysAreJournals : Type 0
 LegalReplaysAreJournals =
     (input : List ℕ) (cut : Cut) (session : SessionView) (count : ℕ) (limited : Bool)

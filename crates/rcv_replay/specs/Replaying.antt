@@ -1,4 +1,4 @@
--- What is said of a journal that stands behind its bundle.
+-- What is said of a journal that stands after its bundle.
 use Rattle.std.specs.Prelude.{◌≡◌, ◌≢◌, ◌⊎◌, ◌↔◌, ℕ, ◌+◌, true, List, [], length, Some, None}
 use Rattle.rcv_model.specs.Journal.{IsLegal}
 use Rattle.rcv_session.specs.Session.{SessionView, rules_of}
@@ -6,8 +6,8 @@ use Rattle.rcv_input.specs.declared.refused.Refused.TheVariants.{Line}
 use Rattle.rcv_input.specs.declared.refused.Refused as refusals
 use Rattle.rcv_input.specs.Input.{IsTaken}
 use Rattle.rcv_input.specs.Refusals.{IsFirstRefusal}
-use Rattle.rcv_form.specs.Form as form
-use Rattle.rcv_form.specs.Journal.{JournalView, bare}
+use Rattle.rcv_journal.specs.Form as form
+use Rattle.rcv_journal.specs.Recorded.{JournalView, bare}
 use Rattle.rcv_judge.specs.Closing.{ClosesRight}
 use Rattle.rcv_judge.specs.Judged.{IsFirstWrong}
 use Rattle.rcv_replay.specs.declared.cut.Cut.{Cut}
@@ -25,8 +25,7 @@ IsVerdict session j (WrongEntry k) = (i : ℕ) × (k ≡ i + 1) × IsFirstWrong 
 IsVerdict session j WrongEnd = IsLegal (rules_of session) j.entries × (ClosesRight session j.entries j.roles j.limited → ⊥)
 IsVerdict session j (Refused r) = ⊥
 
--- Of the text behind so many line feeds: the first line at which it isn't a journal of the form, or what is said of its
--- journal.
+-- Of the text after so many line feeds: the first line at which it isn't a journal of the form, or what is said of its journal.
 abbrev pub IsOfText : SessionView → List ℕ → ℕ → Replayed → Type 0
 IsOfText session text feeds said =
     ((k : ℕ) × (said ≡ Refused (Line 51 (feeds + k))) × form.IsFirstWrong (bare session.protocol) text k)
@@ -38,7 +37,7 @@ IsOfBundle bundle text feeds said =
     ((r : refusals.Refused) × (said ≡ Refused r) × IsFirstRefusal bundle r)
     ⊎ ((session : SessionView) × IsTaken bundle session × IsOfText session text feeds said)
 
--- Of an input: no line is `%% journal`, which is said by the line of its end; or what is said of its parts.
+-- Of an input: no line is `%% journal`, and the refusal names the line of its end; or what is said of its parts.
 abbrev pub IsReplay : List ℕ → Replayed → Type 0
 IsReplay input said =
     ((cut_of input ≡ None) × (said ≡ Refused (Line 50 (line_of_end input))))

@@ -1,4 +1,4 @@
-// A journal that stands behind its bundle, judged.
+// Judges a journal that stands after its bundle.
 
 ghost use Rattle.std.specs.Prelude.{◌≡◌, ◌≤◌, ◌<◌, ◌+◌, ◌^◌, ◌↔◌, Some, [], ◌≢◌, length, IfOk, IsTrue};
 ghost use Rattle.rcv_model.specs.Journal.{IsLegal};
@@ -12,7 +12,7 @@ use crate::cut::{Cut, cut_of};
 use crate::replayed::Replayed;
 use rcv_core::book::Book;
 use rcv_core::setup::Setup;
-use rcv_form::journal::Journal;
+use rcv_journal::recorded::Journal;
 use rcv_input::{Input, InputError, Refused, read_input};
 use rcv_judge::closing::wrong_closing;
 use rcv_judge::judge::{JudgeError, judge};
@@ -20,12 +20,12 @@ use rcv_lexer::line_feeds;
 use rcv_lines::text::{LinesError, read_text};
 use std::alloc::{AllocError, Global};
 
-/// What is said of the journal that stands behind the input's bundle, of at most 1,048,576 bytes in all:
+/// What is said of the journal that stands after the input's bundle, of at most 1,048,576 bytes in all:
 ///
-/// - `Refused` with 50 where no line is `%% journal`, at the line of the input's end; else with the first refusal of the
-///   bundle before that line; else with 51 where the text behind it isn't of the form, at the first such line;
-/// - `WrongEntry` with the first entry that may not come behind those before it;
-/// - `WrongEnd` where each may come, but the session isn't at its end or the lines behind them aren't what they leave;
+/// - `Refused` with 50 if no line is `%% journal`, at the line of the input's end; else with the first refusal of the
+///   bundle before that line; else with 51 if the text after it isn't of the form, at the first such line;
+/// - `WrongEntry` with the first entry that may not come after those before it;
+/// - `WrongEnd` if each may come, but the session isn't at its end or the lines after them aren't what they leave;
 /// - `Legal` else.
 ///
 /// Whether a channel has room isn't asked. Fails if memory runs out.
@@ -54,7 +54,7 @@ fn parted(alloc: Global, input: &[u8], cut: Cut) -> Result<Replayed, AllocError>
     of_bundle(alloc, &input[..cut.end], &input[cut.behind..], feeds)
 }
 
-// What is said of a bundle with this text behind it, before which stand so many line feeds.
+// What is said of a bundle with this text after it. So many line feeds stand before the text.
 fn of_bundle(alloc: Global, bundle: &[u8], text: &[u8], feeds: u32) -> Result<Replayed, AllocError>
     requires bundle { length bundle.now ≤ 1048576 }
     requires text { length text.now ≤ 1048576 }
@@ -68,7 +68,7 @@ fn of_bundle(alloc: Global, bundle: &[u8], text: &[u8], feeds: u32) -> Result<Re
     }
 }
 
-// What is said of the text behind so many line feeds.
+// What is said of the text after so many line feeds.
 fn of_text(alloc: Global, taken: Input, text: &[u8], feeds: u32) -> Result<Replayed, AllocError>
     requires belong { AreScriptsFor taken.accepted.protocol taken.scripts }
     requires planned { IsPlanned (length taken.accepted.protocol.roles) taken.plan }

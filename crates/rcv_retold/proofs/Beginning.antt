@@ -10,8 +10,8 @@ use Rattle.rcv_model.proofs.Forms.{proper}
 use Rattle.rcv_accept.specs.Accepted.{IsAcceptedProtocol}
 use Rattle.rcv_session.specs.Session.{SessionView, text_of, roles_of}
 use Rattle.rcv_dialogue.specs.declared.answer.RoleState.{RoleState}
-use Rattle.rcv_form.specs.Journal.{bare}
-use Rattle.rcv_form.specs.Form.{IsFormedEntry, lines_of}
+use Rattle.rcv_journal.specs.Recorded.{bare}
+use Rattle.rcv_journal.specs.Form.{IsFormedEntry, lines_of}
 use Rattle.rcv_lines.specs.Line.{LineView, EntryLine}
 use Rattle.rcv_lines.proofs.Splitting.{IsLine, line_then}
 use Rattle.rcv_lines.proofs.Accepting.{all_end, says_one}

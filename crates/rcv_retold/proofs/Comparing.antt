@@ -2,7 +2,7 @@
 use Rattle.std.proofs.Common.{◌≡◌, ℕ, zero, suc, ◌+◌, ◌-◌, ◌<◌, ◌≤◌, ◌^◌, List, [], ◌∷◌, ◌++◌, length, take, flat_map, cond, Bool, true, false, refl, sym, ◌∙◌, ap, ap₂, subst, inl, inr, arith, append_assoc, append-nil, length-append}
 use Rattle.std.specs.Prelude.{◌==◌}
 use Rattle.std.proofs.Math.Seq.{take-append_seam}
-use Rattle.rcv_form.specs.Form.{lines_from, lines_of}
+use Rattle.rcv_journal.specs.Form.{lines_from, lines_of}
 use Rattle.rcv_lines.proofs.Splitting.{goes_on}
 use Rattle.rcv_retold.specs.Text.{IsFirstOther}
 

@@ -7,8 +7,8 @@ use Rattle.rcv_tree.specs.declared.protocol.Protocol.{Protocol}
 use Rattle.rcv_model.specs.Next.{IsNext}
 use Rattle.rcv_model.proofs.Lists.{some_same}
 use Rattle.rcv_session.specs.Session.{SessionView, net_for, roles_of}
-use Rattle.rcv_form.specs.Journal.{bare}
-use Rattle.rcv_form.specs.Form.{IsFormedEntry}
+use Rattle.rcv_journal.specs.Recorded.{bare}
+use Rattle.rcv_journal.specs.Form.{IsFormedEntry}
 use Rattle.rcv_told.specs.Told.{start}
 use Rattle.rcv_dialogue.specs.declared.answer.RoleState.{RoleState}
 use Rattle.rcv_dialogue.specs.declared.answer.State.{State}

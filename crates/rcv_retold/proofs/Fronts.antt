@@ -4,8 +4,8 @@ use Rattle.std.proofs.lemmas.Grind.{flat_map-append}
 use Rattle.std.proofs.lemmas.List.Elements.{All-nil, All-cons, All-append}
 use Rattle.rcv_tree.specs.declared.entry.Entry.{Entry}
 use Rattle.rcv_tree.specs.declared.protocol.Protocol.{Protocol}
-use Rattle.rcv_form.specs.Journal.{bare}
-use Rattle.rcv_form.specs.Form.{IsFormedEntry, lines_of}
+use Rattle.rcv_journal.specs.Recorded.{bare}
+use Rattle.rcv_journal.specs.Form.{IsFormedEntry, lines_of}
 use Rattle.rcv_retold.specs.Text.{AreFormed, line_of, entries_text, BeginOtherwise, AreFirst}
 
 pub record IsFront (protocol : Protocol) (text : List ℕ) (entries : List Entry) (bytes : ℕ) (rest : List ℕ) : Type 0 where

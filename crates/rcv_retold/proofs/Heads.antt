@@ -4,7 +4,7 @@ use Rattle.std.specs.declared.alloc.Global.{Global}
 use Rattle.std.specs.declared.vec.Vec.{Vec}
 use Rattle.std.proofs.lemmas.List.{append_cancel_left}
 use Rattle.std.proofs.lemmas.List.Elements.{All-nil, All-cons}
-use Rattle.rcv_form.specs.Form.{lines_of}
+use Rattle.rcv_journal.specs.Form.{lines_of}
 use Rattle.rcv_lines.specs.Cutting.{Lacks}
 use Rattle.rcv_lines.proofs.Lacking.{number_lacks, feed_is_outside}
 use Rattle.rcv_lines.proofs.Splitting.{IsLine, line_then}

@@ -1,4 +1,4 @@
--- What stands behind the entries of a told journal: where each role is, and whether all are at their end.
+-- What stands after the entries of a told journal: where each role is, and whether all are at their end.
 use Rattle.std.specs.Prelude.{◌≡◌, ℕ, ◌<◌, ◌++◌, true, false, List, length, flat_map, Some, slice_get, slice_index}
 use Rattle.rcv_tree.specs.declared.protocol.Protocol.{Protocol}
 use Rattle.rcv_model.specs.Net.{Net}
@@ -14,7 +14,7 @@ use Rattle.rcv_dialogue.specs.Answers.{role_line, end_line}
 abbrev pub IsOver : Net → Remembered → ℕ → Type 0
 IsOver net m r = (p : ℕ) → IsNext net r (place m r) p → ⊥
 
--- How a role stands: it is down; or it is up, and its part has ended, or hasn't.
+-- How a role stands: it is down; or it is up, and its part has ended; or it is up, and its part hasn't ended.
 abbrev pub IsState : Net → Remembered → ℕ → State → Type 0
 IsState net m r state.Down = slice_get m.down r ≡ Some true
 IsState net m r state.Done = (slice_get m.down r ≡ Some false) × IsOver net m r
@@ -27,7 +27,7 @@ pub record IsStateOf (net : Net) (m : Remembered) (r : ℕ) (own : RoleState) : 
   pub raw : own.raw ≡ slice_index m.raw r
   pub stands : IsState net m r own.state
 
--- There is one of each of so many roles, in order.
+-- There is one for each of so many roles, in order.
 pub record AreStates (net : Net) (roles : ℕ) (m : Remembered) (states : List RoleState) : Type 0 where
   pub all : length states ≡ roles
   pub each : (r : ℕ) (own : RoleState) → slice_get states r ≡ Some own → IsStateOf net m r own
@@ -36,7 +36,7 @@ pub record AreStates (net : Net) (roles : ℕ) (m : Remembered) (states : List R
 abbrev pub accepted_in : Protocol → AcceptedView
 accepted_in protocol = record { protocol = protocol }
 
--- The lines that `end` is answered, without the first, by a guide that has this memory.
+-- The lines that a guide with this memory answers to `end`, without the first.
 abbrev pub states_text : Protocol → List RoleState → List ℕ
 states_text protocol states = flat_map (role_line (accepted_in protocol)) states ++ end_line states
 

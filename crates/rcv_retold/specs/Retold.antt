@@ -15,7 +15,7 @@ use Rattle.rcv_guide.specs.Numbers.{numbers_at}
 use Rattle.rcv_guide.specs.Guide.{GuideView, terms_of, IsMemory, IsAfter}
 use Rattle.rcv_retold.specs.Stamps.{stamps_at, stamps_of}
 
--- What a session's roles are told by: its scripts have no part in it.
+-- The terms by which a session's roles are told. Its scripts aren't part of them.
 abbrev pub terms_for : SessionView → Terms
 terms_for session = record { net = net_for session; roles = roles_of session; host = host_in session.plan }
 
@@ -24,12 +24,12 @@ pub record HasSameText (p q : Protocol) : Type 0 where
   pub names : p.roles ≡ q.roles
   pub bodies : body_of p.body ≡ body_of q.body
 
--- The session with a protocol for its own.
+-- The session with this protocol instead of its own.
 abbrev pub with_protocol : SessionView → Protocol → SessionView
 with_protocol session protocol = record session { protocol = protocol }
 
--- An entry may be told as it stands. A recovery has to take back just what it states where each failed role has saved as
--- many events as it states of it, and no more.
+-- An entry may be told as it stands. A recovery must take back exactly what it states, if each failed role has saved as many
+-- events as it states of it, and no more.
 abbrev pub MayBeRetold : Terms → Remembered → Entry → Type 0
 MayBeRetold terms m (Send e) = MayBeTold terms m (Send e)
 MayBeRetold terms m (Recv e) = MayBeTold terms m (Recv e)
@@ -37,7 +37,7 @@ MayBeRetold terms m (Crash p) = MayBeTold terms m (Crash p)
 MayBeRetold terms m (Recover p concerned kept undone) =
     (slice_get m.down p ≡ Some true) × HasFailed terms m p (slice_index kept) concerned kept undone
 
--- Each of these may, after those before it.
+-- Each of these entries may be told as it stands, after those before it.
 abbrev pub IsRetoldFrom : Terms → Remembered → List Entry → Type 0
 IsRetoldFrom terms m [] = Unit {0}
 IsRetoldFrom terms m (e ∷ entries) = MayBeRetold terms m e × IsRetoldFrom terms (told_after terms m e) entries
@@ -45,7 +45,7 @@ IsRetoldFrom terms m (e ∷ entries) = MayBeRetold terms m e × IsRetoldFrom ter
 abbrev pub IsRetold : Terms → List Entry → Type 0
 IsRetold terms entries = IsRetoldFrom terms (start terms.roles) entries
 
--- The entry with number k, counted from 0, is the first that may not.
+-- The entry with number k, counted from 0, is the first that may not be told as it stands.
 pub record IsFirstUntold (terms : Terms) (entries : List Entry) (k : ℕ) : Type 0 where
   pub inside : k < length entries
   pub before : IsRetold terms (take k entries)
@@ -79,14 +79,14 @@ IsUntold g e = (m : Remembered) → IsMemory g m → MayBeRetold (terms_of g) m 
 abbrev pub IsTellable : GuideView → Entry → Type 0
 IsTellable g e = (m : Remembered) → IsMemory g m → MayBeRetold (terms_of g) m e
 
--- It has a memory of which nothing is forgotten.
+-- The guide has a memory, and nothing of it is forgotten.
 pub record HasWhole (g : GuideView) : Type 0 where
   pub memory : Remembered
   pub is : IsMemory g memory
   pub forgotten : (r : ℕ) → slice_index memory.forgotten r ≡ 0
   pub seeds : (r : ℕ) → slice_index memory.seeds r ≡ 0
 
--- The stamps of the events that are held at the end of these entries, of each role.
+-- For each role, the stamps of the events that are held at the end of these entries.
 pub record HasStamps (session : SessionView) (entries : List Entry) (lists : List (List ℕ)) : Type 0 where
   pub count : length lists ≡ roles_of session
   pub each : (r : ℕ) → r < roles_of session → stamps_at lists r ≡ stamps_of (events_of r (told (terms_for session) entries).held)

@@ -13,7 +13,7 @@ lists_in lists = map (λ l. l.items) lists
 abbrev pub stamps_at : List (List ℕ) → ℕ → List ℕ
 stamps_at lists r = slice_index_or lists r []
 
--- One stamp more of a role; and its first ones alone.
+-- One stamp more of a role; and only its first stamps.
 abbrev pub with_stamp : List (List ℕ) → ℕ → ℕ → List (List ℕ)
 with_stamp lists r stamp = slice_set lists r (stamps_at lists r ++ stamp ∷ [])
 

@@ -1,11 +1,11 @@
--- The text of a told journal, and the first line at which a text is none.
+-- The text of a told journal, and the first line at which a text isn't one.
 use Rattle.std.specs.Prelude.{◌≡◌, ◌⊎◌, ◌≤◌, ◌+◌, ◌-◌, ℕ, Option, List, ◌∷◌, ◌++◌, All, length, take, flat_map, MatchOption}
 use Rattle.rcv_tree.specs.declared.entry.Entry.{Entry}
 use Rattle.rcv_tree.specs.declared.protocol.Protocol.{Protocol}
 use Rattle.rcv_session.specs.Session.{SessionView}
 use Rattle.rcv_journal.specs.JournalText.{entry_line}
-use Rattle.rcv_form.specs.Journal.{bare}
-use Rattle.rcv_form.specs.Form.{IsFormedEntry, lines_of}
+use Rattle.rcv_journal.specs.Recorded.{bare}
+use Rattle.rcv_journal.specs.Form.{IsFormedEntry, lines_of}
 use Rattle.rcv_told.specs.Told.{Remembered, told}
 use Rattle.rcv_retold.specs.Retold.{terms_for, IsRetold}
 use Rattle.rcv_retold.specs.Closing.{IsClosing}
@@ -20,8 +20,8 @@ line_of protocol e = entry_line (bare protocol) e
 abbrev pub entries_text : Protocol → List Entry → List ℕ
 entries_text protocol entries = flat_map (line_of protocol) entries
 
--- The text is that of these told entries: each may be told as it stands behind those before it, and behind them stands where
--- the roles are then.
+-- The text is that of these told entries: each may be told as it stands after those before it, and after the last one the text
+-- says where the roles are then.
 pub record IsToldText (setup : SessionView) (text : List ℕ) (entries : List Entry) : Type 0 where
   pub formed : AreFormed setup.protocol entries
   pub retold : IsRetold (terms_for setup) entries
@@ -37,31 +37,31 @@ pub record MayBegin (setup : SessionView) (lines : List (List ℕ)) : Type 0 whe
   pub more : List (List ℕ)
   pub begins : lines_of text ≡ lines ++ more
 
--- Line k, counted from 1, is the first wrong one: no told text begins with the first k lines, but one does with those before;
--- behind the last line, where the text stops too early.
+-- Line k, counted from 1, is the first wrong one: no told text begins with the first k lines, but one does with those before.
+-- It is the line after the last one if the text stops too early.
 pub record IsFirstWrong (setup : SessionView) (text : List ℕ) (k : ℕ) : Type 0 where
   pub first : 1 ≤ k
   pub before : MayBegin setup (take (k - 1) (lines_of text))
   pub wrong : ((k ≤ length (lines_of text)) × (MayBegin setup (take k (lines_of text)) → ⊥))
       ⊎ ((k ≡ length (lines_of text) + 1) × ((entries : List Entry) → IsToldText setup text entries → ⊥))
 
--- Line k, counted from 1, is the first at which a text isn't the right one; behind its last line, where it stops too early.
+-- Line k, counted from 1, is the first at which a text isn't the right one: the line after its last one if it stops too early.
 pub record IsFirstOther (text right : List ℕ) (k : ℕ) : Type 0 where
   pub first : 1 ≤ k
   pub before : take (k - 1) (lines_of text) ≡ take (k - 1) (lines_of right)
   pub other : ((k ≤ length (lines_of text)) × (take k (lines_of text) ≡ take k (lines_of right) → ⊥))
       ⊎ ((k ≡ length (lines_of text) + 1) × (text ≡ right → ⊥))
 
--- The right one stands behind entries that leave this memory; and at which line a text isn't it, if at one.
+-- The right one stands after entries that leave this memory; and the line at which a text isn't it, if there is one.
 abbrev pub IsEnd : Protocol → Remembered → List ℕ → Option ℕ → Type 0
 IsEnd protocol m text other =
     (closing : List ℕ) × IsClosing protocol m closing × MatchOption other (text ≡ closing) (IsFirstOther text closing)
 
--- The lines say no entry first.
+-- The lines don't begin with an entry.
 abbrev pub BeginOtherwise : Protocol → List (List ℕ) → Type 0
 BeginOtherwise protocol lines = (e : Entry) (more : List (List ℕ)) → IsFormedEntry (bare protocol) e → lines ≡ line_of protocol e ∷ more → ⊥
 
--- The text is these entries' lines and the rest; and no entry stands first in the rest.
+-- The text is these entries' lines and the rest; and the rest doesn't begin with an entry.
 pub record AreFirst (protocol : Protocol) (text : List ℕ) (entries : List Entry) (rest : List ℕ) : Type 0 where
   pub formed : AreFormed protocol entries
   pub is_text : text ≡ entries_text protocol entries ++ rest

@@ -1,4 +1,4 @@
-// The lines behind the entries of a told journal: where its roles are at its end.
+// The lines after the entries of a told journal: where its roles are at its end.
 
 ghost use Rattle.std.specs.Prelude.{◌≡◌, ◌<◌, ◌+◌, ◌++◌, All, codes, length, IfOk, OnOk};
 ghost use Rattle.rcv_told.specs.Told.{Remembered};
@@ -71,8 +71,8 @@ fn write_end(
     }
 }
 
-/// What stands behind the entries that a guide was told: a line for each role, in order of declaration, and the line that
-/// says whether all are done. Fails if memory runs out.
+/// What stands after the entries that a guide was told: a line for each role, in order of declaration, and the line
+/// that says whether all are done. Fails if memory runs out.
 pub fn closing(alloc: Global, guide: &Guide) -> Result<Vec<u8>, AllocError>
     ensures { IfOk result (λ text. (m : Remembered) → IsMemory guide.now m → IsClosing guide.now.protocol m text.items) }
 {

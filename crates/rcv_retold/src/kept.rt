@@ -23,7 +23,7 @@ fn is_lost(stamps: &Stamps, event: &Event) -> bool
     !has(&stamps[event.role.0 as usize], event.stamp)
 }
 
-// Whether that of an entry's event isn't.
+// Whether the stamp of an entry's event isn't.
 fn is_undone(stamps: &Stamps, entry: &Entry) -> bool
     requires declared { (e : TheEvent) → IsEventOf entry.now e → e.role < length stamps.now.items }
     requires sorted { (r : ℕ) → r < length stamps.now.items → IsNonDecreasing (stamps_at (lists_in stamps.now.items) r) }
@@ -37,8 +37,8 @@ fn is_undone(stamps: &Stamps, entry: &Entry) -> bool
     }
 }
 
-/// For each entry whether its event's stamp isn't among the stamps of its role, which grow. Where these are the stamps of
-/// the kept events, it says which are undone. Fails if memory runs out.
+/// For each entry, whether its event's stamp isn't among the stamps of its role, which grow. If these are the stamps of
+/// the kept events, it says which events are undone. Fails if memory runs out.
 pub fn undone_of(alloc: Global, stamps: &Stamps, entries: &[Entry]) -> Result<Vec<bool>, AllocError>
     requires declared { (place : ℕ) (e : TheEvent) → IsEventAt entries.now place e → e.role < length stamps.now.items }
     requires sorted { (r : ℕ) → r < length stamps.now.items → IsNonDecreasing (stamps_at (lists_in stamps.now.items) r) }

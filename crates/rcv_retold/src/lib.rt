@@ -1,4 +1,4 @@
-// Journals that a guide was told: judged entry by entry, without scripts.
+// Journals that a guide was told: it judges them entry by entry, without scripts.
 #![tactic(auto)]
 
 ghost use Rattle.rcv_retold.specs.Laws.{RetoldIsTold, ToldEntriesHaveTexts, ToldTextsSayOneThing, WrongTextsAreNotTold};
@@ -16,17 +16,17 @@ pub fn retold_is_told()
     ensures { RetoldIsTold }
 {}
 
-/// Told entries of the form have a text, where the protocol is accepted.
+/// Told entries of the form have a text, if the protocol is accepted.
 pub fn told_entries_have_texts()
     ensures { ToldEntriesHaveTexts }
 {}
 
-/// A text is that of one list of told entries at most, where the protocol is accepted.
+/// A text is that of at most one list of told entries, if the protocol is accepted.
 pub fn told_texts_say_one_thing()
     ensures { ToldTextsSayOneThing }
 {}
 
-/// A text with a first wrong line is that of no told entries.
+/// A text with a first wrong line isn't that of any told entries.
 pub fn wrong_texts_are_not_told()
     ensures { WrongTextsAreNotTold }
 {}

@@ -2,10 +2,10 @@
 
 ghost use Rattle.std.specs.Prelude.{◌≡◌, ◌↔◌, ◌==◌, ◌<◌, ◌≤◌, ◌+◌, ◌^◌, ◌∷◌, ◌++◌, length, take, drop, position};
 ghost use Rattle.std.specs.Prelude.{IsTrue, IfSome, MatchOption};
-ghost use Rattle.rcv_form.specs.Form.{lines_of};
+ghost use Rattle.rcv_journal.specs.Form.{lines_of};
 ghost use Rattle.rcv_retold.specs.Text.{IsFirstOther};
 
-// Where the first line feed of a text stands.
+// The place of the first line feed of a text.
 fn feed_at(text: &[u8]) -> Option<usize>
     ensures { result ≡ position (λ b. b == 10) text.now }
 {
@@ -40,8 +40,8 @@ fn is_same(one: &[u8], other: &[u8]) -> bool
     one == other
 }
 
-/// The first line, counted from 1, at which a text isn't the right one; the number of its lines plus 1 where it stops too
-/// early; none where it is the right one.
+/// The first line, counted from 1, at which a text isn't the right one: the number of its lines plus 1 if it stops too
+/// early; none if it is the right one.
 pub fn first_other(text: &[u8], right: &[u8]) -> Option<u32>
     requires { length text.now < 2 ^ 31 }
     ensures is { MatchOption result (text.now ≡ right.now) (IsFirstOther text.now right.now) }

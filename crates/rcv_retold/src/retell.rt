@@ -23,10 +23,10 @@ use thiserror::Error;
 /// Why entries have no record.
 #[derive(Clone, Copy, Debug, PartialEq, Eq, Error)]
 pub enum RetellError {
-    /// The first entry, counted from 0, that may not be told behind those before it.
+    /// The first entry, counted from 0, that may not be told after those before it.
     #[error("entry {0} may not come")]
     Entry(u32),
-    /// No memory was left.
+    /// Memory ran out.
     #[error("no memory is left")]
     Memory,
 }
@@ -59,7 +59,8 @@ fn follow(stamps: &mut Stamps, guide: &Guide, entry: &Entry) -> Result<(), Alloc
     }
 }
 
-// Tells all entries to a guide of a protocol with the setup's plan, and gives the stamps of each role's events that are kept then.
+// Tells all entries to a guide of a protocol with the setup's plan. Gives the stamps of each role's events that are
+// kept then.
 fn tell_all(
     alloc: Global,
     setup: &Setup,
@@ -87,9 +88,9 @@ fn tell_all(
     Ok(stamps)
 }
 
-/// The record of a told journal, of fewer than 2^31 entries, told to a guide of the session with room for them; the guide
-/// has them all then. `Entry`
-/// comes exactly where one of them may not be told as it stands behind those before it. `Memory` if memory runs out.
+/// The record of a told journal of fewer than 2^31 entries. It is told to a guide of the session with room for them,
+/// and the guide has them all then. `Entry` comes exactly if one of them may not be told as it stands after those
+/// before it. `Memory` comes if memory runs out.
 pub fn retell<'a>(
     alloc: Global,
     setup: &'a Setup,

@@ -33,7 +33,7 @@ pub fn note(stamps: &mut Stamps, role: RoleId, stamp: u64) -> Result<(), AllocEr
     Ok(())
 }
 
-// Leaves so many of a role's first stamps.
+// Keeps only so many of a role's first stamps.
 fn cut(stamps: &mut Stamps, role: usize, count: usize)
     requires { role < length stamps.old.items }
     ensures { lists_in stamps.new.items ≡ cut_to (lists_in stamps.old.items) role count }
@@ -41,7 +41,7 @@ fn cut(stamps: &mut Stamps, role: usize, count: usize)
     stamps[role].truncate(count);
 }
 
-/// Leaves of each role as many of its first stamps as it has kept events.
+/// Keeps, for each role, only as many of its first stamps as it has kept events.
 pub fn cut_all(stamps: &mut Stamps, guide: &Guide)
     requires { length stamps.old.items ≡ roles_of guide.now }
     ensures count { length stamps.new.items ≡ length stamps.old.items }
@@ -54,7 +54,7 @@ pub fn cut_all(stamps: &mut Stamps, guide: &Guide)
     }
 }
 
-/// Whether the stamp is one of these, which grow. It takes no memory, and time that grows with the logarithm of how many
+/// Whether the stamp is one of these, which grow. It takes no memory. Its time grows with the logarithm of how many
 /// there are.
 pub fn has(stamps: &[u64], stamp: u64) -> bool
     requires { IsNonDecreasing stamps.now }

@@ -1,4 +1,4 @@
-// An entry of a told journal is told to a guide.
+// Tells an entry of a told journal to a guide.
 
 ghost use Rattle.std.specs.Prelude.{◌≡◌, ◌↔◌, ◌<◌, false, IsTrue, slice_index};
 ghost use Rattle.rcv_tree.specs.declared.entry.Entry.TheVariants.{Send as TheSend, Recv as TheRecv, Crash as TheCrash};
@@ -105,7 +105,7 @@ fn wide(counts: &[u32; 8]) -> [u64; 8]
     wide
 }
 
-// What a journal lists of a role: how many events it keeps, and 0 where it isn't concerned.
+// What a journal lists of a role: how many events it keeps; 0 if it isn't concerned.
 fn listed(back: &Recovery, role: RoleId) -> u64
     requires { role < 8 }
     ensures { result ≡ slice_index (listed_of back.now) role }
@@ -117,7 +117,7 @@ fn listed(back: &Recovery, role: RoleId) -> u64
     }
 }
 
-// Whether these counts are what a recovery lists.
+// Whether a recovery lists these counts.
 fn are_listed(back: &Recovery, kept: &[u64; 8]) -> bool
     ensures { IsTrue result ↔ (kept.now ≡ listed_of back.now) }
 {
@@ -129,7 +129,7 @@ fn are_listed(back: &Recovery, kept: &[u64; 8]) -> bool
     true
 }
 
-// Whether a recovery is what is stated of it.
+// Whether a recovery takes back what is stated of it.
 fn states(back: &Recovery, concerned: RoleSet, kept: &[u64; 8], undone: u32) -> bool
     ensures { IsTrue result ↔ ((back.now.concerned ≡ concerned) × (kept.now ≡ listed_of back.now)
         × (back.now.undone ≡ undone)) }
@@ -137,7 +137,7 @@ fn states(back: &Recovery, concerned: RoleSet, kept: &[u64; 8], undone: u32) -> 
     back.concerned == concerned && back.undone == undone && are_listed(back, kept)
 }
 
-// Tells a recovery: whether it may come as it is stated.
+// Tells a recovery: whether it may come as the entry states it.
 fn tell_recover(
     guide: &mut Guide,
     role: RoleId,
@@ -156,7 +156,7 @@ fn tell_recover(
     }
 }
 
-/// Tells an entry to a guide: whether it may come. Where it may not, nothing is known of the guide.
+/// Tells an entry to a guide: whether it may come. If it may not, nothing is known of the guide.
 pub fn tell(guide: &mut Guide, entry: &Entry) -> bool
     ensures goes { IsTrue result → GoesOn guide.old guide.new entry.now }
     ensures may { IsTrue result → IsTellable guide.old entry.now }

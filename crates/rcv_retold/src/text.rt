@@ -2,8 +2,8 @@
 
 ghost use Rattle.std.specs.Prelude.{◌≡◌, ◌<◌, ◌≤◌, ◌+◌, ◌^◌, ℕ, length, drop, IfOk, IfErr, IfSome, IfNone, OnOk};
 ghost use Rattle.rcv_tree.specs.declared.entry.Entry.{Entry as TheEntry};
-ghost use Rattle.rcv_form.specs.Journal.{bare};
-ghost use Rattle.rcv_form.specs.Form.{IsFormedEntry};
+ghost use Rattle.rcv_journal.specs.Recorded.{bare};
+ghost use Rattle.rcv_journal.specs.Form.{IsFormedEntry};
 ghost use Rattle.rcv_lines.specs.Line.{EntryLine};
 ghost use Rattle.rcv_lines.specs.Said.{view_of};
 ghost use Rattle.rcv_guide.specs.Guide.{opened, IsMemory};
@@ -34,11 +34,11 @@ pub struct Front {
 /// Why a text isn't that of a told journal.
 #[derive(Clone, Copy, Debug, PartialEq, Eq, Error)]
 pub enum ToldError {
-    /// The first wrong line, counted from 1: no told journal's text begins with the lines up to it, but one does with those
-    /// before it. It is the number of lines plus 1 where the text stops too early.
+    /// The first wrong line, counted from 1: no told journal's text begins with the lines up to it, but one does with
+    /// those before it. It is the number of lines plus 1 if the text stops too early.
     #[error("the text isn't a told journal's at its line {0}")]
     Line(u32),
-    /// No memory was left.
+    /// Memory ran out.
     #[error("no memory is left")]
     Memory,
 }
@@ -74,8 +74,8 @@ fn read_entry(
     }
 }
 
-/// The entries that the first lines of a text say, up to the first line that says none. Whether they may be told isn't
-/// asked. Fails if memory runs out.
+/// The entries that the first lines of a text say, up to the first line that says none. It doesn't ask whether they may
+/// be told. Fails if memory runs out.
 pub fn read_front(
     alloc: Global,
     accepted: &Accepted,
@@ -100,8 +100,8 @@ pub fn read_front(
     Ok(Front { entries, bytes })
 }
 
-// The first line, counted from 1, at which a text isn't what stands behind the entries that a guide was told; the number
-// of its lines plus 1 where it stops too early; none where it is that. Fails if memory runs out.
+// The first line, counted from 1, at which a text isn't what stands after the entries that a guide was told: the number
+// of its lines plus 1 if it stops too early; none if the text is that. Fails if memory runs out.
 fn wrong_closing(alloc: Global, guide: &Guide, text: &[u8]) -> Result<Option<u32>, AllocError>
     requires { length text.now < 2 ^ 31 }
     ensures end { IfOk result (λ wrong. (m : Remembered) → IsMemory guide.now m → IsEnd guide.now.protocol m text.now wrong) }
@@ -119,10 +119,10 @@ fn from_one(number: u32) -> u32
     number + 1
 }
 
-/// The record of the told journal that has this text of fewer than 2^31 bytes, with these entries at its front, which are
-/// told to a guide of the session with room for them. `Line` comes exactly where it is none: an entry may not be told as it
-/// stands behind those before it, or what stands behind the entries isn't where the roles are then. `Memory` where memory
-/// runs out.
+/// The record of the told journal that has this text of fewer than 2^31 bytes. These entries stand at its front; they
+/// are told to a guide of the session with room for them. `Line` comes exactly if the text is none: an entry may not be
+/// told as it stands after those before it, or what stands after the entries isn't where the roles are then. `Memory`
+/// comes if memory runs out.
 pub fn judge<'a>(
     alloc: Global,
     setup: &'a Setup,

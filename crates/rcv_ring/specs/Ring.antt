@@ -32,7 +32,7 @@ pub record IsPusher (room : ℕ) (points : List ℕ) (sent taken : List Message)
   pub points_is : v.points ≡ points
 
 -- The view of seat k is the puller's. It knows all that was taken, and no more of what was sent than was. So many slots
--- are out with it, and where one is, its message is the front one.
+-- are out with it, and if one is, its message is the front one.
 pub record IsPuller (room : ℕ) (points : List ℕ) (sent taken : List Message) (lifting puller k : ℕ) (v : View) : Type 0 where
   pub seat : k ≡ puller
   pub all : v.taken ≡ taken
@@ -50,7 +50,7 @@ pub record Ends : Type 0 where
   pub filling : ℕ
   pub lifting : ℕ
 
--- Any seat, also a note of what an end knew: what was sent and taken begins with what it was told. One seat alone may
+-- Any seat, even a note of what an end knew: what was sent and taken begins with what it was told. One seat alone may
 -- push, and one alone pull.
 pub record Fits (room : ℕ) (points : List ℕ) (sent taken : List Message) (ends : Ends) (k : ℕ) (v : View) : Type 0 where
   pub told_sent : Begins v.sent sent
@@ -62,8 +62,8 @@ abbrev pub AllFit : ℕ → List ℕ → List Message → List Message → Ends 
 AllFit room points sent taken ends views = (k : ℕ) (v : View) → get_elem? views k ≡ some v → Fits room points sent taken ends k v
 
 -- What was taken begins what was sent, which is at most `room` longer. Each message that was sent is one that the ring
--- carries, and each between lies in its slot, but the front one where the puller has it out. The slots behind what was
--- sent are free, but the first one where the pusher has it out.
+-- carries, and each between lies in its slot, except the front one if the puller has it out. The slots after what was
+-- sent are free, except the first one if the pusher has it out.
 pub record Ring (room : ℕ) (points : List ℕ) (s : Cells) : Type 0 where
   pub sent : List Message
   pub taken : List Message

@@ -8,7 +8,7 @@ use Rattle.rcv_ring.specs.declared.rule.View.{View}
 abbrev pub RingId : Type 0
 RingId = TableId
 
--- The end's ring, with its room and its points. What was sent and what was taken: of the end's own doing all, of the
+-- The end's ring, with its room and its points. What was sent and what was taken: all of the end's own doing, and of the
 -- other end's what it was told. The count of the other end's messages that its last look found, the count that it knows
 -- of, and how often it looked.
 pub record Shown : Type 0 where

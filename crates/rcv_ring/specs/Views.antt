@@ -48,7 +48,7 @@ spent =
       points = [];
     }
 
--- By what it has seen, the pusher may fill the slot behind what was sent, and the puller may read the front one.
+-- By what it has seen, the pusher may fill the slot after what was sent, and the puller may read the front one.
 abbrev pub MayFill : View → Type 0
 MayFill v = length v.sent < v.seen + v.room
 
@@ -96,7 +96,7 @@ looked v n = record v { seen = n; known = n; looks = v.looks + 1 }
 abbrev pub carried : List (ℕ × Message) → List Message
 carried slots = map (λ slot. slot.1) slots
 
--- The slot behind what was sent is out, whatever it holds; it is given back, and what it holds now is sent.
+-- The slot after what was sent is out, whatever it holds; it is given back, and what it holds now is sent.
 abbrev pub Claimed : Step Message → Mine → ℕ → Mine → Type 0
 Claimed st m n m' = (old : Message) × (m'.0 ≡ holding m.0 old) × (m'.1 ≡ (fill_place m.0, old) ∷ m.1)
 

@@ -13,5 +13,5 @@ pub use make::ring;
 pub use pull::Puller;
 pub use push::Pusher;
 
-/// Want of memory, which is the one error of the calls of this crate.
+/// Memory ran out: the one error of the calls of this crate.
 pub use std::alloc::AllocError as Memory;

@@ -35,7 +35,7 @@ impl Model for Puller {
 }
 
 impl Puller {
-    /// Takes the front message. Where a look of this call found the ring empty it is None, and nothing is taken. It
+    /// Takes the front message. If a look of this call found the ring empty, it answers None, and nothing is taken. It
     /// never waits for the other end, and takes no memory. Each look holds the other end up, so a caller that tries
     /// again and again had better rest in between.
     pub fn pull(&mut self) -> Option<Message>

@@ -34,9 +34,9 @@ impl Model for Pusher {
 }
 
 impl Pusher {
-    /// Sends a message of one of the ring's points, with a stamp up to 2^62. Where a look of this call found the ring
-    /// full it comes back, and nothing is sent. It never waits for the other end, and takes no memory. Each look holds
-    /// the other end up, so a caller that tries again and again had better rest in between.
+    /// Sends a message of one of the ring's points, with a stamp up to 2^62. If a look of this call found the ring
+    /// full, the message comes back, and nothing is sent. It never waits for the other end, and takes no memory. Each
+    /// look holds the other end up, so a caller that tries again and again had better rest in between.
     pub fn push(&mut self, message: Message) -> Result<(), Message>
         requires passes { CanPass self.old.points message }
         requires through { through self.old < 2 ^ 62 }

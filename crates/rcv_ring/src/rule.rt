@@ -16,7 +16,7 @@ pub struct View {
     // Whether it is the seat that may push, and the one that may pull.
     pub pushes: bool,
     pub pulls: bool,
-    // What was sent and taken: of its own doing all, of the other end's what it was told.
+    // What was sent and taken: all of its own doing, and of the other end's what it was told.
     pub sent: LinkedList<Message>,
     pub taken: LinkedList<Message>,
     // What the slot holds that is out with the seat, if one is.
@@ -50,7 +50,7 @@ impl TableRule<Message, View, Key> for InOrder {
     ghost first = { λ k. newcomer k.room k.points };
 }
 
-/// The pusher has the slot behind what it sent out, to write it as plain memory.
+/// The pusher has the slot after what it sent out, to write it as plain memory.
 pub struct Claims;
 
 impl Play<Message, View> for Claims {

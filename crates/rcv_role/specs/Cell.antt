@@ -9,7 +9,7 @@ use Rattle.rcv_mailbox.specs.Ends.{End, through, received, Knows, IsChannel}
 use Rattle.rcv_role.specs.Part.{PartView, HasNoStrangers, cleared}
 use Rattle.rcv_role.specs.Ends.{slot, end_at, IsSettledWith, IsSameAs, AreRewound, OthersStay}
 
--- The role's part, and its ends: a post to each other role, and an inbox from each, in order of declaration.
+-- The role's part, and its ends, in order of declaration: a post to each other role, and an inbox from each.
 pub record CellView : Type 0 where
   pub part : PartView
   pub posts : List End
@@ -22,7 +22,7 @@ cell_of p posts inboxes = record { part = p; posts = posts; inboxes = inboxes }
 abbrev pub without_log : CellView → CellView
 without_log c = record c { part = cleared c.part }
 
--- The cell's ends hold what these events say, and what its own events say.
+-- The cell's ends hold what these events say; and they hold what its own events say.
 abbrev pub IsSettledAt : CellView → List Event → Type 0
 IsSettledAt c events =
     (q : ℕ) (d : End) → q < roles_of c.part.setup → (q ≡ c.part.role → ⊥)
@@ -32,14 +32,14 @@ IsSettledAt c events =
 abbrev pub IsSettled : CellView → Type 0
 IsSettled c = IsSettledAt c c.part.own.events
 
--- The cell tells what it told, but for what its ends know of the others.
+-- The cell tells what it told, except for what its ends know of the others.
 pub record HasMet (old new : CellView) : Type 0 where
   pub part : new.part ≡ old.part
   pub posts : (k : ℕ) (d : End) → IsSameAs (slice_index_or old.posts k d) (slice_index_or new.posts k d)
   pub through : (k : ℕ) (d : End) → through (slice_index_or new.posts k d) ≡ through (slice_index_or old.posts k d)
   pub inboxes : (k : ℕ) (d : End) → IsSameAs (slice_index_or old.inboxes k d) (slice_index_or new.inboxes k d)
 
--- The ends of the channel from one cell to another, which are those of one channel.
+-- The ends of the channel from one cell to another; and they are the ends of one channel.
 abbrev pub post_to : CellView → CellView → End → End
 post_to from to d = end_at from.posts from.part.role to.part.role d
 
@@ -77,12 +77,12 @@ pub record HasRewoundAlone (old new : CellView) (sender keep : ℕ) : Type 0 whe
   pub inbox : (d : End)
       → end_at new.inboxes old.part.role sender d ≡ received (end_at old.inboxes old.part.role sender d) keep
 
--- There is an end, to stand where one is to be named.
+-- There is an end. It is for places where one has a name.
 pub record IsThere : Type 0 where
   pub end : End
 
--- The cell went on by these entries, each of which the role may make by its own events and numbers, and the entries make
--- of these what it has now. It forgets nothing, and its ends stay those of the same channels.
+-- The cell went on by these entries. The role may make each of them by its own events and numbers, and the entries turn these
+-- into what it has now. The cell forgets nothing, and its ends stay those of the same channels.
 pub record Goes (old new : CellView) : Type 0 where
   pub more : List Timed
   pub setup : new.part.setup ≡ old.part.setup

@@ -49,7 +49,7 @@ AreFresh roles r posts inboxes =
     (q : ℕ) (d : End) → q < roles → (q ≡ r → ⊥) → IsFresh (end_at posts r q d) (end_at inboxes r q d)
 
 -- The ends between r and q hold what these events of r say: all that it put on the post, and what it received from the
--- inbox, which may hold more. So many events it ever made.
+-- inbox, which may hold more. The role ever made so many events.
 pub record IsSettledWith (net : Net) (r q : ℕ) (events : List Event) (raw : ℕ) (post inbox : End) : Type 0 where
   pub put : post.list ≡ put net r q events
   pub through : through post ≤ raw
@@ -86,12 +86,12 @@ pub record HasReceived (old new : End) (o : Option Message) : Type 0 where
   pub points : new.base.points ≡ old.base.points
   pub channel : (e : End) → IsChannel e old → IsChannel e new
 
--- The message was put on the post, behind all that it held.
+-- The message was put on the post, after all that it held.
 pub record HasPut (old new : End) (m : Message) : Type 0 where
   pub list : new.list ≡ old.list ++ m ∷ []
 
--- The message was received from the inbox: the next of those taken before, or else the front of the channel, and no
--- other was taken.
+-- The message was received from the inbox. It was the next of those taken before, or else the front of the channel; no other
+-- was taken.
 pub record HasTaken (old new : End) (m : Message) : Type 0 where
   pub got : new.got ≡ old.got + 1
   pub message : slice_get new.list old.got ≡ Some m
@@ -106,7 +106,7 @@ pub record StaysEnd (old new : End) : Type 0 where
   pub room : new.base.room ≡ old.base.room
   pub points : new.base.points ≡ old.base.points
 
--- The end tells what it told, but for what it knows of the other end.
+-- The end tells what it told, except for what it knows of the other end.
 pub record IsSameAs (old new : End) : Type 0 where
   pub stays : StaysEnd old new
   pub list : new.list ≡ old.list
@@ -114,8 +114,8 @@ pub record IsSameAs (old new : End) : Type 0 where
   pub dropped : new.dropped ≡ old.dropped
   pub rewound : new.rewound ≡ old.rewound
 
--- The ends of a channel went back: of what was put the first stay, all of them taken, and of those the first are
--- received. Both ends know it, and how many messages were dropped.
+-- The ends of a channel went back: the first of the messages that were put stay, and all of those are taken. The first of
+-- these are received. Both ends know it, and how many messages were dropped.
 pub record AreRewound (post post_now inbox inbox_now : End) (keep drop_from : ℕ) : Type 0 where
   pub begins : Begins inbox.list post.list
   pub put : post_now.list ≡ take drop_from post.list

@@ -21,7 +21,7 @@ use Rattle.rcv_role.specs.Cell.{CellView, Goes}
 use Rattle.rcv_role.specs.Poll.{IsDue, Polled}
 use Rattle.rcv_role.specs.Run.{IsFencedBy, Ran}
 
--- The cases of a poll, in their order: each comes exactly where it holds and none before it does.
+-- The cases of a poll, in their order: each comes exactly if it holds and none before it does.
 pub record IsExact (p : PartView) (poll : Poll) : Type 0 where
   pub crashed : (poll ≡ polls.Crashed) ↔ IsDue p
   pub done : (poll ≡ polls.Done) ↔ ((IsDue p → ⊥) × Offers p [])
@@ -30,14 +30,14 @@ pub record IsExact (p : PartView) (poll : Poll) : Type 0 where
 abbrev pub PollsAreExact : Type 0
 PollsAreExact = (old new : CellView) (poll : Poll) → Polled old new poll → IsExact old.part poll
 
--- A run is fenced exactly where its last look showed a failure that reaches its role.
+-- A run is fenced exactly if its last look showed a failure that reaches its role.
 abbrev pub RunsAreFencedExactly : Type 0
 RunsAreFencedExactly =
     (turns : ℕ) (old new : CellView) (watch now : Shown) (stop : Stop) → Ran turns old new watch now stop
     → (stop ≡ stops.Fenced) ↔ IsFencedBy old.part now.last
 
--- Where a session's state has of the role what its cell has, the cell's entries are a log of the role there, and behind
--- them the state has what the cell has then.
+-- If a session's state has of the role what its cell has, the cell's entries are a log of the role there, and after them the
+-- state has what the cell has then.
 abbrev pub CellsFollowTheSession : Type 0
 CellsFollowTheSession =
     (old new : CellView) (s : State) (goes : Goes old new) → HasNumbers (rules_of old.part.setup).roles s
@@ -68,7 +68,7 @@ RewindsHoldFirstEvents =
     → IsHeld net s r sent got post inbox → WentBackTo net s r sent got post post_now inbox inbox_now sends gots
     → IsHeld net s r (take sends sent) (take gots got) post_now inbox_now
 
--- So do they where the inbox went back alone, by the count of the receiver's first events.
+-- They also do if the inbox went back alone, by the count of the receiver's first events.
 abbrev pub RewindsAloneHoldFirstEvents : Type 0
 RewindsAloneHoldFirstEvents =
     (net : Net) (s r : ℕ) (sent got : List Event) (post inbox : End) (gots : ℕ)

@@ -23,8 +23,8 @@ use Rattle.rcv_checkpoint.specs.Tail.{TailView, made, AreFrom}
 use Rattle.rcv_ledger.specs.Ledger.{state_behind}
 use Rattle.rcv_core.specs.Setup.{vars_by}
 
--- A role of a session, its own events and numbers, for how many of its events the state behind them is held, from how
--- many on, since earlier states are forgotten, and the entries that it has made since its log was cleared.
+-- A role of a session; its own events and numbers; after how many of its events the state is held, and from which count on, since
+-- earlier states are forgotten; and the entries that it has made since its log was cleared.
 pub record PartView : Type 0 where
   pub setup : SessionView
   pub role : ℕ
@@ -33,7 +33,7 @@ pub record PartView : Type 0 where
   pub base : ℕ
   pub log : List Timed
 
--- The same of these numbers.
+-- The same, made of these numbers.
 abbrev pub own_by : List Event → (raw crashes : ℕ) (crashed : Bool) (attempt clock : ℕ) → Own
 own_by events raw crashes crashed attempt clock =
     record { events = events; raw = raw; crashes = crashes; crashed = crashed; attempt = attempt; clock = clock }
@@ -57,7 +57,7 @@ first_part setup role = record { setup = setup; role = role; own = first_own; he
 abbrev pub durable_of : PartView → ℕ
 durable_of p = length p.own.events / (rules_of p.setup).every p.role * (rules_of p.setup).every p.role
 
--- The part without the states before the one behind so many events.
+-- The part without the states that come before the one after so many events.
 abbrev pub from_base : PartView → ℕ → PartView
 from_base p base = record p { base = base }
 
@@ -65,7 +65,7 @@ from_base p base = record p { base = base }
 abbrev pub Offers : PartView → List ℕ → Type 0
 Offers p zs = AreNext (net_for p.setup) p.role (own_place p.role p.own) zs
 
--- The next points are all sends of the role; or they are all to be received from one other role.
+-- The next points are all sends of the role; or the role receives at all of them, from one other role.
 abbrev pub AllSends : PartView → List ℕ → Type 0
 AllSends p zs = (z : ℕ) → IsIn z zs → (net_for p.setup).sender z ≡ p.role
 
@@ -74,7 +74,7 @@ pub record AllRecvs (p : PartView) (zs : List ℕ) (from : ℕ) : Type 0 where
   pub apart : from ≡ p.role → ⊥
   pub declared : from < roles_of p.setup
 
--- The role may make events more, and its clock may go on.
+-- The role may make more events, and its clock may go on.
 pub record IsBelow (p : PartView) : Type 0 where
   pub raw : p.own.raw < (rules_of p.setup).limit
   pub clock : p.own.clock < 2 ^ 62
@@ -87,7 +87,7 @@ entry_by Got e = Recv e
 abbrev pub entry_of : Event → Entry
 entry_of e = entry_by e.dir e
 
--- The part with one event more; and behind a crash, which leaves the saved states alone.
+-- The part after one event more; and after a crash, which leaves the saved states alone.
 abbrev pub with_event : PartView → Event → Entry → PartView
 with_event p e entry =
     record p {
@@ -104,7 +104,7 @@ with_crash p =
       log = p.log ++ record { stamp = p.own.clock; step = Crash p.role } ∷ [];
     }
 
--- An event of this role at a point of the text; if it is a Recv, from another role of the protocol.
+-- An event of this role at a point of the text. A Recv is from another role of the protocol.
 pub record IsOwn (setup : SessionView) (r : ℕ) (e : Event) : Type 0 where
   pub role : e.role ≡ r
   pub first : 1 ≤ e.point
@@ -140,20 +140,19 @@ abbrev pub HasNoStrangers : PartView → Type 0
 HasNoStrangers p =
     (t : ℕ) → (t ≡ p.role) ⊎ (roles_of p.setup ≤ t) → taken (net_for p.setup) t p.role p.own.events ≡ []
 
--- How many states are held, from the base on: all where the role runs, and at least the saved ones where it is crashed.
+-- How many states are held, from the base on: all if the role runs, and at least the saved ones if it is crashed.
 pub record HoldsStates (p : PartView) : Type 0 where
   pub base : p.base ≤ p.held
   pub within : p.held ≤ length p.own.events
   pub running : p.own.crashed ≡ false → p.held ≡ length p.own.events
   pub saved : durable_of p ≤ p.held
 
--- The state of a role behind the first n of its events.
+-- The state of a role after the first n of its events.
 abbrev pub state_at : SessionView → ℕ → List Event → ℕ → State
 state_at setup r events n = state_behind (vars_by setup) r (take n events)
 
--- What a part keeps: the session is accepted and planned, the events are the role's own, and their states are held, all
--- where the role runs and at least the saved ones where it is crashed, from the base on, which is one that the role has
--- saved.
+-- What a part keeps: the session is accepted and planned, the events are the role's own, and their states are held from the base
+-- on: all if the role runs, and at least the saved ones if it is crashed. The role has saved the state at the base.
 pub record IsPart (setup : SessionView) (r : ℕ) (own : Own) (base count : ℕ) (tail : TailView) : Type 0 where
   pub protocol : IsAcceptedProtocol setup.protocol
   pub planned : IsPlanned (roles_of setup) setup.plan
@@ -172,8 +171,8 @@ pub record IsPart (setup : SessionView) (r : ℕ) (own : Own) (base count : ℕ)
   pub few : length own.events ≤ own.raw
   pub most : own.raw ≤ (rules_of setup).limit
 
--- The part behind a recovery that leaves so many of its first events: one that is to run on; and one that is crashed and
--- stays so, since it is another role's recovery.
+-- The part after a recovery that leaves so many of its first events: one that then runs; and one that is crashed and stays so,
+-- since it is another role's recovery.
 abbrev pub gone_back : PartView → ℕ → ℕ → PartView
 gone_back p keep clock = record p { own = own_back p.own keep true clock; held = keep }
 
@@ -185,12 +184,11 @@ abbrev pub point_in : Option Event → Option ℕ
 point_in None = None
 point_in (Some e) = Some e.point
 
--- The point of the first event that the role hasn't saved; none where it has saved all.
+-- The point of the first event that the role hasn't saved; none if it has saved all.
 abbrev pub first_lost : PartView → Option ℕ
 first_lost p = point_in (slice_get p.own.events (durable_of p))
 
--- Where role q fails and goes back to point n, role r is reached: it is of q's group, or n is a point of q, and r is
--- concerned by it.
+-- If role q fails and goes back to point n, it reaches role r: r is of q's group, or n is a point of q, and it concerns r.
 abbrev pub IsReached : SessionView → ℕ → ℕ → ℕ → Type 0
 IsReached setup q n r =
     (is_listed (group_of (rules_of setup) q) r ≡ true)

@@ -15,7 +15,7 @@ use Rattle.rcv_role.specs.Cell.{CellView, cell_of}
 abbrev pub IsDue : PartView → Type 0
 IsDue p = IsOwnDue (rules_of p.setup) p.role p.own
 
--- None has; the role has a next point, and may make events more.
+-- None has; the role has a next point, and may make more events.
 pub record IsReady (p : PartView) : Type 0 where
   pub calm : IsDue p → ⊥
   pub next : Offers p [] → ⊥
@@ -28,7 +28,7 @@ receiver_at c point = (net_for c.part.setup).receiver point
 abbrev pub sender_at : CellView → ℕ → ℕ
 sender_at c point = (net_for c.part.setup).sender point
 
--- No inbox has changed, and no post but that to this role; and the other way round.
+-- No inbox has changed, and no post but the one to this role; or no post has changed, and no inbox but the one from this role.
 pub record OnePost (old new : CellView) (to : ℕ) : Type 0 where
   pub inboxes : new.inboxes ≡ old.inboxes
   pub others : OthersStay old.posts new.posts (slot old.part.role to)
@@ -37,7 +37,7 @@ pub record OneInbox (old new : CellView) (from : ℕ) : Type 0 where
   pub posts : new.posts ≡ old.posts
   pub others : OthersStay old.inboxes new.inboxes (slot old.part.role from)
 
--- The role sends next, where its script chooses, and found that channel full. What it has put stays.
+-- The role sends next, at a point that its script chooses, and found that channel full. What it has put stays.
 pub record FoundFull (old new : CellView) : Type 0 where
   pub offered : List ℕ
   pub next : Offers old.part offered
@@ -52,8 +52,8 @@ pub record FoundFull (old new : CellView) : Type 0 where
       → (end_at new.posts old.part.role (receiver_at old point) d).list
       ≡ (end_at old.posts old.part.role (receiver_at old point) d).list
 
--- The role receives next from this role, and found that channel empty. What it has taken stays, and how much of that it
--- has received.
+-- The role receives next from this role, and found that channel empty. What it has taken stays, and so does how much of that
+-- it has received.
 pub record FoundEmpty (old new : CellView) : Type 0 where
   pub offered : List ℕ
   pub next : Offers old.part offered

@@ -22,14 +22,14 @@ pub record IsFencedBy (p : PartView) (word : ℕ) : Type 0 where
 abbrev pub LetsPass : PartView → ℕ → Type 0
 LetsPass p word = IsFencedBy p word → ⊥
 
--- So many looks loaded these words, behind those that were loaded before, and each of them lets the role go on.
+-- So many looks loaded these words, after those that were loaded before, and each of them lets the role go on.
 pub record AllPass (p : PartView) (before now : List ℕ) (looks : ℕ) : Type 0 where
   pub words : List ℕ
   pub loaded : now ≡ before ++ words
   pub count : length words ≡ looks
   pub pass : All (LetsPass p) words
 
--- What a crashed role raises: its first event that it hasn't saved; nothing where it has saved all.
+-- What a crashed role raises: its first event that it hasn't saved; nothing if it has saved all.
 abbrev pub signal : ℕ → Option ℕ → List ℕ
 signal r None = []
 signal r (Some n) = code r n ∷ []
@@ -37,13 +37,13 @@ signal r (Some n) = code r n ∷ []
 abbrev pub signal_of : PartView → List ℕ
 signal_of p = signal p.role (first_lost p)
 
--- So many polls after one another made a step each.
+-- So many polls, one after the other, made a step each.
 pub data Moves (from : CellView) : ℕ → CellView → Type 0 where
   unmoved : Moves from 0 from
   step : {n : ℕ} {a b : CellView} → Moves from n a → Polled a b polls.Moved → Moves from (n + 1) b
 
--- Behind some steps, fewer than the turns, a poll answered this. Each poll had its look before it, and none of them
--- showed a failure that reaches the role.
+-- After some steps, fewer than the turns, a poll answered this. There was a look before each poll, and no look showed a failure
+-- that reaches the role.
 pub record EndsBy (turns : ℕ) (old new : CellView) (watch now : Shown) (poll : Poll) : Type 0 where
   pub steps : ℕ
   pub few : steps < turns
@@ -54,7 +54,7 @@ pub record EndsBy (turns : ℕ) (old new : CellView) (watch now : Shown) (poll :
   pub passed : AllPass old.part watch.seen now.seen (steps + 1)
   pub unfenced : IsFencedBy old.part now.last → ⊥
 
--- Behind some steps, fewer than the turns, a look showed a failure that reaches the role, and no poll came after it. No
+-- After some steps, fewer than the turns, a look showed a failure that reaches the role, and no poll came after it. No
 -- look before it showed one.
 pub record EndsFenced (turns : ℕ) (old new : CellView) (watch now : Shown) : Type 0 where
   pub steps : ℕ
@@ -67,7 +67,7 @@ pub record EndsFenced (turns : ℕ) (old new : CellView) (watch now : Shown) : T
   pub fenced : IsFencedBy old.part now.last
   pub raised : now.raised ≡ watch.raised
 
--- Each turn made a step, behind a look that showed no failure that reaches the role.
+-- Each turn made a step, after a look that showed no failure that reaches the role.
 pub record EndsSpent (turns : ℕ) (old new : CellView) (watch now : Shown) : Type 0 where
   pub made : Moves old turns new
   pub looks : now.looks ≡ watch.looks + turns
@@ -75,7 +75,7 @@ pub record EndsSpent (turns : ℕ) (old new : CellView) (watch now : Shown) : Ty
   pub unfenced : IsFencedBy old.part now.last → ⊥
   pub raised : now.raised ≡ watch.raised
 
--- Only a crash raises the fence: once, where an event is to be undone.
+-- Only a crash raises the fence: once, if there is an event that the role hasn't saved.
 abbrev pub Ran : ℕ → CellView → CellView → Shown → Shown → Stop → Type 0
 Ran turns old new watch now Waiting = EndsBy turns old new watch now polls.Waiting × (now.raised ≡ watch.raised)
 Ran turns old new watch now Done = EndsBy turns old new watch now polls.Done × (now.raised ≡ watch.raised)

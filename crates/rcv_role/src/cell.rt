@@ -78,9 +78,8 @@ impl<'a> Cell<'a> {
         })
     }
 
-    /// Makes one step of the role, which isn't crashed, if it can: a crash where a line of the plan is due, else the
-    /// Send that its script chooses or the Recv of the message that it awaits. The log has room for an entry
-    /// ([`LOG`]).
+    /// Makes one step of the role, which isn't crashed, if it can: a crash if a line of the plan is due, else the Send
+    /// that its script chooses or the Recv of the message that it waits for. The log has room for an entry ([`LOG`]).
     pub fn poll(&mut self) -> Poll
         requires running { self.old.part.own.crashed ≡ false }
         requires log { length self.old.part.log < LOG }
@@ -107,7 +106,7 @@ impl<'a> Cell<'a> {
         }
     }
 
-    // Sends the chosen point's message, if its channel has room.
+    // Sends the message of the chosen point, if its channel has room.
     fn poll_send(&mut self, offered: &[Point]) -> Poll
         requires running { self.old.part.own.crashed ≡ false }
         requires log { length self.old.part.log < LOG }
@@ -177,7 +176,7 @@ impl<'a> Cell<'a> {
         self.part.crashed()
     }
 
-    /// The entries since the log was cleared, each with its time: of a Crash that is the role's clock.
+    /// The entries since the log was cleared, each with its time: for a Crash that is the role's clock.
     pub fn log(&self) -> &[Timed]
         ensures { result.now ≡ self.now.part.log }
     {
@@ -191,7 +190,7 @@ impl<'a> Cell<'a> {
         self.part.clear_log();
     }
 
-    /// The variables behind so many of the role's first events, where that state is held.
+    /// The variables after so many of the role's first events, if that state is held.
     pub fn vars_behind(&self, count: u32) -> Option<Vars>
         ensures value { IfSome result (λ vars. vars ≡ vars_by self.now.part.setup self.now.part.role
             (take count self.now.part.own.events)) }
@@ -201,7 +200,7 @@ impl<'a> Cell<'a> {
     }
 
     /// What holds of every cell: it has a post to each other role and an inbox from each, its role is declared, no
-    /// event of it is a Recv from a stranger, the role made each of its events once, and the states are held that it
+    /// event of it is a Recv from a stranger, the role made each of its events once, and it holds the states that it
     /// may go back to.
     pub fn known(&self)
         ensures ends { AreEnds (rules_of self.now.part.setup) self.now.part.role self.now.posts self.now.inboxes }
@@ -213,8 +212,8 @@ impl<'a> Cell<'a> {
         self.part.known();
     }
 
-    /// The ends of the channel from another cell of the session to this one learn what the other end did. The answer is
-    /// how many messages lie between them.
+    /// The ends of the channel from another cell of the session to this one learn what the other end did. Answers how
+    /// many messages lie between them.
     pub fn meet_from(&mut self, sender: &mut Cell<'a>) -> u32
         requires setup { sender.old.part.setup ≡ self.old.part.setup }
         requires apart { sender.old.part.role ≡ self.old.part.role → ⊥ }

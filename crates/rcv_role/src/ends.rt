@@ -10,7 +10,7 @@ use rcv_mailbox::{Inbox, Post};
 use rcv_tree::event::{Event, Message};
 use rcv_tree::role::RoleId;
 
-// Where the ends between a role and another one stand in the role's lists.
+// The place of the ends between a role and another one in the role's lists.
 pub fn slot(role: RoleId, other: RoleId) -> usize
     requires { other ≡ role → ⊥ }
     ensures { result ≡ slot role other }
@@ -141,7 +141,7 @@ fn rewind(inbox: &mut Inbox, keep: u32, post: &mut Post, drop_from: u32)
     requires drop_from { drop_from ≤ length post.old.list }
     ensures { AreRewound post.old post.new inbox.old inbox.new keep drop_from }
 {
-    // Tells that what was taken begins what was put.
+    // Tells that what was taken is the beginning of what was put.
     let _held = meet(inbox, post);
     inbox.rewind(keep, post, drop_from);
 }

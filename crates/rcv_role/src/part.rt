@@ -22,7 +22,7 @@ use rcv_tree::variables::Vars;
 use std::alloc::{AllocError, Global};
 use std::marker::Model;
 
-/// A role's own events and numbers, the states behind its first events, and the entries that it has made since its log
+/// A role's own events and numbers, the states after its first events, and the entries that it has made since its log
 /// was cleared.
 #[derive(Drop)]
 pub struct Part<'a> {
@@ -34,12 +34,12 @@ pub struct Part<'a> {
     attempt: u32,
     clock: u64,
     events: Vec<Event>,
-    // The states from the one on that the role never goes back behind.
+    // The states, from the earliest that the role may still go back to.
     tail: Tail,
     // Up to how many events it has them.
     held: u32,
     log: Vec<Timed>,
-    // The Send that waits for room: its script isn't asked for it again.
+    // The Send that waits for room. Its script isn't asked for it again.
     chosen: Option<Event>,
 }
 
@@ -129,7 +129,7 @@ impl<'a> Part<'a> {
         self.log.clear();
     }
 
-    /// The variables behind so many of the role's first events, where that state is held.
+    /// The variables after so many of the role's first events, if that state is held.
     pub fn vars_behind(&self, count: u32) -> Option<Vars>
         ensures value { IfSome result (λ vars. vars ≡ vars_by self.now.setup self.now.role
             (take count self.now.own.events)) }
@@ -142,7 +142,7 @@ impl<'a> Part<'a> {
     }
 
     /// What holds of every part: no event is a Recv from a stranger; the role made each of its events once, and no more
-    /// than the limit allows; and the states are held that it may go back to.
+    /// than the limit allows; and it holds the states that it may go back to.
     pub fn known(&self)
         ensures states { HoldsStates self.now }
         ensures strangers { HasNoStrangers self.now }

@@ -7,7 +7,7 @@ pub enum Poll {
     Crashed,
     /// The role has no next point.
     Done,
-    /// The role makes no step more: it made as many as the limit allows, or its clock came to 2^62.
+    /// The role makes no more steps: it made as many as the limit allows, or its clock came to 2^62.
     Tired,
     /// The role made a step.
     Moved,

@@ -20,7 +20,7 @@ pub record IsFoldOf (kept : List Event) (entries : List Entry) (first end : ℕ)
   pub is : row ≡ says.Fold first end counts
   pub right : IsRight kept entries row
 
--- It is added where there are some; else nothing is.
+-- It is added if there are some; else nothing is.
 abbrev pub IsFolded : List Event → List Entry → ℕ → ℕ → List Says → List Says → Type 0
 IsFolded kept entries first end old new =
     ((first ≡ end) × (new ≡ old))

@@ -17,7 +17,7 @@ RowsAreDetermined =
     → AreRows kept entries rows → AreRows kept entries other
     → ((place : ℕ) → IsShown rows place ↔ IsShown other place) → rows ≡ other
 
--- They have the same wires, but for their order.
+-- They have the same wires, except for their order.
 abbrev pub WiresAreDetermined : Type 0
 WiresAreDetermined =
     (net : Net) (kept : List Event) (entries : List Entry) (rows wires other : List Says)
@@ -31,13 +31,13 @@ size_of (says.Fold first end counts) = end - first
 size_of says.Nothing = 0
 size_of (says.Arrow s t undone) = 0
 
--- Single entries and those in folds are all entries.
+-- Single entries and the entries in folds are all entries.
 abbrev pub RowsAddUp : Type 0
 RowsAddUp =
     (kept : List Event) (entries : List Entry) (rows : List Says) → AreRows kept entries rows
     → sum_by size_of rows ≡ length entries
 
--- 1 where there is a Send, or else 0.
+-- 1 if there is a Send, or else 0.
 abbrev pub send_in : Option Entry → ℕ
 send_in None = 0
 send_in (Some (Send event)) = 1
@@ -52,13 +52,13 @@ sends_of entries (says.Fold first end counts) = counts.sends
 sends_of entries says.Nothing = 0
 sends_of entries (says.Arrow s t undone) = 0
 
--- Those that are shown, and those in folds, are all Sends.
+-- The Sends that are shown, and those in folds, are all Sends.
 abbrev pub SendsAddUp : Type 0
 SendsAddUp =
     (kept : List Event) (entries : List Entry) (rows : List Says) → AreRows kept entries rows
     → sum_by (sends_of entries) rows ≡ count_by is_send entries
 
--- Each entry of a run is counted as one kind.
+-- Each entry of a run counts as one kind.
 abbrev pub CountsAddUp : Type 0
 CountsAddUp =
     (kept : List Event) (run : List Entry) (counts : Counts) → AreCounts kept run counts

@@ -27,7 +27,7 @@ begins_folded (says.Entry place undone ∷ rows) = false
 begins_folded (says.Nothing ∷ rows) = false
 begins_folded (says.Arrow send receive undone ∷ rows) = false
 
--- No fold stands right behind another: each holds all that is folded there.
+-- No fold stands right after another: each holds all that is folded there.
 abbrev pub AreApart : List Says → Type 0
 AreApart [] = Unit {0}
 AreApart (says.Fold first end counts ∷ rows) = (begins_folded rows ≡ false) × AreApart rows
@@ -76,20 +76,20 @@ pub record AreCounts (kept : List Event) (run : List Entry) (counts : Counts) : 
   pub recoveries : counts.recoveries ≡ count_by is_recover run
   pub undone : AreUndone kept run counts.undone
 
--- What a row says of the entries is so.
+-- What a row says of the entries is true.
 abbrev pub IsRight : List Event → List Entry → Says → Type 0
 IsRight kept entries (says.Entry place undone) = (undone ≡ true) ↔ IsUndoneAt kept entries place
 IsRight kept entries (says.Fold first end counts) = AreCounts kept (slice_range entries first end) counts
 IsRight kept entries says.Nothing = ⊥
 IsRight kept entries (says.Arrow send receive undone) = ⊥
 
--- The rows tell of these entries, where these events are kept at the end.
+-- The rows tell of these entries, if these events are kept at the end.
 pub record AreRows (kept : List Event) (entries : List Entry) (rows : List Says) : Type 0 where
   pub pieces : ArePieces 0 (length entries) rows
   pub right : All (IsRight kept entries) rows
   pub apart : AreApart rows
 
--- This is said among others.
+-- This is one of the things that are said.
 abbrev pub IsSaid : Says → List Says → Type 0
 IsSaid said [] = ⊥
 IsSaid said (first ∷ others) = (said ≡ first) ⊎ IsSaid said others
@@ -106,7 +106,7 @@ IsMarked marks place = slice_get marks place ≡ Some true
 abbrev pub ShowMarked : List Bool → List Says → Type 0
 ShowMarked marks rows = (place : ℕ) → IsShown rows place ↔ IsMarked marks place
 
--- An arrow is a message one end of which is shown, and says rightly whether its Recv is undone.
+-- An arrow is a message with an end that is shown, and says rightly whether its Recv is undone.
 pub record IsWire (net : Net) (kept : List Event) (entries : List Entry) (shows : ℕ → Type 0) (s t : ℕ) (undone : Bool) : Type 0 where
   pub message : IsMessage net entries s t
   pub shown : shows s ⊎ shows t
@@ -116,7 +116,7 @@ pub record IsWire (net : Net) (kept : List Event) (entries : List Entry) (shows 
 abbrev pub IsDrawn : List Says → ℕ → ℕ → Type 0
 IsDrawn wires s t = (undone : Bool) × IsSaid (says.Arrow s t undone) wires
 
--- It is such an arrow.
+-- It is an arrow as above.
 abbrev pub IsWireIn : Net → List Event → List Entry → (ℕ → Type 0) → Says → Type 0
 IsWireIn net kept entries shows (says.Arrow s t undone) = IsWire net kept entries shows s t undone
 IsWireIn net kept entries shows (says.Entry place undone) = ⊥
@@ -131,13 +131,13 @@ AreOnce (says.Entry place undone ∷ wires) = ⊥
 AreOnce (says.Fold first end counts ∷ wires) = ⊥
 AreOnce (says.Nothing ∷ wires) = ⊥
 
--- The arrows are the messages one end of which is shown, each once.
+-- The arrows are the messages with an end that is shown, each once.
 pub record AreWires (net : Net) (kept : List Event) (entries : List Entry) (shows : ℕ → Type 0) (wires : List Says) : Type 0 where
   pub right : All (IsWireIn net kept entries shows) wires
   pub all : (s t : ℕ) → IsMessage net entries s t → shows s ⊎ shows t → IsDrawn wires s t
   pub once : AreOnce wires
 
--- The rows and arrows tell of these entries, where these events are kept at the end.
+-- The rows and arrows tell of these entries, if these events are kept at the end.
 pub record Tells (net : Net) (kept : List Event) (entries : List Entry) (rows wires : List Says) : Type 0 where
   pub in_rows : AreRows kept entries rows
   pub in_wires : AreWires net kept entries (IsShown rows) wires

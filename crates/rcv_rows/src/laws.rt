@@ -7,7 +7,7 @@ pub fn rows_are_determined()
     ensures { RowsAreDetermined }
 {}
 
-/// Which entries are shown determines the wires, but for their order.
+/// Which entries are shown determines the wires, except for their order.
 pub fn wires_are_determined()
     ensures { WiresAreDetermined }
 {}
@@ -22,7 +22,7 @@ pub fn sends_add_up()
     ensures { SendsAddUp }
 {}
 
-/// The counts of a fold, but for the undone ones, add up to its entries.
+/// The counts of a fold, except for the undone ones, add up to its entries.
 pub fn counts_add_up()
     ensures { CountsAddUp }
 {}

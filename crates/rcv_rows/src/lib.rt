@@ -14,5 +14,5 @@ mod wire;
 pub use row::rows;
 pub use told::{Told, tell};
 pub use wire::wires;
-/// Want of memory, which is the one error of this crate.
+/// Memory ran out: the one error of this crate.
 pub use std::alloc::AllocError as Memory;

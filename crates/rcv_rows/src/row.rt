@@ -23,7 +23,7 @@ pub fn rows(alloc: Global, record: &Record<'_>, shown: &[bool]) -> Result<Vec<Sa
     // Tells the proof that each place fits.
     let _entries = record.entries();
     let mut rows = Vec::new(alloc);
-    // Behind the last row.
+    // The place after the last row.
     let mut behind = 0;
     let end = shown.len();
     for place in 0..end {
@@ -48,7 +48,7 @@ fn row_of(record: &Record<'_>, place: usize) -> Says
     }
 }
 
-// Adds the fold of the entries between two places, where there are some.
+// Adds the fold of the entries between two places, if there are some.
 fn fold(
     rows: &mut Vec<Says>,
     record: &Record<'_>,

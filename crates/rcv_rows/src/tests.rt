@@ -9,7 +9,7 @@ use rcv_picture::group::{Counts, Says};
 use std::alloc::Global;
 use std::test::Fail;
 
-// B crashes behind its first event, which is undone: entry 1 receives the message of entry 0, and so does entry 4.
+// B crashes after its first event, which is undone: entry 1 receives the message of entry 0, and so does entry 4.
 const PING: &[u8] = b"module ping;
 global protocol Ping(role A, role B) {
   ping() from A to B;
@@ -22,7 +22,7 @@ every A 2 every B 2 crash B 1
 // How many bytes an input may have.
 const MOST: usize = 1_048_576;
 
-// What is told of the journal of one thread; none where there isn't a mark for each entry, or no memory was left.
+// What is told of the journal of one thread; none if there isn't a mark for each entry, or memory ran out.
 fn told_of(alloc: Global, input: &[u8], shown: &[bool]) -> Option<Told> {
     if input.len() > MOST {
         return None;
@@ -38,7 +38,7 @@ fn told_of(alloc: Global, input: &[u8], shown: &[bool]) -> Option<Told> {
     tell(alloc, &record, shown).ok()
 }
 
-// Whether this is said at a place, from 0.
+// Whether this is said at a place, counted from 0.
 fn says(list: &[Says], place: usize, said: Says) -> bool {
     list.get(place) == Some(&said)
 }

@@ -19,8 +19,8 @@ pub struct Told {
     pub wires: Vec<Says>,
 }
 
-/// What a picture of a journal tells. `shown` has a mark for each entry: those that it marks have rows of their
-/// own, and the others are folded. Fails if memory runs out.
+/// What a picture of a journal tells. `shown` has a mark for each entry: marked entries have rows of their own, and
+/// the others are folded. Fails if memory runs out.
 pub fn tell(alloc: Global, record: &Record<'_>, shown: &[bool]) -> Result<Told, AllocError>
     requires { length shown.now ≡ length record.now.entries }
     ensures tells { IfOk result (λ told. (kept : List Event) → HasKept record.now kept

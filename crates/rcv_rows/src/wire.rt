@@ -1,4 +1,4 @@
-// The wires of a journal: its messages as arrows, where an end is shown.
+// The wires of a journal: its messages as arrows, if an end is shown.
 
 ghost use Rattle.std.specs.Prelude.{◌≡◌, ◌↔◌, ◌⊎◌, List, IsTrue, IfOk, length};
 ghost use Rattle.rcv_tree.specs.declared.event.Event.{Event};
@@ -12,8 +12,8 @@ use rcv_fates::{Arrow, Record, arrows};
 use rcv_picture::group::Says;
 use std::alloc::{AllocError, Global};
 
-/// The messages of a journal that were received, each as an arrow, where its Send or its Recv is shown. `shown`
-/// has a mark for each entry. Fails if memory runs out.
+/// The messages of a journal that were received, each as an arrow, if its Send or its Recv is shown. `shown` has a mark
+/// for each entry. Fails if memory runs out.
 pub fn wires(alloc: Global, record: &Record<'_>, shown: &[bool]) -> Result<Vec<Says>, AllocError>
     requires { length shown.now ≡ length record.now.entries }
     ensures { IfOk result (λ wires. (kept : List Event) → HasKept record.now kept

@@ -2,7 +2,7 @@
 use Rattle.std.specs.Prelude.{◌≡◌, ℕ, ◌*◌, ◌<◌, ◌≤◌, ◌⊎◌, nat_lt, nat_le, List, ◌∷◌, ◌++◌, length, slice_index}
 use Rattle.std.specs.List.{filter, Contains}
 
--- Each is below those behind it.
+-- Each is below those after it.
 abbrev pub IsAscending : List ℕ → Type 0
 IsAscending counts = (i j : ℕ) → i < j → j < length counts → slice_index counts i < slice_index counts j
 
@@ -20,7 +20,7 @@ above c counts = filter (λ x. nat_lt c x) counts
 abbrev pub with_count : ℕ → List ℕ → List ℕ
 with_count c counts = below c counts ++ c ∷ above c counts
 
--- The first so many counts are at most this one, and those behind them are above it.
+-- The first so many counts are at most this one, and those after them are above it.
 pub record IsSplit (counts : List ℕ) (c many : ℕ) : Type 0 where
   pub within : many ≤ length counts
   pub low : (i : ℕ) → i < many → slice_index counts i ≤ c

@@ -5,7 +5,7 @@ use Rattle.std.specs.declared.alloc.Global.{Global}
 use Rattle.std.specs.declared.vec.Vec.{Vec}
 use Rattle.rcv_saves.specs.Counts.{IsAscending, IsStepped, IsFrom, IsLast}
 
--- For each role its step, and 0 where it has none; and the counts that were told of it.
+-- For each role its step, or 0 if it has none; and the counts that were told of it.
 pub record SavesView : Type 0 where
   pub steps : List ℕ
   pub told : List (List ℕ)
@@ -25,15 +25,15 @@ opened steps = saves_of steps (replicate (length steps) [])
 abbrev pub told_of : SavesView → ℕ → List ℕ
 told_of saves r = slice_index_or saves.told r []
 
--- The saves where this was told of it.
+-- The saves if this was told of it.
 abbrev pub with_told : SavesView → ℕ → List ℕ → SavesView
 with_told saves r counts = record saves { told = slice_set saves.told r counts }
 
--- The role saves behind this count: it was told, or its step divides it.
+-- The role saves after this count: it was told, or its step divides it.
 abbrev pub Saves : SavesView → ℕ → ℕ → Type 0
 Saves saves r c = Contains (told_of saves r) c ⊎ IsStepped (slice_index saves.steps r) c
 
--- The role has saved its state behind this count: it is the base, or one from there on behind which it saves.
+-- The role has saved its state after this count: it is the base, or one from there on after which it saves.
 abbrev pub IsSaved : SavesView → ℕ → ℕ → ℕ → Type 0
 IsSaved saves r = IsFrom (Saves saves r)
 

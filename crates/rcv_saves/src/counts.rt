@@ -13,7 +13,7 @@ pub fn many_up_to(counts: &[u64], count: u64) -> usize
     counts.partition_point(|one| *one <= count)
 }
 
-/// One count more, if it isn't there. Fails if memory runs out; then they are as before.
+/// Adds a count, if it isn't there. Fails if memory runs out; then the counts are as before.
 pub fn add(counts: &mut Vec<u64>, count: u64) -> Result<(), AllocError>
     requires { IsAscending counts.old.items }
     ensures ok { OnOk result (counts.new.items ≡ with_count count counts.old.items) }
@@ -46,7 +46,7 @@ pub fn drop_above(counts: &mut Vec<u64>, count: u64)
     counts.truncate(many);
 }
 
-/// Drops the counts up to this one, itself too. It takes no memory.
+/// Drops the counts up to this one, and this one too. It takes no memory.
 pub fn drop_up_to(counts: &mut Vec<u64>, count: u64)
     requires { IsAscending counts.old.items }
     ensures items { counts.new.items ≡ above count counts.old.items }

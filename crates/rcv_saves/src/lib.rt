@@ -1,4 +1,4 @@
-// Behind which counts of its events each role of a session has saved its state.
+// After which counts of its events each role of a session has saved its state.
 #![tactic(auto)]
 
 mod counts;
@@ -6,5 +6,5 @@ pub mod saves;
 #[cfg(test)]
 mod tests;
 
-/// Want of memory.
+/// Memory ran out.
 pub use std::alloc::AllocError as Memory;

@@ -9,11 +9,11 @@ use rcv_tree::role::RoleId;
 use std::alloc::{AllocError, Global};
 use std::marker::Model;
 
-/// Behind which counts of its events each role has saved its state: behind each multiple of its step, if it has one,
-/// and behind those that were told of it.
+/// After which counts of its events each role has saved its state: after each multiple of its step, if it has one, and
+/// after those that were told of it.
 #[derive(Drop)]
 pub struct Saves {
-    // For each role its step, and 0 where it has none; and what was told of it.
+    // For each role its step, or 0 if it has none; and what was told of it.
     steps: Vec<u32>,
     told: Vec<Vec<u64>>,
 }
@@ -42,8 +42,8 @@ impl Saves {
         Ok(Saves { steps: own, told })
     }
 
-    /// Tells that a role has saved its state behind this count. What is told twice is told once. Fails where memory
-    /// runs out; then all is as before.
+    /// Tells that a role has saved its state after this count. Telling it twice is like telling it once. Fails if
+    /// memory runs out; then all is as before.
     pub fn save(&mut self, role: RoleId, count: u64) -> Result<(), AllocError>
         requires { role < length self.old.steps }
         ensures ok { OnOk result (self.new ≡ with_told self.old role (with_count count (told_of self.old role))) }
@@ -52,7 +52,7 @@ impl Saves {
         add(&mut self.told[role.0 as usize], count)
     }
 
-    /// Behind which counts a role was told to have saved its state, ascending; without those that were dropped.
+    /// The counts after which a role has saved its state, as it was told: ascending, without those that were dropped.
     pub fn told(&self, role: RoleId) -> &[u64]
         requires { role < length self.now.steps }
         ensures { result.now ≡ told_of self.now role }
@@ -60,8 +60,8 @@ impl Saves {
         self.told[role.0 as usize].as_slice()
     }
 
-    /// The greatest count up to this one behind which a role has saved its state, where it has saved it behind the base.
-    /// It takes no memory.
+    /// The greatest count up to this one after which a role has saved its state, given that it has saved it after the
+    /// base. It takes no memory.
     pub fn last(&self, role: RoleId, base: u64, count: u64) -> u64
         requires role { role < length self.now.steps }
         requires base { base ≤ count }
@@ -79,7 +79,7 @@ impl Saves {
         drop_above(&mut self.told[role.0 as usize], count);
     }
 
-    /// Drops what was told of a role up to a base, itself too: nobody goes back behind that. It takes no memory.
+    /// Drops what was told of a role up to a base, and the base too: nobody goes back further. It takes no memory.
     pub fn forget(&mut self, role: RoleId, base: u64)
         requires { role < length self.old.steps }
         ensures { self.new ≡ with_told self.old role (above base (told_of self.old role)) }
@@ -88,7 +88,7 @@ impl Saves {
     }
 }
 
-// The greatest of ascending counts that is from the base on and at most this one; the base where there is none.
+// The greatest of ascending counts that is from the base on and at most this one, or the base if there is none.
 fn last_told(told: &[u64], base: u64, count: u64) -> u64
     requires told { IsAscending told.now }
     requires base { base ≤ count }
@@ -101,7 +101,7 @@ fn last_told(told: &[u64], base: u64, count: u64) -> u64
     base.max(told[many - 1])
 }
 
-// The greatest multiple of the step that is from the base on and at most this count; the base where there is none.
+// The greatest multiple of the step that is from the base on and at most this count, or the base if there is none.
 fn last_stepped(step: u32, base: u64, count: u64) -> u64
     requires { base ≤ count }
     ensures { IsLastStepped step base count result }

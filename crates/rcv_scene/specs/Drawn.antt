@@ -22,27 +22,27 @@ use Rattle.rcv_scene.specs.Folds.{IsFoldDrawn}
 use Rattle.rcv_scene.specs.declared.ends.RoleEnd.{RoleEnd}
 use Rattle.rcv_scene.specs.Feet.{HasFeet}
 
--- So this entry is drawn.
+-- This entry is drawn so.
 abbrev pub IsEntryDrawn : Scene → ℕ → Bool → entries.Entry → List Seen → Type 0
 IsEntryDrawn scene place undone (Send event) drawn = IsEventDrawn scene place event Sent undone drawn
 IsEntryDrawn scene place undone (Recv event) drawn = IsEventDrawn scene place event Got undone drawn
 IsEntryDrawn scene place undone (Crash role) drawn = IsCrashDrawn scene place role drawn
 IsEntryDrawn scene place undone (Recover role concerned keeps removed) drawn = IsRecoverDrawn scene place concerned keeps removed drawn
 
--- Something was drawn more: the mark of this entry, at this height.
+-- Something more was drawn: the mark of this entry, at this height.
 abbrev pub AddsEntry : Scene → ℕ → Pixels → entries.Entry → Bool → List Seen → List Seen → Type 0
 AddsEntry scene place y (Send event) undone old new = AddsEvent scene.grid y event Sent undone old new
 AddsEntry scene place y (Recv event) undone old new = AddsEvent scene.grid y event Got undone old new
 AddsEntry scene place y (Crash role) undone old new = new ≡ old ++ crash_cross scene.grid y role
 AddsEntry scene place y (Recover role concerned keeps removed) undone old new = AddsRecover scene place y concerned keeps removed old new
 
--- So the arrow of a message is drawn.
+-- The arrow of a message is drawn so.
 abbrev pub IsArrowDrawn : Scene → ℕ → ℕ → Bool → List Seen → Type 0
 IsArrowDrawn scene send receive undone drawn =
     (sent got : Event) → slice_get scene.entries send ≡ Some (Send sent) → slice_get scene.entries receive ≡ Some (Recv got)
     → IsWireDrawn scene send receive sent.role got.role undone drawn
 
--- So a group is drawn that says this.
+-- A group that says this is drawn so.
 abbrev pub IsDrawn : Scene → Says → List Seen → Type 0
 IsDrawn scene (says.Entry place undone) drawn =
     (e : entries.Entry) → slice_get scene.entries place ≡ Some e → IsEntryDrawn scene place undone e drawn
@@ -50,7 +50,7 @@ IsDrawn scene (says.Fold first end counts) drawn = IsFoldDrawn scene first end c
 IsDrawn scene (says.Arrow send receive undone) drawn = IsArrowDrawn scene send receive undone drawn
 IsDrawn scene says.Nothing drawn = Unit {0}
 
--- So all groups are drawn.
+-- All groups are drawn so.
 abbrev pub AreDrawn : Scene → List Group → Type 0
 AreDrawn scene groups = All (λ g. IsDrawn scene g.says (seen g.shapes.items)) groups
 
@@ -67,7 +67,7 @@ pub record IsSceneOf (r : RecordView) (story : Story) (rows : List Says) (scene 
   pub marks : AreMarks r scene.undone
   pub proper : IsProper (roles_of r.setup) rows scene.grid
 
--- So it is laid out.
+-- It is laid out so.
 abbrev pub IsPlanOf : RecordView → Story → List Says → Layout → Type 0
 IsPlanOf r story rows layout = IsSceneOf r story rows (scene_of layout)
 

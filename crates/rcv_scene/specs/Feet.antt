@@ -38,7 +38,7 @@ foot_texts x y end kept =
 abbrev pub foot_words : Grid → Pixels → RoleEnd → List Seen
 foot_words grid y role = foot_texts (column grid role.role) y role.end (kept_words role.kept role.raw)
 
--- Something was drawn more: a box, and the texts of a foot.
+-- Something more was drawn: a box, and the texts of a foot.
 pub record AddsFoot (grid : Grid) (y : Pixels) (role : RoleEnd) (old new : List Seen) : Type 0 where
   pub corner : At
   pub width : Pixels

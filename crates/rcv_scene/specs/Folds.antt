@@ -29,7 +29,7 @@ is_taken_by role (Recv event) = event.role == role
 is_taken_by role (Crash other) = false
 is_taken_by role (Recover other concerned keeps removed) = false
 
--- Whether a role does so by an entry: it sends, it takes a message, or it does one of both and that is undone.
+-- Whether a role does so by an entry: it sends, it takes a message, or it does either and that is undone.
 abbrev pub does_by : ℕ → Act → Bool → Entry → Bool
 does_by role Sends undone entry = is_sent_by role entry
 does_by role Takes undone entry = is_taken_by role entry
@@ -79,7 +79,7 @@ pub data AreFoldParts (scene : Scene) (y : Pixels) (first end : ℕ) : ℕ → L
       → IsFoldPart scene y first end role these → next ≡ role + 1 → all ≡ before ++ these
       → AreFoldParts scene y first end next all
 
--- Something was drawn more: what stands in a role's column, and in those of the first so many.
+-- Something more was drawn: what stands in a role's column, and in those of the first so many.
 pub record AddsDone (x y : Pixels) (sent taken undone : ℕ) (old new : List Seen) : Type 0 where
   pub part : List Seen
   pub is : new ≡ old ++ part
@@ -101,7 +101,7 @@ fold_notes grid y first end counts =
     Words (at grid.notes (back y 2)) Start looks.Bold (entries_words (end - first))
     ∷ Words (at grid.notes (further y 11)) Start looks.Note (failure_words counts.crashes counts.recoveries) ∷ []
 
--- Something was drawn more: a fold's box in this row, its numbers, what each role did, and the texts beside the columns.
+-- Something more was drawn: a fold's box in this row, its numbers, what each role did, and the texts beside the columns.
 pub record AddsFold (scene : Scene) (row : Row) (first end : ℕ) (counts : Counts) (old new : List Seen) : Type 0 where
   pub left : Pixels
   pub width : Pixels

@@ -22,7 +22,8 @@ pub record Grid : Type 0 where
   pub numbers : Pixels
   pub notes : Pixels
 
--- What is drawn on it: of which session, what the rows say of the entries, for each entry whether its event is undone, and their story.
+-- What is drawn on it: the session, what the rows say of the entries, for each entry whether its event is undone, and the story
+-- of the entries.
 pub record Scene : Type 0 where
   pub setup : SessionView
   pub grid : Grid
@@ -86,25 +87,25 @@ pub record IsRowOfFold (scene : Scene) (first end : ℕ) (row : Row) : Type 0 wh
   pub said : slice_get scene.says number ≡ Some (says.Fold first end counts)
   pub there : slice_get scene.grid.rows number ≡ Some row
 
--- What is said by a row puts the entry at this place there.
+-- What a row says puts the entry at this place there.
 abbrev pub PutsAt : Says → Row → ℕ → Stand → Type 0
 PutsAt said row place (Own y) = (undone : Bool) × (said ≡ says.Entry place undone) × (row.middle ≡ y)
 PutsAt said row place (Folded at) =
     (first : ℕ) × (end : ℕ) × (counts : Counts) × (said ≡ says.Fold first end counts) × (first ≤ place) × (place < end) × (row ≡ at)
 
--- A mark is so wide, and a row so high on each side of its middle, at least.
+-- How wide a mark is at least, and how high a row is at least on each side of its middle.
 abbrev pub mark_width : ℕ
 mark_width = 40
 
 abbrev pub half_row : ℕ
 half_row = 10
 
--- Each column stands to the right of the one before it by the width of a mark at least; the first is at least so far.
+-- Each column stands at least the width of a mark to the right of the one before it; the first stands at least so far.
 abbrev pub AreBeside : ℕ → List Pixels → Type 0
 AreBeside least [] = Unit {0}
 AreBeside least (x ∷ columns) = (least ≤ x.0) × AreBeside (x.0 + mark_width) columns
 
--- A row begins so low at least, and its middle is between its edges; each row stands under the one before it.
+-- A row begins at least so low, and its middle is between its edges; each row stands under the one before it.
 pub record IsBelow (least : ℕ) (row : Row) : Type 0 where
   pub begins : least ≤ row.top.0
   pub above : row.top.0 + half_row ≤ row.middle.0

@@ -4,13 +4,13 @@ use Rattle.rcv_picture.specs.declared.pixels.Pixels.{Pixels}
 use Rattle.rcv_scene.specs.declared.layout.Row.{Row}
 use Rattle.rcv_scene.specs.Grid.{AreBeside, AreBelow, mark_width, half_row}
 
--- The columns of two roles are apart by the width of a mark at least.
+-- The columns of two roles are at least the width of a mark apart.
 abbrev pub ColumnsStandApart : Type 0
 ColumnsStandApart =
     (columns : List Pixels) (i j : ℕ) (x y : Pixels) → AreBeside 0 columns → i < j
     → slice_get columns i ≡ Some x → slice_get columns j ≡ Some y → x.0 + mark_width ≤ y.0
 
--- The middles of two rows are apart by a row's least height.
+-- The middles of two rows are at least a row's least height apart.
 abbrev pub RowsStandApart : Type 0
 RowsStandApart =
     (rows : List Row) (i j : ℕ) (a b : Row) → AreBelow 0 rows → i < j

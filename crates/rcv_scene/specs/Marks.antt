@@ -10,7 +10,8 @@ use Rattle.rcv_picture.specs.declared.shape.Anchor.TheVariants.{Start, Middle, E
 use Rattle.rcv_scene.specs.Seen.{Seen, Disc, Words, at, pixels, further, cross, marks}
 use Rattle.rcv_scene.specs.Grid.{Grid, Scene, column, IsOwnHeight}
 
--- A Send is dark and a Recv is light, both otherwise if they are undone; so is the number on them.
+-- A Send is dark and a Recv is light, and both look different if they are undone. The number on them looks different on a Send,
+-- on a Recv, and on an undone Recv.
 abbrev pub mark_look : Dir → Bool → Look
 mark_look Sent false = looks.Send
 mark_look Sent true = looks.SendUndone
@@ -40,7 +41,7 @@ crash_cross grid y role =
     cross (at (column grid role) y) 8
     ++ Words (at (further (column grid role) 14) (further y 4)) Start looks.Failed (codes "crash") ∷ []
 
--- Something was drawn more: the mark of an event, and then no other mark.
+-- Something more was drawn: the mark of an event, and then no other mark.
 pub record AddsEvent (grid : Grid) (y : Pixels) (event : Event) (dir : Dir) (undone : Bool) (old new : List Seen) : Type 0 where
   pub rest : List Seen
   pub is : new ≡ old ++ (event_disc grid y event dir undone ++ rest)

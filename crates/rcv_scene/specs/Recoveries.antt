@@ -25,7 +25,7 @@ is_some None = false
 abbrev pub loses : Recovery → ℕ → Bool
 loses recovery role = is_some (slice_index_or recovery.firsts role None)
 
--- The point of the entry at a place; 0, which is the start, if it is no event, or there is none.
+-- The point of the entry at a place; 0, which is the start, if the entry is no event or there is none.
 abbrev pub point_of : Entry → ℕ
 point_of (Send event) = event.point
 point_of (Recv event) = event.point
@@ -71,7 +71,7 @@ pub data IsNextText (points text : List ℕ) : Type 0 where
   first_named : (first : ℕ) (others : List ℕ) → points ≡ first ∷ others
       → text ≡ first_words first (length others) → IsNextText points text
 
--- How the pill of a role looks that loses events, or that loses none, and what stands in it.
+-- How a role's pill looks if the role loses events, or loses none, and what stands in the pill.
 abbrev pub pill_look : Bool → Look
 pill_look true = looks.LostPill
 pill_look false = looks.KeptPill
@@ -131,8 +131,8 @@ pub record AddsNumber (old : List ℕ) (point : ℕ) (new : List ℕ) : Type 0 w
   pub after : List ℕ
   pub is : new ≡ old ++ (before ++ decimal point ++ after)
 
--- Something was drawn more: a pill with these texts; the pill of a role; what is drawn of a role, and of the first so many
--- roles; and what stands beside the columns.
+-- Something more was drawn: a pill with these texts; the pill of a role; what is drawn of a role, and of the first so many roles;
+-- and what stands beside the columns.
 pub record AddsPillTexts (grid : Grid) (y : Pixels) (role : ℕ) (lost : Bool) (to next : List ℕ) (old new : List Seen) : Type 0 where
   pub corner : At
   pub width : Pixels
@@ -163,7 +163,7 @@ pub record AddsWho (scene : Scene) (y : Pixels) (undone : ℕ) (old new : List S
   pub is : new ≡ old ++ part
   pub right : IsWhoPart scene y undone part
 
--- Something was drawn more: the row of a Recover at a place, which concerns these roles, and leaves so many events to each.
+-- Something more was drawn: the row of a Recover at a place. The Recover concerns these roles, and leaves so many events to each.
 pub record AddsRecover (scene : Scene) (place : ℕ) (y : Pixels) (concerned : RoleSet) (keeps : List ℕ) (undone : ℕ) (old new : List Seen) : Type 0 where
   pub recovery : Recovery
   pub told : IsAtPlace scene.story.recoveries.items place recovery

@@ -1,4 +1,4 @@
--- What is seen of shapes: all of them but where their places and texts lie in memory.
+-- What is seen of shapes: all of them, except for where their places and texts lie in memory.
 use Rattle.std.specs.Prelude.{◌≡◌, ℕ, ◌+◌, ◌-◌, ◌^◌, min, Bool, true, false, List, [], ◌∷◌, ◌++◌, map, filter}
 use Rattle.rcv_picture.specs.declared.pixels.Pixels.{Pixels}
 use Rattle.rcv_picture.specs.declared.pixels.At.{At}
@@ -69,7 +69,7 @@ is_mark (Words place anchor look text) = false
 abbrev pub marks : List Seen → List Seen
 marks drawn = filter is_mark drawn
 
--- Something was drawn more, which is no mark.
+-- Something more was drawn, and it is no mark.
 pub record AddsPlain (old new : List Seen) : Type 0 where
   pub rest : List Seen
   pub is : new ≡ old ++ rest

@@ -32,7 +32,7 @@ abbrev pub IsLineAt : BookView → ℕ → List ℕ → Type 0
 IsLineAt book place text =
     (e : entries.Entry) → slice_get book.entries place ≡ Some e → entry_line book.setup e ≡ text ++ codes "\n"
 
--- A title of what is said: where it says an entry of the journal, the entry's line.
+-- A title of what is said: if it says an entry of the journal, the title is the entry's line.
 abbrev pub IsTitle : BookView → Says → List ℕ → Type 0
 IsTitle book Nothing title = Unit {0}
 IsTitle book (Entry place undone) title = IsLineAt book place title
@@ -49,7 +49,7 @@ pub record Adds (book : BookView) (scene : Scene) (old new : List Group) (says :
   pub titled : AreTitled book old → AreTitled book new
   pub drawn : AreDrawn scene old → AreDrawn scene new
 
--- The line of an entry but for its line feed.
+-- The line of an entry, except for its line feed.
 abbrev pub bare_line : SessionView → entries.Entry → List ℕ
 bare_line setup (Send e) = codes "send " ++ event_text setup e
 bare_line setup (Recv e) = codes "recv " ++ event_text setup e ++ codes " <" ++ decimal e.sent

@@ -15,7 +15,7 @@ piece_text (Value value) = signed_decimal value
 abbrev pub pieces_text : List Piece → List ℕ
 pieces_text pieces = flat_map piece_text pieces
 
--- A number with a word, which is another one unless the number is 1.
+-- A number with a word. The word is another one unless the number is 1.
 abbrev pub counted : ℕ → List ℕ → List ℕ → List ℕ
 counted number one many = decimal number ++ (if number == 1 then one else many)
 

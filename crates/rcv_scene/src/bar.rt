@@ -19,7 +19,7 @@ const HEIGHT: Pixels = Pixels(30);
 // The least height at which something undone is seen.
 const SEEN: Pixels = Pixels(2);
 
-// The part that a number is of a whole, of so many.
+// The share of `of` that the number is of the whole.
 fn share(of: u32, number: u32, whole: u32) -> u32 {
     (u64::from(of).saturating_mul(u64::from(number)) / u64::from(whole.max(1))).min(u64::from(
         u32::MAX,
@@ -86,7 +86,7 @@ fn add_slices(shapes: &mut Shapes, layout: &Layout<'_>) -> Result<(), AllocError
     Ok(())
 }
 
-// A cross for the first Crash in each of as many equal parts of the bar as it has slices at most.
+// A cross for the first Crash in each equal part of the bar. There are as many parts as the bar may have slices.
 fn add_crashes(shapes: &mut Shapes, layout: &Layout<'_>) -> Result<(), AllocError> {
     let mut before: Option<u32> = None;
     for at in 0..layout.count() {
@@ -138,7 +138,7 @@ fn add_shown_parts(shapes: &mut Shapes, layout: &Layout<'_>) -> Result<(), Alloc
     Ok(())
 }
 
-/// The bar; nothing where no entry is folded. Fails if memory runs out.
+/// The bar; nothing if no entry is folded. Fails if memory runs out.
 pub fn bar(layout: &Layout<'_>) -> Result<Vec<Shape>, AllocError> {
     let mut shapes = Shapes::new(layout.alloc);
     if layout.folded {

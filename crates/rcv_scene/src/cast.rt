@@ -85,7 +85,8 @@ fn is_place_in(setup: &Setup, role: RoleId, at: u16) -> bool
     is_place(setup.points(), role, at)
 }
 
-/// What is next for a role after a point of its own, or at the start if that is 0; none if it isn't a place of the role.
+/// What is next for a role after a point of its own, or at the start if that point is 0; none if it isn't a place of
+/// the role.
 pub fn next_at(setup: &Setup, role: RoleId, at: u16) -> Option<&[Point]>
     ensures { IfSome result (λ next. AreNext (net_for setup.now) role at next.now) }
 {

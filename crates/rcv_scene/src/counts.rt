@@ -7,7 +7,7 @@ ghost use Rattle.rcv_scene.specs.Folds.{is_sent_by, is_taken_by, does_by, does, 
 use crate::layout::Layout;
 use rcv_tree::entry::Entry;
 
-/// What a role does by an entry: it sends, it takes a message, or it does one of both and that is undone.
+/// What a role does by an entry: it sends, it takes a message, or it does either and that is undone.
 #[derive(Clone, Copy)]
 pub enum Act {
     Sends,

@@ -178,8 +178,8 @@ fn add_fold(
     Ok(())
 }
 
-/// The row of the entries from the first up to before the end, with these counts. Fails if memory runs out. Entries that
-/// don't stand in one fold count as want of memory.
+/// The row of the entries from the first up to before the end, with these counts. Fails if memory runs out, and in the
+/// same way if the entries don't stand in one fold.
 pub fn fold_shapes(
     layout: &Layout<'_>,
     first: u32,

@@ -1,4 +1,4 @@
-// The groups of a picture, each of which says one thing.
+// The groups of a picture. Each says one thing.
 
 ghost use Rattle.std.specs.Prelude.{◌≡◌, [], ◌∷◌, IfOk, OnOk};
 ghost use Rattle.rcv_core.specs.Book.{BookView};

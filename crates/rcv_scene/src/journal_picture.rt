@@ -39,7 +39,7 @@ fn add_background(groups: &mut Vec<Group>, layout: &Layout<'_>) -> Result<(), Al
     Ok(())
 }
 
-// The messages that aren't received, which come behind so many wires.
+// The messages that aren't received. They come after so many wires.
 fn add_loose(
     groups: &mut Vec<Group>,
     layout: &Layout<'_>,
@@ -137,7 +137,8 @@ fn undone_of(alloc: Global, record: &Record<'_>) -> Result<Vec<bool>, AllocError
     Ok(undone)
 }
 
-// Where everything stands, and the ways of the messages. What has no room on a grid counts as want of memory.
+// Where everything stands, and the ways of the messages. If something has no room on a grid, it fails as if memory ran
+// out.
 fn planned<'a>(
     alloc: Global,
     record: &'a Record<'_>,

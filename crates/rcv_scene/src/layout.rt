@@ -114,7 +114,7 @@ pub fn label_of(alloc: Global, cast: &Cast<'_>, event: &Event) -> Result<Vec<u8>
     )
 }
 
-// How wide a mark is, and how high a row on each side of its middle, at least.
+// How wide a mark is at least, and how high a row is at least on each side of its middle.
 const MARK_WIDTH: u64 = 40;
 
 const HALF_ROW: u64 = 10;
@@ -233,7 +233,7 @@ fn widest_label(
     Ok(widest)
 }
 
-// How far from the middle of its column what a Recv's label says ends, where it stands away from the sender: at most this.
+// If a Recv's label stands away from the sender, it ends at most so far from the middle of its column.
 fn width_of_note(
     alloc: Global,
     cast: &Cast<'_>,
@@ -245,7 +245,8 @@ fn width_of_note(
     Ok(width_of(label.as_slice(), Letters::Small) + more + Pixels(18))
 }
 
-// Whether the Recv at a place may have a label away from its sender: where it was received before, or far from its Send.
+// Whether the Recv at a place may have a label away from its sender: if it was received before, or is far from its
+// Send.
 fn may_be_noted(story: &Story, at: u32) -> bool {
     match story.send_of(at) {
         Some(send) => at.saturating_sub(send) > 3 || story.is_again(at),
@@ -253,7 +254,7 @@ fn may_be_noted(story: &Story, at: u32) -> bool {
     }
 }
 
-// How far from the middles of the first and of the last column labels go at the outer side.
+// How far labels go at the outer side of the first and of the last column, from the column's middle.
 fn widest_outer(
     alloc: Global,
     cast: &Cast<'_>,
@@ -284,7 +285,7 @@ fn widest_outer(
     Ok(widest)
 }
 
-// How many entries the longest fold has; 0 where nothing is folded.
+// How many entries the longest fold has; 0 if nothing is folded.
 fn longest_fold(rows: &[Says]) -> u32 {
     let mut longest: u32 = 0;
     for row in rows {
@@ -391,7 +392,7 @@ fn columns_from(
     Ok(columns)
 }
 
-// Whether each of these columns stands to the right of the one before it by the width of a mark at least.
+// Whether each of these columns stands at least the width of a mark to the right of the one before it.
 fn are_beside(columns: &[Pixels]) -> bool
     ensures { IsTrue result → AreBeside 0 columns.now }
 {
@@ -436,7 +437,7 @@ fn mark_in(marks: &[bool], at: usize) -> Option<&bool>
     marks.get(at)
 }
 
-// Where an entry stands that this row holds; none if the row doesn't hold it.
+// Where an entry stands if this row holds it; none if the row doesn't hold it.
 fn stand_in(says: &Says, row: &Row, at: u32) -> Option<Stand>
     ensures { IfSome result (λ stand. PutsAt says.now row.now at stand) }
 {
@@ -467,7 +468,7 @@ fn end_of(rows: &[Row], top: Pixels) -> Pixels {
     }
 }
 
-/// Where everything of a picture stands that has these rows. Fails if memory runs out.
+/// Where everything stands in a picture that has these rows. Fails if memory runs out.
 pub fn lay_out<'a>(
     alloc: Global,
     cast: Cast<'a>,
@@ -558,7 +559,7 @@ impl<'a> Layout<'a> {
         Ok(())
     }
 
-    /// Whether each of so many roles has a column, and all that is said a row, and no two of them meet.
+    /// Whether each of so many roles has a column, all that is said has a row, and no two of them meet.
     pub fn is_proper(&self, roles: u8) -> bool
         ensures { IsTrue result → IsProper roles self.now.says.now (grid_of self.now) }
     {
@@ -589,7 +590,7 @@ impl<'a> Layout<'a> {
         self.says.get(number)
     }
 
-    /// Where the entry at a place stands. A place that no row holds counts as want of memory.
+    /// Where the entry at a place stands. If no row holds the place, it fails as if memory ran out.
     pub fn stand(&self, at: u32) -> Result<Stand, AllocError>
         ensures { IfOk result (λ stand. StandsAt (scene_of self.now) at stand) }
     {
@@ -606,7 +607,7 @@ impl<'a> Layout<'a> {
         }
     }
 
-    /// The height of the row that the entry at a place has of its own. One that has none counts as want of memory.
+    /// The height of the row that the entry at a place has of its own. If it has none, this fails as if memory ran out.
     pub fn own_height(&self, at: u32) -> Result<Pixels, AllocError>
         ensures { IfOk result (λ y. IsOwnHeight (scene_of self.now) at y) }
     {
@@ -701,7 +702,7 @@ impl<'a> Layout<'a> {
         }
     }
 
-    /// The height of the mark of the entry at a place; the middle of its fold where it is folded.
+    /// The height of the mark of the entry at a place; the middle of its fold if it is folded.
     pub fn y(&self, at: u32) -> Pixels {
         self.row(at).middle
     }

@@ -1,4 +1,4 @@
-// The legend: what the symbols mean that occur in a picture.
+// The legend: what the symbols in a picture mean.
 
 use crate::layout::Layout;
 use crate::shapes::Shapes;

@@ -27,12 +27,12 @@ mod text_width;
 mod wires;
 mod wording;
 
-/// On a proper grid the columns of two roles are apart by the width of a mark at least.
+/// On a proper grid the columns of two roles are at least the width of a mark apart.
 pub fn columns_stand_apart()
     ensures { ColumnsStandApart }
 {}
 
-/// On a proper grid the middles of two rows are apart by a row's least height.
+/// On a proper grid the middles of two rows are at least a row's least height apart.
 pub fn rows_stand_apart()
     ensures { RowsStandApart }
 {}

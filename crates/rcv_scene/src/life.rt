@@ -1,4 +1,4 @@
-// The lines of life: one a role, which shows where the role is down and which part of it is undone later.
+// The lines of life, one for each role. A line shows where the role is down and which part of it is undone later.
 
 use crate::layout::Layout;
 use crate::recoveries::{concerned_at, first_lost, is_in, top_of_zone};
@@ -10,7 +10,7 @@ use rcv_story::story::Recovery;
 use rcv_tree::entry::Entry;
 use std::alloc::AllocError;
 
-// A part of a line that looks otherwise.
+// A part of a line that looks different.
 #[derive(Clone, Copy)]
 struct Part {
     from: Pixels,

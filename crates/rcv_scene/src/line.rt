@@ -15,7 +15,7 @@ use rcv_tree::event::Event;
 use rcv_tree::role::{RoleId, RoleSet};
 use std::alloc::{AllocError, Global};
 
-// Most lines have so many bytes at most.
+// Most lines have at most so many bytes.
 const LINE: usize = 48;
 
 // The name of a declared role.
@@ -125,8 +125,8 @@ fn line_of(alloc: Global, setup: &Setup, entry: &Entry) -> Result<Vec<u8>, Alloc
     Ok(text.finish())
 }
 
-/// The line of the entry of a journal at a place, without its line feed; empty where there is none. Fails where memory
-/// runs out.
+/// The line of the entry of a journal at a place, without its line feed; empty if there is none. Fails if memory runs
+/// out.
 pub fn line_at(alloc: Global, record: &Record<'_>, at: u32) -> Result<Vec<u8>, AllocError>
     ensures { IfOk result (λ line. IsLineAt (journal_of record.now) at line.items) }
 {

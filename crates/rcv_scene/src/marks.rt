@@ -131,7 +131,7 @@ fn is_far(layout: &Layout<'_>, at: u32) -> bool {
     }
 }
 
-// The label of a Recv, away from the sender, where it was received before or is far from its Send.
+// The label of a Recv, away from the sender, if the Recv was received before or is far from its Send.
 fn label_of_recv(
     layout: &Layout<'_>,
     routes: &Routes,
@@ -240,8 +240,7 @@ fn add_entry(
     }
 }
 
-/// The mark of the entry at a place, and whether it is an event that isn't kept at the end. Fails where memory runs
-/// out.
+/// The mark of the entry at a place, and whether it is an event that isn't kept at the end. Fails if memory runs out.
 pub fn mark_shapes(
     layout: &Layout<'_>,
     routes: &Routes,

@@ -29,7 +29,7 @@ pub fn who_recovers(alloc: Global, cast: &Cast<'_>, role: u8) -> Result<Vec<u8>,
     )
 }
 
-// A number with a word, which is another one where the number isn't 1.
+// A number with a word. The word is another one if the number isn't 1.
 fn counted(alloc: Global, number: u32, one: &[u8], many: &[u8]) -> Result<Vec<u8>, AllocError>
     ensures { IfOk result (λ text. text.items ≡ counted number one.now many.now) }
 {

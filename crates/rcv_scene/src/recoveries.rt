@@ -31,7 +31,8 @@ pub fn first_lost(recovery: &Recovery, role: u8) -> Option<u32> {
     recovery.firsts.get(role as usize).copied().flatten()
 }
 
-/// Where the undone part of a role begins that begins at this event: above its row, or at the lower edge of its fold.
+/// Where the undone part of a role begins if this is its first event: above the event's row, or at the lower edge of
+/// its fold.
 pub fn top_of_zone(layout: &Layout<'_>, first: u32) -> Pixels {
     let row = layout.row(first);
     if row.shown {

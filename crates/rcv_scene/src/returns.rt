@@ -1,4 +1,5 @@
-// The row of a Recover: of each role where it goes back to and what is next for it there, or that it goes on.
+// The row of a Recover. It says of each role where the role goes back to and what is next for it there, or that it goes
+// on.
 
 ghost use Rattle.std.specs.Prelude.{◌≡◌, ◌↔◌, ◌<◌, [], ◌∷◌, ◌++◌, IsTrue, IfOk, IfSome, OnOk, slice_get, decimal};
 ghost use Rattle.rcv_session.specs.Session.{roles_of};
@@ -64,7 +65,7 @@ fn point_words<'x>(
     )
 }
 
-// Puts that at the end of a text.
+// Puts such a point at the end of a text.
 fn put_point<'x>(
     text: &mut Vec<u8>,
     alloc: Global,
@@ -202,7 +203,7 @@ fn verb_of(lost: bool) -> &'static [u8]
     if lost { b"back to " } else { b"stays at " }
 }
 
-// To where a role goes back, or at what it stays.
+// Where a role goes back to, or where it stays.
 fn return_text(
     layout: &Layout<'_>,
     kept: u32,
@@ -299,8 +300,8 @@ fn add_texts(
     Ok(())
 }
 
-// The pill of a role: what it goes back to, and what is next there. A last event that isn't the role's own counts as
-// want of memory.
+// The pill of a role: what it goes back to, and what is next there. If the last event isn't the role's own, it fails as
+// if memory ran out.
 fn add_pill(
     shapes: &mut Shapes,
     layout: &Layout<'_>,
@@ -343,7 +344,7 @@ fn add_role(
     shapes.words(place, Anchor::Start, Look::NoteGood, b"goes on")
 }
 
-// Of each role where it goes back to, or that it goes on.
+// Of each role, where it goes back to, or that it goes on.
 fn add_roles(
     shapes: &mut Shapes,
     layout: &Layout<'_>,
@@ -380,8 +381,8 @@ fn add_who(
     Ok(())
 }
 
-/// What the row of a Recover shows, so high: of each role where it goes back to or that it goes on, who recovers, and how
-/// many events are undone. A Recover that the story doesn't know counts as want of memory.
+/// What the row of a Recover shows, so high: of each role, where it goes back to or that it goes on; who recovers; and
+/// how many events are undone. If the story doesn't know the Recover, it fails as if memory ran out.
 pub fn add_recover(
     shapes: &mut Shapes,
     layout: &Layout<'_>,

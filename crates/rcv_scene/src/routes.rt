@@ -49,7 +49,7 @@ impl Side {
         }
     }
 
-    /// Which part of a text stands at its place, where it stands at this side of it.
+    /// Which part of a text stands at its place, if the text stands at this side of the place.
     pub fn anchor(self) -> Anchor {
         match self {
             Side::Left => Anchor::End,
@@ -119,7 +119,7 @@ fn number_of(role: u8, side: Side) -> usize {
     }
 }
 
-// The way of a message, but for its lane.
+// The way of a message, except for its lane.
 fn route_of(layout: &Layout<'_>, send: u32, fate: Fate) -> Route {
     let (sender, receiver) = match layout.event(send) {
         Some(event) => {
@@ -205,7 +205,7 @@ fn order_of(alloc: Global, routes: &[Route]) -> Result<Vec<u64>, AllocError> {
     Ok(order)
 }
 
-// Takes a lane for a way between two heights, the nearest that is free.
+// Takes a lane for a way between two heights: the nearest that is free.
 fn take_lane(lanes: &mut Lanes, from: Pixels, to: Pixels) -> Result<Pixels, AllocError> {
     let mut number = lanes.ends.len();
     for (index, end) in lanes.ends.iter().enumerate().rev() {
@@ -281,7 +281,7 @@ impl Routes {
         far + Pixels(6)
     }
 
-    /// How much wider columns have to be so that all lanes have room.
+    /// How much wider columns must be for all lanes to have room.
     pub fn wider(&self) -> Pixels {
         let mut most = FEW;
         for side in self.lanes.iter() {

@@ -22,7 +22,7 @@ const BEGINS: u32 = 9;
 
 const ENDS: u32 = 10;
 
-// How a wire looks of a message that isn't kept, or that is received again.
+// How the wire of a message looks if the message isn't kept, or if it is received again.
 fn look_of(undone: bool, again: bool) -> Look
     ensures { result ≡ wire_look undone again }
 {
@@ -33,15 +33,15 @@ fn look_of(undone: bool, again: bool) -> Look
     }
 }
 
-// How much lower a straight wire is that far along a way so wide and so high: by so many pixels, at most ten.
+// By how many pixels, at most ten, a straight wire goes down on so much of a way so wide and so high.
 fn lower(far: u32, wide: Pixels, high: Pixels) -> u32
     ensures { result ≤ 10 }
 {
     (far.saturating_mul(high.0) / wide.0.max(1)).min(10)
 }
 
-// Where a wire begins whose Send stands there: beside its mark in the column of this role, so much lower; or under the
-// fold, at this x.
+// Where a wire begins if its Send stands there: beside the Send's mark in the column of this role, so much lower; or
+// under the fold, at this x.
 fn begin(layout: &Layout<'_>, role: u8, stand: Stand, side: Side, lane: Pixels, lower: u32) -> At
     requires { lower ≤ 10 }
     ensures { (send : ℕ) → StandsAt (scene_of layout.now) send stand → Begins (scene_of layout.now) send role result }
@@ -52,7 +52,7 @@ fn begin(layout: &Layout<'_>, role: u8, stand: Stand, side: Side, lane: Pixels, 
     }
 }
 
-// Where it ends whose Recv stands there: beside its mark, so much higher; or over the fold.
+// Where a wire ends if its Recv stands there: beside the Recv's mark, so much higher; or over the fold.
 fn end(layout: &Layout<'_>, role: u8, stand: Stand, side: Side, lane: Pixels, higher: u32) -> At
     requires { higher ≤ 10 }
     ensures { (receive : ℕ) → StandsAt (scene_of layout.now) receive stand → Ends (scene_of layout.now) receive role result }
@@ -193,8 +193,8 @@ fn turning_shapes(layout: &Layout<'_>, wire: &Wire, undone: bool) -> Result<Vec<
     Ok(shapes.finish())
 }
 
-// A wire that is to be drawn: between which roles, where its ends stand, which Recv it goes to, at which side of the
-// receiver's column it comes, where its lane is, and how high it is if it goes straight.
+// A wire to draw: between which roles, where its ends stand, which Recv it goes to, at which side of the receiver's
+// column it comes, where its lane is, and how high it is if it goes straight.
 #[derive(Clone, Copy)]
 struct Wire {
     receive: u32,
@@ -253,8 +253,8 @@ fn shapes_between(
     }
 }
 
-/// The wire of a message that is received, in this lane, and whether that isn't kept at the end. Fails where memory runs
-/// out.
+/// The wire of a message that is received, in this lane, and whether the message isn't kept at the end. Fails if memory
+/// runs out.
 pub fn wire_shapes(
     layout: &Layout<'_>,
     send: u32,
@@ -311,8 +311,9 @@ pub fn loose_title(alloc: Global, route: &Route) -> Result<Vec<u8>, AllocError> 
     }
 }
 
-/// The wire of a message that isn't received: to a cross where it was dropped, which says so where it is the first of its
-/// recovery; to a ring where it waits at the end. Fails if memory runs out.
+/// The wire of a message that isn't received. If the message was dropped, the wire goes to a cross; the cross says so
+/// if it is the first of its recovery. If the message waits at the end, the wire goes to a ring. Fails if memory runs
+/// out.
 pub fn loose_shapes(
     layout: &Layout<'_>,
     route: &Route,

@@ -44,7 +44,7 @@ pub fn text_of(alloc: Global, pieces: &[Piece<'_>]) -> Result<Vec<u8>, AllocErro
     Ok(text.finish())
 }
 
-/// A name of at most so many letters as it is; of a longer one its beginning and its end. Fails if memory runs out.
+/// A name as it is, if it has at most so many letters; else its beginning and its end. Fails if memory runs out.
 pub fn shortened(alloc: Global, name: &[u8], most: usize) -> Result<Vec<u8>, AllocError> {
     if name.len() <= most {
         return Vec::from_slice(alloc, name);
@@ -80,7 +80,7 @@ fn break_at(name: &[u8]) -> usize {
     }
 }
 
-/// The lines of a name, of which nothing is left out. Fails if memory runs out.
+/// The lines of a name. Nothing of it is left out. Fails if memory runs out.
 pub fn lines_of_name(alloc: Global, name: &[u8]) -> Result<Vec<&[u8]>, AllocError> {
     let mut lines = Vec::new(alloc);
     let mut rest = name;

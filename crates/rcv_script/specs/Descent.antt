@@ -10,12 +10,12 @@ use Rattle.rcv_script.specs.declared.sign.Sign.TheVariants as signs
 use Rattle.rcv_script.specs.Symbols.{Symbol}
 use Rattle.rcv_script.specs.Machine.{Item, Lines, Place, Writing, with_line, reading, Refuses, answer}
 
--- The machine stops at what is left, whatever is awaited behind.
+-- The machine stops at what is left, whatever is awaited next.
 abbrev pub Halts : {A : Type 0} → ScriptError → (A → Item) → List Symbol → List Symbol → Type 0
 Halts errors.Memory front old new = Unit {0}
 Halts {A} (errors.Refused fault) front old new = (k : A) → answer (front k) old ≡ Refuses fault new
 
--- It comes to what is awaited behind, for what was read, or stops.
+-- It comes to what is awaited next, for what was read, or stops.
 abbrev pub Goes :
     {X Y : Type 0} → Result X ScriptError → ((Y → Item) → Item) → (X → Y) → List Symbol → List Symbol → Type 0
 Goes {X} {Y} (Ok x) front said old new = (k : Y → Item) → answer (front k) old ≡ answer (k (said x)) new
@@ -34,7 +34,7 @@ Adds (Ok x) front was now old new =
 Adds (Err e) front was now old new =
     Halts e (λ (k : List script.Line → Item). front was (λ x. Lines (with_line was x) k)) old new
 
--- it comes to what is awaited behind something that says nothing, or stops
+-- it comes to what is awaited after something that says nothing, or stops
 abbrev pub Passes : {X : Type 0} → Result X ScriptError → (Item → Item) → List Symbol → List Symbol → Type 0
 Passes (Ok x) front old new = (k : Item) → answer (front k) old ≡ answer k new
 Passes (Err e) front old new = Halts e front old new
@@ -53,7 +53,7 @@ Ceases roles messages (errors.Refused fault) old new = reading roles messages ol
 abbrev pub rooms : ℕ → ℕ
 rooms depth = 2 * (33 - depth)
 
--- An expression was built behind what was, and the machine comes to what is awaited behind it.
+-- An expression was built after what was, and the machine comes to what is awaited after it.
 pub record Written (front : (script.Expr → Item) → Item) (behind : script.Expr → (script.Expr → Item) → Item)
     (was built : script.Expr × List script.Expr) (old new : List Symbol) : Type 0 where
   pub expr : script.Expr

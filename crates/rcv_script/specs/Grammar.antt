@@ -92,7 +92,7 @@ line_text (WhenText label left test right) next =
 line_text (OnText label name s) next =
     Word (codes "on") ∷ Word label ∷ Word (codes "set") ∷ Word name ∷ Is signs.Equals ∷ sum_text s (Is signs.Semicolon ∷ next)
 
--- lines, and the brace behind them
+-- lines, and the brace after them
 abbrev pub lines_text : List WrittenLine → List Symbol → List Symbol
 lines_text [] next = Is signs.Close ∷ next
 lines_text (w ∷ ws) next = line_text w (lines_text ws next)

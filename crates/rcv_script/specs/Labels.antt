@@ -11,11 +11,11 @@ place_of names name = position (λ other. bytes_eq other name) names
 abbrev pub place_in : List (List ℕ) → List ℕ → ℕ
 place_in names name = unwrap_or (place_of names name) 0
 
--- the role sends the message, or receives it where that counts too
+-- the role sends the message, or receives it if that counts too
 abbrev pub is_end : ℕ → Bool → PointView → Bool
 is_end role received m = m.sender == role || (received && m.receiver == role)
 
--- such a message with this label, without sorts where that is asked
+-- such a message with this label, without sorts if that is asked
 abbrev pub is_meant : ℕ → List ℕ → Bool → Bool → PointView → Bool
 is_meant role label received bare m = (is_end role received m && bytes_eq m.label label) && not (bare && m.payload)
 

@@ -1,5 +1,5 @@
--- Reading one symbol after another, for the contracts of the descent alone: what is awaited says itself what is awaited behind
--- it, and what was read. That it reads by grammar and table is a lemma, and no contract of a public function cites it.
+-- Reading one symbol after another, for the contracts of the descent alone: what is awaited says itself what is awaited after
+-- it, and what was read. A lemma says that it reads by grammar and table; no contract of a public function cites it.
 use Rattle.std.specs.Prelude.{ℕ, ◌+◌, ◌==◌, ◌||◌, not, nat_le, Bool, false, cond, if◌then◌else◌, codes, List, [], ◌∷◌}
 use Rattle.std.specs.Prelude.{◌++◌, length, Option, Some, None, is_some, slice_set, ℤ, pos, neg_ℤ, bytes_eq}
 use Rattle.std.specs.List.{list_any}
@@ -46,7 +46,7 @@ pub record Known : Type 0 where
 
 -- ---- what is awaited
 
--- Each item says what is awaited behind it, for what was read.
+-- Each item says what is awaited after it, for what was read.
 pub data Item : Type 0 where
   Scripts : (known : Known) → Item  -- ("role" Word "{" line* "}")*
   Lines : (s : Writing) (k : List Line → Item) → Item  -- line* "}"
@@ -66,12 +66,12 @@ pub data Outcome : Type 0 where
   On : (item : Item) → Outcome
   Wrong : (fault : Fault) → Outcome
 
--- the fault, or what follows where there is none
+-- the fault, or what follows if there is none
 abbrev pub unless : Option Fault → Outcome → Outcome
 unless None next = next
 unless (Some fault) next = Wrong fault
 
--- the fault where the test holds
+-- the fault if the test holds
 abbrev pub fault_if : Bool → Fault → Option Fault
 fault_if test fault = cond test (Some fault) None
 
@@ -99,8 +99,8 @@ is_send_of label _ = false
 abbrev pub has_send : List ℕ → List Line → Bool
 has_send label lines = list_any (is_send_of label) lines
 
--- what speaks against the second word of a line: the name of a variable, which is declared once and isn't called as what
--- expressions read otherwise, or a label
+-- what speaks against the second word of a line: against the name of a variable, which is declared once and isn't a word that
+-- expressions read otherwise, or against a label
 abbrev pub label_fault : LineKind → Writing → List ℕ → Option Fault
 label_fault kinds.Var s name = fault_if (is_own_word name || is_some (place_of s.names name)) faults.Variable
 label_fault kinds.Send s label =
@@ -154,7 +154,7 @@ word_atom p w k =
 abbrev pub with_expr : Place → (Expr → Item) → Item
 with_expr p k = This (Is signs.Equals) (a_sum p (λ e. This (Is signs.Semicolon) (k e)))
 
--- a condition, without the mark behind it
+-- a condition, without the mark after it
 abbrev pub compared : Place → (Condition → Item) → Item
 compared p k = a_sum p (λ a. ATest (λ t. a_sum p (λ b. k (record { left = a; test = t; right = b }))))
 
@@ -164,7 +164,7 @@ to_set names k =
     This (Word (codes "set"))
     (AWord (λ n. fault_if (not (is_some (place_of names n))) faults.Variable) (λ n. k (place_in names n)))
 
--- what is awaited behind the first two words of a line
+-- what is awaited after the first two words of a line
 abbrev pub rest_of_line : LineKind → Writing → List ℕ → (List (List ℕ) × Line → Item) → Item
 rest_of_line kinds.Var s n k =
     This (Is signs.Equals) (ASigned (λ z. This (Is signs.Semicolon) (k (s.names ++ n ∷ [], VarLine z))))
@@ -174,7 +174,7 @@ rest_of_line kinds.Pick s l k =
     (compared (deciding s.names) (λ c. This (Is signs.Semicolon) (k (s.names, PickLine l (Some c)))))
 rest_of_line kinds.On s l k = to_set s.names (λ place. with_expr (remembering s l) (λ e. k (s.names, OnLine l place e)))
 
--- what is awaited behind the first word
+-- what is awaited after the first word
 abbrev pub line_behind : Writing → LineKind → (List (List ℕ) × Line → Item) → Item
 line_behind s kind k = AWord (label_fault kind s) (λ n. rest_of_line kind s n k)
 
@@ -202,7 +202,7 @@ abbrev pub line : Writing → Symbol → (List (List ℕ) × Line → Item) → 
 line s (Word w) k = line_by s (kind_of w) k
 line s _ k = Wrong faults.Token
 
--- one more line of the role, with the variables behind it
+-- one more line of the role, with the variables after it
 abbrev pub with_line : Writing → List (List ℕ) × Line → Writing
 with_line s x = record { messages = s.messages; role = s.role; names = x.0; lines = s.lines ++ x.1 ∷ [] }
 
@@ -217,12 +217,12 @@ abbrev pub with_script : Known → ℕ → List Line → Known
 with_script known role ls =
     record { roles = known.roles; messages = known.messages; scripts = slice_set known.scripts role ls; given = known.given ++ role ∷ [] }
 
--- what stands behind the word role, for the role and its lines
+-- what stands after the word role, for the role and its lines
 abbrev pub script : List (List ℕ) → List ℕ → List PointView → (ℕ × List Line → Item) → Item
 script roles given messages k =
     AWord (role_fault roles given) (λ n. This (Is signs.Open) (Lines (begun messages (place_in roles n)) (λ ls. k (place_in roles n, ls))))
 
--- a script, and the scripts behind it
+-- a script, and the scripts after it
 abbrev pub script_of : Known → Item
 script_of known = script known.roles known.given known.messages (λ x. Scripts (with_script known x.0 x.1))
 
@@ -236,7 +236,7 @@ meets (Number a) (Number b) = a == b
 meets (Text a) (Text b) = bytes_eq a b
 meets _ _ = false
 
--- A symbol that doesn't go on with a product or a sum belongs to what is awaited behind it.
+-- A symbol that doesn't go on with a product or a sum belongs to what is awaited after it.
 abbrev pub step : Item → Symbol → Outcome
 step (Scripts known) (Word w) = cond (bytes_eq w (codes "role")) (On (script_of known)) (Wrong faults.Token)
 step (Lines s k) (Is signs.Close) = On (k s.lines)

@@ -56,7 +56,7 @@ line_says names (WhenText label left test right) =
     PickLine label (Some (record { left = sum_says names left; test = test; right = sum_says names right }))
 line_says names (OnText label name s) = OnLine label (place_in names name) (sum_says names s)
 
--- the variables that are declared behind a line
+-- the variables that are declared after a line
 abbrev pub names_behind : List (List ℕ) → WrittenLine → List (List ℕ)
 names_behind names (VarText name below n) = names ++ name ∷ []
 names_behind names _ = names

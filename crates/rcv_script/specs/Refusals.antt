@@ -3,8 +3,8 @@
 use Rattle.std.specs.Prelude.{◌≡◌, ℕ, ◌<◌, List, [], ◌∷◌, ◌++◌, length}
 use Rattle.rcv_tree.specs.declared.refusal.Refusal.TheVariants as refusals
 use Rattle.rcv_lexer.specs.declared.token.Token.{Token}
-use Rattle.rcv_lexer.specs.declared.token.TextError.{TextError}
-use Rattle.rcv_lexer.specs.declared.token.TextError.TheVariants as errors
+use Rattle.rcv_tree.specs.declared.refusal.TextError.{TextError}
+use Rattle.rcv_tree.specs.declared.refusal.TextError.TheVariants as errors
 use Rattle.rcv_model.specs.Script.{Line}
 use Rattle.rcv_points.specs.Follow.{PointView}
 use Rattle.rcv_script.specs.declared.fault.Fault.{Fault}
@@ -29,9 +29,8 @@ abbrev pub backward : List Symbol → List Symbol → List Symbol
 backward [] back = back
 backward (t ∷ ts) back = backward ts (t ∷ back)
 
--- The code holds where front stands before and left begins with the symbol at which it is to hold; at the end nothing is
--- left. Code 30 is at a symbol that the grammar doesn't have there, and at the end of what isn't whole. No other code is
--- at the end.
+-- The code holds at the symbol with which left begins, if front stands before it; at the end nothing is left. Code 30 is at a
+-- symbol that the grammar doesn't have there, and at the end of what isn't whole. No other code is at the end.
 abbrev pub HoldsAt : List (List ℕ) → List PointView → Fault → List Symbol → List Symbol → Type 0
 HoldsAt roles messages faults.Token front [] = IsBeginning front × (IsDerived front → ⊥)
 HoldsAt roles messages faults.Token front (t ∷ ts) = IsBeginning front × (IsBeginning (front ++ t ∷ []) → ⊥)

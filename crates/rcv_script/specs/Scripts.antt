@@ -2,7 +2,7 @@
 use Rattle.std.specs.Prelude.{◌≡◌, ℕ, ◌≤◌, List, [], length, map}
 use Rattle.rcv_tree.specs.declared.protocol.Protocol.{Protocol}
 use Rattle.rcv_lexer.specs.declared.token.Token.{Token}
-use Rattle.rcv_lexer.specs.declared.token.TextError.{TextError}
+use Rattle.rcv_tree.specs.declared.refusal.TextError.{TextError}
 use Rattle.rcv_model.specs.Net.{Net}
 use Rattle.rcv_model.specs.Places.{singles}
 use Rattle.rcv_model.specs.Script.{Line}

@@ -3,12 +3,12 @@ use Rattle.std.specs.Prelude.{ℕ, codes, List, if◌then◌else◌, nat_le, byt
 use Rattle.rcv_lexer.specs.declared.token.Kind.{Kind}
 use Rattle.rcv_lexer.specs.declared.token.Kind.TheVariants as kinds
 use Rattle.rcv_lexer.specs.declared.token.Token.{Token}
-use Rattle.rcv_scan.specs.Symbols as scan
-use Rattle.rcv_scan.specs.Symbols.{number_of, unquoted}
+use Rattle.rcv_lexer.specs.Symbols as scan
+use Rattle.rcv_lexer.specs.Symbols.{number_of, unquoted}
 use Rattle.rcv_script.specs.declared.sign.Sign.{Sign}
 use Rattle.rcv_script.specs.declared.sign.Sign.TheVariants.{Open, Close, Left, Right, Semicolon, Equals, Less, AtMost}
 use Rattle.rcv_script.specs.declared.sign.Sign.TheVariants.{Same, Differ, More, AtLeast, Plus, Minus, Times, Foreign}
-pub use Rattle.rcv_scan.specs.Symbols.{Is, Word, Number, Text, IsNotNext, NoWord, NoNumber, line_before}
+pub use Rattle.rcv_lexer.specs.Symbols.{Is, Word, Number, Text, IsNotNext, NoWord, NoNumber, line_before}
 
 abbrev pub Symbol : Type 0
 Symbol = scan.Symbol Sign

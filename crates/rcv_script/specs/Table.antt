@@ -1,5 +1,5 @@
 -- The codes from 31 on, each by the symbols alone. Everywhere back are the symbols before, the nearest first, and t is the
--- symbol at which the code is to hold. No word of scripts is reserved, so what a symbol is follows from its line.
+-- symbol at which the code may hold. No word of scripts is reserved, so what a symbol is follows from its line.
 use Rattle.std.specs.Prelude.{◌≡◌, ℕ, ◌+◌, ◌&&◌, ◌||◌, not, nat_le, Bool, true, false, cond, codes, List, [], ◌∷◌}
 use Rattle.std.specs.Prelude.{◌++◌, length, drop, bytes_eq}
 use Rattle.std.specs.List.{list_any}
@@ -35,7 +35,7 @@ label_in _ = []
 abbrev pub label : List Symbol → List ℕ
 label back = label_in (line_so_far back)
 
--- of the line stands this first word and no more
+-- of the line this first word stands, and no more
 abbrev pub is_one : List ℕ → List Symbol → Bool
 is_one word (a ∷ []) = bytes_eq (word_of a) word
 is_one word _ = false
@@ -53,7 +53,7 @@ abbrev pub are_three : List Symbol → Bool
 are_three (a ∷ b ∷ c ∷ []) = bytes_eq (word_of a) (codes "on")
 are_three _ = false
 
--- in the expression of a send or pick line, which begins behind three symbols
+-- in the expression of a send or pick line, which begins after three symbols
 abbrev pub decides : List Symbol → Bool
 decides (a ∷ b ∷ c ∷ ts) = bytes_eq (word_of a) (codes "send") || bytes_eq (word_of a) (codes "pick")
 decides _ = false
@@ -61,7 +61,7 @@ decides _ = false
 abbrev pub is_deciding : List Symbol → Bool
 is_deciding back = decides (line_so_far back)
 
--- in that of an on line, which begins behind five
+-- in that of an on line, which begins after five
 abbrev pub remembers : List Symbol → Bool
 remembers (a ∷ b ∷ c ∷ d ∷ e ∷ ts) = bytes_eq (word_of a) (codes "on")
 remembers _ = false
@@ -107,7 +107,7 @@ lines_over (Is signs.Close ∷ back) = 0
 lines_over (Is signs.Semicolon ∷ back) = 1 + lines_over back
 lines_over (_ ∷ back) = lines_over back
 
--- An atom begins here: behind a mark that is no closing parenthesis, and behind the word when of a pick line.
+-- An atom begins here: after a mark that is no closing parenthesis, and after the word when of a pick line.
 abbrev pub begins_an_atom : List Symbol → Bool
 begins_an_atom (Is signs.Right ∷ back) = false
 begins_an_atom (Is s ∷ back) = true
@@ -121,7 +121,7 @@ parentheses (Is signs.Left ∷ back) = back ∷ parentheses back
 parentheses (Is signs.Right ∷ back) = drop 1 (parentheses back)
 parentheses (_ ∷ back) = parentheses back
 
--- so many signs stand here in front of an atom, one behind another
+-- so many signs stand here in front of an atom, one after another
 abbrev pub minuses : List Symbol → ℕ
 minuses (Is signs.Minus ∷ back) = cond (begins_an_atom back) (1 + minuses back) 0
 minuses _ = 0
@@ -173,8 +173,8 @@ abbrev pub is_attempt_in_state : List Symbol → Symbol → Bool
 is_attempt_in_state back (Word w) = is_remembering back && bytes_eq w (codes "attempt")
 is_attempt_in_state back _ = false
 
--- 35: the label of a send line where a point that the role sends with it has no sorts, and the word value in an on line
--- where a point of the role with that label has none
+-- 35: the label of a send line, if a point that the role sends with it has no sorts; and the word value in an on line, if a
+-- point of the role with that label has none
 abbrev pub is_without_payload : List (List ℕ) → List PointView → List Symbol → Symbol → Bool
 is_without_payload roles messages back (Word w) =
     (is_behind (codes "send") back && sends_bare messages (role_of roles back) w)

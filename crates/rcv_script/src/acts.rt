@@ -7,7 +7,7 @@ ghost use Rattle.rcv_script.specs.Acts.{acts_by_point, on_places, send_place};
 
 use crate::line::Line;
 use rcv_points::points::Message;
-use rcv_scan::is;
+use rcv_lexer::is;
 use rcv_tree::point::Point;
 use std::alloc::{AllocError, Global};
 use std::marker::Model;
@@ -17,7 +17,7 @@ use std::marker::Model;
 pub struct Acts {
     /// Those that set a variable.
     pub on: Vec<usize>,
-    /// The one that says which number is sent; the place behind the last line where none does.
+    /// The one that says which number is sent; if none does, the place after the last line.
     pub send: usize,
 }
 
@@ -89,7 +89,7 @@ fn on_places(alloc: Global, lines: &[Line], label: &[u8]) -> Result<Vec<usize>, 
     Ok(places)
 }
 
-// The place of the first line that sends with a label, or else that behind the last line.
+// The place of the first line that sends with a label, or else that after the last line.
 fn send_place(lines: &[Line], label: &[u8]) -> usize
     ensures { result ≡ send_place label.now 0 (map line_of lines.now) }
 {

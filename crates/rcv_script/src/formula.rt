@@ -17,7 +17,7 @@ use crate::sign::Sign;
 use crate::writing::Writing;
 use rcv_formula::Operator::{Add, Multiply, Subtract};
 use rcv_formula::{Formula, Leaf, Steps};
-use rcv_scan::{Lexeme, is};
+use rcv_lexer::{Lexeme, is};
 use rcv_tree::name::{Name, Names};
 
 /// What speaks against the words `value` and `attempt` in an expression.
@@ -131,7 +131,7 @@ impl<'a> Parser<'a> {
         }
     }
 
-    // Takes an atom, where so many parentheses and signs are open.
+    // Takes an atom inside so many open parentheses and signs.
     #[cycle(descent)]
     fn atom(&mut self, names: &Names, banned: Banned, depth: u32, steps: &mut Steps) -> Read<()>
         requires depth { depth ≤ 32 }
@@ -177,7 +177,7 @@ impl<'a> Parser<'a> {
         Ok(())
     }
 
-    // Takes products, added and subtracted, where so many parentheses and signs are open.
+    // Takes products, added and subtracted, inside so many open parentheses and signs.
     #[tactic(auto, using(crate::proofs::Stops::factors_end, crate::proofs::Stops::terms_end))]
     #[cycle(descent)]
     fn sum(&mut self, names: &Names, banned: Banned, depth: u32, steps: &mut Steps) -> Read<()>

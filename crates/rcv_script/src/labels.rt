@@ -10,10 +10,10 @@ ghost use Rattle.rcv_script.specs.Machine.{has_send};
 
 use crate::line::Line;
 use rcv_points::points::Points;
-use rcv_scan::is;
+use rcv_lexer::is;
 use rcv_tree::point::Point;
 
-/// Whether the role sends a message with this label, or receives it where that counts too. `bare` asks for one without
+/// Whether the role sends a message with this label, or receives it if that counts too. `bare` asks for one without
 /// sorts.
 pub fn has_message(points: &Points, role: usize, label: &[u8], received: bool, bare: bool) -> bool
     ensures { result ≡ list_any (is_meant role label.now received bare) points.now.messages }

@@ -40,12 +40,12 @@ pub enum Line {
         label: Name,
         number: Formula,
     },
-    /// The label that is picked where the condition holds; without one it always holds.
+    /// The label that is picked if the condition holds; without one it always holds.
     Pick {
         label: Name,
         when: Option<Condition>,
     },
-    /// The variable that is set behind each event with a label.
+    /// The variable that is set after each event with a label.
     On {
         label: Name,
         place: usize,

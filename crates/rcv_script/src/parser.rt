@@ -13,11 +13,11 @@ use crate::sign::Sign;
 use crate::words::{LineKind, kind_of};
 use crate::writing::Writing;
 use rcv_points::points::Points;
-use rcv_scan::Ahead;
+use rcv_lexer::Ahead;
 use rcv_tree::name::Name;
 use std::alloc::Global;
 
-/// What is still to be read, and where memory is taken.
+/// What is still to be read, and what memory is taken from.
 #[derive(Drop)]
 pub struct Parser<'a> {
     pub alloc: Global,
@@ -55,7 +55,7 @@ impl<'a> Parser<'a> {
         Ok(if is_below { -number } else { number })
     }
 
-    // Adds this line, and takes the mark `;` behind it. Where that is missing, nothing is kept of the script.
+    // Adds this line, and takes the mark `;` after it. If that is missing, nothing is kept of the script.
     fn end(&mut self, line: Line, writing: &mut Writing<'_>) -> Read<()>
         ensures goes { Adds result (λ s k. This (Is Sign.Semicolon) (k (s.names, line_of line)))
             writing.old writing.new self.old.rest self.new.rest }
@@ -82,7 +82,7 @@ impl<'a> Parser<'a> {
         self.rest_of_line(kind, label, writing)
     }
 
-    // Takes what stands behind the first two words of a line, of which the second is a label or a variable's name.
+    // Takes what stands after the first two words of a line. The second of these is a label or a variable's name.
     fn rest_of_line(&mut self, kind: LineKind, label: Name, writing: &mut Writing<'_>) -> Read<()>
         ensures goes { Adds result (λ s k. rest_of_line kind s label k) writing.old writing.new
             self.old.rest self.new.rest }

@@ -13,15 +13,15 @@ use crate::formula::place_of;
 use crate::parser::Parser;
 use crate::scripts::{Script, Scripts};
 use rcv_accept::accepted::Accepted;
-use rcv_lexer::token::{TextError, Token};
+use rcv_lexer::token::Token;
 use rcv_points::points::Points;
-use rcv_scan::{Ahead, line_before};
+use rcv_lexer::{Ahead, line_before};
 use rcv_tree::name::{Name, Names};
-use rcv_tree::refusal::Refusal;
+use rcv_tree::refusal::{Refusal, TextError};
 use std::alloc::{AllocError, Global};
 
 impl<'a> Parser<'a> {
-    // Takes what stands behind the word `role`: a role and its script.
+    // Takes what stands after the word `role`: a role and its script.
     #[tactic(auto, using(crate::proofs::Stops::no_word))]
     fn script(&mut self, roles: &Names, points: &Points, given: &[usize]) -> Read<(usize, Script)>
         ensures goes { Goes result (λ k. script roles.now given.now points.now.messages k) (λ x. x)
@@ -75,13 +75,13 @@ fn no_lines(alloc: Global, roles: &[Name]) -> Result<Vec<Script>, AllocError>
 /// end. A part without tokens gives each role a script without lines.
 ///
 /// Refused at the first token at which a code holds, or at the part's end, with the least code at it and its line:
-/// 30 where the grammar doesn't have the token or the end there, and at a number above 9223372036854775807; 31 at a
+/// 30 if the grammar doesn't have the token or the end there, and at a number above 9223372036854775807; 31 at a
 /// role that isn't declared or has a script before; 32 at a label of `send` or `pick` that the role never sends, one of
 /// `on` that it neither sends nor receives, and that of a second `send` line; 33 at a variable that isn't declared
 /// before, at a name that is declared again or is `value` or `attempt`, and at `value` in a `send` or `pick` line; 34
 /// at `attempt` in an `on` line; 35 at a label of `send` that stands for a message without sorts, and at `value` in an
 /// `on` line of such a label; 36 at the word `var` of the 17th variable, the first word of the 257th line of a role,
-/// and the 33rd nested parenthesis or sign of an expression. `Memory` where no memory is left.
+/// and the 33rd nested parenthesis or sign of an expression. `Memory` if no memory is left.
 #[tactic(auto, using(crate::proofs::Answering::taken, crate::proofs::Answering::refused))]
 pub fn read_scripts(
     alloc: Global,

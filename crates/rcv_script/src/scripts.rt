@@ -16,7 +16,7 @@ use crate::line::{Line, is_met, set};
 use crate::setting::behind_set;
 use rcv_checkpoint::changed::Changed;
 use rcv_points::points::{Message, Points};
-use rcv_scan::is;
+use rcv_lexer::is;
 use rcv_tree::name::Name;
 use rcv_tree::point::Point;
 use rcv_tree::role::RoleId;
@@ -98,8 +98,8 @@ impl Scripts {
         }
     }
 
-    /// The point that a role chooses of those that are offered: of the label of its first `pick` line whose label is
-    /// offered and whose condition holds, the first one; where no line holds, the first of all.
+    /// The point that a role chooses of those that are offered: the first one with the label of its first `pick` line
+    /// whose label is offered and whose condition holds; if no line holds, the first of all.
     #[inline(always)]
     pub fn choose(&self, role: RoleId, vars: &Vars, attempt: u32, offered: &[Point]) -> Point
         requires some { offered.now ≢ [] }
@@ -112,7 +112,7 @@ impl Scripts {
         }
     }
 
-    /// The number that a role sends with a point: that of the `send` line of the point's label, and 0 where it has
+    /// The number that a role sends with a point: that of the `send` line of the point's label, and 0 if it has
     /// none.
     #[inline(always)]
     #[tactic(auto, using(crate::proofs::Carrying::send_all))]
@@ -127,7 +127,7 @@ impl Scripts {
         }
     }
 
-    /// The variables of a role behind an event that received this number with a point: the `on` lines of the point's
+    /// The variables of a role after an event that received this number with a point: the `on` lines of the point's
     /// label are carried out in text order, each seeing the changes of the earlier ones.
     #[inline(always)]
     pub fn received(&self, role: RoleId, vars: &Vars, point: Point, value: i64) -> Vars
@@ -158,7 +158,7 @@ impl Scripts {
         }
     }
 
-    /// The variables of a role behind an event that sent this number with a point: as where it was received.
+    /// The variables of a role after an event that sent this number with a point: as after one that received it.
     pub fn sent(&self, role: RoleId, vars: &Vars, point: Point, value: i64) -> Vars
         requires { HasPoint self.now.messages point }
         ensures { result
@@ -187,7 +187,7 @@ impl Scripts {
         most
     }
 
-    // The script of a role; none where no line is known.
+    // The script of a role; none if no line is known.
     #[inline(always)]
     fn script(&self, role: RoleId) -> Option<&Script>
         ensures some { IfSome result (λ script. script.now ≡ lines_at self.now.lines role) }
@@ -265,7 +265,7 @@ impl Script {
         changed
     }
 
-    // Carries out the line at a place, if it sets a variable; answers what may have changed behind such a change.
+    // Carries out the line at a place, if it sets a variable; answers what may have changed after such a change.
     #[inline(always)]
     fn set(&self, line: usize, value: i64, vars: &mut Vars, changed: Changed) -> Changed
         ensures vars { vars.new ≡ set_by (slice_get self.now line) value vars.old }
@@ -281,7 +281,7 @@ impl Script {
         }
     }
 
-    // The number that the line at this place sends; 0 where there is none.
+    // The number that the line at this place sends; 0 if there is none.
     #[inline(always)]
     fn number(&self, send: usize, vars: &Vars, attempt: u32) -> i64
         ensures { result ≡ sent_by (slice_get self.now send) vars.now attempt }

@@ -1,11 +1,11 @@
-// What is changed behind a line that sets a variable.
+// What is changed after a line that sets a variable.
 
 ghost use Rattle.std.specs.Prelude.{ℤ, List, slice_set};
 ghost use Rattle.rcv_checkpoint.specs.Changed.{IsChange};
 
 use rcv_checkpoint::changed::Changed;
 
-/// What may have changed where the variable at a place is set behind such a change. It takes no memory.
+/// What may have changed if the variable at a place is set after such a change. It takes no memory.
 #[inline(always)]
 pub fn behind_set(changed: Changed, place: usize) -> Changed
     ensures { (from : List ℤ) (to : List ℤ) (number : ℤ)

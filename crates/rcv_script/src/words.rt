@@ -6,7 +6,7 @@ ghost use Rattle.rcv_script.specs.Machine.{kind_of};
 
 use crate::sign::Sign;
 use rcv_lexer::token::Kind;
-use rcv_scan::{Alphabet, Lexeme, is, number_of, unquoted};
+use rcv_lexer::{Alphabet, Lexeme, is, number_of, unquoted};
 
 /// What a line does.
 #[derive(Clone, Copy)]

@@ -12,12 +12,12 @@ use crate::labels::{has_message, has_send};
 use crate::line::Line;
 use crate::words::LineKind;
 use rcv_points::points::Points;
-use rcv_scan::is;
+use rcv_lexer::is;
 use rcv_tree::name::{Name, Names};
 use std::alloc::{AllocError, Global};
 use std::marker::Model;
 
-/// What is known behind some lines of a script: the points of the protocol, the role, its variables and these lines.
+/// What is known after some lines of a script: the points of the protocol, the role, its variables and these lines.
 #[derive(Drop)]
 pub struct Writing<'a> {
     points: &'a Points,
@@ -124,7 +124,7 @@ impl<'a> Writing<'a> {
         Ok(self.lines.push(line)?)
     }
 
-    /// Adds a variable and its line. Where no memory is left, the name may stand there without its line.
+    /// Adds a variable and its line. If no memory is left, the name may stand there without its line.
     pub fn declare(&mut self, name: Name, first: i64) -> Result<(), AllocError>
         ensures { IfOk result (λ _. self.new ≡ with_line self.old (self.old.names ++ name ∷ [], VarLine first)) }
     {

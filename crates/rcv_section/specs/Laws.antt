@@ -14,7 +14,7 @@ pub record IsPlain (text : List ℕ) : Type 0 where
   pub whole : IsWhole true text
   pub quiet : (place : ℕ) → LineAt IsHeading true text place → ⊥
 
--- Of such texts, one behind another, each behind its line, section I is text I.
+-- Of such texts, one after another, each after its line, section I is text I.
 abbrev pub SectionsAreTexts : Type 0
 SectionsAreTexts =
     (texts : List (List ℕ)) (i : ℕ) → length texts ≤ 64 → All IsPlain texts → i < length texts

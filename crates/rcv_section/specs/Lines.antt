@@ -1,8 +1,8 @@
 -- Lines of a text, by where they begin.
 use Rattle.std.specs.Prelude.{◌≡◌, ◌==◌, ℕ, zero, suc, Bool, true, List, [], ◌∷◌}
 
--- A line begins at this place of a text, and what stands from there on is so. Whether a line begins at the front of the
--- text is told; behind a line feed one does.
+-- A line begins at this place of a text, and what stands from there on is so. `fresh` says whether a line begins at the front of the text;
+-- after a line feed one does.
 abbrev pub LineAt : (List ℕ → Type 0) → Bool → List ℕ → ℕ → Type 0
 LineAt Is fresh text zero = (fresh ≡ true) × Is text
 LineAt Is fresh [] (suc place) = ⊥

@@ -13,12 +13,12 @@ abbrev pub or_else : Option ℕ → Option ℕ → Option ℕ
 or_else None other = other
 or_else (Some place) other = Some place
 
--- Where the first line ends that is this one, in a text at a place.
+-- Where the first line that is this one ends, in a text at a place.
 abbrev pub behind_from : List ℕ → Bool → ℕ → List ℕ → Option ℕ
 behind_from word fresh place [] = None
 behind_from word fresh place (b ∷ bs) = or_else (behind_here word fresh place (b ∷ bs)) (behind_from word (b == 10) (place + 1) bs)
 
--- Where the first line begins that begins `session `, in a text at a place; else where the text ends.
+-- Where the first line starts that begins `session `, in a text at a place; if there is none, where the text ends.
 abbrev pub heading_from : Bool → ℕ → List ℕ → ℕ
 heading_from fresh place [] = place
 heading_from fresh place (b ∷ bs) = if fresh && starts_with nat_eq (b ∷ bs) heading_word then place else heading_from (b == 10) (place + 1) bs

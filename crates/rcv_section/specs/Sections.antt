@@ -1,12 +1,12 @@
--- Which bytes of a text are those of a session, where the texts of several sessions stand one behind another, each
--- behind a line that says which session it is.
+-- Which bytes of a text are those of a session, if the texts of several sessions stand one after another, each after a line that says which
+-- session it is.
 use Rattle.std.specs.Prelude.{◌≡◌, ◌+◌, ◌-◌, ◌<◌, ◌≤◌, ℕ, ◌⊎◌, true, nat_eq, codes, decimal, List, ◌++◌, length, take, drop, Some}
 use Rattle.std.specs.List.{starts_with}
 use Rattle.rcv_lexer.specs.Parts.{line_of}
 use Rattle.rcv_section.specs.Lines.{LineAt}
 use Rattle.rcv_section.specs.declared.section.Section.{Section}
 
--- What every line begins with that says which session stands behind it.
+-- What every line begins with that says which session comes after it.
 abbrev pub heading_word : List ℕ
 heading_word = codes "session "
 
@@ -34,8 +34,8 @@ pub record IsFront (text : List ℕ) (size : ℕ) : Type 0 where
   pub clear : (place : ℕ) → place < size → LineAt IsHeading true text place → ⊥
   pub up_to : (size ≡ length text) ⊎ LineAt IsHeading true text size
 
--- The section of session I begins behind the first line that is exactly `session I`, and reaches up to the next line
--- that begins `session `, or to the end.
+-- The section of session I begins after the first line that is exactly `session I`, and reaches up to the next line that begins `session `,
+-- or to the end.
 pub record IsSection (number : ℕ) (text : List ℕ) (section : Section) : Type 0 where
   pub place : ℕ
   pub len : ℕ

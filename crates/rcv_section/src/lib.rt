@@ -1,4 +1,4 @@
-// The journals of several sessions, one behind another: which bytes are those of one.
+// The journals of several sessions, one after another: which bytes are those of one.
 #![tactic(auto)]
 
 ghost use Rattle.rcv_section.specs.Laws.{OneSection, SectionsAreTexts};
@@ -10,8 +10,8 @@ pub fn one_section()
     ensures { OneSection }
 {}
 
-/// Where texts stand one behind another, each behind the line of its session, section I is text I: of at most 64 texts
-/// of whole lines, none of which begins as the line of a session does.
+/// If texts stand one after another, each after the line of its session, section I is text I. This holds for at most 64
+/// texts of whole lines, none of which begins as the line of a session does.
 pub fn sections_are_texts()
     ensures { SectionsAreTexts }
 {}

@@ -15,7 +15,7 @@ pub struct Section {
     pub end: usize,
 }
 
-/// What every line begins with that says which session stands behind it.
+/// What every line begins with that says which session comes after it.
 const HEADING: &[u8] = b"session ";
 
 // The line of a session, without its end.
@@ -28,7 +28,7 @@ fn title(alloc: Global, number: u32) -> Result<Vec<u8>, AllocError>
     Ok(line)
 }
 
-// Behind n bytes of a line: how long the line is with its end, where it ends here.
+// After n bytes of a line: how long the line is with its end, if it ends here.
 fn line_end(n: usize, text: &[u8]) -> Option<usize>
     requires { n + length text.now < 2 ^ 63 }
     ensures is { result ≡ line_end n text.now }
@@ -42,7 +42,7 @@ fn line_end(n: usize, text: &[u8]) -> Option<usize>
     }
 }
 
-// How long the first line is with its end, where it is exactly this one.
+// How long the first line is with its end, if it is exactly this one.
 fn line_of(word: &[u8], text: &[u8]) -> Option<usize>
     requires { length text.now < 2 ^ 32 }
     ensures is { result ≡ line_of word.now text.now }
@@ -68,7 +68,7 @@ fn behind_here(word: &[u8], fresh: bool, place: usize, text: &[u8]) -> Option<us
     Some(place + len)
 }
 
-// Where the first line ends that is this one.
+// Where the first line that is this one ends.
 fn behind_title(word: &[u8], text: &[u8]) -> Option<usize>
     requires { length text.now < 2 ^ 32 }
     ensures is { result ≡ behind_from word.now true 0 text.now }
@@ -88,7 +88,7 @@ fn behind_title(word: &[u8], text: &[u8]) -> Option<usize>
     None
 }
 
-// Where the first line begins that begins `session `, or else where the text ends.
+// Where the first line starts that begins `session `; if there is none, where the text ends.
 fn next_heading(text: &[u8]) -> usize
     requires { length text.now < 2 ^ 32 }
     ensures is { result ≡ heading_from true 0 text.now }
@@ -108,8 +108,8 @@ fn next_heading(text: &[u8]) -> usize
     place
 }
 
-/// The section of a session, counted from 1, in the texts of several, each of which stands behind a line `session I`;
-/// `None` where no line is that of this session. Fails if memory runs out.
+/// The section of a session, counted from 1, in the texts of several. Each text comes after a line `session I`. `None`
+/// if no line is that of this session. Fails if memory runs out.
 pub fn section_of(alloc: Global, number: u32, text: &[u8]) -> Result<Option<Section>, AllocError>
     requires { length text.now < 2 ^ 32 }
     ensures some { IfOk result (λ found. IfSome found (λ section. IsSection number text.now section)) }

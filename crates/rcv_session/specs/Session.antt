@@ -8,7 +8,7 @@ use Rattle.rcv_model.specs.Plan.{PlanLine, session_rules}
 use Rattle.rcv_model.specs.Places.{net_of}
 use Rattle.rcv_model.specs.Journal.{Rules}
 
--- A protocol to be run, with a script for each role and a plan, which has no lines where nothing is planned.
+-- A protocol to be run, with a script for each role and a plan, which has no lines if nothing is planned.
 pub record SessionView : Type 0 where
   pub protocol : Protocol
   pub scripts : List (List Line)
@@ -24,7 +24,7 @@ roles_of session = length session.protocol.roles
 abbrev pub net_for : SessionView → Net
 net_for session = net_of (text_of session)
 
--- The lines of a role's script; none where it has none.
+-- The lines of a role's script; none if it has none.
 abbrev pub lines_of : SessionView → ℕ → List Line
 lines_of session r = slice_index_or session.scripts r []
 
@@ -32,7 +32,7 @@ lines_of session r = slice_index_or session.scripts r []
 abbrev pub rules_of : SessionView → Rules
 rules_of session = session_rules (text_of session) (roles_of session) (lines_of session) session.plan
 
--- What a plan guarantees of the rules where it was read: the numbers are in their ranges, and each host's roles are
+-- What a plan guarantees of the rules if it was read: the numbers are in their ranges, and each host's roles are
 -- declared.
 pub record HaveRanges (rules : Rules) : Type 0 where
   pub every_first : (r : ℕ) → 1 ≤ rules.every r

@@ -16,7 +16,7 @@ pub record IsAgain (net : Net) (entries : List Entry) (t : ℕ) : Type 0 where
   pub other : IsMessage net entries send earlier
   pub before : earlier < t
 
--- The Send at place s is undone by the Recover at place q, and no Recv of its message with it: the message was in flight.
+-- The Recover at place q undoes the Send at place s, and no Recv of its message with it: the message was in flight.
 pub record IsDropped (net : Net) (entries : List Entry) (s q : ℕ) : Type 0 where
   pub event : Event
   pub send_at : slice_get entries s ≡ Some (Send event)

@@ -1,4 +1,4 @@
--- What the code keeps on its way: the events that each role keeps, and who undoes each entry.
+-- What the code keeps while it runs: the events that each role keeps, and who undoes each entry.
 use Rattle.std.specs.Prelude.{◌≡◌, ◌⊎◌, ◌↔◌, ℕ, ◌-◌, ◌<◌, min, Bool, true, Option, Some, List, [], ◌∷◌, ◌++◌, length, map, drop, slice_get, slice_index, slice_index_or, slice_set, if◌then◌else◌}
 use Rattle.std.specs.declared.alloc.Global.{Global}
 use Rattle.std.specs.declared.vec.Vec.{Vec}

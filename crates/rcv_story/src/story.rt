@@ -53,7 +53,7 @@ pub struct Story {
 }
 
 impl Recovery {
-    /// Whether a role, which is below 8, loses events: it goes back. Else it stays.
+    /// Whether a role, below 8, loses events. Then it goes back; else it stays.
     pub fn goes_back(&self, role: RoleId) -> bool
         requires { role < 8 }
         ensures { (entries : List TheEntry) → IsRecovery entries self.now → IsTrue result ↔ GoesBack entries self.now.place role }
@@ -80,8 +80,8 @@ impl Story {
     }
 }
 
-/// The story of a journal. It takes memory for each entry, and for each Recv time that grows with the logarithm of how
-/// many Sends its sender has made. Fails if memory runs out.
+/// The story of a journal. It takes memory for each entry. For each Recv it takes time that grows with the logarithm of
+/// how many Sends its sender has made. Fails if memory runs out.
 pub fn story_of(alloc: Global, record: &Record<'_>) -> Result<Story, AllocError>
     ensures { IfOk result (λ story. IsStory record.now story) }
 {

@@ -13,8 +13,8 @@ use Rattle.rcv_session.specs.Session.{roles_of, rules_of}
 use Rattle.rcv_core.specs.Book.{BookView, state_of}
 use Rattle.rcv_role.specs.Part.{HasNoStrangers}
 use Rattle.rcv_role.specs.Cell.{CellView, IsSettled}
-use Rattle.rcv_lanes.specs.Home.{cell_at, IsOutAt, AreHome}
-use Rattle.rcv_back.specs.Halves.{Has, Lacks, AreSplit}
+use Rattle.rcv_cells.specs.Home.{cell_at, IsOutAt, AreHome}
+use Rattle.rcv_rollback.specs.Halves.{Has, Lacks, AreSplit}
 
 -- a place has a cell or it has none
 pub not_both : (half : List (Option CellView)) (r : ℕ) (c : CellView) → Has half r c → Lacks half r → ⊥

@@ -23,11 +23,11 @@ use Rattle.rcv_mailbox.specs.Ends.{IsChannel}
 use Rattle.rcv_ring.specs.Lists.{Begins}
 use Rattle.rcv_role.specs.Ends.{end_at}
 use Rattle.rcv_role.specs.Cell.{CellView}
-use Rattle.rcv_lanes.specs.Home.{cell_at, IsOutAt, AreHome, AllMet, HasGrown, HaveBases, SameBases}
-use Rattle.rcv_lanes.proofs.Running.{runs_go}
-use Rattle.rcv_lanes.proofs.Bases.{all_bases, met_bases}
-use Rattle.rcv_back.specs.Halves.{AreSplit}
-use Rattle.rcv_back.specs.Back.{kept_in, HaveGoneBack}
+use Rattle.rcv_cells.specs.Home.{cell_at, IsOutAt, AreHome, AllMet, HasGrown, HaveBases, SameBases}
+use Rattle.rcv_cells.proofs.Running.{runs_go}
+use Rattle.rcv_cells.proofs.Bases.{all_bases, met_bases}
+use Rattle.rcv_rollback.specs.Halves.{AreSplit}
+use Rattle.rcv_rollback.specs.Back.{kept_in, HaveGoneBack}
 use Rattle.rcv_super.specs.Bases.{IsStableIn, AreBased, CanForget, without_states}
 use Rattle.rcv_super.specs.Beside.{HaveParted}
 use Rattle.rcv_super.specs.OneStep.{WasPolled}

@@ -19,13 +19,13 @@ use Rattle.rcv_session.specs.Session.{roles_of, rules_of}
 use Rattle.rcv_core.specs.Book.{BookView, state_of, with_entry, with_more, IsRecoveryOf}
 use Rattle.rcv_role.specs.Part.{PartView}
 use Rattle.rcv_role.specs.Cell.{CellView, without_log}
-use Rattle.rcv_lanes.specs.Home.{cell_at, AreHome, AllMet, AllBegun, AllCanMeet, logs_in}
-use Rattle.rcv_lanes.specs.Ahead.{BringHome}
-use Rattle.rcv_lanes.specs.Running.{MayRun, HalfHasRun}
-use Rattle.rcv_lanes.proofs.Ahead.{no_recover_in_log, no_recover_merged, cleared_at, cleared_count}
-use Rattle.rcv_lanes.proofs.Rounds.{all_ready}
-use Rattle.rcv_back.specs.Halves.{AreSplit}
-use Rattle.rcv_back.specs.Back.{HaveGoneBack}
+use Rattle.rcv_cells.specs.Home.{cell_at, AreHome, AllMet, AllBegun, AllCanMeet, logs_in}
+use Rattle.rcv_cells.specs.Ahead.{BringHome}
+use Rattle.rcv_cells.specs.Running.{MayRun, HalfHasRun}
+use Rattle.rcv_cells.proofs.Ahead.{no_recover_in_log, no_recover_merged, cleared_at, cleared_count}
+use Rattle.rcv_cells.proofs.Rounds.{all_ready}
+use Rattle.rcv_rollback.specs.Halves.{AreSplit}
+use Rattle.rcv_rollback.specs.Back.{HaveGoneBack}
 use Rattle.rcv_super.specs.Beside.{HaveParted, ArePartedBehind}
 use Rattle.rcv_super.specs.Steps.{concerned_of}
 use Rattle.rcv_super.proofs.Parted.{can_meet, stamps_rise, may_follow, all_home}

@@ -20,8 +20,8 @@ use Rattle.rcv_core.specs.Book.{BookView, state_of, with_entry, with_more, IsRec
 use Rattle.rcv_role.specs.Cell.{CellView}
 use Rattle.rcv_role.proofs.Going.{stays}
 use Rattle.rcv_role.proofs.Lawful.{cells_follow_the_session}
-use Rattle.rcv_lanes.specs.Home.{cell_at, AreHome, logs_in}
-use Rattle.rcv_lanes.specs.Running.{IsLowered, stays_crashed, MayRun, RanAt, HalfHasRun}
+use Rattle.rcv_cells.specs.Home.{cell_at, AreHome, logs_in}
+use Rattle.rcv_cells.specs.Running.{IsLowered, stays_crashed, MayRun, RanAt, HalfHasRun}
 use Rattle.rcv_super.specs.Steps.{concerned_of}
 use Rattle.rcv_super.specs.Beside.{IsIdle, AreIdle, HaveParted, HaveMerged}
 use Rattle.rcv_super.specs.Rounds.{HasRecoveredBeside}

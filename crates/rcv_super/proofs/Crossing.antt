@@ -20,9 +20,9 @@ use Rattle.std.specs.contracts.vec.Vec as vector
 use Rattle.rcv_fence.proofs.watch.Watch.TheSendSync as watches
 use Rattle.rcv_fence.specs.contracts.watch.Watch as watch
 use Rattle.rcv_role.specs.contracts.cell.Cell as cell
-use Rattle.rcv_lanes.specs.contracts.house.Crew as crew
-use Rattle.rcv_lanes.proofs.house.Crew.TheSendSync as crews
-use Rattle.rcv_lanes.proofs.Crossing.{place_send}
+use Rattle.rcv_cells.specs.contracts.house.Crew as crew
+use Rattle.rcv_cells.proofs.house.Crew.TheSendSync as crews
+use Rattle.rcv_cells.proofs.Crossing.{place_send}
 
 pub half_send : (ℓ : NamedLft) → IsSend (vector.the_row (option.the_row (cell.the_row ℓ)) allocator.the_row heaps.ghosts)
 half_send ℓ = search (std.crosses, place_send ℓ, sendable) depth 60 fits 20000

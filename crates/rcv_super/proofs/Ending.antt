@@ -8,8 +8,8 @@ use Rattle.rcv_model.specs.Journal.{State}
 use Rattle.rcv_session.specs.Session.{roles_of, rules_of}
 use Rattle.rcv_core.specs.Book.{BookView, state_of, with_more, HasMore, IsStableLineOf}
 use Rattle.rcv_fence.specs.Shown.{Shown}
-use Rattle.rcv_lanes.specs.Home.{HasGrown, AreHome, HaveBases}
-use Rattle.rcv_lanes.specs.Running.{HasMadeRound}
+use Rattle.rcv_cells.specs.Home.{HasGrown, AreHome, HaveBases}
+use Rattle.rcv_cells.specs.Running.{HasMadeRound}
 use Rattle.std.specs.Prelude.{MatchOption, Option, Some, IsTrue, ◌↔◌}
 use Rattle.rcv_core.specs.declared.skip.Skip.{Skip}
 use Rattle.rcv_core.specs.Book.{IsAtEnd}

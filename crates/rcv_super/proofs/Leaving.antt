@@ -34,9 +34,9 @@ use Rattle.rcv_core.proofs.Ranges.{few_crash_lines}
 use Rattle.rcv_role.specs.Part.{durable_of, HoldsStates}
 use Rattle.rcv_role.specs.Ends.{end_at}
 use Rattle.rcv_role.specs.Cell.{CellView, AreJoined, post_to, inbox_from}
-use Rattle.rcv_lanes.specs.Home.{cell_at, AreHome}
-use Rattle.rcv_back.specs.Halves.{Has, Lacks, AreSplit}
-use Rattle.rcv_back.specs.Back.{kept_of, kept_in, clock_in_book, CanGo, CanGoBack}
+use Rattle.rcv_cells.specs.Home.{cell_at, AreHome}
+use Rattle.rcv_rollback.specs.Halves.{Has, Lacks, AreSplit}
+use Rattle.rcv_rollback.specs.Back.{kept_of, kept_in, clock_in_book, CanGo, CanGoBack}
 use Rattle.rcv_super.specs.Bases.{AreBased}
 use Rattle.rcv_super.specs.Steps.{concerned_of}
 use Rattle.rcv_super.proofs.Bases.{held_above}

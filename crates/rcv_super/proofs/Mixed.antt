@@ -2,7 +2,7 @@
 use Rattle.std.proofs.Common.{◌≡◌, ℕ, zero, suc, ◌<◌, ◌≤◌, Bool, true, false, List, [], ◌∷◌, length, refl, ◌∙◌, ap, arith, if◌then◌else◌}
 use Rattle.rcv_tree.specs.declared.entry.Timed.{Timed}
 use Rattle.rcv_role.specs.Cell.{CellView}
-use Rattle.rcv_lanes.specs.Home.{cell_at, logs_in}
+use Rattle.rcv_cells.specs.Home.{cell_at, logs_in}
 
 -- those of the first list where the test holds, else those of the second
 abbrev pub mixed : (ℕ → Bool) → List CellView → List CellView → List CellView

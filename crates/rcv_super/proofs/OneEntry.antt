@@ -18,8 +18,8 @@ use Rattle.rcv_accept.specs.Accepted.{IsAcceptedProtocol}
 use Rattle.rcv_session.specs.Session.{roles_of, rules_of}
 use Rattle.rcv_core.specs.Book.{BookView, with_entry}
 use Rattle.rcv_role.specs.Cell.{CellView, without_log}
-use Rattle.rcv_lanes.specs.Home.{cell_at, AreHome, logs_in}
-use Rattle.rcv_lanes.proofs.Rounds.{log_is, no_log, is_round, come_home}
+use Rattle.rcv_cells.specs.Home.{cell_at, AreHome, logs_in}
+use Rattle.rcv_cells.proofs.Rounds.{log_is, no_log, is_round, come_home}
 use Rattle.rcv_super.specs.OneStep.{AreOutWith}
 
 -- logs that hold one entry

@@ -34,9 +34,9 @@ use Rattle.rcv_role.specs.Ends.{slot, end_at}
 use Rattle.rcv_role.specs.Cell.{CellView, IsSettled, Goes, HasMet, without_log}
 use Rattle.rcv_role.proofs.Going.{stays}
 use Rattle.rcv_role.proofs.Meeting.{same_self, channel_same, settled_met}
-use Rattle.rcv_lanes.specs.Home.{cell_at, AreJoined, AreBegun, IsOutAt, AreOut, AreHome, AllGo, AllMet, AllBegun, AllCanMeet, logs_in}
-use Rattle.rcv_lanes.proofs.Running.{runs_go}
-use Rattle.rcv_lanes.proofs.Rounds.{gone_out, met_out, is_round, logs_rise}
+use Rattle.rcv_cells.specs.Home.{cell_at, AreJoined, AreBegun, IsOutAt, AreOut, AreHome, AllGo, AllMet, AllBegun, AllCanMeet, logs_in}
+use Rattle.rcv_cells.proofs.Running.{runs_go}
+use Rattle.rcv_cells.proofs.Rounds.{gone_out, met_out, is_round, logs_rise}
 use Rattle.rcv_super.proofs.Returning.{still_channel}
 use Rattle.rcv_super.proofs.Mixed.{mixed, mixed_length, mixed_first, mixed_second, mixed_logs, beyond}
 use Rattle.rcv_super.specs.Beside.{HaveParted}

@@ -18,9 +18,9 @@ use Rattle.rcv_session.specs.Session.{roles_of, net_for, rules_of}
 use Rattle.rcv_core.specs.Book.{BookView, state_of, with_entry, IsRecoveryOf}
 use Rattle.rcv_role.specs.Ends.{end_at}
 use Rattle.rcv_role.specs.Cell.{CellView}
-use Rattle.rcv_lanes.specs.Home.{cell_at, AreJoined, AreBegun, AreHome}
-use Rattle.rcv_back.specs.Halves.{Has, Lacks, AreSplit}
-use Rattle.rcv_back.specs.Back.{IsBack, HaveGoneBack}
+use Rattle.rcv_cells.specs.Home.{cell_at, AreJoined, AreBegun, AreHome}
+use Rattle.rcv_rollback.specs.Halves.{Has, Lacks, AreSplit}
+use Rattle.rcv_rollback.specs.Back.{IsBack, HaveGoneBack}
 use Rattle.rcv_super.specs.Steps.{concerned_of}
 use Rattle.rcv_super.proofs.Apart.{IsHomeAt, same_cell, home_at, out_at}
 use Rattle.rcv_super.proofs.Leaving.{with_recover, keeps_there}

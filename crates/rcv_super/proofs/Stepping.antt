@@ -36,8 +36,8 @@ use Rattle.rcv_role.specs.Cell.{CellView, Goes, cell_of}
 use Rattle.rcv_role.specs.Poll.{IsDue, OnePost, OneInbox, Polled}
 use Rattle.rcv_role.proofs.Going.{stays}
 use Rattle.rcv_role.proofs.Slots.{slot_apart}
-use Rattle.rcv_lanes.specs.Home.{cell_at, AreBegun, AreOut, AreHome, AllGo, AllMet, AllCanMeet, ArePaired, logs_in, round_steps}
-use Rattle.rcv_lanes.proofs.Rounds.{gone_out, met_out, log_is, no_log, is_round, merged_legal}
+use Rattle.rcv_cells.specs.Home.{cell_at, AreBegun, AreOut, AreHome, AllGo, AllMet, AllCanMeet, ArePaired, logs_in, round_steps}
+use Rattle.rcv_cells.proofs.Rounds.{gone_out, met_out, log_is, no_log, is_round, merged_legal}
 use Rattle.rcv_super.specs.OneStep.{IsNextEvent, CanPoll, WasPolled, AreOutWith}
 use Rattle.rcv_super.proofs.Polling.{CanSend, CanRecv, HasMade, send_made, recv_made}
 use Rattle.rcv_super.proofs.OneEntry.{HoldOne, one_merge, sent_is, got_is}

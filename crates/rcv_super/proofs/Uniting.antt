@@ -8,10 +8,10 @@ use Rattle.rcv_tree.specs.declared.role.RoleSet.{RoleSet}
 use Rattle.rcv_fence.specs.Shown.{Shown}
 use Rattle.rcv_role.specs.Cell.{CellView, AreJoined}
 use Rattle.rcv_core.specs.Book.{BookView}
-use Rattle.rcv_lanes.specs.Home.{cell_at}
-use Rattle.rcv_lanes.specs.Running.{Runs, RanAt, HalfHasRun}
-use Rattle.rcv_back.specs.Halves.{Has, Lacks, AreSplit}
-use Rattle.rcv_back.specs.Back.{HasGone, HasGoneAlone, HaveGoneBack}
+use Rattle.rcv_cells.specs.Home.{cell_at}
+use Rattle.rcv_cells.specs.Running.{Runs, RanAt, HalfHasRun}
+use Rattle.rcv_rollback.specs.Halves.{Has, Lacks, AreSplit}
+use Rattle.rcv_rollback.specs.Back.{HasGone, HasGoneAlone, HaveGoneBack}
 use Rattle.rcv_super.proofs.Apart.{same_cell}
 use Rattle.rcv_super.specs.Beside.{HaveParted}
 

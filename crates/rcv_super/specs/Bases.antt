@@ -5,7 +5,7 @@ use Rattle.rcv_session.specs.Session.{roles_of, net_for, rules_of}
 use Rattle.rcv_core.specs.Book.{BookView, state_of}
 use Rattle.rcv_role.specs.Part.{durable_of, from_base}
 use Rattle.rcv_role.specs.Cell.{CellView, cell_of}
-use Rattle.rcv_lanes.specs.Home.{HaveBases, HasGrown}
+use Rattle.rcv_cells.specs.Home.{HaveBases, HasGrown}
 
 -- Each recovery that may come to this book keeps at least so many events of each role, at which it has saved a state.
 abbrev pub IsStableIn : BookView → List ℕ → Type 0
@@ -23,7 +23,7 @@ pub record AreBased (book : BookView) (cells : List CellView) : Type 0 where
   pub stable : IsStableIn book line
   pub bases : HaveBases (roles_of book.setup) line cells
 
--- The cell can forget the states before the one behind so many events: it has saved that one.
+-- The cell can forget the states that are older than the one after so many events: it has saved that one.
 pub record CanForget (line : ℕ) (c : CellView) : Type 0 where
   pub step : (k : ℕ) × (k * (rules_of c.part.setup).every c.part.role ≡ line)
   pub above : c.part.base ≤ line

@@ -8,9 +8,9 @@ use Rattle.rcv_merge.specs.Merge.{IsMergeOf}
 use Rattle.rcv_core.specs.Book.{BookView, IsRecoveryOf, with_entry, with_more}
 use Rattle.rcv_role.specs.Part.{HasNoStrangers}
 use Rattle.rcv_role.specs.Cell.{CellView, AreJoined}
-use Rattle.rcv_lanes.specs.Home.{cell_at, AreHome, logs_in}
-use Rattle.rcv_lanes.specs.Running.{IsLowered, Runs}
-use Rattle.rcv_back.specs.Back.{HasGone, HasGoneAlone}
+use Rattle.rcv_cells.specs.Home.{cell_at, AreHome, logs_in}
+use Rattle.rcv_cells.specs.Running.{IsLowered, Runs}
+use Rattle.rcv_rollback.specs.Back.{HasGone, HasGoneAlone}
 use Rattle.rcv_super.specs.Steps.{concerned_of}
 
 -- No cell at a place may make a step: there is none, or it is crashed.
@@ -36,8 +36,7 @@ pub record HaveParted (fence : FenceId) (book : BookView) (concerned : RoleSet) 
   pub ran : (r : ℕ) (d : CellView) → r < length cells → has_bit concerned.0 r ≡ false
       → Runs fence (cell_at cells r d) (cell_at gone r d)
 
--- The book's last entry is a recovery, at which the cells parted, behind the lowering of the fence by this watch.
--- Before it they were at home.
+-- The book's last entry is a recovery. At it the cells parted, after the fence was lowered, by this watch. Before it they were at home.
 pub record ArePartedBehind (watch : Shown) (book : BookView) (gone : List CellView) : Type 0 where
   pub before : BookView
   pub role : ℕ
@@ -49,7 +48,7 @@ pub record ArePartedBehind (watch : Shown) (book : BookView) (gone : List CellVi
   pub home : AreHome before cells
   pub parted : HaveParted watch.fence (with_entry before entry) (concerned_of entry) cells gone
 
--- The logs of these cells were merged by stamp, and what came of it was added.
+-- The logs of these cells were merged by stamp, and the result was added.
 pub record HaveMerged (old new : BookView) (gone : List CellView) : Type 0 where
   pub merged : List Entry
   pub is : IsMergeOf (logs_in gone) merged

@@ -12,7 +12,7 @@ use Rattle.rcv_role.specs.declared.poll.Poll.{Poll}
 use Rattle.rcv_role.specs.Ends.{AreEnds}
 use Rattle.rcv_role.specs.Cell.{CellView, Goes}
 use Rattle.rcv_role.specs.Poll.{Polled}
-use Rattle.rcv_lanes.specs.Home.{cell_at, IsReady, AreOut, AreBegun}
+use Rattle.rcv_cells.specs.Home.{cell_at, IsReady, AreOut, AreBegun}
 
 -- The entry is the one that one thread makes next, and this event's Send or Recv.
 pub record IsNextEvent (book : BookView) (entry : Entry) (e : Event) : Type 0 where

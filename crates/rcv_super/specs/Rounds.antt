@@ -11,13 +11,12 @@ use Rattle.rcv_session.specs.Session.{rules_of}
 use Rattle.rcv_core.specs.Book.{BookView, state_of, with_more, IsRecoveryOf}
 use Rattle.rcv_alone.specs.Steps.{HasStepped}
 use Rattle.rcv_role.specs.Cell.{CellView}
-use Rattle.rcv_lanes.specs.Home.{cell_at, AreHome, logs_in}
-use Rattle.rcv_lanes.specs.Running.{IsLowered, Runs, HasMadeRound}
+use Rattle.rcv_cells.specs.Home.{cell_at, AreHome, logs_in}
+use Rattle.rcv_cells.specs.Running.{IsLowered, Runs, HasMadeRound}
 use Rattle.rcv_super.specs.Steps.{HasGoneOn, HasRecovered, concerned_of}
 
--- Beside a recovery that concerns some of the cells, which were at home with the book before it, each other one ran,
--- behind the lowering of the fence by this watch. Their logs, each a log of its role where that book stands, were
--- merged by stamp.
+-- A recovery concerns some of the cells, which were at home with the book before it. Each other cell ran beside it, after the fence was
+-- lowered, by this watch. Their logs, each a log of its role where that book stands, were merged by stamp.
 pub record HaveRunBeside (watch : Shown) (book : BookView) (concerned : RoleSet) (cells : List CellView)
     (merged : List Entry) : Type 0 where
   pub lowered : IsLowered watch
@@ -29,7 +28,7 @@ pub record HaveRunBeside (watch : Shown) (book : BookView) (concerned : RoleSet)
   pub is : IsMergeOf (logs_in gone) merged
   pub lawful : (r : ℕ) → IsLog (rules_of book.setup) r (state_of book) (log_at (logs_in gone) r)
 
--- The Recover of this role was added, and behind it what those did that ran beside it.
+-- The Recover of this role was added, and after it what the cells did that ran beside it.
 pub record HasRecoveredBeside (old new : BookView) (role : ℕ) : Type 0 where
   pub entry : Entry
   pub recovers : IsRecoveryOf old role entry
@@ -54,8 +53,7 @@ pub record HasGoneRound (old new : BookView) : Type 0 where
 abbrev pub NoneIsCrashed : BookView → Type 0
 NoneIsCrashed book = (r : ℕ) → IsCrashed (state_of book) r → ⊥
 
--- Where a role was crashed, the least such one recovered, and the others ran beside it; where none was, a round was
--- made.
+-- If a role was crashed, the least such role recovered, and the others ran beside it. If none was, a round was made.
 pub record HasGoneTogether (old new : BookView) : Type 0 where
   pub recovered : (p : ℕ) → IsLeastOf (IsCrashed (state_of old)) p → HasRecoveredBeside old new p
   pub round : NoneIsCrashed old → HasGoneRound old new

@@ -11,13 +11,13 @@ pub record HasGoneOn (old new : BookView) : Type 0 where
   pub more : List Entry
   pub added : new ≡ with_more old (first ∷ more)
 
--- The Recover of this role was added, which may come.
+-- The Recover of this role may come, and was added.
 pub record HasRecovered (old new : BookView) (role : ℕ) : Type 0 where
   pub entry : Entry
   pub recovers : IsRecoveryOf old role entry
   pub added : new ≡ with_entry old entry
 
--- Whom an entry concerns: a Recover the roles that it names, any other nobody.
+-- Whom an entry concerns: a Recover concerns the roles that it names, any other entry nobody.
 abbrev pub concerned_of : Entry → RoleSet
 concerned_of (Send e) = record { 0 = 0 }
 concerned_of (Recv e) = record { 0 = 0 }

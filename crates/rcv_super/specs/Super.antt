@@ -7,14 +7,14 @@ use Rattle.rcv_core.specs.Book.{BookView, IsAtEnd}
 use Rattle.rcv_core.specs.Skips.{IsSkip}
 use Rattle.rcv_fence.specs.Shown.{Shown}
 use Rattle.rcv_role.specs.Cell.{CellView}
-use Rattle.rcv_lanes.specs.Home.{AreHome, HaveBases}
-use Rattle.rcv_lanes.specs.Running.{AreWatched}
+use Rattle.rcv_cells.specs.Home.{AreHome, HaveBases}
+use Rattle.rcv_cells.specs.Running.{AreWatched}
 use Rattle.rcv_super.specs.Bases.{IsStableIn}
 use Rattle.rcv_super.specs.declared.whereabouts.Whereabouts.{Whereabouts}
 use Rattle.rcv_super.specs.declared.whereabouts.Whereabouts.TheVariants.{Before, Home, Over}
 use Rattle.rcv_alone.specs.Steps.{AreSteps}
 
--- Its book, whether want of memory closed it, how many turns added entries, and the stable line that was found last.
+-- Its book, whether it was closed because memory ran out, how many turns added entries, and the stable line that was found last.
 pub record SuperView : Type 0 where
   pub book : BookView
   pub closed : Bool

@@ -12,8 +12,7 @@ use Rattle.rcv_super.specs.declared.session.Turn.TheVariants.{More, Completed, L
 use Rattle.rcv_super.specs.declared.session.SessionError.{SessionError}
 use Rattle.rcv_super.specs.declared.session.SessionError.TheVariants.{Closed, Memory}
 
--- An open session at its end, where all roles are done, or some role has come to the limit; and one with something left
--- to do.
+-- An open session at its end: all roles are done, or some role has come to the limit. And one with something left to do.
 pub record IsAtCompletion (session : SuperView) : Type 0 where
   pub not_closed : session.closed ≡ false
   pub end : IsCompleted (rules_of session.book.setup) (state_of session.book)
@@ -32,21 +31,20 @@ IsEndOf book Completed = IsCompleted (rules_of book.setup) (state_of book)
 IsEndOf book Limited = IsLimited (rules_of book.setup) (state_of book)
 IsEndOf book More = ⊥
 
--- A turn was counted. Behind each 1,024th of them the line is the book's stable line, and else it is what it was.
+-- A turn was counted. After each 1,024th the line is the book's stable line; otherwise it is what it was.
 pub record HasCounted (old new : SuperView) : Type 0 where
   pub turns : new.turns ≡ old.turns + 1
   pub line : new.turns % 1024 ≡ 0 → IsStableLineOf new.book new.stable
   pub stays : (new.turns % 1024 ≡ 0 → ⊥) → new.stable ≡ old.stable
 
--- None was, and the line is what it was.
+-- No turn was counted, and the line is what it was.
 pub record HasNotCounted (old new : SuperView) : Type 0 where
   pub turns : new.turns ≡ old.turns
   pub stable : new.stable ≡ old.stable
 
--- What a turn of so many workers did. An open session with something left to do goes on by at least one entry: with one
--- worker by the entry that one thread makes, and with several by a round, or by a recovery with what runs beside it. Or
--- it wants memory and is closed from then on: its book is as it was, but for the Recover of a crashed role, which may
--- stand there with several workers.
+-- What a turn of so many workers did. An open session with something left to do goes on by at least one entry: with one worker by the entry
+-- that one thread makes, and with several by a round, or by a recovery with what runs beside it. Or memory runs out, and it is closed from
+-- then on: its book is as it was, except that with several workers the Recover of a crashed role may stand there.
 abbrev pub Turned : ℕ → SuperView → SuperView → Result Turn SessionError → Type 0
 Turned workers old new (Ok Completed) = IsAtCompletion old × (new ≡ old)
 Turned workers old new (Ok Limited) = IsAtLimit old × (new ≡ old)

@@ -1,11 +1,11 @@
-// One worker on its own: the book makes the entries. The cells follow where several workers are asked for.
+// One worker on its own: the book makes the entries. The cells follow once several workers are asked for.
 
 ghost use Rattle.std.specs.Prelude.{◌≡◌, [], IfOk, OnOk};
 ghost use Rattle.rcv_model.specs.Journal.{start};
 ghost use Rattle.rcv_session.specs.Session.{roles_of, rules_of};
 ghost use Rattle.rcv_core.specs.Book.{IsAtEnd};
 ghost use Rattle.rcv_core.specs.Skips.{IsSkip};
-ghost use Rattle.rcv_lanes.specs.Home.{AreHome, HaveBases};
+ghost use Rattle.rcv_cells.specs.Home.{AreHome, HaveBases};
 ghost use Rattle.rcv_super.specs.Bases.{IsStableIn};
 ghost use Rattle.rcv_alone.specs.Steps.{AreSteps};
 ghost use Rattle.rcv_super.specs.Super.{IsAlone, Stands};
@@ -39,7 +39,7 @@ pub fn finish_alone<G: Gate>(book: &mut Book, skip: Skip, gate: &G)
     }
 }
 
-/// How a session ends in which nothing is left to do.
+/// How a session ends that has nothing left to do.
 pub fn end_of(book: &Book) -> Turn
     requires { IsAtEnd book.now }
     ensures { IsEndOf book.now result }
@@ -51,8 +51,8 @@ pub fn end_of(book: &Book) -> Turn
     }
 }
 
-/// Brings the cells to where the book stands, where it has gone on alone; from then on they choose, and have forgotten
-/// the states before the line. Fails if memory runs out; then the cells are at home nowhere.
+/// Brings the cells to where the book stands, if it has gone on alone. From then on they choose, and have forgotten the
+/// states before the line. Fails if memory runs out; then the cells are at home nowhere.
 pub fn bring_home<'a>(
     alloc: Global,
     book: &mut Book<'a>,
@@ -97,7 +97,7 @@ fn follow<'a>(
     Ok(())
 }
 
-// Makes the steps of a book, which one thread made, once more, by the cells that stand before the first of them.
+// One thread made the steps of a book. The cells, which stand before the first step, make them once more.
 fn catch_up<'a>(
     alloc: Global,
     book: &Book<'a>,

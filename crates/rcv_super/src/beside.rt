@@ -1,12 +1,12 @@
-// The recovery of a crashed role, beside which the cells that it doesn't concern run.
+// The recovery of a crashed role. The cells that it doesn't concern run beside it.
 
 ghost use Rattle.std.specs.Prelude.{◌≡◌, ◌⊎◌, ◌≤◌, ◌<◌, false, length, All, OnOk, OnErr};
 ghost use Rattle.rcv_model.specs.Final.{IsCrashed};
 ghost use Rattle.rcv_core.specs.Book.{state_of};
 ghost use Rattle.rcv_fence.specs.Shown.{with_raised};
-ghost use Rattle.rcv_lanes.specs.Home.{AreHome, SameBases};
-ghost use Rattle.rcv_lanes.specs.Running.{AreWatched, IsLowered, MayRun, HalfHasRun};
-ghost use Rattle.rcv_back.specs.Back.{CanGoBack, HaveGoneBack};
+ghost use Rattle.rcv_cells.specs.Home.{AreHome, SameBases};
+ghost use Rattle.rcv_cells.specs.Running.{AreWatched, IsLowered, MayRun, HalfHasRun};
+ghost use Rattle.rcv_rollback.specs.Back.{CanGoBack, HaveGoneBack};
 ghost use Rattle.rcv_super.specs.Super.{HasWatches};
 ghost use Rattle.rcv_super.specs.Bases.{AreBased};
 ghost use Rattle.rcv_super.specs.Beside.{IsIdle, AreIdle, ArePartedBehind, HaveMerged};
@@ -14,23 +14,23 @@ ghost use Rattle.rcv_super.specs.Steps.{HasRecovered};
 ghost use Rattle.rcv_super.specs.Rounds.{HasRecoveredBeside};
 
 use crate::known::{concerned_by, know_all};
-use rcv_back::back::go_back;
-use rcv_back::halves::{Half, split, unite};
+use rcv_rollback::back::go_back;
+use rcv_rollback::halves::{Half, split, unite};
 use rcv_core::book::Book;
 use rcv_fence::Watch;
 use rcv_gate::Gate;
-use rcv_lanes::house::{Crew, House};
-use rcv_lanes::lanes::{clear_logs, half_round};
-use rcv_lanes::meet::meet_all;
-use rcv_lanes::merging::merge_logs;
-use rcv_lanes::push::push_all;
+use rcv_cells::house::{Crew, House};
+use rcv_cells::lanes::{clear_logs, half_round};
+use rcv_cells::meet::meet_all;
+use rcv_cells::merging::merge_logs;
+use rcv_cells::push::push_all;
 use rcv_role::cell::Cell;
 use rcv_tree::entry::Entry;
 use rcv_tree::role::RoleId;
 use std::alloc::AllocError;
 use std::thread::{Threads, join_mut};
 
-// Whether there is a cell at the place that isn't crashed.
+// Whether there is a cell at the place, and it isn't crashed.
 fn may_run<'a>(place: &Option<Cell<'a>>) -> bool
     ensures { result ≡ false → IsIdle place.now }
 {
@@ -74,8 +74,8 @@ fn run_half<'a, G: Gate + Sync, R: Threads + Sync>(
     let _activity = half_round(crew, half, watch, watches);
 }
 
-// The cells of one half go back on this thread, while those of the other run on the others, each under one of the
-// watches.
+// The cells of one half go back on this thread. Meanwhile those of the other half run on the other threads, each under
+// one of the watches.
 fn go_back_beside<'a, 'b, G: Gate + Sync, R: Threads + Sync>(
     crew: &Crew<R, G>,
     book: &Book<'a>,
@@ -118,8 +118,8 @@ fn go_back_beside<'a, 'b, G: Gate + Sync, R: Threads + Sync>(
     );
 }
 
-// Behind a recovery the cells meet, and come home with the merged entries of those that ran in the book. Fails where
-// memory runs out; then none of these entries stands there.
+// After a recovery the cells meet and come home, and the book has the merged entries of those that ran. Fails if memory
+// runs out; then none of these entries stands there.
 fn hand_in<'a>(
     book: &mut Book<'a>,
     lanes: &mut [Cell<'a>],
@@ -145,8 +145,8 @@ fn hand_in<'a>(
 }
 
 /// With the fence lowered, recovers a crashed role on one thread, while the cells that aren't concerned and aren't
-/// crashed run on the others; where there are none such, no thread is started. The Recover goes into the book, and
-/// behind it the merged entries of those that ran. Fails if memory runs out; then the book is as it was or has the
+/// crashed run on the others. If there are no such cells, no thread is started. The Recover goes into the book, and
+/// after it the merged entries of those that ran. Fails if memory runs out; then the book is as it was or has the
 /// Recover alone, and the cells aren't at home.
 pub fn recover_beside<'a, G: Gate + Sync, R: Threads + Sync>(
     crew: &Crew<R, G>,

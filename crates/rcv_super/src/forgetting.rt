@@ -4,19 +4,19 @@ ghost use Rattle.std.specs.Prelude.{◌≡◌, ◌+◌, ◌%◌, ◌<◌, ◌≤
 ghost use Rattle.rcv_session.specs.Session.{roles_of};
 ghost use Rattle.rcv_core.specs.Book.{IsStableLineOf};
 ghost use Rattle.rcv_role.specs.Cell.{CellView};
-ghost use Rattle.rcv_lanes.specs.Home.{cell_at, AreHome, HaveBases};
+ghost use Rattle.rcv_cells.specs.Home.{cell_at, AreHome, HaveBases};
 ghost use Rattle.rcv_super.specs.declared.whereabouts.Whereabouts.TheVariants.{Home};
 ghost use Rattle.rcv_super.specs.Bases.{IsStableIn, WasStable, CanForget, without_states};
 
 use crate::whereabouts::Whereabouts;
 use rcv_core::book::Book;
-use rcv_lanes::house::House;
+use rcv_cells::house::House;
 use rcv_role::cell::Cell;
 
-// Behind so many turns that added entries the cells forget.
+// After so many turns that added entries the cells forget.
 const OFTEN: u32 = 1024;
 
-// One cell forgets the states before the one behind so many events.
+// One cell forgets the states that are older than the one after so many events.
 fn forget_cell<'a>(cell: &mut Cell<'a>, line: u32)
     requires { CanForget line cell.old }
     ensures { cell.new ≡ without_states cell.old line }
@@ -73,8 +73,8 @@ pub fn next_turn(book: &Book, turns: u32) -> u32
     turns + 1
 }
 
-/// Behind a turn that added entries, with the number of that turn: behind each 1,024th the line becomes the book's
-/// stable line, before which the cells forget, if they are at home. It takes no memory.
+/// Comes after a turn that added entries, with the number of that turn. After each 1,024th the line becomes the book's
+/// stable line, and the cells forget the states before it, if they are at home. It takes no memory.
 pub fn keep_line<'a>(house: &mut House<'a>, at: Whereabouts, turns: u32, line: &mut [u32; 8])
     requires was { WasStable house.old.book line.old }
     requires home { at ≡ Home → AreHome house.old.book house.old.lanes.items

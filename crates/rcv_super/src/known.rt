@@ -1,9 +1,9 @@
-// What a recovery has to know before it begins: whom it concerns, and that the cells hold the states to go back to.
+// What a recovery needs to know before it begins: whom it concerns, and that the cells hold the states to go back to.
 
 ghost use Rattle.std.specs.Prelude.{◌≡◌, ◌<◌, ℕ, length};
 ghost use Rattle.rcv_role.specs.Part.{HoldsStates};
 ghost use Rattle.rcv_role.specs.Cell.{CellView};
-ghost use Rattle.rcv_lanes.specs.Home.{cell_at};
+ghost use Rattle.rcv_cells.specs.Home.{cell_at};
 ghost use Rattle.rcv_super.specs.Steps.{concerned_of};
 
 use rcv_role::cell::Cell;

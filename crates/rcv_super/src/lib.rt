@@ -12,5 +12,5 @@ mod sharing;
 mod step;
 mod whereabouts;
 
-/// Want of memory.
+/// Memory ran out.
 pub use std::alloc::AllocError as Memory;

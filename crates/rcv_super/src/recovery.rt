@@ -3,13 +3,13 @@
 ghost use Rattle.std.specs.Prelude.{◌≡◌, OnOk, OnErr};
 ghost use Rattle.rcv_model.specs.Final.{IsCrashed};
 ghost use Rattle.rcv_core.specs.Book.{state_of};
-ghost use Rattle.rcv_lanes.specs.Home.{AreHome, SameBases};
+ghost use Rattle.rcv_cells.specs.Home.{AreHome, SameBases};
 ghost use Rattle.rcv_super.specs.Bases.{AreBased};
 ghost use Rattle.rcv_super.specs.Steps.{HasRecovered};
 
 use crate::known::{concerned_by, know_all};
-use rcv_back::back::go_back;
-use rcv_back::halves::{split, unite};
+use rcv_rollback::back::go_back;
+use rcv_rollback::halves::{split, unite};
 use rcv_core::book::Book;
 use rcv_role::cell::Cell;
 use rcv_tree::role::RoleId;

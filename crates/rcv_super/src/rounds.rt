@@ -4,7 +4,7 @@ ghost use Rattle.std.specs.Prelude.{◌≡◌, ◌≤◌, OnOk, OnErr};
 ghost use Rattle.rcv_model.specs.Final.{IsCrashed};
 ghost use Rattle.rcv_session.specs.Session.{roles_of};
 ghost use Rattle.rcv_core.specs.Book.{state_of, IsAtEnd, HasMore};
-ghost use Rattle.rcv_lanes.specs.Home.{AreHome, HaveBases, SameBases};
+ghost use Rattle.rcv_cells.specs.Home.{AreHome, HaveBases, SameBases};
 ghost use Rattle.rcv_super.specs.Super.{HasWatches, Stands};
 ghost use Rattle.rcv_super.specs.Bases.{IsStableIn, AreBased};
 ghost use Rattle.rcv_alone.specs.Steps.{HasStepped};
@@ -18,14 +18,14 @@ use crate::sharing::Sharing;
 use crate::step::make_step;
 use crate::whereabouts::Whereabouts;
 use rcv_gate::Gate;
-use rcv_lanes::house::{Crew, House};
-use rcv_lanes::round::make_round;
+use rcv_cells::house::{Crew, House};
+use rcv_cells::round::make_round;
 use rcv_tree::role::RoleId;
 use std::alloc::{AllocError, Global};
 use std::thread::Threads;
 
-/// A turn of a crew, behind which the cells are at home, from where they stand. They have forgotten the states before
-/// the line, and no others. Fails if memory runs out: then the cells aren't at home.
+/// A turn of a crew, from where the cells stand. After it they are at home. They have forgotten the states before the
+/// line, and no others. Fails if memory runs out; then the cells aren't at home.
 pub fn go<'a, G: Gate + Sync, R: Threads + Sync>(
     crew: &Crew<R, G>,
     house: &mut House<'a>,
@@ -55,8 +55,8 @@ pub fn go<'a, G: Gate + Sync, R: Threads + Sync>(
     go_on(crew, house, sharing)
 }
 
-/// The recovery of a crashed role, with nobody running beside it, behind which the cells are at home. Fails where
-/// memory runs out: then the book is as it was, and the cells aren't at home.
+/// The recovery of a crashed role, with nobody running beside it. After it the cells are at home. Fails if memory runs
+/// out; then the book is as it was, and the cells aren't at home.
 pub fn recover_home<'a>(
     alloc: Global,
     house: &mut House<'a>,
@@ -79,8 +79,8 @@ pub fn recover_home<'a>(
     recover_alone(alloc, &mut house.book, &mut house.lanes, role)
 }
 
-// Where a role is crashed, the least such one recovers, and the cells that aren't concerned run beside it. Where none
-// is, all cells run; and where that added nothing, the next step of the one-thread order is made.
+// If a role is crashed, the least such role recovers, and the cells that aren't concerned run beside it. If none is,
+// all cells run; if that added nothing, the next step of the one-thread order is made.
 fn go_on<'a, G: Gate + Sync, R: Threads + Sync>(
     crew: &Crew<R, G>,
     house: &mut House<'a>,

@@ -18,28 +18,28 @@ use rcv_core::outcome::Outcome;
 use rcv_core::setup::Setup;
 use rcv_core::skip::Skip;
 use rcv_gate::Gate;
-use rcv_lanes::house::{Crew, House};
+use rcv_cells::house::{Crew, House};
 use rcv_tree::role::RoleId;
 use std::alloc::{AllocError, Global};
 use std::marker::Model;
 use std::thread::Threads;
 use thiserror::Error;
 
-// An expression of so many steps is worth to be computed beside others.
+// An expression of so many steps is worth computing beside others.
 const DEAR: usize = 200;
 
-// About so many steps of a role make a round: threads are worth longer ones where scripts are dear, and where they are
-// cheap, the book makes the rest the sooner.
+// A round is about so many steps of each role. Threads are worth longer rounds if scripts are dear. If they are cheap,
+// the book makes the rest the sooner.
 const DEAR_STEPS: u32 = 1_024;
 
 const CHEAP_STEPS: u32 = 64;
 
-// So many turns of several workers show whether threads are worth having, before the book may go on alone.
+// So many turns of several workers show whether threads are worth having. Only then may the book go on alone.
 const TRIED: u32 = 4;
 
-/// A book, and the cells of its roles. Contracts see the book, whether want of memory closed the session, how many
-/// turns added entries, and the stable line that was found last: the cells, once they follow the book, have forgotten
-/// the states before it.
+/// A book, and the cells of its roles. Contracts see the book, whether the session was closed because memory ran out,
+/// how many turns added entries, and the stable line that was found last. Once the cells follow the book, they have
+/// forgotten the states before that line.
 #[derive(Drop)]
 pub struct Session<'a> {
     house: House<'a>,
@@ -91,8 +91,8 @@ pub enum SessionError {
 }
 
 impl<'a> Session<'a> {
-    /// A session before its first entry: its channels and its cells are made, and one fence, with a watch for each of
-    /// eight workers; and all room that its entries may need is reserved. Fails if memory runs out.
+    /// A session before its first entry. Makes its channels, its cells and one fence, with a watch for each of eight
+    /// workers, and reserves all room that its entries may need. Fails if memory runs out.
     pub fn new(alloc: Global, setup: &'a Setup) -> Result<Session<'a>, AllocError>
         ensures { IfOk result (λ session. session ≡ new_session setup.now) }
     {
@@ -111,30 +111,30 @@ impl<'a> Session<'a> {
 
     /// One turn with so many workers, from 1 to 8.
     ///
-    /// With one worker it adds the entry that the one-thread order names. As long as there were no others the book
-    /// makes it alone; the first turn of several brings the cells to where the book stands, and from then on each entry
-    /// is made by the cell of its role.
+    /// With one worker it adds the entry that the one-thread order names. Until the first turn with several workers the
+    /// book makes it alone. That turn brings the cells to where the book stands, and from then on each entry comes from
+    /// the cell of its role.
     ///
-    /// With several, where no role is crashed, a round is made: the fence is lowered, and the workers, each on a thread
-    /// of its own, go over their cells again and again, until each cell has made 1,024 steps, or some 64 where no
-    /// expression of a script takes 200 steps, or nobody can go on. What
-    /// the cells logged is merged by stamp and added; where that is nothing, the next entry of the one-thread order is.
-    /// There are as many threads as workers and cells allow. Behind a round that added few entries, or in which others
-    /// mostly waited for one worker, some rounds are made on the caller's thread alone.
+    /// With several, if no role is crashed, it makes a round. It lowers the fence, and the workers, each on a thread of
+    /// its own, go over their cells again and again. They stop when each cell has made 1,024 steps (or some 64, if no
+    /// expression of a script takes 200 steps), or when nobody can go on. What the cells logged is merged by stamp and
+    /// added. If that is nothing, the next entry of the one-thread order is added. There are as many threads as workers
+    /// and cells allow. After a round that added few entries, or in which others mostly waited for one worker, some
+    /// rounds are made on the caller's thread alone.
     ///
-    /// Where a role is crashed, the least such one recovers, while the cells that aren't concerned and aren't crashed
-    /// run on the other threads; where there are none such, no thread is started. Its Recover is added before what they
+    /// If a role is crashed, the least such role recovers, while the cells that aren't concerned and aren't crashed run
+    /// on the other threads. If there are no such cells, no thread is started. The Recover is added before what they
     /// did.
     ///
-    /// Behind each 1,024th turn that added entries the book's stable line is found, and the cells forget the states
-    /// before it, which no recovery can ask for.
+    /// After each 1,024th turn that added entries the session finds the book's stable line, and the cells forget the
+    /// states before it: no recovery can ask for them.
     ///
     /// The gate is called before each step that a role attempts and before a recovery moves anything, on the thread
     /// that does it.
     ///
-    /// A session at its end stays as it is, and the answer says at which. Behind `Memory` the session is closed: its
-    /// book is as it was, but that with several workers the Recover of the least crashed role may stand in it. `Closed`
-    /// comes exactly where an earlier call on this session answered `Memory`, and changes nothing.
+    /// A session at its end stays as it is, and the answer says at which. After `Memory` the session is closed. Its
+    /// book is as it was, except that with several workers the Recover of the least crashed role may stand in it.
+    /// `Closed` comes exactly if an earlier call on this session answered `Memory`, and changes nothing.
     pub fn turn<'c, G: Gate + Sync, R: Threads + Sync>(
         &mut self,
         rt: &'c R,
@@ -195,16 +195,16 @@ impl<'a> Session<'a> {
 
     /// Brings the session to its end with so many workers, from 1 to 8.
     ///
-    /// One worker adds the entries of the one-thread order by the book alone, on this thread, whoever made those so
-    /// far.
+    /// One worker adds the entries of the one-thread order by the book alone, on this thread. It doesn't matter who
+    /// made those so far.
     ///
-    /// Several make turns. Behind the first four the book alone makes the rest, on this thread, where that is the
-    /// fastest: where no expression of a script takes 200 steps, or where nearly always one worker at a time had
-    /// something to do and no crash lines are left. The gate has to be open for that: one that may hold a role up wants
-    /// the others to go on beside it. What the book alone makes counts no turns, and finds no stable line.
+    /// Several make turns. After the first four the book alone makes the rest, on this thread, if that is the fastest:
+    /// if no expression of a script takes 200 steps, or if nearly always one worker at a time had something to do and
+    /// no crash lines are left. The gate must be open for that: a gate that may hold a role up wants the others to go
+    /// on beside it. What the book alone makes counts no turns, and finds no stable line.
     ///
-    /// The gate is called as in turns. Behind `Memory` the session is closed, and its book has some of the entries.
-    /// `Closed` comes exactly where an earlier call on this session answered `Memory`, and changes nothing.
+    /// The gate is called as in turns. After `Memory` the session is closed, and its book has some of the entries.
+    /// `Closed` comes exactly if an earlier call on this session answered `Memory`, and changes nothing.
     pub fn finish<'c, G: Gate + Sync, R: Threads + Sync>(
         &mut self,
         rt: &'c R,
@@ -231,9 +231,9 @@ impl<'a> Session<'a> {
         self.finish_alone(gate)
     }
 
-    // Whether the book alone, on the caller's thread, is the fastest way to the end, behind so many turns of several
-    // workers: no script is worth a thread, or one role at a time had something to do. A gate that may hold a role up
-    // wants the others beside it, and so do crashes that are still to come, where scripts are dear.
+    // Whether, after so many turns of several workers, the book alone, on the caller's thread, is the fastest way to
+    // the end: no script is worth a thread, or one role at a time had something to do. A gate that may hold a role up
+    // wants the others beside it. So do crashes that are still to come, if scripts are dear.
     fn goes_best_alone<G: Gate>(&self, tried: u32, gate: &G) -> bool {
         if tried < TRIED || !gate.is_open() {
             return false;
@@ -241,7 +241,7 @@ impl<'a> Session<'a> {
         !self.house.dear || (self.sharing.is_lonely() && !self.house.book.awaits_crash())
     }
 
-    // Makes all entries that are left by the book alone.
+    // Makes all entries that are left, by the book alone.
     fn finish_alone<G: Gate>(&mut self, gate: &G) -> Result<(), SessionError>
         ensures { FinishedAlone self.old self.new result }
     {
@@ -257,8 +257,8 @@ impl<'a> Session<'a> {
         Ok(())
     }
 
-    /// Recovers a crashed role, with nobody running beside it. Behind `Memory` the session is closed, and its book is
-    /// as it was. `Closed` comes exactly where an earlier call on this session answered `Memory`, and changes nothing.
+    /// Recovers a crashed role, with nobody running beside it. After `Memory` the session is closed, and its book is as
+    /// it was. `Closed` comes exactly if an earlier call on this session answered `Memory`, and changes nothing.
     pub fn recover(&mut self, alloc: Global, role: RoleId) -> Result<(), SessionError>
         requires { IsCrashed (state_of self.old.book) role }
         ensures { Recovered role self.old self.new result }
@@ -285,8 +285,8 @@ impl<'a> Session<'a> {
         self.turns
     }
 
-    /// The stable line that was found last, behind a turn whose number is a multiple of 1,024: for each of eight roles
-    /// how many of its events no recovery takes back. 0 of each at first.
+    /// The stable line that was found last, after a turn whose number is a multiple of 1,024: for each of eight roles
+    /// how many of its events no recovery takes back. At first it is 0 for each.
     pub fn stable(&self) -> [u32; 8]
         ensures { result ≡ self.now.stable }
     {

@@ -4,7 +4,7 @@ ghost use Rattle.std.specs.Prelude.{◌≤◌};
 
 use rcv_passes::activity::Activity;
 
-// To make a thread and to join it costs some 50 microseconds, and several times that on a busy machine. If one role at
+// Making a thread and joining it costs some 50 microseconds, and several times that on a busy machine. If one role at
 // a time has something to do, each round would pay that for a few entries. So after a round on threads that added fewer
 // than FEW entries, or in which the others mostly waited for one, REST rounds are made on this thread alone before
 // threads are started again.
@@ -30,7 +30,7 @@ impl Sharing {
         }
     }
 
-    /// With how many workers the next round is made.
+    /// How many workers make the next round.
     pub fn workers(&self, workers: usize) -> usize
         requires { 2 ≤ workers }
         ensures least { 1 ≤ result }
@@ -52,7 +52,7 @@ impl Sharing {
         }
     }
 
-    /// Whether one worker at a time had something to do, nearly always, in the last round on threads.
+    /// Whether, in the last round on threads, nearly always one worker at a time had something to do.
     pub fn is_lonely(&self) -> bool {
         self.is_lonely
     }

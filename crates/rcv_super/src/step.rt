@@ -6,7 +6,7 @@ ghost use Rattle.rcv_model.specs.Final.{IsCrashed, IsLeastOf, IsStep};
 ghost use Rattle.rcv_session.specs.Session.{rules_of};
 ghost use Rattle.rcv_core.specs.Book.{state_of, HasMore};
 ghost use Rattle.rcv_role.specs.Cell.{CellView};
-ghost use Rattle.rcv_lanes.specs.Home.{cell_at, AreHome, SameBases};
+ghost use Rattle.rcv_cells.specs.Home.{cell_at, AreHome, SameBases};
 ghost use Rattle.rcv_super.specs.Bases.{AreBased};
 ghost use Rattle.rcv_super.specs.OneStep.{IsNextEvent, CanPoll, WasPolled, AreOutWith};
 ghost use Rattle.rcv_alone.specs.Steps.{HasStepped};
@@ -14,15 +14,15 @@ ghost use Rattle.rcv_alone.specs.Steps.{HasStepped};
 use crate::recovery::recover_alone;
 use rcv_core::book::Book;
 use rcv_gate::Gate;
-use rcv_lanes::lanes::clear_logs;
-use rcv_lanes::meet::meet_pair;
+use rcv_cells::lanes::clear_logs;
+use rcv_cells::meet::meet_pair;
 use rcv_role::cell::Cell;
 use rcv_tree::entry::Entry;
 use rcv_tree::event::Event;
 use rcv_tree::role::RoleId;
 use std::alloc::{AllocError, Global};
 
-/// The next step of the one-thread order: the book says which it is, its role's cell makes it, and it goes into the
+/// The next step of the one-thread order. The book says which it is, its role's cell makes it, and it goes into the
 /// book. Fails if memory runs out; then the book is as it was.
 pub fn make_step<'a, G: Gate>(
     alloc: Global,
@@ -44,7 +44,7 @@ pub fn make_step<'a, G: Gate>(
     }
 }
 
-// The same, where this is the step.
+// The same, if this is the step.
 fn make_entry<'a, G: Gate>(
     alloc: Global,
     book: &mut Book<'a>,
@@ -111,8 +111,8 @@ fn make_crash<'a, G: Gate>(book: &mut Book<'a>, lanes: &mut [Cell<'a>], gate: &G
     add_entry(book, lanes, Entry::Crash(role));
 }
 
-// The Send or Recv of an event. The cells at the ends of its channel meet before it, so that the role's cell finds the
-// message or the room that the book knows of, and meet again behind it, so that both know of it.
+// The Send or Recv of an event. Before it the cells at the ends of its channel meet, so that the role's cell finds the
+// message or the room that the book knows of. After it they meet again, so that both know of it.
 fn make_event<'a, G: Gate>(
     book: &mut Book<'a>,
     lanes: &mut [Cell<'a>],

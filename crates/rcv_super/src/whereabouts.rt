@@ -3,7 +3,7 @@
 ghost use Rattle.std.specs.Prelude.{◌≡◌, ◌↔◌, IsTrue};
 ghost use Rattle.rcv_super.specs.declared.whereabouts.Whereabouts.TheVariants.{Before, Home};
 
-/// Where they do, beside the book.
+/// Where the cells stand, compared with the book.
 #[derive(Clone, Copy, Debug)]
 pub enum Whereabouts {
     /// One worker has made all entries so far, by the book alone: they stand before the first.

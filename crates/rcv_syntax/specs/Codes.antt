@@ -1,5 +1,5 @@
--- The codes from 12 on, each by the symbols alone. Everywhere back are the symbols before, the nearest first, t is the
--- symbol at which the code is to hold, and ts are the symbols behind it.
+-- The codes from 12 on, each by the symbols alone. Everywhere back are the symbols before, the nearest first, t is the symbol at
+-- which the code may hold, and ts are the symbols after it.
 use Rattle.std.specs.Prelude.{◌≡◌, ℕ, nat_le, Bool, true, false, not, ◌||◌, cond, List, [], ◌∷◌, ◌++◌, length, drop}
 use Rattle.std.specs.List.{list_any}
 use Rattle.std.specs.Str.{bytes_eq}
@@ -26,8 +26,8 @@ is_among name names = list_any (λ other. bytes_eq name other) names
 
 -- ---- what stands where
 
--- As what a name stands: as a protocol or a role that it declares, as an alias, as a role that sends or chooses, as one
--- that receives, as the protocol of a call, as an argument of a call, as the name of a continue, or as something else.
+-- What a name stands as: a protocol or a role that it declares, an alias, a role that sends or chooses, one that receives, the
+-- protocol of a call, an argument of a call, the name of a continue, or something else.
 pub data Standing : Type 0 where
   AsNewProtocol : Standing
   AsNewRole : Standing
@@ -39,18 +39,18 @@ pub data Standing : Type 0 where
   AsTarget : Standing
   AsOther : Standing
 
--- behind a comma, where a name before it stands so
+-- after a comma, if a name before it stands so
 abbrev pub goes_on : Standing → Standing
 goes_on AsReceiver = AsReceiver
 goes_on AsArgument = AsArgument
 goes_on _ = AsOther
 
--- behind a parenthesis, where the name before it stands so
+-- after a parenthesis, if the name before it stands so
 abbrev pub goes_in : Standing → Standing
 goes_in AsCalled = AsArgument
 goes_in _ = AsOther
 
--- As what a name stands behind these symbols. The word behind a text is `as`.
+-- What a name stands as after these symbols. The word after a text is `as`.
 abbrev pub standing : List Symbol → Standing
 standing (Is Protocol ∷ back) = AsNewProtocol
 standing (Is Role ∷ back) = AsNewRole
@@ -102,13 +102,13 @@ abbrev pub listed : List Symbol → List (List ℕ)
 listed (Is Comma ∷ Word r ∷ back) = listed back ++ r ∷ []
 listed _ = []
 
--- the name behind the `from` of this list
+-- the name after the `from` of this list
 abbrev pub sender : List Symbol → List ℕ
 sender (Is Comma ∷ Word r ∷ back) = sender back
 sender (Is To ∷ Word s ∷ back) = s
 sender _ = []
 
--- For each `{` that is open what stands before it, the innermost first.
+-- What stands before each `{` that is open, the innermost first.
 abbrev pub open_braces : List Symbol → List (List Symbol)
 open_braces [] = []
 open_braces (Is Open ∷ back) = back ∷ open_braces back
@@ -121,8 +121,8 @@ recs_of [] = []
 recs_of ((Word x ∷ Is Rec ∷ back) ∷ braces) = recs_of braces ++ x ∷ []
 recs_of (_ ∷ braces) = recs_of braces
 
--- A walk comes from the `{` of an enclosing `rec x` to here without a message and without a call: nothing stands between
--- but openings and the finished branches of open choices.
+-- A walk comes from the `{` of an enclosing `rec x` to here without a message and without a call: only openings and the finished
+-- branches of open choices stand between.
 pub data Comes : List ℕ → List Symbol → Type 0 where
   FromItsStart : (x : List ℕ) (back : List Symbol) → Comes x (Is Open ∷ Word x ∷ Is Rec ∷ back)
   IntoRec : (x y : List ℕ) (back : List Symbol) → Comes x back → Comes x (Is Open ∷ Word y ∷ Is Rec ∷ back)
@@ -140,8 +140,8 @@ is_role AsReceiver = true
 is_role AsArgument = true
 is_role _ = false
 
--- The roles that are named since the last word par before which no more blocks than these are open, the nearest first: those
--- of this protocol.
+-- The roles that are named since the last word par with no more open blocks before it than so many, the nearest first: those of
+-- this protocol.
 abbrev pub named_since_par : ℕ → List Symbol → List (List ℕ)
 named_since_par depth [] = []
 named_since_par depth (Is Global ∷ back) = []
@@ -150,9 +150,9 @@ named_since_par depth (Word n ∷ back) =
     cond (is_role (standing back)) (n ∷ named_since_par depth back) (named_since_par depth back)
 named_since_par depth (_ ∷ back) = named_since_par depth back
 
--- For each `{` that is open what stands before it is given. One of them begins a block of a par, behind the word and, and
--- the role is named in a block of the same par before it: between this par's word and this `{`. The par's own word is the
--- last one before which no more blocks are open than before the `{`, since a par within one of its blocks has that one open.
+-- What stands before each `{` that is open is given. One of them begins a block of a par, after the word and, and the role is
+-- named in a block of the same par before it: between this par's word and this `{`. The par's own word is the last one with no
+-- more open blocks before it than the `{` has, since a par within one of its blocks has that one open.
 abbrev pub is_beside : List ℕ → List (List Symbol) → Bool
 is_beside n [] = false
 is_beside n ((Is And ∷ back) ∷ braces) = is_among n (named_since_par (length braces) back) || is_beside n braces
@@ -199,19 +199,19 @@ begins_a_statement (Is Par) = true
 begins_a_statement (Is Do) = true
 begins_a_statement _ = false
 
--- The codes that hold at a symbol, whatever stands behind it.
+-- The codes that hold at a symbol, whatever stands after it.
 abbrev pub is_at : Fault → List Symbol → Symbol → Bool
 -- 12: a { that begins the 33rd nested block
 is_at Deep back (Is Open) = nat_le 32 (length (open_braces back))
--- 16: the first symbol of a statement behind a continue in the same block
+-- 16: the first symbol of a statement after a continue in the same block
 is_at AfterContinue back t = cond (begins_a_statement t) (is_behind_continue back) false
--- 19: the word par where a block is open in the protocol's own, or in another protocol than the first
+-- 19: the word par if a block is open in the protocol's own, or if it stands in another protocol than the first
 is_at NotYet back (Is Par) = nat_le 2 (length (open_braces back)) || nat_le 2 (length (protocols_before back))
 -- 13, 14, 15, 18 and 29
 is_at f back (Word n) = is_at_name f (standing back) back n
 is_at f back _ = false
 
--- 17: the word continue where a walk comes from the start of the body of its rec to it without a message and without a call
+-- 17: the word continue if a walk comes from the start of the body of its rec to it without a message and without a call
 abbrev pub IsUnguarded : List Symbol → Symbol → List Symbol → Type 0
 IsUnguarded back (Is Continue) (Word x ∷ ts) = Comes x back
 IsUnguarded back _ _ = ⊥

@@ -6,7 +6,7 @@ use Rattle.rcv_syntax.specs.declared.sign.Sign.{Sign}
 use Rattle.rcv_syntax.specs.declared.sign.Sign.TheVariants.{Module, Global, Protocol, Role, From, To, Choice, At, Or, Rec, Continue, Par, And, Do, Open, Close, Left, Right, Comma, Semicolon, Dot, Less, Greater}
 use Rattle.rcv_syntax.specs.Symbols.{Symbol, Is, Word, Text}
 
--- Statements with what stands behind each in its block, and the other blocks of a choice or a par. Names are as written.
+-- Statements with what stands after each in its block, and the other blocks of a choice or a par. Names are as written.
 mutual
   pub data Written : Type 0 where
     NoStmt : Written
@@ -51,7 +51,7 @@ abbrev pub decls : List Decl → List Symbol → List Symbol
 decls [] next = next
 decls (d ∷ ds) next = decl d (decls ds next)
 
--- Statements; and for a choice or or for a par and: the other blocks, each behind the word.
+-- Statements; and the other blocks, each after its word: `or` for a choice, `and` for a par.
 abbrev mutual
   pub stmts : Written → List Symbol → List Symbol
   stmts NoStmt next = next

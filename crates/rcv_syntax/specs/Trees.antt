@@ -4,7 +4,7 @@ use Rattle.std.specs.List.{list_any}
 use Rattle.std.specs.Str.{bytes_eq}
 use Rattle.rcv_tree.specs.Lists.{declarations}
 use Rattle.rcv_lexer.specs.declared.token.Token.{Token}
-use Rattle.rcv_scan.specs.Symbols.{symbol_of}
+use Rattle.rcv_lexer.specs.Symbols.{symbol_of}
 use Rattle.rcv_syntax.specs.declared.sign.Sign.TheVariants.{Do}
 use Rattle.rcv_tree.specs.declared.protocol.Protocol.{Protocol}
 use Rattle.rcv_model.specs.Text as trees
@@ -44,12 +44,12 @@ abbrev mutual
   points_of NoBlock = 0
   points_of (ABlock first others) = points first + points_of others
 
--- one message for each receiver, behind n points
+-- one message for each receiver, after n points
 abbrev pub singles : List ℕ → List (List ℕ) → ℕ → List ℕ → ℕ → trees.Body → trees.Body
 singles label sorts sender [] n rest = rest
 singles label sorts sender (r ∷ rs) n rest = trees.Single label sorts sender r (n + 1) (singles label sorts sender rs (n + 1) rest)
 
--- the tree, behind n points
+-- the tree, after n points
 abbrev mutual
   pub tree_of : List (List ℕ) → ℕ → Written → trees.Body
   tree_of roles n NoStmt = trees.End
@@ -116,7 +116,7 @@ AreTreesOf [] [] = Unit {0}
 AreTreesOf (w ∷ ws) (p ∷ ps) = IsTreeOf w p × (p.«module» ≡ []) × (declarations p.decls ≡ []) × AreTreesOf ws ps
 AreTreesOf _ _ = ⊥
 
--- The symbols spell a module, of which these are the protocols.
+-- The symbols spell a module, and these are its protocols.
 pub record Reads (symbols : List Symbol) (main : Protocol) (others : List Protocol) : Type 0 where
   pub source : Source
   pub spelled : Spells symbols source

@@ -10,13 +10,13 @@ pub enum Fault {
     Token = 11,
     /// The brace of the 33rd nested block.
     Deep = 12,
-    /// A role or an argument that the protocol doesn't declare, or the name of no enclosing recursion.
+    /// A role or an argument that the protocol doesn't declare, or a name that no enclosing recursion has.
     NoName = 13,
     /// A protocol, a role, an alias, a receiver or an argument that stands before.
     Twice = 14,
     /// A receiver that is the sender.
     SelfMessage = 15,
-    /// A statement behind a `continue`.
+    /// A statement after a `continue`.
     AfterContinue = 16,
     /// A `continue` to which a walk comes without a message and without a call.
     Unguarded = 17,

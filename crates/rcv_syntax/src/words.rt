@@ -5,10 +5,10 @@ ghost use Rattle.rcv_syntax.specs.Symbols.{reserved, mark};
 
 use crate::sign::Sign;
 use rcv_lexer::token::Kind;
-use rcv_scan::{Alphabet, Lexeme, is, number_of, unquoted};
+use rcv_lexer::{Alphabet, Lexeme, is, number_of, unquoted};
 
 impl Alphabet for Sign {
-    ghost use Rattle.rcv_scan.specs.Symbols.{greatest};
+    ghost use Rattle.rcv_lexer.specs.Symbols.{greatest};
     ghost use Rattle.rcv_syntax.specs.Symbols.{symbol_by};
 
     ghost symbol_by = { symbol_by };

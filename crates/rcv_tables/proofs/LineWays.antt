@@ -9,7 +9,7 @@ use Rattle.rcv_model.specs.Places.{union}
 use Rattle.rcv_model.proofs.Walks.{lane_join}
 use Rattle.rcv_model.proofs.PlacesLemmas.{union_left, union_right, union_only}
 use Rattle.rcv_model.proofs.Parted.{IsFrom, left_from}
-use Rattle.rcv_next.proofs.Finding.{in_right}
+use Rattle.rcv_points.proofs.Finding.{in_right}
 use Rattle.rcv_tables.specs.Line.{LanesRise, is_last, or_else, offered_from, lanes_after, offered_after, line}
 use Rattle.rcv_tables.proofs.Sorting.{from_place, left_place}
 use Rattle.rcv_tables.proofs.Passages.{InText, Passage, arrives, skips, through, aside, passage_low, from_points, begun_points, stages_rise}

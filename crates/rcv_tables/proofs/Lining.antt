@@ -3,8 +3,8 @@ use Rattle.std.proofs.Common.{◌≡◌, ℕ, ◌<◌, ◌≤◌, List, [], leng
 use Rattle.std.specs.Prelude.{slice_index_or}
 use Rattle.rcv_model.specs.Net.{Net, IsIn}
 use Rattle.rcv_points.specs.Follow.{PointsView, AreWithin, net_in}
-use Rattle.rcv_next.proofs.Adding.{in_at}
-use Rattle.rcv_next.proofs.Within.{IsOfText}
+use Rattle.rcv_points.proofs.Adding.{in_at}
+use Rattle.rcv_points.proofs.Within.{IsOfText}
 use Rattle.rcv_tables.specs.Wanted.{AreChannels}
 use Rattle.rcv_tree.specs.declared.role.RoleSet.{RoleSet}
 use Rattle.rcv_tables.specs.Line.{line}

@@ -5,7 +5,7 @@ use Rattle.rcv_model.specs.Net.{Net, IsIn, IsLaneWalk}
 use Rattle.rcv_model.specs.Next.{IsOf, IsProper}
 use Rattle.rcv_model.specs.Table.{marks}
 use Rattle.rcv_model.proofs.Parted.{IsFrom, left_from}
-use Rattle.rcv_next.proofs.Finding.{in_left}
+use Rattle.rcv_points.proofs.Finding.{in_left}
 use Rattle.rcv_tables.specs.Line.{LanesRise, is_last}
 use Rattle.rcv_tables.proofs.Agreeing.{Agree, agree_on, agree_less, agree_marks, marks_join, marked_by, none_marked, idle}
 

@@ -8,7 +8,7 @@ use Rattle.rcv_model.specs.Net.{Net, IsIn}
 use Rattle.rcv_model.specs.Next.{IsProper}
 use Rattle.rcv_model.specs.Table.{mark, IsMarkedAt, IsConcerned, AreRestarts}
 use Rattle.rcv_tables.proofs.Rising.{rises_last}
-use Rattle.rcv_next.proofs.Finding.{in_left, in_right, in_either}
+use Rattle.rcv_points.proofs.Finding.{in_left, in_right, in_either}
 use Rattle.rcv_accept.proofs.Rows.{each_pushed, long_pushed}
 use Rattle.rcv_tables.specs.Line.{HasLine, line}
 use Rattle.rcv_tables.specs.Ahead.{IsAhead, offered_here, behind_one}
@@ -16,7 +16,7 @@ use Rattle.rcv_tables.specs.Starts.{has_any, AreFirstMarks, AreListed, AreReceiv
 use Rattle.std.specs.List.Sorted.{IsStrictlyIncreasing}
 use Rattle.std.proofs.lemmas.List.{take_all}
 use Rattle.rcv_model.proofs.Same.{tail_rises, above_each}
-use Rattle.rcv_next.proofs.Adding.{in_at, in_more, last_in}
+use Rattle.rcv_points.proofs.Adding.{in_at, in_more, last_in}
 use Rattle.rcv_tables.proofs.LineFacts.{line_proper}
 use Rattle.rcv_tables.proofs.Starting.{of_marked, to_marked}
 

@@ -1,4 +1,4 @@
--- The line: the lanes of a net one behind another, in text order, as one lane.
+-- The line: the lanes of a net one after the other, in text order, as one lane.
 use Rattle.std.specs.Prelude.{◌≡◌, ℕ, ◌+◌, ◌-◌, ◌≤◌, ◌↔◌, Bool, ◌==◌, if◌then◌else◌, List, [], ◌∷◌, ◌++◌}
 use Rattle.std.specs.List.{range_with_len}
 use Rattle.rcv_model.specs.Net.{Net, IsIn, IsLaneWalk}
@@ -10,7 +10,7 @@ use Rattle.rcv_model.specs.Table.{marks, IsMarkedAt}
 abbrev pub LanesRise : Net → Type 0
 LanesRise net = (p q : ℕ) → 1 ≤ p → p ≤ q → q ≤ net.count → net.lane p ≤ net.lane q
 
--- They are, and each lane that a later stage follows can be brought to its end.
+-- They are so numbered, and each lane that a later stage follows can be brought to its end.
 pub record HasLine (net : Net) : Type 0 where
   pub rises : LanesRise net
   pub ends : LanesEnd net
@@ -19,19 +19,20 @@ pub record HasLine (net : Net) : Type 0 where
 abbrev pub is_last : Net → ℕ → Bool
 is_last net l = net.stage l == net.stage (net.lane net.count)
 
--- The first list, or where it is empty the second.
+-- The first list, or the second if the first is empty.
 abbrev pub or_else : List ℕ → List ℕ → List ℕ
 or_else [] ys = ys
 or_else (x ∷ xs) ys = x ∷ xs
 
--- What the line offers at the start of the first of these lanes: what the lane begins with, or where it begins with nothing
--- what the next one does. In the last stage each lane may be the next: what any of them begins with.
+-- What the line offers at the start of the first of these lanes: what the lane begins with, or, if it begins with nothing, what
+-- the line offers at the start of the next one. In the last stage each lane may be the next, so the line offers what any of
+-- them begins with.
 abbrev pub offered_from : Net → List ℕ → List ℕ
 offered_from net [] = []
 offered_from net (l ∷ ls) =
     if is_last net l then union (net.begins l) (offered_from net ls) else or_else (net.begins l) (offered_from net ls)
 
--- The lanes behind a lane, up to that of the last point.
+-- The lanes after a lane, up to that of the last point.
 abbrev pub lanes_after : Net → ℕ → List ℕ
 lanes_after net l = range_with_len (l + 1) (net.lane net.count - l)
 
@@ -39,7 +40,7 @@ lanes_after net l = range_with_len (l + 1) (net.lane net.count - l)
 abbrev pub offered_after : Net → ℕ → List ℕ
 offered_after net l = if is_last net l then [] else offered_from net (lanes_after net l)
 
--- The line offers at a place what is offered there in its lane, and at the lane's end what it offers behind the lane.
+-- The line offers at a place what is offered there in its lane, and at the lane's end what it offers after the lane.
 abbrev pub offered_on : Net → ℕ → List ℕ
 offered_on net k = or_else (net.offers k) (offered_after net (net.lane k))
 
@@ -64,8 +65,8 @@ pub record IsLaneMarkedAt (net : Net) (p n q z : ℕ) : Type 0 where
   pub not_yet : IsIn q (marks net (p ∷ []) before) → ⊥
   pub now : IsIn q (marks net (p ∷ []) (before ++ z ∷ []))
 
--- Where p is rolled back to its point n, another role is first marked on some walk just where it is on some way through the
--- line.
+-- If p is rolled back to its point n, another role is first marked at a point on some walk exactly if it is first marked there
+-- on some way through the line.
 abbrev pub MarksAreInLine : Type 0
 MarksAreInLine =
     (net : Net) (roles p n q z : ℕ) → IsProper net roles → HasLine net → 1 ≤ n → n ≤ net.count → IsOf net p n → (q ≡ p → ⊥)

@@ -13,6 +13,6 @@ pub record AreOnLine (points : PointsView) (places : List (List ℕ)) : Type 0 w
   pub all : length places ≡ length points.messages + 1
   pub each : (k : ℕ) → k ≤ length points.messages → slice_index_or places k [] ≡ offered_on (net_in points) k
 
--- The line offers the same at both of two places, of which the second isn't behind the first.
+-- The line offers the same at two places, and the second isn't after the first.
 abbrev pub IsTwinOn : List (List ℕ) → ℕ → ℕ → Type 0
 IsTwinOn places k twin = (twin ≤ k) × (slice_index_or places twin [] ≡ slice_index_or places k [])

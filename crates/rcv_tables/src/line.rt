@@ -1,4 +1,4 @@
-// The line: the lanes of a text one behind another, as one lane.
+// The line: the lanes of a text one after the other, as one lane.
 
 ghost use Rattle.std.specs.Prelude.{◌≡◌, ◌≤◌, ◌<◌, [], ◌∷◌, List, ℕ, IfOk, length, slice_index_or};
 ghost use Rattle.rcv_tree.specs.Bits.{members};
@@ -36,7 +36,7 @@ fn in_last_stage(points: &Points, lane: u16) -> bool
     points.stage_of(lane) == points.stage_of(points.lane_of(points.count()))
 }
 
-// What the line offers at the start of a lane, where it offers this at the start of the next one.
+// What the line offers at the start of a lane, if it offers this at the start of the next one.
 fn from_lane(points: &Points, lane: u16, behind: PointSet) -> PointSet
     requires { lane < length points.now.lanes }
     ensures { (lanes : List ℕ) → members behind.0 ≡ offered_from (net_in points.now) lanes

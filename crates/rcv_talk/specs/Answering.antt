@@ -11,7 +11,7 @@ use Rattle.rcv_talk.specs.declared.answers.Next.{Next}
 use Rattle.rcv_talk.specs.declared.answers.Next.TheVariants.{More, Ended}
 use Rattle.rcv_talk.specs.Dialogue.{AreTold, GoOn, EndsByLine, IsTold, SaysEnd}
 
--- The text goes on with the answer to a line; the dialogue ends with it exactly where it says so.
+-- The text goes on with the answer to a line; the dialogue ends with the line exactly if the line says so.
 pub record Answers (old : SessionView) (line text_old text_new : List ℕ) (new : SessionView) (next : Next) : Type 0 where
   pub said : Answer
   pub added : List Entry
@@ -29,8 +29,7 @@ pub record AnswersFirst (old : SessionView) (pipe : PipeView) (feed : ℕ) (byte
   pub waits : Waits (record { held = drop (feed + 1) pipe.held; long = false }) rest
   pub answers : Answers old line text_old text_new new next
 
--- The first lines that wait are answered: all that are whole, unless more is to come of these; up to the one that ends the
--- dialogue, if it does.
+-- The first lines that wait are answered: with `More`, all that are whole; with `Ended`, up to the one that ends the dialogue.
 pub record AnswersHeld (old : SessionView) (bytes text_old text_new : List ℕ) (new : SessionView) (pipe : PipeView) (next : Next) : Type 0 where
   pub lines : List (List ℕ)
   pub whole : All HasNoFeed lines

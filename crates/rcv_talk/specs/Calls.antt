@@ -30,9 +30,9 @@ number_of Memory = 6
 number_of TooLong = 7
 number_of HalfLine = 9
 
--- A dialogue was held: behind the text, of which a session begins, stand whole lines that it is told, and some bytes more. It
--- wrote its first line and its answers. What was told and taken is a history of that session, from its start on, where no line
--- of a snapshot was told, which restores another one's.
+-- A dialogue was held. A session begins with the text; after the text stand whole lines that the session is told, and some bytes
+-- more. The call wrote its first line and its answers. What was told and taken is a history of that session, from its start on,
+-- if no line of a snapshot was told. (Such a line restores another one's.)
 pub record Dialogue (words : List (List ℕ)) (call : Around) : Type 0 where
   pub taken : List ℕ
   pub takes : Takes call taken
@@ -57,12 +57,12 @@ pub record Dialogue (words : List (List ℕ)) (call : Around) : Type 0 where
 abbrev pub output_of : {words : List (List ℕ)} {call : Around} → Dialogue words call → List ℕ
 output_of d = ready_line d.start ++ d.answers
 
--- No line ends it, and the source does: behind a whole line, or within one.
+-- No line ends it, and the source does: after a whole line, or within one.
 pub record EndsBySource (s : SessionView) (lines : List (List ℕ)) (call : Around) : Type 0 where
   pub go_on : GoOn s lines
   pub over : IsAtEnd call.rest_after
 
--- The dialogue ended behind a whole line; or within one, which isn't answered.
+-- The dialogue ended after a whole line; or within one, and that line isn't answered.
 pub record IsDone (words : List (List ℕ)) (call : Around) : Type 0 where
   pub dialogue : Dialogue words call
   pub writes : Writes call (output_of dialogue)
@@ -111,7 +111,7 @@ pub record IsRefused (words : List (List ℕ)) (call : Around) : Type 0 where
   pub is : IsRefusal words call bytes
   pub writes : Writes call bytes
 
--- The source failed: before the text ended, and nothing was written; or behind it, and all that was told is answered.
+-- The source failed: before the text ended, and nothing was written; or after it, and all that was told is answered.
 pub record FailsInText (words : List (List ℕ)) (call : Around) : Type 0 where
   pub saving : Saving
   pub words_are : AreWords words saving
@@ -185,7 +185,7 @@ Wrote before after faults_before faults_after bytes status result =
     ((result ≡ status) × (after ≡ append_known before bytes) × (faults_after ≡ faults_before))
     ⊎ ((result ≡ WriteFault) × Rose faults_before faults_after × WroteBeginning before after bytes)
 
--- The count of faults didn't fall. The call ends with this status only where it rose, and always where it is greater than
+-- The count of faults didn't fall. The call ends with this status only if the count rose, and always if it is greater than
 -- before.
 pub record TellsFault (before now : ℕ) (fault result : Status) : Type 0 where
   pub later : before ≤ now

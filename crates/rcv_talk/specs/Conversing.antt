@@ -1,4 +1,4 @@
--- What a call does behind the text: the session begins, its first line is written, and its dialogue is held.
+-- What a call does after the text: the session begins, its first line is written, and its dialogue is held.
 use Rattle.std.specs.Prelude.{◌≡◌, ◌⊎◌, ℕ, ◌≤◌, List}
 use Rattle.std.specs.declared.option.Option.{Option}
 use Rattle.std.specs.Io.KnownBytes.{append_known}
@@ -43,13 +43,13 @@ pub record OnlyFails (call : Around) (bytes : List ℕ) (result : Status) : Type
   pub rose : Rose call.write_faults_before call.write_faults_after
   pub later : call.write_faults_before ≤ call.write_faults_after
 
--- The first line was written, and the dialogue was held behind it.
+-- The first line was written, and the dialogue was held after it.
 pub record TalksBehindLine (s : SessionView) (waiting : List ℕ) (call : Around) (result : Status) : Type 0 where
   pub between : Option (List ℕ)
   pub line : between ≡ append_known call.written_before (ready_line s)
   pub talks : Talks s waiting (record call { written_before = between }) result
 
--- So a session is told what waits and what is read behind that.
+-- So a session is told what waits and what is read after that.
 abbrev pub Converses : SessionView → List ℕ → Around → Status → Type 0
 Converses s waiting call result =
     TalksBehindLine s waiting call result ⊎ (OnlyFails call (ready_line s) result ⊎ OnlyWants call result)
@@ -60,7 +60,7 @@ pub record OnlyRefuses (text : List ℕ) (call : Around) (result : Status) : Typ
   pub first : IsFirstRefusal text refusal
   pub writes : OnlyWrites call (refusal_line refusal) Refused result
 
--- The text has a session, which is told what waits and what is read behind that.
+-- The text has a session. It is told what waits and what is read after that.
 pub record ConversesOf (text : List ℕ) (saving : Saving) (waiting : List ℕ) (call : Around) (result : Status) : Type 0 where
   pub start : SessionView
   pub begins : Begins text saving start

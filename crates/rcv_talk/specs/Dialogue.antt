@@ -21,14 +21,14 @@ pub record IsRead (s : SessionView) (text : List ℕ) (read : Result Line LineEr
   pub long : (read ≡ Err Long) ↔ (2048 < length text)
   pub exact : length text ≤ 2048 → IsReadAs read (reading (accepted_of s) text)
 
--- What comes of it: the session hears a line of the grammar, and another one leaves it as it is.
+-- What comes of it: the session hears a line of the grammar, and any other line leaves the session as it is.
 abbrev pub ComesOf : SessionView → Result Line LineError → Answer → List Entry → SessionView → Type 0
 ComesOf old (Ok told) said added new = Hears old told said added new × GoesOnBehind told old added new
 ComesOf old (Err Long) said added new = (said ≡ answer.Long) × IsUnchanged old added new
 ComesOf old (Err (Wrong w)) said added new = (said ≡ answer.Wrong w) × IsUnchanged old added new
 
--- The session is told this line, answers this, and is the new one then, whose history goes on by what is added, unless the
--- line is one of a snapshot.
+-- The session is told this line, answers this, and is then the new one. The new one's history goes on by what is added, unless
+-- the line is one of a snapshot.
 pub record IsTold (old : SessionView) (text : List ℕ) (said : Answer) (added : List Entry) (new : SessionView) : Type 0 where
   pub read : Result Line LineError
   pub is_read : IsRead old text read
@@ -46,7 +46,7 @@ pub record IsToldFirst (Others : SessionView → List ℕ → List Entry → Typ
   pub output_is : output ≡ answer_text (accepted_of old) said ++ rest
   pub added_is : added ≡ first ++ more
 
--- It is told these lines, one behind the other: its answers are this output.
+-- It is told these lines, one after the other: its answers are this output.
 abbrev pub AreTold : SessionView → List (List ℕ) → List ℕ → List Entry → SessionView → Type 0
 AreTold s [] output added new = (output ≡ []) × (added ≡ []) × (new ≡ s)
 AreTold s (text ∷ texts) output added new =

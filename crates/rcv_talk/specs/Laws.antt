@@ -5,8 +5,8 @@ use Rattle.rcv_guide.specs.History.{HasHistory}
 use Rattle.rcv_guided.specs.Session.{SessionView}
 use Rattle.rcv_talk.specs.Dialogue.{AreTold, NoneRestores}
 
--- Where a session has a history, it goes on by what is told and taken, as long as no line of a snapshot is told. So a session
--- that was restored goes on as the one would whose snapshot it was.
+-- If a session has a history, it goes on by what is told and taken, as long as no line of a snapshot is told. So a restored
+-- session goes on like the session whose snapshot it was.
 abbrev pub HistoriesGoOnBehindSnapshots : Type 0
 HistoriesGoOnBehindSnapshots =
     (s last : SessionView) (lines : List (List ℕ)) (output : List ℕ) (added : List Entry)

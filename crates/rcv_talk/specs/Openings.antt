@@ -31,7 +31,7 @@ AreOtherWords words = (saving : Saving) → AreWords words saving → ⊥
 abbrev pub first_room : ℕ
 first_room = 1024
 
--- The session before its first line, where the text is taken as this bundle. Its scripts say nothing here.
+-- The session before its first line, if the text is taken as this bundle. Its scripts say nothing here.
 abbrev pub begun_of : Saving → bundles.SessionView → SessionView
 begun_of saving b = begun b.protocol b.plan first_room (steps_by saving b.plan (length b.protocol.roles))
 

@@ -31,7 +31,7 @@ pub record TellsToEnd (old : SessionView) (bytes output : List ℕ) (new : Sessi
   pub tells : Tells old bytes output new rest
   pub ends : EndsByLine old tells.lines
 
--- Where a source ends: behind a whole line, or within one.
+-- Where a source ends: after a whole line, or within one.
 abbrev pub Ends : List ℕ → Status → Type 0
 Ends bytes Done = bytes ≡ []
 Ends bytes HalfLine = bytes ≢ []

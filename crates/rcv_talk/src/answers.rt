@@ -16,10 +16,10 @@ use rcv_pipe::Pipe;
 use rcv_text::writer::Writer;
 use std::alloc::{AllocError, Global};
 
-// So many lines are answered at once at most.
+// At most so many lines are answered at once.
 const MOST_AT_ONCE: usize = 512;
 
-/// What a line means for those behind it.
+/// What a line means for those after it.
 #[derive(Clone, Copy, PartialEq, Eq)]
 pub enum Next {
     /// The answer is short, and further lines may be answered with it.
@@ -30,7 +30,7 @@ pub enum Next {
     Ended,
 }
 
-// What a line means for those behind it.
+// What a line means for those after it.
 fn next_behind(line: &Line) -> Next
     ensures { (result ≡ Next.Ended) ↔ (line.now ≡ Ask End) }
 {

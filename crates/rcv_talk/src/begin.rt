@@ -13,7 +13,7 @@ use std::alloc::{AllocError, Global};
 /// Why no session begins.
 #[derive(Drop)]
 pub enum BeginError {
-    /// The text is refused, which this line says.
+    /// The text is refused, and this line says so.
     Refused(Vec<u8>),
     /// No memory was left.
     Memory,
@@ -27,8 +27,8 @@ impl From<AllocError> for BeginError {
     }
 }
 
-/// The session of a text of at most 1,048,576 bytes, before its first line. Of its plan `every` and `host` lines count,
-/// and its scripts don't.
+/// The session of a text of at most 1,048,576 bytes, before its first line. The `every` and `host` lines of its plan
+/// count, and its scripts don't.
 pub fn begin(alloc: Global, text: &[u8], saving: Saving) -> Result<GuidedSession, BeginError>
     requires { length text.now ≤ 1048576 }
     ensures { MatchResult result (Begins text.now saving) (IsNoSession text.now) }

@@ -17,31 +17,31 @@ use rcv_io::{Sink, Source};
 use rcv_pipe::{OpeningError, Pipe, read_text};
 use std::alloc::Global;
 
-/// What is written where the words are none of the program's.
+/// What is written if the words are none of the program's.
 const USAGE: &[u8] = b"usage: rcv-guide [--told]\n";
 
-/// What is written where the source ends without the line behind the text.
+/// What is written if the source ends without the line after the text.
 const NO_EVENTS: &[u8] = b"refused 57 NoEvents\n";
 
 /// Does what the program does: reads the words, then the text of the source up to its first line `%% events`, writes
-/// the first line, and then answers each line behind.
+/// the first line, and then answers each line after that.
 ///
-/// `words` are those behind the program's name: none, or the word `--told`. The answer says how the call ended:
-/// - `Done`: the dialogue ended, by the line `end` or with the source behind a whole line; all lines were answered.
+/// `words` are those after the program's name: none, or the word `--told`. The answer says how the call ended:
+/// - `Done`: the dialogue ended, by the line `end` or with the source after a whole line; all lines were answered.
 /// - `Usage`: the words are others; nothing was read, and the usage line was written.
 /// - `Refused`: the source ended without a line `%% events`, and the line for that was written; or the text is
 ///   refused, and the line of its first refusal was written.
-/// - `ReadFault`: the source's count of faults rose, before the text ended, and nothing was written; or behind it, and
-///   all whole lines before are answered. It comes always where that count is greater than before.
-/// - `WriteFault`: the sink's count of faults rose, and a beginning of what should be written was, not all of it. It
-///   comes always where that count is greater than before.
-/// - `Memory`: memory was wanted for the text or the session, and nothing was written; or for an answer, and those
+/// - `ReadFault`: the source's count of faults rose. It rose before the text ended, and nothing was written; or after
+///   that, and all whole lines before are answered. It always comes if that count is greater than before.
+/// - `WriteFault`: the sink's count of faults rose, and only a beginning of the output was written, not all of it. It
+///   always comes if that count is greater than before.
+/// - `Memory`: memory ran out for the text or the session, and nothing was written; or for an answer, and those
 ///   before are written.
 /// - `TooLong`: the text has more than 1,048,576 bytes, and nothing was written.
-/// - `HalfLine`: the source ended within a line, which isn't answered; all before it are.
+/// - `HalfLine`: the source ended within a line. That line isn't answered; all before it are.
 ///
-/// What a session is told is a history of it from its start on, where no line of a snapshot restores another one's: each line
-/// is answered as it stands behind those before.
+/// What a session is told is a history of it from its start on, if no line of a snapshot restores another one's. Each
+/// line is answered as it stands after those before.
 pub fn talk<S: Source, K: Sink>(
     alloc: Global,
     words: &[String],
@@ -68,7 +68,7 @@ pub fn talk<S: Source, K: Sink>(
     }
 }
 
-// What is done behind the text.
+// What is done after the text.
 fn behind_text<S: Source, K: Sink>(
     alloc: Global,
     saving: Saving,
@@ -89,7 +89,7 @@ fn behind_text<S: Source, K: Sink>(
     }
 }
 
-// The first line, and the dialogue behind it.
+// The first line, and the dialogue after it.
 fn converse<S: Source, K: Sink>(
     alloc: Global,
     session: &mut GuidedSession,

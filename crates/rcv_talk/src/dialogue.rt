@@ -1,4 +1,4 @@
-// The dialogue behind the first line.
+// The dialogue after the first line.
 
 ghost use Rattle.std.specs.Prelude.{◌≤◌, ℕ, List};
 ghost use Rattle.rcv_pipe.specs.Feeds.{HasNoFeed};
@@ -51,7 +51,7 @@ fn end_of(pipe: &Pipe) -> Status
     }
 }
 
-// Reads more where no whole line is held.
+// Reads more if no whole line is held.
 fn wait<S: Source>(pipe: &mut Pipe, source: &mut S) -> Result<(), Status>
     ensures says { (bytes : List ℕ) → Waits pipe.old bytes → HasNoFeed pipe.old.held
         → WaitsForMore bytes (S.rest source.old) (S.rest source.new) (S.given source.old) (S.given source.new)
@@ -85,8 +85,8 @@ fn round<S: Source, K: Sink>(
     }
 }
 
-/// Answers each line of the source, up to the line `end` or to the end. Before more is read, all whole lines that were
-/// read are answered, and the answers written.
+/// Answers each line of the source, up to the line `end` or to the end. Before it reads more, it answers all whole
+/// lines that were read, and writes the answers.
 pub fn dialogue<S: Source, K: Sink>(
     alloc: Global,
     session: &mut GuidedSession,

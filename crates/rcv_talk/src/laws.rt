@@ -2,7 +2,7 @@
 
 ghost use Rattle.rcv_talk.specs.Laws.{HistoriesGoOnBehindSnapshots};
 
-/// A session's history goes on by what is told, behind the lines that restored it.
+/// After the lines that restored a session, its history goes on by what is told.
 pub fn histories_go_on_behind_snapshots()
     ensures { HistoriesGoOnBehindSnapshots }
 {}

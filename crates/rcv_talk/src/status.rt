@@ -3,10 +3,10 @@
 ghost use Rattle.std.specs.Prelude.{◌≡◌};
 ghost use Rattle.rcv_talk.specs.Calls.{number_of};
 
-/// How a call ended. The numbers are those of `rcv`, with one more; what 3 says there comes never here.
+/// How a call ended. The numbers are those of `rcv`, with one more; what 3 says there never comes here.
 #[derive(Clone, Copy, Debug, PartialEq, Eq)]
 pub enum Status {
-    /// The dialogue ended, by the line `end` or with the source behind a whole line.
+    /// The dialogue ended, by the line `end` or with the source after a whole line.
     Done,
     /// The words are none of the program's, and the usage line was written.
     Usage,
@@ -20,7 +20,7 @@ pub enum Status {
     Memory,
     /// The text is too long, and nothing was written.
     TooLong,
-    /// The source ended within a line, which isn't answered; all before it are.
+    /// The source ended within a line. That line isn't answered; all before it are.
     HalfLine,
 }
 

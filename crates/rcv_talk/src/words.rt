@@ -5,7 +5,7 @@ ghost use Rattle.rcv_talk.specs.Openings.{AreWords, AreOtherWords, texts_of};
 
 use rcv_guided::saving::Saving;
 
-/// What roles have saved, by the words: none, or the word `--told`. None where they are other ones.
+/// What roles have saved, by the words, which are none or the word `--told`. The answer is None if they are other ones.
 pub fn saving_of(words: &[String]) -> Option<Saving>
     ensures { MatchOption result (AreOtherWords (texts_of words.now)) (AreWords (texts_of words.now)) }
 {

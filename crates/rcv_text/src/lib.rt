@@ -3,5 +3,5 @@
 
 pub mod writer;
 
-/// Want of memory, which is the one error of the calls of this crate.
+/// Memory ran out. This is the one error of the calls of this crate.
 pub use std::alloc::AllocError as Memory;

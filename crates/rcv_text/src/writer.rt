@@ -31,8 +31,8 @@ impl Writer {
         }
     }
 
-    /// The empty text, with room for so many bytes at once; a longer text takes more as it grows. Fails where memory
-    /// runs out.
+    /// The empty text, with room for so many bytes at once; a longer text takes more as it grows. Fails if memory runs
+    /// out.
     pub fn with_room(alloc: Global, room: usize) -> Result<Writer, AllocError>
         ensures { IfOk result (λ text. text ≡ []) }
     {
@@ -87,8 +87,8 @@ impl Writer {
         self.word(digits.format(number).as_bytes())
     }
 
-    /// The text goes on with a number in decimal, with a minus in front where it is below 0. Fails where memory runs
-    /// out; then the text is as before.
+    /// The text goes on with a number in decimal, with a minus in front if it is below 0. Fails if memory runs out;
+    /// then the text is as before.
     #[inline(always)]
     pub fn signed_number(&mut self, number: i64) -> Result<(), AllocError>
         ensures ok { OnOk result (self.new ≡ self.old ++ signed_decimal number) }

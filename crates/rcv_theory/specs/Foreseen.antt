@@ -17,7 +17,7 @@ pub record IsSparedOrForeseen (rules : Rules) (before after : State) (p : ℕ) (
   pub restarts : (own : Act) → slice_get (acts q before.kept) (length (acts q after.kept)) ≡ Some own
       → IsForeseen rules.net (group_of rules p) (durable rules before) before.kept q own.point
 
--- So is each role at each recovery in a legal journal of an accepted protocol.
+-- This holds for each role at each recovery in a legal journal of an accepted protocol.
 abbrev pub RecoveriesAreForeseen : Type 0
 RecoveriesAreForeseen =
     (rules : Rules) (front back : List Entry) (p : ℕ) (concerned : RoleSet) (kept : List ℕ) (undone : ℕ)

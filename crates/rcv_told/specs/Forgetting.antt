@@ -10,14 +10,14 @@ use Rattle.rcv_model.specs.Run.{acts, place_of, put, taken, IsQueued}
 use Rattle.rcv_model.specs.Journal.{events_of}
 use Rattle.rcv_told.specs.Told.{Terms, Remembered, HasFailed, MayBeTold, IsToldFrom, group_of, told_after}
 
--- The remembered events of a role that aren't forgotten, behind those of which only messages are left; and these.
+-- The remembered events of a role that aren't forgotten; and those before them, which are forgotten except for their messages.
 abbrev pub since : Remembered → ℕ → List Event
 since m r = drop (slice_index m.seeds r) (events_of r m.held)
 
 abbrev pub seeds_of : Remembered → ℕ → List Event
 seeds_of m r = take (slice_index m.seeds r) (events_of r m.held)
 
--- The new memory of a role lacks so many more of its events, the next ones behind those that the old one lacks.
+-- The new memory of a role lacks so many more of its events, the next ones after those that the old one lacks.
 pub record Lacks (old new : Remembered) (r gone : ℕ) : Type 0 where
   pub enough : gone ≤ length (since old r)
   pub forgotten : slice_index new.forgotten r ≡ slice_index old.forgotten r + gone
@@ -26,7 +26,7 @@ pub record Lacks (old new : Remembered) (r gone : ℕ) : Type 0 where
   pub old_seeds : slice_index old.seeds r ≤ length (events_of r old.held)
   pub new_seeds : slice_index new.seeds r ≤ length (events_of r new.held)
 
--- The events of a role that the new memory lacks and the old one has, with those of which the old one has messages.
+-- The events of a role that the new memory lacks and the old one has, with those whose messages alone the old one has.
 abbrev pub lacked : Remembered → ℕ → ℕ → List Event
 lacked old r gone = seeds_of old r ++ take gone (since old r)
 
@@ -55,7 +55,7 @@ abbrev pub LosesNothingForgotten : Terms → Remembered → ℕ → (ℕ → ℕ
 LosesNothingForgotten terms new p saved =
     (q : ℕ) → is_listed (group_of terms p) q ≡ true → slice_index new.forgotten q ≤ saved q
 
--- An entry may be told to the longer memory, where a failure's saved counts reach what the shorter one has forgotten.
+-- An entry may be told to the longer memory, if a failure's saved counts reach what the shorter one has forgotten.
 abbrev pub MayBeToldAbove : Terms → Remembered → Remembered → Entry → Type 0
 MayBeToldAbove terms old new (Send e) = MayBeTold terms old (Send e)
 MayBeToldAbove terms old new (Recv e) = MayBeTold terms old (Recv e)

@@ -1,4 +1,4 @@
--- Told sessions in hindsight: where each failure keeps multiples of its roles' steps, what was told is a legal journal.
+-- Told sessions in hindsight: if each failure keeps multiples of its roles' steps, what was told is a legal journal.
 use Rattle.std.specs.Prelude.{◌≡◌, ℕ, ◌*◌, ◌/◌, ◌<◌, true, List, [], ◌∷◌, ◌++◌}
 use Rattle.rcv_tree.specs.Bits.{is_listed}
 use Rattle.rcv_tree.specs.declared.entry.Entry.{Entry}

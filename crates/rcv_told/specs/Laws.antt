@@ -21,7 +21,7 @@ pub record AreAccepted (terms : Terms) : Type 0 where
   pub proper : IsProper terms.net terms.roles
   pub accepted : IsAccepted terms.net terms.roles
 
--- Whatever is told, after each of it the kept events are a run.
+-- Whatever is told, the kept events are a run after each thing told.
 abbrev pub ToldEventsKeepRuns : Type 0
 ToldEventsKeepRuns =
     (terms : Terms) (entries front back : List Entry) → AreAccepted terms → IsTold terms entries → front ++ back ≡ entries
@@ -58,15 +58,15 @@ LosersRestartByTheTable =
     → slice_get (acts q (told terms front).held) (made (told_after terms (told terms front) (Recover p concerned kept undone)) q) ≡ Some own
     → IsForeseen terms.net (group_of terms p) saved (told terms front).held q own.point
 
--- Forgetting changes no later answer: what may be told to the shorter memory may be told to the longer one, and the other
--- way round, unless a failure were to lose what is forgotten; and behind it the memories are still of one session.
+-- Forgetting changes no later answer: what may be told to the shorter memory may be told to the longer one, and the other way round, unless
+-- a failure would lose what is forgotten. After it the memories are still of one session.
 abbrev pub ForgettingChangesNoAnswer : Type 0
 ForgettingChangesNoAnswer =
     (terms : Terms) (old new : Remembered) (e : Entry) → IsShorter terms.net old new
     → (MayBeTold terms new e ↔ MayBeToldAbove terms old new e)
     × (MayBeTold terms new e → IsShorter terms.net (told_after terms old e) (told_after terms new e))
 
--- So it is of all that is told later.
+-- The same holds for all that is told later.
 abbrev pub ForgettingChangesNoLaterAnswer : Type 0
 ForgettingChangesNoLaterAnswer =
     (terms : Terms) (old new : Remembered) (entries : List Entry) → IsShorter terms.net old new
@@ -78,7 +78,7 @@ abbrev pub ForgettingAddsUp : Type 0
 ForgettingAddsUp =
     (net : Net) (a b c : Remembered) → IsShorter net a b → IsShorter net b c → IsShorter net a c
 
--- Where all failures are by steps, what was told is a legal journal in hindsight, for each limit that the roles kept.
+-- If all failures are by steps, what was told is a legal journal in hindsight, for each limit that the roles kept.
 abbrev pub ToldJournalsAreLegal : Type 0
 ToldJournalsAreLegal =
     (terms : Terms) (every : ℕ → ℕ) (limit : ℕ) (entries : List Entry) → AreAccepted terms → IsTold terms entries

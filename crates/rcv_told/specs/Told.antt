@@ -21,12 +21,12 @@ pub record Terms : Type 0 where
   pub roles : ℕ
   pub host : ℕ → List ℕ
 
--- What is remembered of a told session. The first events of each role may be forgotten, but for those of its Sends whose
--- messages were in flight then.
+-- What is remembered of a told session. The first events of each role may be forgotten, except for those of its Sends whose messages were
+-- in flight then.
 pub record Remembered : Type 0 where
   -- the remembered events, in order
   pub held : List Event
-  -- of each role how many of these, its first, are of its forgotten ones
+  -- for each role, how many of these, its first, are of its forgotten ones
   pub seeds : List ℕ
   -- how many of its events are forgotten, and the point of the last of them (0: none)
   pub forgotten : List ℕ
@@ -51,7 +51,7 @@ start roles =
       down = replicate roles false;
     }
 
--- How many of a role's events are kept, forgotten ones too; and how many are where these of the remembered ones are left.
+-- How many of a role's events are kept, forgotten ones too; and how many are if these of the remembered ones are left.
 abbrev pub made_of : Remembered → List Event → ℕ → ℕ
 made_of m left r = slice_index m.forgotten r + (length (acts r left) - slice_index m.seeds r)
 
@@ -79,7 +79,7 @@ standpoint net m r =
       lies = λ from. channel net from r m.held;
     }
 
--- A Send that may be told: of one of the role's next points, which the role sends, one above the role's clock.
+-- A Send that may be told: the role sends it at one of its next points, and its stamp is one above the role's clock.
 pub record IsSend (net : Net) (at : Standpoint) (e : Event) : Type 0 where
   pub up : at.down ≡ Some false
   pub next : IsNext net e.role at.place e.point
@@ -96,7 +96,7 @@ message_of e = record { point = e.point; value = e.value; stamp = e.sent }
 abbrev pub IsInFront : Net → Standpoint → Message → Type 0
 IsInFront net at m = (rest : List Message) × (at.lies (net.sender m.point) ≡ m ∷ rest)
 
--- A Recv that may be told: of one of the role's next points, which the role receives, with the message in front.
+-- A Recv that may be told: the role receives it at one of its next points, and its message is in front.
 pub record IsRecv (net : Net) (at : Standpoint) (e : Event) : Type 0 where
   pub up : at.down ≡ Some false
   pub next : IsNext net e.role at.place e.point
@@ -113,7 +113,7 @@ group_of terms p = p ∷ terms.host p
 abbrev pub held_of : Remembered → (ℕ → ℕ) → ℕ → ℕ
 held_of m counts q = slice_index m.seeds q + (counts q - slice_index m.forgotten q)
 
--- How many of the remembered events each role may keep where some roles keep at most so many of all their events.
+-- How many of the remembered events each role may keep, if some roles keep at most so many of all their events.
 abbrev pub bound_at : Remembered → List ℕ → (ℕ → ℕ) → ℕ → ℕ
 bound_at m roles counts q = if is_listed roles q then held_of m counts q else length (acts q m.held)
 
@@ -125,13 +125,13 @@ left_at net m roles counts = keep_within net (bound_at m roles counts) m.held
 abbrev pub roles_in : RoleSet → List ℕ
 roles_in set = filter (has_bit set.0) (range_with_len 0 8)
 
--- Whom a failure concerns, where each failed role has saved so many of its events: the failed roles, and those that depend
--- on what one of them lost.
+-- Whom a failure concerns, if each failed role has saved so many of its events: the failed roles, and those that depend on what one of them
+-- lost.
 abbrev pub IsConcernedWhere : Terms → Remembered → ℕ → (ℕ → ℕ) → ℕ → Type 0
 IsConcernedWhere terms m p saved q = IsConcernedByAny terms.net (group_of terms p) (start_of (held_of m saved) m.held) q
 
--- What a failure of p takes back, where each failed role has saved so many of its events: whom it concerns, how many events
--- each of these keeps, and how many are undone. None of the forgotten ones may be lost.
+-- What a failure of p takes back, if each failed role has saved so many of its events: whom it concerns, how many events each of these
+-- keeps, and how many are undone. None of the forgotten ones may be lost.
 pub record HasFailed (terms : Terms) (m : Remembered) (p : ℕ) (saved : ℕ → ℕ) (concerned : RoleSet) (kept : List ℕ) (undone : ℕ) : Type 0 where
   pub above : (q : ℕ) → is_listed (group_of terms p) q ≡ true → slice_index m.forgotten q ≤ saved q
   pub concerned_is : (q : ℕ) → q < 8 → (has_bit concerned.0 q ≡ true) ↔ IsConcernedWhere terms m p saved q
@@ -140,8 +140,8 @@ pub record HasFailed (terms : Terms) (m : Remembered) (p : ℕ) (saved : ℕ →
       → slice_index kept q ≡ (if has_bit concerned.0 q then made_of m (left_at terms.net m (group_of terms p) saved) q else 0)
   pub undone_is : undone + length (left_at terms.net m (group_of terms p) saved) ≡ length m.held
 
--- It may be told: of a crash, that the role is up; of a recovery, that it is down, and that with some saved counts, any,
--- this is what its failure takes back.
+-- It may be told: a crash if the role is up; a recovery if the role is down, and this is what its failure takes back for some saved counts,
+-- whichever they are.
 abbrev pub MayBeTold : Terms → Remembered → Entry → Type 0
 MayBeTold terms m (Send e) = IsSend terms.net (standpoint terms.net m e.role) e
 MayBeTold terms m (Recv e) = IsRecv terms.net (standpoint terms.net m e.role) e
@@ -182,7 +182,7 @@ abbrev pub told_from : Terms → Remembered → List Entry → Remembered
 told_from terms m [] = m
 told_from terms m (e ∷ told) = told_from terms (told_after terms m e) told
 
--- Where nothing is ever forgotten, from the start on.
+-- If nothing is ever forgotten, from the start on.
 abbrev pub told : Terms → List Entry → Remembered
 told terms entries = told_from terms (start terms.roles) entries
 

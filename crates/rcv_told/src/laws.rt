@@ -39,7 +39,7 @@ pub fn forgetting_adds_up()
     ensures { ForgettingAddsUp }
 {}
 
-/// Where all failures are by steps, what was told is a legal journal in hindsight.
+/// If all failures are by steps, what was told is a legal journal in hindsight.
 pub fn told_journals_are_legal()
     ensures { ToldJournalsAreLegal }
 {}

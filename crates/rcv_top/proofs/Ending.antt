@@ -21,7 +21,7 @@ use Rattle.rcv_journal.specs.Lines.{AreLinesOf}
 use Rattle.rcv_journal.proofs.LinesExist.{lines_from, are_lines}
 use Rattle.rcv_top.specs.declared.status.Status.TheVariants.{Completed, Limited}
 use Rattle.rcv_top.specs.declared.status.Status.{Status}
-use Rattle.rcv_form.specs.Json.{json_text}
+use Rattle.rcv_journal.specs.Json.{json_text}
 use Rattle.rcv_top.specs.Running.{EndsAs, all_done, at_limit, IsOneThreadRun}
 use Rattle.rcv_jobs.specs.Texts.{IsWritten}
 use Rattle.rcv_top.specs.Generating.{kept_in, IsSummaryRun}

@@ -15,7 +15,7 @@ use Rattle.rcv_model.specs.Places.{net_of}
 use Rattle.rcv_session.specs.Session.{SessionView}
 use Rattle.rcv_journal.specs.declared.line.RoleLine.{RoleLine}
 use Rattle.rcv_journal.specs.JournalText.{is_limit, word_text}
-use Rattle.rcv_form.specs.Json.{count, list_of, entry_data, line_data, limit_data, members_data, json_text}
+use Rattle.rcv_journal.specs.Json.{count, list_of, entry_data, line_data, limit_data, members_data, json_text}
 
 -- the texts of lists that are the same
 all_map : {X Y : Type 0} (f g : X → Y) → ((x : X) → f x ≡ g x) → (xs : List X) → map f xs ≡ map g xs

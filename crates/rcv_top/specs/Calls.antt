@@ -35,7 +35,7 @@ pub record Around : Type 0 where
   pub write_faults_before : ℕ
   pub write_faults_after : ℕ
 
--- This of a source, by what it tells of its bytes, its count of given ones and its faults, and this of a sink.
+-- What these functions tell of a source (its bytes, its count of given ones and its faults) and of a sink, before and after.
 abbrev pub around : {S K : Type 0} → (S → Option (List ℕ)) → (S → ℕ) → (S → ℕ) → S → S → (K → Option (List ℕ)) → (K → ℕ) → K → K → Around
 around rest given read_faults source source_after written write_faults sink sink_after =
     record {
@@ -72,18 +72,18 @@ pub record WroteNothing (call : Around) : Type 0 where
 abbrev pub Takes : Around → List ℕ → Type 0
 Takes call input = Took call.rest_before call.rest_after call.given_before call.given_after input
 
--- The input is what the source gave. Nothing was read where the words aren't a command that works on that: where they are
--- no command, and where they are `gen`.
+-- The input is what the source gave. Nothing was read if the words aren't a command that works on that: they are no command, or they are
+-- `gen`.
 pub record HasTaken (words : List (List ℕ)) (call : Around) (input : List ℕ) : Type 0 where
   pub takes : Takes call input
   pub unread : (AskForSource words → ⊥) → ReadNothing (source_of call)
 
--- The input is what the source gave: all that it had where the words are a command that works on that, else nothing.
+-- The input is what the source gave: all that it had if the words are a command that works on that, else nothing.
 pub record IsInput (words : List (List ℕ)) (call : Around) (input : List ℕ) : Type 0 where
   pub taken : HasTaken words call input
   pub whole : AskForSource words → IsAtEnd call.rest_after
 
--- The call wrote the bytes of this status, which the words and the input have.
+-- The words and the input have an outcome with this status, and the call wrote its bytes.
 pub record Answers (words : List (List ℕ)) (call : Around) (status : Status) : Type 0 where
   pub input : List ℕ
   pub bytes : List ℕ
@@ -109,8 +109,8 @@ pub record FailsToWrite (words : List (List ℕ)) (call : Around) : Type 0 where
   pub outcome : IsOutcome words input status bytes
   pub writes : WroteBeginning call.written_before call.written_after bytes
 
--- Memory was wanted: no more was taken than an input may have, and nothing was written. It may be wanted by words that
--- are no command, since words take memory to be read.
+-- Memory ran out: no more was taken than an input may have, and nothing was written. That may happen even if the words are no command,
+-- since it takes memory to read words.
 pub record WantsMemory (words : List (List ℕ)) (call : Around) : Type 0 where
   pub input : List ℕ
   pub taken : HasTaken words call input
@@ -139,15 +139,14 @@ Says words call Memory = WantsMemory words call
 Says words call TooLong = TakesTooMuch words call
 Says words call Wrong = Answers words call Wrong
 
--- The count of faults didn't fall. The call ends with this status only where it rose, and always where it is greater
--- than before.
+-- The count of faults didn't fall. The call ends with this status only if it rose, and always if it is greater than before.
 pub record TellsFault (before now : ℕ) (fault result : Status) : Type 0 where
   pub later : before ≤ now
   pub only : result ≡ fault → Rose before now
   pub always : before < now → result ≡ fault
 
--- The whole input is taken as a session, and what was written is the JSON or the text of a journal of it that is as the
--- headline says. Where all roles come to be done and no script reads the attempt, its crashes leave no trace in what is kept.
+-- The whole input is taken as a session. What was written is the JSON or the text of a journal of it that is as the headline says. If all
+-- roles come to be done and no script reads the attempt, its crashes leave no trace in what is kept.
 pub record WritesLegalJournal (json : Bool) (call : Around) (status : Status) : Type 0 where
   pub input : List ℕ
   pub takes : Takes call input
@@ -161,8 +160,8 @@ pub record WritesLegalJournal (json : Bool) (call : Around) (status : Status) : 
   pub headline : IsHeadline (rules_of session) journal
   pub traceless : status ≡ Completed → ReadsNoAttempt session → LeavesNoTrace session journal
 
--- The journal that one thread makes of a session is as the headline says, and these are how it ended and its bytes. Where
--- all roles come to be done and no script reads the attempt, its crashes leave no trace in what is kept.
+-- The journal that one thread makes of a session is as the headline says, and these are how it ended and its bytes. If all roles come to be
+-- done and no script reads the attempt, its crashes leave no trace in what is kept.
 pub record IsLegalRun (json : Bool) (session : SessionView) (run : OneRun) : Type 0 where
   pub journal : List Entry
   pub is_journal : IsJournalOf json session journal run.status run.bytes
@@ -170,8 +169,8 @@ pub record IsLegalRun (json : Bool) (session : SessionView) (run : OneRun) : Typ
   pub headline : IsHeadline (rules_of session) journal
   pub traceless : run.status ≡ Completed → ReadsNoAttempt session → LeavesNoTrace session journal
 
--- The whole input is taken as a session, and what was written is the journals of so many sessions of it, in order, as the
--- status says. Each is as the headline says; in session i, counted from 0, each crash line has a count that is i more.
+-- The whole input is taken as a session. What was written is the journals of so many sessions of it, in order, as the status says. Each is
+-- as the headline says; in session i, counted from 0, each crash line has a count that is i more.
 pub record WritesLegalJournals (sessions : ℕ) (json : Bool) (call : Around) (status : Status) : Type 0 where
   pub input : List ℕ
   pub takes : Takes call input

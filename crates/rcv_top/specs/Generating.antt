@@ -22,8 +22,8 @@ pub record IsSummaryOf (session : SessionView) (journal : List Entry) (number : 
   pub is_summary :
       bytes ≡ summary_text number (roles_of session) (net_for session).count journal (kept_in lines) (last_line session lines)
 
--- One thread ran the session to its end, and the bytes are the summary of its journal. The status doesn't tell at which
--- end: the last line does.
+-- One thread ran the session to its end, and the bytes are the summary of its journal. The status doesn't say which end that is: the last
+-- line does.
 pub record IsSummaryRun (number : ℕ) (session : SessionView) (status : Status) (bytes : List ℕ) : Type 0 where
   pub journal : List Entry
   pub legal : IsLegal (rules_of session) journal

@@ -20,7 +20,7 @@ pub record Reading : Type 0 where
   pub faults_before : ℕ
   pub faults_after : ℕ
 
--- This of a source, by what it tells.
+-- What these functions tell of a source, before and after.
 abbrev pub reading_of : {S : Type 0} → (S → Option (List ℕ)) → (S → ℕ) → (S → ℕ) → S → S → Reading
 reading_of rest given faults source source_after =
     record {
@@ -47,7 +47,7 @@ pub record HasRead (reading : Reading) (result : TextResult) : Type 0 where
   pub whole : ReadsWhole reading.rest_before reading.rest_after reading.given_before reading.given_after most_bytes result
   pub end : OnOk result (IsAtEnd reading.rest_after)
 
--- The text is the generated one, and nothing was read. It is missing only where memory was wanted.
+-- The text is the generated one, and nothing was read. It is missing only if memory ran out.
 pub record HasGenerated (number : ℕ) (reading : Reading) (result : TextResult) : Type 0 where
   pub unread : ReadNothing reading
   pub text : IfOk result (λ text. text.items ≡ generated number)

@@ -15,14 +15,13 @@ use Rattle.rcv_top.specs.Running.{IsJournalOf, IsOneThreadRun, IsRunOf}
 use Rattle.rcv_top.specs.Outcome.{most_bytes, IsOutcome}
 use Rattle.rcv_top.specs.Headline.{IsHeadline}
 
--- Status and bytes are a function of the words and the input, where the words don't ask for several workers of one
--- session.
+-- If the words don't ask for several workers of one session, status and bytes are a function of the words and the input.
 abbrev pub OneOutcome : Type 0
 OneOutcome =
     (words : List (List ℕ)) (input : List ℕ) (s t : Status) (b c : List ℕ)
     → (AskForSeveral words → ⊥) → IsOutcome words input s b → IsOutcome words input t c → (s ≡ t) × (b ≡ c)
 
--- Several sessions have one outcome, however many workers they are shared among.
+-- Several sessions have one outcome, however many workers share them.
 abbrev pub WorkersDecideNothing : Type 0
 WorkersDecideNothing =
     (words others : List (List ℕ)) (input : List ℕ) (sessions workers other_workers : ℕ) (json : Bool) (s t : Status) (b c : List ℕ)
@@ -37,8 +36,8 @@ HasOutcome words input = (status : Status) × (bytes : List ℕ) × IsOutcome wo
 abbrev pub OutcomesExist : Type 0
 OutcomesExist = (words : List (List ℕ)) (input : List ℕ) → HasOutcome words input
 
--- A journal of a session that an input is taken as is what the headline says, also where the sink took only a beginning
--- of its bytes.
+-- If an input is taken as a session, a journal of this session is what the headline says, even if the sink took only a beginning of its
+-- bytes.
 abbrev pub SessionsAreLegal : Type 0
 SessionsAreLegal =
     (json : Bool) (input : List ℕ) (session : SessionView) (journal : List Entry) (status : Status) (bytes : List ℕ)
@@ -56,7 +55,7 @@ SessionsLeaveNoTrace =
     (json : Bool) (input : List ℕ) (session : SessionView) (journal : List Entry) (bytes : List ℕ)
     → CompletesBlind json input session journal bytes → LeavesNoTrace session journal
 
--- And so many workers complete the session without its crash lines, however many they are.
+-- And the session without its crash lines completes, with any number of workers.
 abbrev pub CalmSessionsComplete : Type 0
 CalmSessionsComplete =
     (json : Bool) (input : List ℕ) (session : SessionView) (journal : List Entry) (bytes : List ℕ)
@@ -80,8 +79,7 @@ pub record BothComplete (json : Bool) (input : List ℕ) (session : SessionView)
   pub second_bytes : List ℕ
   pub is_second : IsJournalOf json (later session k) second Completed second_bytes
 
--- They keep the same, however far apart their crashes are: each role did the same, and each channel carried the same, but
--- for stamps.
+-- They keep the same, however far apart their crashes are: each role did the same, and each channel carried the same, except for stamps.
 abbrev pub SessionsKeepAlike : Type 0
 SessionsKeepAlike =
     (json : Bool) (input : List ℕ) (session : SessionView) (i k : ℕ) (first second : List Entry)
@@ -94,8 +92,7 @@ SessionsEnd =
     (json : Bool) (input : List ℕ) (session : SessionView) → IsTaken input session
     → (status : Status) × (bytes : List ℕ) × IsOneThreadRun json session status bytes
 
--- What `check` wrote, where it has at most as many bytes as an input may have, is written as it is, where `check` reads
--- it again.
+-- If what `check` wrote has at most as many bytes as an input may have, `check` writes the same bytes when it reads them.
 abbrev pub ChecksStay : Type 0
 ChecksStay =
     (input bytes : List ℕ) → IsOutcome (codes "check" ∷ []) input Completed bytes → length bytes ≤ most_bytes

@@ -26,14 +26,14 @@ counts_text names counts = flat_map (count_text names counts) (range_with_len 0 
 abbrev pub line_text : List (List ℕ) → (ℕ → ℕ) → List ℕ
 line_text names counts = codes "line" ++ counts_text names counts ++ codes "\n"
 
--- The bytes are the stable line behind a journal of the session.
+-- The bytes are the stable line at the end of a journal of the session.
 pub record IsLineOf (session : SessionView) (journal : List Entry) (bytes : List ℕ) : Type 0 where
   pub counts : ℕ → ℕ
   pub are_counts : IsLineBehind (rules_of session) journal counts
   pub is_text : bytes ≡ line_text session.protocol.roles counts
 
--- One thread ran the session to its end, and the bytes are the stable line behind its journal. The status doesn't tell at
--- which end: it is the same where the session is limited.
+-- One thread ran the session to its end, and the bytes are the stable line at the end of its journal. The status doesn't say which end that
+-- is: it is the same if the session is limited.
 pub record IsLineRun (session : SessionView) (status : Status) (bytes : List ℕ) : Type 0 where
   pub journal : List Entry
   pub legal : IsLegal (rules_of session) journal

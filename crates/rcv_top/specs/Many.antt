@@ -1,4 +1,4 @@
--- What `run --sessions` makes of a session: several of it, each the one that one thread makes.
+-- What `run --sessions` makes of a session: several sessions, each the one that one thread makes.
 use Rattle.std.specs.Prelude.{◌≡◌, ◌⊎◌, ℕ, ◌*◌, ◌<◌, Bool, true, false, List, length, map, slice_index_or, if◌then◌else◌}
 use Rattle.std.specs.List.{list_any}
 use Rattle.rcv_session.specs.Session.{SessionView, roles_of, rules_of}
@@ -33,7 +33,7 @@ says_limited _ = false
 abbrev pub is_limited : OneRun → Bool
 is_limited run = says_limited run.status
 
--- How they ended in all: limited where one was, else completed.
+-- How they ended in all: limited if one was, else completed.
 abbrev pub ended_as : List OneRun → Status
 ended_as runs = if list_any is_limited runs then Limited else Completed
 
@@ -41,7 +41,7 @@ ended_as runs = if list_any is_limited runs then Limited else Completed
 abbrev pub texts_of : List OneRun → List (List ℕ)
 texts_of runs = map (λ run. run.bytes) runs
 
--- The status says how so many sessions ended, and the bytes are their journals, one behind another.
+-- The status says how so many sessions ended, and the bytes are their journals, one after the other.
 pub record IsManyRun (sessions : ℕ) (json : Bool) (session : SessionView) (status : Status) (bytes : List ℕ) : Type 0 where
   pub runs : List OneRun
   pub are_runs : AreRuns sessions json session runs

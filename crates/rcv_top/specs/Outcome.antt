@@ -34,7 +34,7 @@ number_of Wrong = 8
 abbrev pub most_bytes : ℕ
 most_bytes = 1048576
 
--- What is written where the words are no command.
+-- What is written if the words are no command.
 abbrev pub usage_line : List ℕ
 usage_line = codes "usage: rcv run|check|project|table|gen|replay|line [--workers N] [--json] [--sessions K] [--role R] [--number N]\n"
 
@@ -43,9 +43,9 @@ pub record IsAsked (words : List (List ℕ)) (command : CommandView) (input : Li
   pub words_are : IsCommand words command
   pub short : length (text_for command input) ≤ most_bytes
 
--- What a command makes of a session: the journal that so many workers make with how that ends, those of several sessions,
--- whatever the workers, the canonical text of its protocol, what the role of a name does, the recovery table, the summary
--- of a generated session, or the stable line behind the journal of one thread. `replay` makes nothing of it alone.
+-- What a command makes of a session: the journal that so many workers make, with how that ends; the journals of several sessions, whatever
+-- the workers; the canonical text of its protocol; what the role of a name does; the recovery table; the summary of a generated session; or
+-- the stable line at the end of the journal of one thread. `replay` makes nothing of it alone.
 abbrev pub Makes : SessionView → CommandView → Status → List ℕ → Type 0
 Makes session (Run workers json) status bytes = IsRunOf workers json session status bytes
 Makes session (RunMany sessions workers json) status bytes = IsRunOfMany sessions json session status bytes
@@ -56,8 +56,8 @@ Makes session (Gen number) status bytes = IsSummaryRun number session status byt
 Makes session Line status bytes = IsLineRun session status bytes
 Makes session Replay status bytes = ⊥
 
--- What a command answers to the text that it works on: the line of the first refusal, or what it makes of the session; and
--- `replay` what is said of the journal behind the bundle.
+-- What a command answers to the text that it works on: the line of the first refusal, or what it makes of the session. `replay` answers
+-- what is said of the journal after the bundle.
 pub data IsAnswer (command : CommandView) (text : List ℕ) : Status → List ℕ → Type 0 where
   refused :
       TakesWhole command → (refusal : refusals.Refused) → IsFirstRefusal text refusal

@@ -12,7 +12,7 @@ use Rattle.rcv_top.specs.declared.status.Status.TheVariants.{Completed, Refused}
 abbrev pub place_of : List (List ℕ) → List ℕ → Option ℕ
 place_of names name = position (λ other. bytes_eq other name) names
 
--- The role with this name is written, or the protocol declares none, and that is.
+-- The role with this name is written; or the protocol declares none, and the line for that is written.
 abbrev pub IsProjection : Protocol → List ℕ → Status → List ℕ → Type 0
 IsProjection protocol name status bytes =
     ((role : ℕ) × (place_of protocol.roles name ≡ Some role) × (status ≡ Completed) × IsTextOf (record { protocol = protocol }) role bytes)

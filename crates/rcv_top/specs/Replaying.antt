@@ -15,7 +15,7 @@ IsSaidOf (replays.Legal entries limited) status bytes = (status ≡ Completed) �
 IsSaidOf (replays.WrongEntry number) status bytes = (status ≡ Wrong) × (bytes ≡ wrong_line number)
 IsSaidOf replays.WrongEnd status bytes = (status ≡ Wrong) × (bytes ≡ wrong_end_line)
 
--- Status and bytes say what the journal behind the bundle is.
+-- Status and bytes say what the journal after the bundle is.
 pub record IsReplayAnswer (input : List ℕ) (status : Status) (bytes : List ℕ) : Type 0 where
   pub said : Replayed
   pub is_said : IsReplay input said

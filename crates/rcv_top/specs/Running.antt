@@ -13,7 +13,7 @@ pub data EndsAs (rules : Rules) (s : State) : Status → Type 0 where
   all_done : AreDone rules s → EndsAs rules s Completed
   at_limit : HasOneAtLimit rules s → EndsAs rules s Limited
 
--- How the journal ends is this status, and these bytes are its JSON or its text.
+-- This status says how the journal ends, and these bytes are its JSON or its text.
 pub record EndsSo (json : Bool) (session : SessionView) (journal : List Entry) (status : Status) (bytes : List ℕ) : Type 0 where
   pub ends : EndsAs (rules_of session) (reading (rules_of session) journal) status
   pub written : IsWritten json session journal bytes

@@ -27,7 +27,7 @@ pub record AreRunsOf (json : Bool) (jobs : List JobView) (runs : List OneRun) : 
   pub count : length runs ≡ length jobs
   pub each : (i : ℕ) (j : JobView) (d : OneRun) → i < length jobs → IsRun json (slice_index_or jobs i j).session (slice_index_or runs i d)
 
--- The status says how their sessions ended, and the bytes are their journals, one behind another.
+-- The status says how their sessions ended, and the bytes are their journals, one after the other.
 pub record IsRunOfAll (json : Bool) (jobs : List JobView) (status : Status) (bytes : List ℕ) : Type 0 where
   pub runs : List OneRun
   pub are_runs : AreRunsOf json jobs runs

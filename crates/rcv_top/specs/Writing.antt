@@ -24,7 +24,7 @@ pub record WroteSome
   pub is_kind : IsKind status bytes
   pub wrote : Wrote before after faults_before faults_after bytes status result
 
--- They were; or memory was wanted, and nothing was written.
+-- They were; or memory ran out, and nothing was written.
 abbrev pub Writes : (Status → List ℕ → Type 0) → Option (List ℕ) → Option (List ℕ) → ℕ → ℕ → Result Status AllocError → Type 0
 Writes IsKind before after faults_before faults_after (Ok result) = WroteSome IsKind before after faults_before faults_after result
 Writes IsKind before after faults_before faults_after (Err e) = (after ≡ before) × (faults_after ≡ faults_before)

@@ -34,13 +34,13 @@ use rcv_words::command::Command;
 use std::alloc::{AllocError, Global};
 use std::thread::Threads;
 
-/// Writes what a command answers to the text of at most 1,048,576 bytes that it works on, and says how that ended:
-/// the first refusal of the text, or what the command makes of its protocol, its scripts and its plan. With
-/// `--sessions`, `run` makes the journals of several sessions of them, or refuses these where they may make too many
-/// events in all. `replay` asks first where the text is cut, and says what of the journal behind the bundle is right
-/// or wrong.
+/// Writes a command's answer to the text that it works on, of at most 1,048,576 bytes, and says how that ended. The
+/// answer is the first refusal of the text, or what the command makes of its protocol, its scripts and its plan. With
+/// `--sessions`, `run` makes the journals of several sessions of them, or refuses these if they may make too many
+/// events in all. `replay` first asks where the text is cut, and says what is right or wrong in the journal after the
+/// bundle.
 ///
-/// The error comes where no memory was left; then nothing was written.
+/// The error comes if memory runs out; then nothing was written.
 pub fn answer<R: Threads + Sync, K: Sink, G: Gate + Sync>(
     rt: &R,
     alloc: Global,
@@ -68,7 +68,7 @@ pub fn answer<R: Threads + Sync, K: Sink, G: Gate + Sync>(
             } => run_many(
                 rt, alloc, input, taken, *sessions, *workers, *json, sink, gate,
             ),
-            // `taken` is dropped by name: at each exit behind it the prover would free it field by field.
+            // `taken` is dropped by name: at each later exit the prover would free it field by field.
             Command::Check => {
                 let made = check(alloc, taken.accepted.protocol());
                 drop(taken);

@@ -21,7 +21,7 @@ use rcv_journal::text::last_line_of;
 use std::alloc::{AllocError, Global};
 
 /// Runs the session of the generated input with this number by one thread, and writes the summary of its journal. A
-/// book alone does that: no cell is needed.
+/// book alone does that, without a cell.
 pub fn run_generated(alloc: Global, taken: Input, number: u32) -> Result<Output, AllocError>
     requires belong { AreScriptsFor taken.accepted.protocol taken.scripts }
     requires planned { IsPlanned (length taken.accepted.protocol.roles) taken.plan }
@@ -33,7 +33,7 @@ pub fn run_generated(alloc: Global, taken: Input, number: u32) -> Result<Output,
     run_setup(alloc, &setup, number)
 }
 
-// Runs the session of a setup. The setup stays the caller's, who frees it at one place.
+// Runs the session of a setup. The caller keeps the setup, and frees it at one place.
 fn run_setup(alloc: Global, setup: &Setup, number: u32) -> Result<Output, AllocError>
     ensures { IfOk result (λ output. IsSummaryRun number setup.now output.status output.bytes.items) }
 {

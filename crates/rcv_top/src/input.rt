@@ -15,7 +15,7 @@ use std::alloc::Global;
 /// How many bytes an input may have.
 const MOST: usize = 1_048_576;
 
-// The number of the text that a command generates; none of a command that works on the source.
+// The number of the text that a command generates; none for a command that works on the source.
 fn generated_number(command: &Command) -> Option<u32>
     ensures some { IfSome result (λ number. view_of command.now ≡ Gen number) }
     ensures none { IfNone result (WorksOnSource (view_of command.now)) }
@@ -26,12 +26,11 @@ fn generated_number(command: &Command) -> Option<u32>
     }
 }
 
-/// The text that a command works on: `gen` on the generated one, and nothing is read; any other on what the source
-/// gives to its end.
+/// The text that a command works on. `gen` works on the generated one, and nothing is read. Any other command works on
+/// what the source gives to its end.
 ///
-/// `ReadFault` comes only where the source's count of faults rose, and always where it is greater than before.
-/// `TooLong` comes exactly where more than 1,048,576 bytes were taken from the source. `Memory` says that no memory was
-/// left.
+/// `ReadFault` comes only if the source's count of faults rose, and always if it is greater than before. `TooLong`
+/// comes exactly if more than 1,048,576 bytes were taken from the source. `Memory` says that memory ran out.
 pub fn input_of<S: Source>(
     alloc: Global,
     command: &Command,

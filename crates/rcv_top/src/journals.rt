@@ -1,4 +1,4 @@
-// The journals of jobs that are over, one behind another.
+// The journals of jobs that are over, one after the other.
 
 ghost use Rattle.std.specs.Prelude.{◌≡◌, ◌≤◌, length, IfOk, OnOk, if◌then◌else◌};
 ghost use Rattle.rcv_top.specs.Sharing.{AreAs, AreJournalsOf, HasOneMore, IsRunOfAll};
@@ -11,7 +11,7 @@ use rcv_joined::joined::write_journals;
 use rcv_page::Page;
 use std::alloc::{AllocError, Global};
 
-// How sessions ended in all, and their journals as they are written, which their jobs lend.
+// How sessions ended in all, and their journals as they are written. The jobs lend the journals.
 #[derive(Drop)]
 struct Journals<'a> {
     status: Status,
@@ -20,7 +20,7 @@ struct Journals<'a> {
 
 /// Writes the journals of at most 64 jobs, in their order, and says how all sessions ended, or that the sink failed.
 ///
-/// The error comes where a job has found no memory, or no memory was left; then nothing was written.
+/// The error comes if a job found no memory, or memory runs out here; then nothing was written.
 pub fn write_journals_of<K: Sink>(
     alloc: Global,
     jobs: &[Job<'_>],
@@ -35,14 +35,14 @@ pub fn write_journals_of<K: Sink>(
 {
     let journals = journals_of(alloc, jobs)?;
     let page = Page::new(alloc)?;
-    // From here on no memory is wanted.
+    // From here on nothing takes memory.
     match write_journals(page, sink, journals.texts.as_slice(), json) {
         Ok(()) => Ok(journals.status),
         Err(_) => Ok(Status::WriteFault),
     }
 }
 
-// How the sessions of jobs ended, and their journals. It fails also where a job has found no memory.
+// How the sessions of jobs ended, and their journals. It also fails if a job found no memory.
 fn journals_of<'a>(alloc: Global, jobs: &'a [Job<'_>]) -> Result<Journals<'a>, AllocError>
     ensures { IfOk result (λ all. AreJournalsOf jobs.entry.now (length jobs.entry.now) all) }
 {
@@ -57,7 +57,7 @@ fn journals_of<'a>(alloc: Global, jobs: &'a [Job<'_>]) -> Result<Journals<'a>, A
 }
 
 impl<'a> Journals<'a> {
-    // Adds the journal of a job. It fails also where this has found no memory.
+    // Adds the journal of a job. It also fails if the job found no memory.
     fn add(&mut self, job: &'a Job<'_>) -> Result<(), AllocError>
         ensures { OnOk result (HasOneMore job.entry.now self.old self.new) }
     {
@@ -70,7 +70,7 @@ impl<'a> Journals<'a> {
     }
 }
 
-// How sessions ended with one more: limited where this wasn't completed.
+// How sessions ended, with one more: limited if that one wasn't completed.
 fn ended_with(status: Status, completed: bool) -> Status
     ensures { result ≡ (if completed then status else Status.Limited) }
 {

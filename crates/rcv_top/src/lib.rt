@@ -22,13 +22,13 @@ pub use call::recover;
 pub use rcv_gate::{Gate, NoGate};
 pub use status::Status;
 
-/// Status and bytes are a function of the words and the input, where the words don't ask for several workers of one
-/// session.
+/// If the words don't ask for several workers of one session, status and bytes are a function of the words and the
+/// input.
 pub fn one_outcome()
     ensures { OneOutcome }
 {}
 
-/// Several sessions have one outcome, however many workers they are shared among.
+/// Several sessions have one outcome, however many workers share them.
 pub fn workers_decide_nothing()
     ensures { WorkersDecideNothing }
 {}
@@ -43,7 +43,7 @@ pub fn sessions_are_legal()
     ensures { SessionsAreLegal }
 {}
 
-/// Where no script reads the attempt and the session completes, its crashes leave no trace in what is kept.
+/// If no script reads the attempt and the session completes, its crashes leave no trace in what is kept.
 pub fn sessions_leave_no_trace()
     ensures { SessionsLeaveNoTrace }
 {}
@@ -53,22 +53,23 @@ pub fn many_sessions_are_legal()
     ensures { ManySessionsAreLegal }
 {}
 
-/// Where no script reads the attempt, any two of several sessions that complete keep the same.
+/// If no script reads the attempt, any two of several sessions that complete keep the same.
 pub fn sessions_keep_alike()
     ensures { SessionsKeepAlike }
 {}
 
-/// The session without its crash lines completes then, with each number of workers.
+/// If no script reads the attempt and the session completes, it also completes without its crash lines, with any number
+/// of workers.
 pub fn calm_sessions_complete()
     ensures { CalmSessionsComplete }
 {}
 
-/// The session of each input that is taken completes, or it is limited by a role at the limit.
+/// The session of each input that is taken completes, or it is limited: some role is at the limit.
 pub fn sessions_end()
     ensures { SessionsEnd }
 {}
 
-/// What `check` wrote, where it has at most 1,048,576 bytes, is written as it is when it is given to `check` again.
+/// If what `check` wrote has at most 1,048,576 bytes, `check` writes the same bytes when it is given them.
 pub fn checks_stay()
     ensures { ChecksStay }
 {}

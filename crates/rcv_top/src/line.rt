@@ -14,8 +14,8 @@ use rcv_text::writer::Writer;
 use rcv_tree::name::Names;
 use std::alloc::{AllocError, Global};
 
-/// Runs the session by one thread, and writes the stable line behind its journal. A book alone does that: no cell is
-/// needed.
+/// Runs the session by one thread, and writes the stable line at the end of its journal. A book alone does that,
+/// without a cell.
 pub fn run_line(alloc: Global, taken: Input) -> Result<Output, AllocError>
     requires belong { AreScriptsFor taken.accepted.protocol taken.scripts }
     requires planned { IsPlanned (length taken.accepted.protocol.roles) taken.plan }
@@ -27,7 +27,7 @@ pub fn run_line(alloc: Global, taken: Input) -> Result<Output, AllocError>
     run_setup(alloc, &setup)
 }
 
-// Runs the session of a setup. The setup stays the caller's, who frees it at one place.
+// Runs the session of a setup. The caller keeps the setup, and frees it at one place.
 fn run_setup(alloc: Global, setup: &Setup) -> Result<Output, AllocError>
     ensures { IfOk result (λ output. IsLineRun setup.now output.status output.bytes.items) }
 {

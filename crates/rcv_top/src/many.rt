@@ -25,14 +25,14 @@ use std::thread::Threads;
 /// How many events all sessions may make in all, by their plan.
 const MOST_EVENTS: u32 = 3_200_000;
 
-/// Runs so many sessions of an input, at most 64, on so many workers, from 1 to 8, and writes their journals in
-/// order, as JSON or as lines. `taken` is what the input was read as. In session i, counted from 0, each crash line
-/// has a count that is i more. Each session is run by one thread at a time, and at most so many are begun and not
-/// over at any time as there are workers. Says how they ended, or that the sink failed.
+/// Runs so many sessions of an input, at most 64, on so many workers, from 1 to 8, and writes their journals in order,
+/// as JSON or as lines. `taken` is what the input was read as. In session i, counted from 0, each crash line has a
+/// count that is i more. One thread at a time runs each session. At any time the sessions that are begun and not over
+/// are at most as many as the workers. Says how they ended, or that the sink failed.
 ///
-/// Refused where the roles times the limit times the sessions are more than 3,200,000.
+/// Refused if the roles times the limit times the sessions are more than 3,200,000.
 ///
-/// The error comes where no memory was left; then nothing was written, however many sessions had ended.
+/// The error comes if memory runs out; then nothing was written, however many sessions had ended.
 pub fn run_many<R: Threads + Sync, K: Sink, G: Gate + Sync>(
     rt: &R,
     alloc: Global,
@@ -85,7 +85,7 @@ fn refuse(alloc: Global) -> Result<Output, AllocError>
     })
 }
 
-// Runs the sessions that were prepared, and writes their journals. The setups stay the caller's, who frees them at one
+// Runs the sessions that were prepared, and writes their journals. The caller keeps the setups, and frees them at one
 // place.
 fn run_prepared<R: Threads + Sync, K: Sink, G: Gate + Sync>(
     rt: &R,
@@ -108,7 +108,7 @@ fn run_prepared<R: Threads + Sync, K: Sink, G: Gate + Sync>(
     write_journals_of(alloc, jobs.as_slice(), json, sink)
 }
 
-// A job for each of the sessions that were prepared. It fails also where one has found no memory.
+// A job for each of the sessions that were prepared. It also fails if one of them found no memory.
 fn jobs_of<'a>(
     alloc: Global,
     prepared: &'a [Preparation<'_>],

@@ -26,7 +26,7 @@ pub fn write<K: Sink>(sink: &mut K, bytes: &[u8], status: Status) -> Status
     }
 }
 
-/// Writes what was made. The error comes where it wasn't, for want of memory.
+/// Writes what was made. The error comes if memory ran out before it was made.
 pub fn put<K: Sink>(sink: &mut K, made: Result<Output, AllocError>) -> Result<Status, AllocError>
     ensures later { K.faults sink.old ≤ K.faults sink.new }
     ensures put { Put made (K.written sink.old) (K.written sink.new) (K.faults sink.old) (K.faults sink.new) result }

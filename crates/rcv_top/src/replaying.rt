@@ -1,4 +1,4 @@
-// What `replay` answers: whether the journal behind a bundle is legal and whole.
+// What `replay` answers: whether the journal after a bundle is legal and whole.
 
 ghost use Rattle.std.specs.Prelude.{◌≤◌, length, IfOk};
 ghost use Rattle.rcv_top.specs.Replaying.{IsReplayAnswer, IsSaidOf};
@@ -11,7 +11,7 @@ use rcv_replay::replay::replay;
 use rcv_replay::replayed::Replayed;
 use std::alloc::{AllocError, Global};
 
-/// What is answered to an input of at most 1,048,576 bytes.
+/// The answer to an input of at most 1,048,576 bytes.
 pub fn replay_answer(alloc: Global, input: &[u8]) -> Result<Output, AllocError>
     requires { length input.now ≤ 1048576 }
     ensures { IfOk result (λ output. IsReplayAnswer input.now output.status output.bytes.items) }

@@ -16,7 +16,7 @@ use rcv_core::setup::Setup;
 use rcv_gate::Gate;
 use rcv_input::Input;
 use rcv_io::Sink;
-use rcv_journal::TextError;
+use rcv_journal::WriteError;
 use rcv_journal::text::write_text;
 use rcv_json::json_of;
 use rcv_super::session::Session;
@@ -26,7 +26,7 @@ use std::thread::Threads;
 /// Runs a session to its end with so many workers, from 1 to 8, and writes its journal, as JSON or as lines. Says how
 /// the session ended, or that the sink failed.
 ///
-/// The error comes where no memory was left; then nothing was written.
+/// The error comes if memory runs out; then nothing was written.
 pub fn run<R: Threads + Sync, K: Sink, G: Gate + Sync>(
     rt: &R,
     alloc: Global,
@@ -49,8 +49,8 @@ pub fn run<R: Threads + Sync, K: Sink, G: Gate + Sync>(
     run_setup(rt, alloc, &setup, workers, json, sink, gate)
 }
 
-// Runs the session of a setup. The setup stays the caller's, who frees it at one place: a large value is freed field by
-// field at each place where its owner may return.
+// Runs the session of a setup. The caller keeps the setup, and frees it at one place. The code frees a large value
+// field by field at each place where its owner may return.
 fn run_setup<R: Threads + Sync, K: Sink, G: Gate + Sync>(
     rt: &R,
     alloc: Global,
@@ -70,8 +70,8 @@ fn run_setup<R: Threads + Sync, K: Sink, G: Gate + Sync>(
     finish(rt, alloc, &mut session, workers, json, sink, gate)
 }
 
-// Brings a session to its end with so many workers, and writes its journal. The session stays the caller's, as the setup
-// does.
+// Brings a session to its end with so many workers, and writes its journal. The caller keeps the session, as it keeps
+// the setup.
 fn finish<R: Threads + Sync, K: Sink, G: Gate + Sync>(
     rt: &R,
     alloc: Global,
@@ -147,7 +147,7 @@ fn write_lines<K: Sink>(alloc: Global, book: &Book<'_>, sink: &mut K) -> Result<
     let status = status_of(book);
     match write_text(alloc, book, sink) {
         Ok(()) => Ok(status),
-        Err(TextError::WriteFault) => Ok(Status::WriteFault),
-        Err(TextError::Memory) => Err(AllocError),
+        Err(WriteError::WriteFault) => Ok(Status::WriteFault),
+        Err(WriteError::Memory) => Err(AllocError),
     }
 }

@@ -20,11 +20,11 @@ pub enum Status {
     ReadFault,
     /// The sink failed, and not all was written.
     WriteFault,
-    /// No memory was left, and nothing was written.
+    /// Memory ran out, and nothing was written.
     Memory,
     /// More than 1,048,576 bytes were taken from the source, and nothing was written.
     TooLong,
-    /// The journal behind the bundle isn't legal and whole, and it was written what of it is wrong.
+    /// The journal after the bundle isn't legal and whole, and a line was written that says what is wrong with it.
     Wrong,
 }
 

@@ -15,7 +15,7 @@ abbrev pub Passes : (ℕ → Bool) → List ℕ → Type 0
 Passes p [] = Unit {0}
 Passes p (b ∷ bs) = (p b ≡ true) × Passes p bs
 
--- A letter, and letters and digits behind it, at most 64 bytes.
+-- A letter, and letters and digits after it, at most 64 bytes.
 abbrev pub IsWord : List ℕ → Type 0
 IsWord [] = ⊥
 IsWord (b ∷ bs) = (is_letter b ≡ true) × Passes is_word_byte bs × (length (b ∷ bs) ≤ 64)

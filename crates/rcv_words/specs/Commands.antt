@@ -38,7 +38,7 @@ view_of commands.Line = Line
 abbrev pub run_for : ℕ → ℕ → Bool → CommandView
 run_for sessions workers json = if sessions == 1 then Run workers json else RunMany sessions workers json
 
--- Words as their bytes.
+-- Words, as lists of bytes.
 abbrev pub texts_of : List (String Global) → List Text
 texts_of words = map string_bytes words
 
@@ -50,7 +50,7 @@ line_of words = codes "rcv" ∷ words
 abbrev pub AreTaken : List Text → Type 0
 AreTaken words = fault_of rcv (line_of words) ≡ []
 
--- What the crate finds in them.
+-- What the crate finds in the words.
 abbrev pub found_in : List Text → List Row
 found_in words = matches_of rcv (line_of words)
 
@@ -63,7 +63,7 @@ pub record Given : Type 0 where
   pub number : Option ℕ
   pub sessions : Option ℕ
 
--- The number that is given for the option. `one_of` gives the text without a `-` in front, which only a 0 that passed has.
+-- The number that is given for the option. `one_of` gives the text without a `-` in front: only a 0 that passed has one.
 abbrev pub number_in : Text → List Row → Option ℕ
 number_in name rows = option_map (λ text. digits_value 10 (without_leading_plus text)) (one_of name rows)
 
@@ -90,7 +90,7 @@ given_of found = record {
 abbrev pub given : List Text → Given
 given words = given_in (found_in words)
 
--- Of the options at most a role and a number are given, these ones.
+-- At most a role and a number are given of the options: these.
 pub record HasOptions (g : Given) (r : Option Text) (n : Option ℕ) : Type 0 where
   pub workers : g.workers ≡ None
   pub json : g.json ≡ false
@@ -98,8 +98,8 @@ pub record HasOptions (g : Given) (r : Option Text) (n : Option ℕ) : Type 0 wh
   pub number : g.number ≡ n
   pub sessions : g.sessions ≡ None
 
--- What is given says the command: its word and its options, and no option of another one. Where no number of sessions is
--- given it is one.
+-- What is given says the command: its word and its options, and no option of another one. If no number of sessions is given,
+-- it is one.
 abbrev pub Says : Given → CommandView → Type 0
 Says g (Run workers json) =
     (g.command ≡ Some (codes "run"))
@@ -133,6 +133,6 @@ IsWithin _ = ⊤
 abbrev pub IsCommand : List Text → CommandView → Type 0
 IsCommand words command = AreTaken words × Says (given words) command × IsWithin command
 
--- They are none.
+-- The words are no command.
 abbrev pub IsNoCommand : List Text → Type 0
 IsNoCommand words = (command : CommandView) → IsCommand words command → ⊥

@@ -1,4 +1,4 @@
-use Rattle.rcv_form.specs.Journal.{bare}
+use Rattle.rcv_journal.specs.Recorded.{bare}
 use Rattle.rcv_lines.proofs.OneJournal.{lines_spell}
 use Rattle.rcv_lines.proofs.Accepting.{all_end}
 use Rattle.rcv_lines.proofs.journals_are_read_back.Goals as goal

@@ -1,4 +1,4 @@
-use Rattle.rcv_form.specs.Journal.{bare}
+use Rattle.rcv_journal.specs.Recorded.{bare}
 use Rattle.rcv_lines.proofs.OneJournal.{one_journal}
 use Rattle.rcv_lines.proofs.Accepting.{says_one}
 use Rattle.rcv_lines.proofs.texts_have_one_journal.Goals as goal

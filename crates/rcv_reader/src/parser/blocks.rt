@@ -14,7 +14,7 @@ ghost use Rattle.rcv_reader.specs.Descent.{TakesAll, TakesBlock, place_at, place
 
 use crate::parser::{Parser, Spot, holds};
 use crate::stop::Stop;
-use rcv_scan::{Ahead, Lexeme};
+use rcv_lexer::{Ahead, Lexeme};
 use rcv_syntax::{Fault, Sign};
 use rcv_tree::name::Name;
 use rcv_tree::role::RoleSet;
@@ -22,7 +22,7 @@ use rcv_tree::statement::{Block, Blocks, Stmt};
 use std::alloc::Global;
 
 impl<'a> Parser<'a> {
-    // Takes the name behind `continue`, which is that of an enclosing recursion, and the mark behind it.
+    // Takes the name after `continue`, which is that of an enclosing recursion, and the mark after it.
     #[tactic(auto, using(crate::proofs::Blocks::again_read))]
     fn again(&mut self, alloc: Global, spot: Spot, block: &mut Block) -> Result<(), Stop>
         ensures goes { Consumes result self.old self.new (λ k. AgainName (place_of_spot self.old spot) ∷ k) (λ x k. k) }
@@ -57,7 +57,7 @@ impl<'a> Parser<'a> {
         Ok(())
     }
 
-    // What speaks against what is next behind a `continue`.
+    // What speaks against what is next after a `continue`.
     fn ended_fault(&self) -> Fault
         ensures { (p : Place) (k : List Item) → p.ended ≡ true
             → answers self.now (First p ∷ k) ≡ Refuses result self.now.rest }
@@ -71,7 +71,7 @@ impl<'a> Parser<'a> {
         }
     }
 
-    // Whether the name is next, of a recursion from the start of whose body a walk comes here without a message.
+    // Whether the name of a recursion is next, and a walk comes here from the start of its body without a message.
     fn is_unguarded(&self, spot: Spot, after: &Ahead<'a, Sign>) -> bool
         requires { spot.comes ≤ length self.now.recs }
         ensures { result ≡ is_open (place_of_spot self.now spot) after.now }
@@ -111,7 +111,7 @@ impl<'a> Parser<'a> {
         self.recs.pop().unwrap()
     }
 
-    // Takes a recursion, of which the word is taken.
+    // Takes a recursion, once its word is taken.
     #[cycle(descent)]
     fn recursion(&mut self, alloc: Global, spot: Spot, block: &mut Block) -> Result<(), Stop>
         requires comes { spot.comes ≤ length self.old.recs }
@@ -131,7 +131,7 @@ impl<'a> Parser<'a> {
         Ok(block.push(Stmt::Rec { name, body })?)
     }
 
-    // Takes a choice, of which the word is taken.
+    // Takes a choice, once its word is taken.
     #[cycle(descent)]
     fn choice(&mut self, alloc: Global, spot: Spot, block: &mut Block) -> Result<(), Stop>
         requires comes { spot.comes ≤ length self.old.recs }
@@ -159,7 +159,7 @@ impl<'a> Parser<'a> {
         spot.depth >= 2 || self.protocols.as_slice().len() >= 2
     }
 
-    // Goes on behind the word `par`: no role is named since.
+    // Goes on after the word `par`: no role is named since.
     fn begin_par(&mut self, after: Ahead<'a, Sign>)
         ensures { self.new ≡ back_at self.old self.old.count 0 after.entry }
     {
@@ -167,7 +167,7 @@ impl<'a> Parser<'a> {
         self.rest = after;
     }
 
-    // Takes a par, of which the word is taken. No two of its blocks name the same role.
+    // Takes a par, once its word is taken. No two of its blocks name the same role.
     #[cycle(descent)]
     fn par(&mut self, alloc: Global, spot: Spot, block: &mut Block) -> Result<(), Stop>
         ensures goes { let p = place_of_spot self.old spot in
@@ -229,7 +229,7 @@ impl<'a> Parser<'a> {
         Ok(())
     }
 
-    // Takes a statement at this place, which becomes the one behind it.
+    // Takes a statement at this place, which becomes the place after it.
     #[cycle(descent)]
     fn stmt(&mut self, alloc: Global, spot: &mut Spot, block: &mut Block) -> Result<(), Stop>
         requires comes { spot.old.comes ≤ length self.old.recs }

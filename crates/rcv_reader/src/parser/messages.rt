@@ -15,7 +15,7 @@ ghost use Rattle.rcv_reader.specs.Descent.{Takes, Consumes, TakesSome};
 
 use crate::parser::Parser;
 use crate::stop::Stop;
-use rcv_scan::Lexeme;
+use rcv_lexer::Lexeme;
 use rcv_syntax::{Fault, Sign};
 use rcv_tree::name::{Name, Names};
 use rcv_tree::point::Point;
@@ -30,7 +30,8 @@ fn is_listed(role: RoleId, before: &[RoleId]) -> bool
     before.iter().any(|other| role == *other)
 }
 
-// Adds a message for each of these receivers, of which the last makes so many points in all. They share the sorts.
+// Adds a message for each of these receivers. With the last one there are so many points in all. The messages share
+// the sorts.
 fn add_messages(
     alloc: Global,
     label: &[u8],
@@ -60,8 +61,8 @@ fn add_messages(
 }
 
 impl<'a> Parser<'a> {
-    /// Takes this word, and the name of a role behind it, which isn't one of the earlier ones: the subject of a choice, or
-    /// a sender.
+    /// Takes this word, and the name of a role after it, which isn't one of the earlier ones: the subject of a choice,
+    /// or a sender.
     pub fn role(&mut self, sign: Sign, earlier: RoleSet) -> Result<RoleId, Stop>
         ensures subject { Takes result self.old self.new
             (λ k. This (Is sign) ∷ Subject (named_in self.old.roles earlier.0) ∷ k) (λ r k. k) }
@@ -87,7 +88,7 @@ impl<'a> Parser<'a> {
         Ok(role)
     }
 
-    // Takes sorts, and the parenthesis behind them.
+    // Takes sorts, and the parenthesis after them.
     #[tactic(auto, using(crate::proofs::Stops::goes_on, crate::proofs::Reading::sorts_are_listed))]
     fn sorts(&mut self, alloc: Global) -> Result<Names, Stop>
         ensures goes { Consumes result self.old self.new (λ k. Sorts ∷ k) (λ x k. k) }
@@ -138,7 +139,7 @@ impl<'a> Parser<'a> {
         Ok(())
     }
 
-    // Takes all receivers of a message, and the mark behind them.
+    // Takes all receivers of a message, and the mark after them.
     #[tactic(auto, using(crate::proofs::Reading::receivers_first))]
     fn receivers(&mut self, alloc: Global, earlier: RoleSet, sender: RoleId) -> Result<Roles, Stop>
         ensures goes { Consumes result self.old self.new
@@ -154,7 +155,7 @@ impl<'a> Parser<'a> {
         Ok(receivers)
     }
 
-    /// Takes a message, of which the label is taken.
+    /// Takes a message, once its label is taken.
     pub fn message(
         &mut self,
         alloc: Global,
@@ -204,7 +205,7 @@ impl<'a> Parser<'a> {
         Ok(())
     }
 
-    // Takes all arguments of a call, and the parenthesis behind them.
+    // Takes all arguments of a call, and the parenthesis after them.
     #[tactic(auto, using(crate::proofs::Calling::arguments_first))]
     fn arguments(&mut self, alloc: Global, earlier: RoleSet) -> Result<Roles, Stop>
         ensures goes { Consumes result self.old self.new
@@ -220,7 +221,7 @@ impl<'a> Parser<'a> {
         Ok(arguments)
     }
 
-    /// Takes a call, of which the word is taken.
+    /// Takes a call, once its word is taken.
     pub fn call(&mut self, alloc: Global, earlier: RoleSet, block: &mut Block) -> Result<(), Stop>
         ensures goes { Consumes result self.old self.new (λ k. AnyName ∷ This (Is Sign.Left)
             ∷ Argument (named_in self.old.roles earlier.0) [] ∷ This (Is Sign.Semicolon) ∷ k) (λ x k. k) }

@@ -14,9 +14,9 @@ use crate::ends::{rewind_alone_at, rewind_at, slot};
 use rcv_tree::role::RoleId;
 
 impl<'a> Cell<'a> {
-    /// The channel from another cell of the session to this one goes back: of what was put on it the first `drop_from`
-    /// messages stay, all of them taken, and of those the first `keep` are received. Until the parts go back, too,
-    /// neither cell is settled. It takes no memory.
+    /// The channel from another cell of the session to this one goes back: the first `drop_from` of the messages that
+    /// were put on it stay, all of them taken, and the first `keep` of those are received. Until the parts go back,
+    /// too, neither cell is settled. It takes no memory.
     pub fn rewind_from(&mut self, sender: &mut Cell<'a>, keep: u32, drop_from: u32)
         requires setup { sender.old.part.setup ≡ self.old.part.setup }
         requires apart { sender.old.part.role ≡ self.old.part.role → ⊥ }
@@ -38,8 +38,8 @@ impl<'a> Cell<'a> {
         );
     }
 
-    /// The inbox from another declared role goes back alone: the first `keep` messages stay received, and those behind
-    /// them will be received again. It takes no memory.
+    /// The inbox from another declared role goes back alone: the first `keep` messages stay received, and it will
+    /// receive those after them again. It takes no memory.
     pub fn rewind_alone_from(&mut self, sender: RoleId, keep: u32)
         requires declared { sender < roles_of self.old.part.setup }
         requires apart { sender ≡ self.old.part.role → ⊥ }
@@ -50,8 +50,8 @@ impl<'a> Cell<'a> {
         rewind_alone_at(&mut self.inboxes, at, keep);
     }
 
-    /// Goes back to so many of the role's first events, to which its ends were rewound and whose state is held, and
-    /// sets the clock. The attempt is one more where an event was lost, and a crashed role runs on. It takes no memory.
+    /// Goes back to so many of the role's first events, and sets the clock. Its ends were rewound to them, and their
+    /// state is held. The attempt is one more if an event was lost, and a crashed role runs on. It takes no memory.
     pub fn back_to(&mut self, keep: u32, clock: u64)
         requires base { self.old.part.base ≤ keep }
         requires held { keep ≤ self.old.part.held }
@@ -63,8 +63,8 @@ impl<'a> Cell<'a> {
         self.part.back_to(keep, clock);
     }
 
-    /// The same of a crashed role, which another role's recovery concerns: it stays crashed, and of the states behind
-    /// its events those that are still held stay, up to so many events. It takes no memory.
+    /// The same for a crashed role which another role's recovery concerns: it stays crashed. Of the states after its
+    /// events those that are still held stay, up to so many events. It takes no memory.
     pub fn cut_to(&mut self, keep: u32, clock: u64)
         requires crashed { self.old.part.own.crashed ≡ true }
         requires base { self.old.part.base ≤ keep }
@@ -77,8 +77,8 @@ impl<'a> Cell<'a> {
         self.part.cut_to(keep, clock);
     }
 
-    /// Forgets the states before the one behind so many of the role's events, which it has saved: no recovery takes back
-    /// an event before it. All else stays. It takes no memory.
+    /// Forgets the states before the one after so many of the role's events. The role has saved these events: no
+    /// recovery takes back one of them. All else stays. It takes no memory.
     pub fn forget(&mut self, line: u32)
         requires step { (k : ℕ) × (k * (rules_of self.old.part.setup).every self.old.part.role ≡ line) }
         requires above { self.old.part.base ≤ line }

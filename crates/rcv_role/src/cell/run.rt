@@ -11,9 +11,9 @@ use rcv_gate::Gate;
 
 impl<'a> Cell<'a> {
     /// Polls a role that isn't crashed until it can't go on, or a look at the watch shows a failure that reaches it, or
-    /// so many turns, at least one, are made. Before each poll it looks at the watch once and then calls the gate.
-    /// Where the role crashes with an event to be undone it raises the watch. The log has room for as many entries as
-    /// turns. The watch stays one of the same fence. It takes no memory.
+    /// so many turns, at least one, are made. Before each poll it looks at the watch once and then calls the gate. If
+    /// the role crashes with an event that it hasn't saved, it raises the watch. The log has room for as many entries
+    /// as turns. The watch stays one of the same fence. It takes no memory.
     pub fn run<G: Gate>(&mut self, watch: &mut Watch, gate: &G, turns: u32) -> Stop
         requires running { self.old.part.own.crashed ≡ false }
         requires turns { 1 ≤ turns }
@@ -44,7 +44,7 @@ impl<'a> Cell<'a> {
         Stop::Spent
     }
 
-    // Looks at the watch once: whether a failure is shown that reaches the role.
+    // Looks at the watch once: whether it shows a failure that reaches the role.
     fn is_fenced(&self, watch: &mut Watch) -> bool
         ensures fence { watch.new.fence ≡ watch.old.fence }
         ensures looks { watch.new.looks ≡ watch.old.looks + 1 }

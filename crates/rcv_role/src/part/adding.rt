@@ -15,7 +15,7 @@ use rcv_checkpoint::tail::Tail;
 use rcv_tree::entry::{Entry, Timed};
 use rcv_tree::event::{Dir, Event};
 
-// The state behind an event, and which variables the event may have changed.
+// The state after an event, and which variables the event may have changed.
 #[derive(Clone, Copy)]
 struct Behind {
     state: State,
@@ -45,7 +45,7 @@ impl<'a> Part<'a> {
         self.chosen = None;
     }
 
-    // What stands behind one event more.
+    // What stands after one event more.
     fn behind(&self, event: &Event) -> Behind
         requires running { self.now.own.crashed ≡ false }
         requires own { IsOwn self.now.setup self.now.role event.now }
@@ -66,7 +66,7 @@ impl<'a> Part<'a> {
     }
 }
 
-// Saves the state behind one event more, for which there is room.
+// Saves the state after one event more. There is room for it.
 fn hold(tail: &mut Tail, behind: &Behind)
     requires room { made tail.old < tail.old.room }
     requires few { made tail.old + 1 < 2 ^ 32 }
@@ -76,7 +76,7 @@ fn hold(tail: &mut Tail, behind: &Behind)
     let _saved = tail.save(behind.state.k, &behind.state.vars, behind.change);
 }
 
-// The place behind an event.
+// The place after an event.
 fn place_behind(event: &Event) -> u16
     ensures { result ≡ event.now.point }
 {

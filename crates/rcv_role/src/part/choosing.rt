@@ -20,7 +20,7 @@ impl<'a> Part<'a> {
         self.setup.plan().due(self.role, self.raw, self.crashes)
     }
 
-    /// Whether the role makes no step more: it has made as many as the limit allows, or its clock has come too far.
+    /// Whether the role makes no more steps: it has made as many as the limit allows, or its clock has come too far.
     pub fn is_tired(&self) -> bool
         ensures { IsTrue result ↔ (IsBelow self.now → ⊥) }
     {
@@ -36,7 +36,7 @@ impl<'a> Part<'a> {
         setup.next(self.role, self.tail.top().k)
     }
 
-    /// The role that all next points are to be received from, the first of them being this one. None where all are
+    /// The role from which this role receives at all next points, the first of them being this one. None if all are
     /// sends.
     pub fn partner(&self, offered: &[Point], first: Point) -> Option<RoleId>
         requires offers { Offers self.now offered.now }
@@ -60,8 +60,8 @@ impl<'a> Part<'a> {
         self.setup.receiver(point)
     }
 
-    /// The Send that the role makes where all its next points are its sends. Its script is asked for it once: until the
-    /// role makes a step or goes back, it is remembered.
+    /// The Send that the role makes if all its next points are its sends. The role asks its script for it once, and
+    /// remembers the Send until it makes a step or goes back.
     pub fn sent(&mut self, offered: &[Point]) -> Event
         requires running { self.old.own.crashed ≡ false }
         requires calm { IsOwnDue (rules_of self.old.setup) self.old.role self.old.own → ⊥ }
@@ -113,7 +113,7 @@ impl<'a> Part<'a> {
         }
     }
 
-    /// The Recv of a message from the role that all next points are to be received from.
+    /// The Recv of a message from the role from which this role receives at all next points.
     pub fn got(&self, offered: &[Point], from: RoleId, message: &Message) -> Event
         requires running { self.now.own.crashed ≡ false }
         requires calm { IsOwnDue (rules_of self.now.setup) self.now.role self.now.own → ⊥ }

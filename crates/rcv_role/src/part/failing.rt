@@ -12,7 +12,7 @@ use rcv_tree::entry::{Entry, Timed};
 use rcv_tree::point::Point;
 
 impl<'a> Part<'a> {
-    /// A crash, which is due: it is logged, and the states that the role hasn't saved are lost.
+    /// A crash, which is due: it logs the crash, and loses the states that the role hasn't saved.
     pub fn crash(&mut self)
         requires due { IsOwnDue (rules_of self.old.setup) self.old.role self.old.own }
         requires log { length self.old.log < LOG }
@@ -30,7 +30,7 @@ impl<'a> Part<'a> {
         });
     }
 
-    /// The point of the first event that the role hasn't saved; none where it has saved all.
+    /// The point of the first event that the role hasn't saved; none if it has saved all.
     pub fn first_lost(&self) -> Option<Point>
         ensures value { result ≡ first_lost self.now }
         ensures point { IfSome result IsPoint }

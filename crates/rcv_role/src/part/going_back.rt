@@ -7,8 +7,8 @@ ghost use Rattle.rcv_role.specs.Part.{from_base, durable_of, gone_back, cut_back
 use crate::part::Part;
 
 impl<'a> Part<'a> {
-    /// Forgets the states before the one behind so many events, which the role has saved: it never goes back behind
-    /// them. It takes no memory.
+    /// Forgets the states before the one after so many events. The role has saved these events: it never goes back
+    /// before their end. It takes no memory.
     pub fn forget(&mut self, line: u32)
         requires step { (k : ℕ) × (k * (rules_of self.old.setup).every self.old.role ≡ line) }
         requires above { self.old.base ≤ line }
@@ -51,7 +51,7 @@ impl<'a> Part<'a> {
     }
 }
 
-// The number of the attempt behind a recovery that keeps so many of the events made.
+// The number of the attempt after a recovery that keeps so many of the events made.
 fn attempt_behind(attempt: u32, kept: usize, made: usize) -> u32
     requires { attempt + 1 < 2 ^ 32 }
     ensures { result ≡ (if kept == made then attempt else attempt + 1) }

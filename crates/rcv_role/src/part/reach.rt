@@ -24,7 +24,7 @@ impl<'a> Part<'a> {
         self.is_concerned(role, point)
     }
 
-    // Whether it is a point of the role, and this role is concerned by it.
+    // Whether it is a point of the role, and concerns this role.
     fn is_concerned(&self, role: RoleId, point: Point) -> bool
         requires role { role < 8 }
         requires point { IsPoint point }

@@ -2,7 +2,7 @@ use Rattle.std.proofs.Common.{refl, sym, ◌∙◌, ap, subst, inl, inr}
 use Rattle.std.specs.Prelude.{Some}
 use Rattle.rcv_model.specs.Next.{HasLater, CanEnd}
 use Rattle.rcv_points.proofs.Whole.{same_net}
-use Rattle.rcv_next.proofs.Finding.{no_flag_is_up}
+use Rattle.rcv_points.proofs.Finding.{no_flag_is_up}
 use Rattle.rcv_accept.specs.declared.rule.Rule.TheVariants.{LaneEnd}
 use Rattle.rcv_accept.specs.Faults.{IsFirst, FailsAtEnd}
 use Rattle.rcv_accept.specs.Lists.{IsInText}

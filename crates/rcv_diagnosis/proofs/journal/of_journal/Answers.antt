@@ -3,7 +3,7 @@ use Rattle.std.proofs.Common.{List, ◌∙◌, ap, subst}
 use Rattle.rcv_tree.specs.declared.entry.Entry.{Entry}
 use Rattle.rcv_session.specs.Session.{SessionView, rules_of}
 use Rattle.rcv_core.specs.Book.{BookView}
-use Rattle.rcv_form.specs.Journal.{JournalView}
+use Rattle.rcv_journal.specs.Recorded.{JournalView}
 use Rattle.rcv_judge.specs.Judged.{IsFirstWrong}
 use Rattle.rcv_diagnosis.specs.Diagnosing.{IsOfJournal}
 use Rattle.rcv_diagnosis.proofs.Saying.{Answers}

@@ -3,7 +3,7 @@ use Rattle.std.proofs.Common.{◌+◌, List, length, take, get_or, refl, ◌∙�
 use Rattle.std.proofs.lemmas.Option.{slice_get_read}
 use Rattle.rcv_tree.specs.declared.entry.Entry.{Entry}
 use Rattle.rcv_session.specs.Session.{rules_of}
-use Rattle.rcv_form.specs.Journal.{JournalView}
+use Rattle.rcv_journal.specs.Recorded.{JournalView}
 use Rattle.rcv_judge.specs.Judged.{IsFirstWrong}
 use Rattle.rcv_diagnosis.specs.Making.{book_of}
 use Rattle.rcv_diagnosis.proofs.Judged.{none_before, entry_found}

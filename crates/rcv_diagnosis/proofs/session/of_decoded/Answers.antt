@@ -1,7 +1,7 @@
 -- The text says no other journal.
 use Rattle.std.proofs.Common.{length, ap, ◌∙◌, arith}
-use Rattle.rcv_form.specs.Journal.{JournalView}
-use Rattle.rcv_decode.proofs.OneJournal.{texts_have_one_journal}
+use Rattle.rcv_journal.specs.Recorded.{JournalView}
+use Rattle.rcv_json_reader.proofs.OneJournal.{texts_have_one_journal}
 use Rattle.rcv_diagnosis.proofs.Parting.{shapeless_found}
 use Rattle.rcv_diagnosis.proofs.session.of_decoded.Goals as goal
 

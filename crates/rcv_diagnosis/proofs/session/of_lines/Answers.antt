@@ -1,6 +1,6 @@
 -- The journal that the text spells, or its first wrong line.
 use Rattle.std.proofs.Common.{arith}
-use Rattle.rcv_form.specs.Journal.{bare}
+use Rattle.rcv_journal.specs.Recorded.{bare}
 use Rattle.rcv_replay.proofs.Judging.{few_entries, few_wrong}
 use Rattle.rcv_diagnosis.proofs.Parting.{formed_found}
 use Rattle.rcv_diagnosis.proofs.session.of_lines.Goals as goal

@@ -5,7 +5,7 @@ use Rattle.rcv_model.specs.Net.{Net}
 use Rattle.rcv_model.specs.Text.{body_of}
 use Rattle.rcv_points.proofs.Whole.{same_net}
 use Rattle.rcv_accept.specs.Accepted.{net_for, roles_of}
-use Rattle.rcv_form.specs.Journal.{bare}
+use Rattle.rcv_journal.specs.Recorded.{bare}
 use Rattle.rcv_journal.proofs.Named.{ends_named}
 use Rattle.rcv_dialogue.specs.Answers.{ends_text, named_text}
 use Rattle.rcv_dialogue.proofs.write.ends.Goals as goal

@@ -3,7 +3,7 @@ use Rattle.std.proofs.Common.{◌≡◌, List, length, sym, ◌∙◌, subst}
 use Rattle.std.specs.List.{All}
 use Rattle.rcv_tree.specs.declared.refusal.Refusal.TheVariants as refusals
 use Rattle.rcv_lexer.specs.declared.token.Token.{Token}
-use Rattle.rcv_lexer.specs.declared.token.TextError.TheVariants as errors
+use Rattle.rcv_tree.specs.declared.refusal.TextError.TheVariants as errors
 use Rattle.rcv_lexer.specs.Parts.{LiesIn}
 use Rattle.rcv_found.specs.Seen.{grammar_in}
 use Rattle.rcv_found.specs.Stops.{IsTakenBy, IsRefusedBy}

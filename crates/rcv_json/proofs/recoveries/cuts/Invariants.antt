@@ -1,7 +1,7 @@
 -- The roles so far.
 use Rattle.std.specs.Prelude.{◌≡◌, map}
 use Rattle.serde_json.specs.View.{view}
-use Rattle.rcv_form.specs.Json.{cuts_data}
+use Rattle.rcv_journal.specs.Json.{cuts_data}
 use Rattle.rcv_json.proofs.recoveries.cuts.Given as goal
 
 abbrev pub invariant-loop-role : goal.invariant-loop-role

@@ -1,7 +1,7 @@
 -- The roles at the limit so far.
 use Rattle.std.specs.Prelude.{◌≡◌, map, take}
 use Rattle.serde_json.specs.View.{view}
-use Rattle.rcv_form.specs.Json.{limited_data}
+use Rattle.rcv_journal.specs.Json.{limited_data}
 use Rattle.rcv_json.proofs.roles.limited_value.Given as goal
 
 abbrev pub invariant-loop-line : goal.invariant-loop-line

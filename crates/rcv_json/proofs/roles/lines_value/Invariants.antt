@@ -1,7 +1,7 @@
 -- The lines so far.
 use Rattle.std.specs.Prelude.{◌≡◌, map, take}
 use Rattle.serde_json.specs.View.{view}
-use Rattle.rcv_form.specs.Json.{line_data}
+use Rattle.rcv_journal.specs.Json.{line_data}
 use Rattle.rcv_json.proofs.roles.lines_value.Given as goal
 
 abbrev pub invariant-loop-line : goal.invariant-loop-line

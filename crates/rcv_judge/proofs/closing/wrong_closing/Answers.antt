@@ -3,7 +3,7 @@ use Rattle.std.proofs.Common.{◌≡◌, ◌<◌, ℕ, length, List, sym, ◌∙
 use Rattle.std.specs.Prelude.{slice_get}
 use Rattle.rcv_session.specs.Session.{SessionView, roles_of, rules_of}
 use Rattle.rcv_core.specs.Book.{state_of}
-use Rattle.rcv_form.specs.Journal.{JournalView}
+use Rattle.rcv_journal.specs.Recorded.{JournalView}
 use Rattle.rcv_journal.specs.declared.line.RoleLine.{RoleLine}
 use Rattle.rcv_judge.specs.Closing.{IsFirstOther}
 use Rattle.rcv_judge.proofs.Closings.{first_wrong, last_wrong}

@@ -25,12 +25,12 @@ returns-in_default-clause-tokens c =
     omega (arith, length-take {A = ℕ}, length-drop {A = ℕ}) in (
       c.loop-place.line,
       refl,
-          (
-            c.loop-place.place,
-            c.loop-place.invariant.letter c.loop-place.place
-                ([], _, refl, (λ e. absurd (omega (arith, ap length e, left))), sym c.in_default.ensures.piece, refl),
-            c.loop-place.invariant.line-is,
-          ),
+      (
+        c.loop-place.place,
+        c.loop-place.invariant.letter c.loop-place.place
+            ([], _, refl, (λ e. absurd (omega (arith, ap length e, left))), sym c.in_default.ensures.piece, refl),
+        c.loop-place.invariant.line-is,
+      ),
     )
 
 pub returns-clause-tokens : goal.returns-clause-tokens

@@ -1,7 +1,7 @@
 -- Field by field.
 use Rattle.std.proofs.Common.{◌∙◌, List, ℕ, ap, drop, arith}
 use Rattle.rcv_tree.specs.declared.entry.Entry.TheVariants.{Recover}
-use Rattle.rcv_form.specs.Journal.{bare}
+use Rattle.rcv_journal.specs.Recorded.{bare}
 use Rattle.rcv_lines.specs.Fields.{entry_fields}
 use Rattle.rcv_lines.proofs.Fielded.{at}
 use Rattle.rcv_lines.proofs.Parses.{none_from}

@@ -1,6 +1,6 @@
 -- Field by field.
 use Rattle.std.proofs.Common.{[], arith}
-use Rattle.rcv_form.specs.Journal.{bare}
+use Rattle.rcv_journal.specs.Recorded.{bare}
 use Rattle.rcv_lines.specs.Fields.{event_fields}
 use Rattle.rcv_lines.proofs.Fielded.{at}
 use Rattle.rcv_lines.proofs.Parses.{none_from}

@@ -1,7 +1,7 @@
 -- The point is the one that was read.
 use Rattle.std.proofs.Common.{◌∙◌, ℕ, ap, sym}
 use Rattle.rcv_session.specs.Session.{net_for}
-use Rattle.rcv_form.specs.Journal.{bare}
+use Rattle.rcv_journal.specs.Recorded.{bare}
 use Rattle.rcv_lines.proofs.events.event_of.Goals as goal
 
 pub returns-then-not-is_same-clause-none : goal.returns-then-not-is_same-clause-none

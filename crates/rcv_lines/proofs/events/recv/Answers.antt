@@ -1,6 +1,6 @@
 -- Field by field.
 use Rattle.std.proofs.Common.{◌∷◌, [], codes, decimal}
-use Rattle.rcv_form.specs.Journal.{bare}
+use Rattle.rcv_journal.specs.Recorded.{bare}
 use Rattle.rcv_lines.specs.Fields.{event_fields}
 use Rattle.rcv_lines.proofs.Fielded.{last_field}
 use Rattle.rcv_lines.proofs.Turns.{when_none}

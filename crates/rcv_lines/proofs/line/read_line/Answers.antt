@@ -1,6 +1,6 @@
 -- By the fields.
 use Rattle.std.proofs.Common.{◌∙◌, ◌++◌, ◌∷◌, [], ap, sym}
-use Rattle.rcv_form.specs.Journal.{bare}
+use Rattle.rcv_journal.specs.Recorded.{bare}
 use Rattle.rcv_lines.specs.Cutting.{texts}
 use Rattle.rcv_lines.specs.Said.{view_of}
 use Rattle.rcv_lines.specs.declared.line.Line.{Line}

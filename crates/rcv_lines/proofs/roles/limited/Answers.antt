@@ -4,7 +4,7 @@ use Rattle.std.specs.Prelude.{IfOk, IfSome}
 use Rattle.rcv_tree.specs.declared.protocol.Protocol.{Protocol}
 use Rattle.rcv_lines.specs.Cutting.{texts}
 use Rattle.rcv_lines.specs.Named.{HaveNames, name_at}
-use Rattle.rcv_form.specs.Journal.{bare}
+use Rattle.rcv_journal.specs.Recorded.{bare}
 use Rattle.rcv_lines.proofs.Ends.{front_said, tail_said}
 use Rattle.rcv_lines.proofs.Parses.{ok_none_from, ok_some_from}
 use Rattle.rcv_lines.proofs.roles.limited.Goals as goal

@@ -1,6 +1,6 @@
 -- Field by field.
 use Rattle.std.proofs.Common.{[], ◌∷◌, ◌∙◌, arith}
-use Rattle.rcv_form.specs.Journal.{bare}
+use Rattle.rcv_journal.specs.Recorded.{bare}
 use Rattle.rcv_lines.specs.Fields.{role_fields}
 use Rattle.rcv_lines.proofs.Fielded.{at, seven_are}
 use Rattle.rcv_lines.proofs.Parses.{none_from, some_from}

@@ -1,6 +1,6 @@
 -- By what the line says, or that it says nothing.
 use Rattle.std.proofs.Common.{inl, subst, IfOk}
-use Rattle.rcv_form.specs.Journal.{bare}
+use Rattle.rcv_journal.specs.Recorded.{bare}
 use Rattle.rcv_lines.specs.Said.{view_of}
 use Rattle.rcv_lines.specs.Reading.{Takes}
 use Rattle.rcv_lines.proofs.Progress.{takes_text}

@@ -1,7 +1,7 @@
 -- The machine over the lines, one after another.
 use Rattle.std.proofs.Common.{◌≡◌, length, arith}
 use Rattle.std.proofs.lemmas.Bool.Decides.{nat_tests}
-use Rattle.rcv_form.specs.Journal.{bare}
+use Rattle.rcv_journal.specs.Recorded.{bare}
 use Rattle.rcv_lines.proofs.FirstWrong.{gone_on, stopped, finished_ok, finished_line}
 use Rattle.rcv_lines.proofs.Accepting.{says_one}
 use Rattle.rcv_lines.proofs.text.read_text.Goals as goal

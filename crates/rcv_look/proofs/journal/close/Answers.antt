@@ -1,7 +1,7 @@
 -- By the first closing line that is wrong, or the picture.
 use Rattle.std.proofs.Common.{rules, List, length, ap, ◌∙◌, subst}
 use Rattle.rcv_journal.specs.declared.line.RoleLine.{RoleLine}
-use Rattle.rcv_form.specs.Journal.{JournalView}
+use Rattle.rcv_journal.specs.Recorded.{JournalView}
 use Rattle.rcv_look.specs.Drawing.{IsJournalDrawing}
 use Rattle.rcv_model.specs.Journal.{reading}
 use Rattle.rcv_session.specs.Session.{rules_of}

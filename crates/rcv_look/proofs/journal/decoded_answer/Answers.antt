@@ -1,7 +1,7 @@
 -- The text says no other journal.
 use Rattle.std.proofs.Common.{◌+◌, length, refl, ap, ◌∙◌, arith}
-use Rattle.rcv_form.specs.Journal.{JournalView}
-use Rattle.rcv_decode.proofs.OneJournal.{texts_have_one_journal}
+use Rattle.rcv_journal.specs.Recorded.{JournalView}
+use Rattle.rcv_json_reader.proofs.OneJournal.{texts_have_one_journal}
 use Rattle.rcv_look.proofs.Journals.{shapeless_said, decoded_said}
 use Rattle.rcv_look.proofs.journal.decoded_answer.Goals as goal
 

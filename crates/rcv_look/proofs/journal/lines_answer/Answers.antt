@@ -1,6 +1,6 @@
 -- The journal that the text spells, or its first wrong line.
 use Rattle.std.proofs.Common.{◌+◌, refl, arith}
-use Rattle.rcv_form.specs.Journal.{bare}
+use Rattle.rcv_journal.specs.Recorded.{bare}
 use Rattle.rcv_replay.proofs.Judging.{few_entries, few_wrong}
 use Rattle.rcv_look.proofs.Journals.{formed_said, malformed_said}
 use Rattle.rcv_look.proofs.journal.lines_answer.Goals as goal

@@ -1,6 +1,6 @@
 -- The first entry that can't come.
 use Rattle.std.proofs.Common.{ap, ◌∙◌}
-use Rattle.rcv_form.specs.Journal.{JournalView}
+use Rattle.rcv_journal.specs.Recorded.{JournalView}
 use Rattle.rcv_look.proofs.Journals.{illegal_said}
 use Rattle.rcv_look.proofs.journal.verdict.Goals as goal
 

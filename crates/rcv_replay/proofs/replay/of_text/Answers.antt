@@ -6,7 +6,7 @@ use Rattle.rcv_lines.specs.contracts.text.LinesError as errors
 use Rattle.rcv_lines.specs.declared.text.LinesError.{LinesError}
 use Rattle.rcv_replay.specs.declared.replayed.Replayed.TheVariants.{Refused}
 use Rattle.rcv_session.specs.Session.{SessionView}
-use Rattle.rcv_form.specs.Journal.{bare}
+use Rattle.rcv_journal.specs.Recorded.{bare}
 use Rattle.rcv_replay.proofs.Judging.{few_entries, few_wrong, formed_said, malformed_said}
 use Rattle.rcv_replay.proofs.replay.of_text.Goals as goal
 

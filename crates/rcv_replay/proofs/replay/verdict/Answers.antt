@@ -7,7 +7,7 @@ use Rattle.rcv_judge.specs.declared.judge.JudgeError.{JudgeError}
 use Rattle.rcv_tree.specs.declared.entry.Entry.{Entry}
 use Rattle.rcv_session.specs.Session.{SessionView, rules_of}
 use Rattle.rcv_core.specs.Book.{BookView}
-use Rattle.rcv_form.specs.Journal.{JournalView}
+use Rattle.rcv_journal.specs.Recorded.{JournalView}
 use Rattle.rcv_judge.specs.Judged.{IsFirstWrong}
 use Rattle.rcv_replay.specs.Replaying.{IsVerdict}
 use Rattle.rcv_replay.proofs.replay.verdict.Goals as goal

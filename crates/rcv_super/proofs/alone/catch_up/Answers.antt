@@ -3,7 +3,7 @@ use Rattle.std.proofs.Common.{rules, ◌≡◌, ◌<◌, [], length, subst, sym,
 use Rattle.rcv_model.proofs.Forms.{proper}
 use Rattle.rcv_accept.specs.Accepted.{IsAcceptedProtocol}
 use Rattle.rcv_session.specs.Session.{SessionView, text_of, roles_of}
-use Rattle.rcv_lanes.specs.Home.{AreHome, HaveBases}
+use Rattle.rcv_cells.specs.Home.{AreHome, HaveBases}
 use Rattle.rcv_core.specs.Book.{BookView}
 use Rattle.rcv_super.proofs.Bases.{nothing_stable}
 use Rattle.rcv_super.proofs.OneByOne.{left_at, next_copy, copied}

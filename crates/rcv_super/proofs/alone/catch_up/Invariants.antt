@@ -1,6 +1,6 @@
 use Rattle.std.proofs.Common.{◌≡◌, []}
 use Rattle.rcv_session.specs.Session.{roles_of}
-use Rattle.rcv_lanes.specs.Home.{AreHome, HaveBases}
+use Rattle.rcv_cells.specs.Home.{AreHome, HaveBases}
 use Rattle.rcv_super.proofs.OneByOne.{first_of}
 use Rattle.rcv_super.proofs.alone.catch_up.Given as goal
 

@@ -7,8 +7,8 @@ use Rattle.rcv_accept.specs.Accepted.{IsAcceptedProtocol}
 use Rattle.rcv_session.specs.Session.{SessionView, rules_of}
 use Rattle.rcv_core.specs.Book.{state_of, with_more}
 use Rattle.rcv_merge.specs.Merge.{IsMergeOf}
-use Rattle.rcv_lanes.specs.Ahead.{BringHome}
-use Rattle.rcv_lanes.proofs.Bases.{met_bases, cleared_bases}
+use Rattle.rcv_cells.specs.Ahead.{BringHome}
+use Rattle.rcv_cells.proofs.Bases.{met_bases, cleared_bases}
 use Rattle.rcv_super.proofs.Behind.{meet_behind, few_behind, met_logs, rise_behind, follow_behind, home_behind, behind_brings_home}
 use Rattle.rcv_super.proofs.beside.hand_in.Goals as goal
 

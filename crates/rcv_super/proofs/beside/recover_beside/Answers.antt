@@ -9,10 +9,10 @@ use Rattle.rcv_session.specs.Session.{SessionView, roles_of}
 use Rattle.rcv_core.specs.Book.{BookView, with_entry}
 use Rattle.rcv_core.proofs.Alone.{succeeded}
 use Rattle.rcv_role.specs.Cell.{CellView}
-use Rattle.rcv_lanes.specs.Home.{SameBases}
-use Rattle.rcv_lanes.specs.Running.{IsLowered}
-use Rattle.rcv_back.specs.Halves.{AreSplit}
-use Rattle.rcv_back.specs.Back.{CanGoBack, HaveGoneBack}
+use Rattle.rcv_cells.specs.Home.{SameBases}
+use Rattle.rcv_cells.specs.Running.{IsLowered}
+use Rattle.rcv_rollback.specs.Halves.{AreSplit}
+use Rattle.rcv_rollback.specs.Back.{CanGoBack, HaveGoneBack}
 use Rattle.rcv_super.specs.Super.{HasWatches}
 use Rattle.rcv_super.specs.Beside.{ArePartedBehind, HaveMerged}
 use Rattle.rcv_super.proofs.Bases.{parted_bases, then_ok}

@@ -1,7 +1,7 @@
 use Rattle.std.proofs.Common.{◌≡◌, ◌<◌, ◌≤◌, ℕ, length}
 use Rattle.std.specs.Prelude.{slice_index}
 use Rattle.rcv_role.specs.Cell.{CellView}
-use Rattle.rcv_lanes.specs.Home.{cell_at}
+use Rattle.rcv_cells.specs.Home.{cell_at}
 use Rattle.rcv_super.specs.Bases.{without_states}
 use Rattle.rcv_super.proofs.forgetting.forget_all.Given as goal
 

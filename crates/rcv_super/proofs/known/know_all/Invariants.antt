@@ -2,7 +2,7 @@
 use Rattle.std.proofs.Common.{◌<◌, ℕ}
 use Rattle.rcv_role.specs.Part.{HoldsStates}
 use Rattle.rcv_role.specs.Cell.{CellView}
-use Rattle.rcv_lanes.specs.Home.{cell_at}
+use Rattle.rcv_cells.specs.Home.{cell_at}
 use Rattle.rcv_super.proofs.known.know_all.Given as goal
 
 abbrev pub invariant-loop-cell : goal.invariant-loop-cell

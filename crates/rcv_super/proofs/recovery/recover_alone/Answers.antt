@@ -6,9 +6,9 @@ use Rattle.rcv_plan.specs.Lines.{IsPlanned}
 use Rattle.rcv_session.specs.Session.{SessionView, roles_of}
 use Rattle.rcv_core.specs.Book.{BookView, with_entry}
 use Rattle.rcv_core.proofs.Alone.{succeeded}
-use Rattle.rcv_lanes.specs.Home.{AreHome}
-use Rattle.rcv_back.specs.Halves.{AreSplit}
-use Rattle.rcv_back.specs.Back.{CanGoBack, HaveGoneBack}
+use Rattle.rcv_cells.specs.Home.{AreHome}
+use Rattle.rcv_rollback.specs.Halves.{AreSplit}
+use Rattle.rcv_rollback.specs.Back.{CanGoBack, HaveGoneBack}
 use Rattle.rcv_super.proofs.Bases.{split_bases}
 use Rattle.rcv_super.proofs.Leaving.{can_go_back_by}
 use Rattle.rcv_super.proofs.Returning.{can_unite, come_back_by}

@@ -4,7 +4,7 @@ use Rattle.rcv_accept.specs.Accepted.{IsAcceptedProtocol}
 use Rattle.rcv_session.specs.Session.{SessionView}
 use Rattle.rcv_core.specs.Book.{with_entry}
 use Rattle.rcv_core.proofs.Alone.{succeeded}
-use Rattle.rcv_lanes.proofs.Bases.{cleared_bases}
+use Rattle.rcv_cells.proofs.Bases.{cleared_bases}
 use Rattle.rcv_super.proofs.OneEntry.{come_home_with}
 use Rattle.rcv_super.proofs.step.add_entry.Goals as goal
 

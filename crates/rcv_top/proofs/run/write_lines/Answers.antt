@@ -1,7 +1,7 @@
 -- How the book ended, and its text, or a beginning of it.
 use Rattle.std.proofs.Common.{refl, ap, inl, inr}
 use Rattle.std.specs.Prelude.{Err}
-use Rattle.rcv_journal.specs.declared.fault.TextError.{TextError}
+use Rattle.rcv_journal.specs.declared.fault.WriteError.{WriteError}
 use Rattle.rcv_top.proofs.run.write_lines.Goals as goal
 
 pub returns-in-Ok-clause-writes : goal.returns-in-Ok-clause-writes
@@ -16,7 +16,7 @@ returns-in-Ok-clause-writes g c =
 
 pub returns-in-Err-WriteFault-clause-writes : goal.returns-in-Err-WriteFault-clause-writes
 returns-in-Err-WriteFault-clause-writes g c =
-    let some = c.in-Err-WriteFault.ensures.fault (ap (λ (e : TextError). Err e) c.in-Err-WriteFault.field-0-is) in
+    let some = c.in-Err-WriteFault.ensures.fault (ap (λ (e : WriteError). Err e) c.in-Err-WriteFault.field-0-is) in
     record {
       status = c.status_of-status.result;
       bytes = some.bytes;

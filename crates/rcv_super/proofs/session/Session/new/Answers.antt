@@ -3,7 +3,7 @@ use Rattle.std.proofs.Common.{sym, subst, arith}
 use Rattle.rcv_core.specs.declared.skip.Skip.{Skip}
 use Rattle.rcv_core.specs.Book.{BookView}
 use Rattle.rcv_core.specs.Skips.{IsSkip}
-use Rattle.rcv_lanes.specs.Home.{AreHome}
+use Rattle.rcv_cells.specs.Home.{AreHome}
 use Rattle.rcv_super.specs.Super.{IsAlone}
 use Rattle.rcv_super.proofs.Bases.{zeros_stable}
 use Rattle.rcv_super.proofs.Ending.{nothing_known}

@@ -2,7 +2,7 @@
 use Rattle.std.proofs.Common.{◌≡◌, rules, false, List, sym, subst, arith}
 use Rattle.rcv_session.specs.Session.{roles_of}
 use Rattle.rcv_core.specs.Skips.{IsSkip}
-use Rattle.rcv_lanes.specs.Home.{AreHome, HaveBases}
+use Rattle.rcv_cells.specs.Home.{AreHome, HaveBases}
 use Rattle.rcv_fence.specs.Shown.{Shown}
 use Rattle.rcv_super.specs.Super.{HasWatches}
 use Rattle.rcv_super.specs.Steps.{HasRecovered}

@@ -5,7 +5,7 @@ use Rattle.rcv_super.specs.declared.session.Turn.TheVariants.{Completed, Limited
 use Rattle.rcv_super.specs.declared.whereabouts.Whereabouts.TheVariants as places
 use Rattle.rcv_session.specs.Session.{roles_of}
 use Rattle.rcv_core.specs.Skips.{IsSkip}
-use Rattle.rcv_lanes.specs.Home.{AreHome, HaveBases}
+use Rattle.rcv_cells.specs.Home.{AreHome, HaveBases}
 use Rattle.rcv_super.specs.Super.{HasWatches, IsAlone}
 use Rattle.rcv_super.specs.Steps.{HasGoneOn}
 use Rattle.rcv_super.proofs.Ending.{ends, more_made, memory_wanted, step_on, grown_on, more_entries, came_some, was_before, now_before, before_away, alone_on, still_open, nothing_known, not_several}

@@ -1,5 +1,0 @@
-use Rattle.rcv_back.specs.Going.{AreGoing, HaveMoved}
-use Rattle.rcv_back.proofs.rewinding.rewind_from.Given as goal
-
-abbrev pub invariant-loop-to : goal.invariant-loop-to
-invariant-loop-to l = AreGoing l.fn.book l.from l.to l.half.items × HaveMoved l.initial.half.items l.half.items

@@ -1,5 +1,0 @@
-use Rattle.rcv_back.specs.Going.{AreGone, HaveMoved}
-use Rattle.rcv_back.proofs.settling.settle_all.Given as goal
-
-abbrev pub invariant-loop-role : goal.invariant-loop-role
-invariant-loop-role l = AreGone l.fn.book l.role l.half.items × HaveMoved l.initial.half.items l.half.items

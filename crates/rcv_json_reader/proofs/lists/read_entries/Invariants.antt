@@ -1,0 +1,9 @@
+-- What was read so far.
+use Rattle.std.proofs.Common.{map}
+use Rattle.serde_json.specs.View.{view}
+use Rattle.rcv_journal.specs.Recorded.{bare}
+use Rattle.rcv_json_reader.proofs.Firsts.{AreFirstEntries}
+use Rattle.rcv_json_reader.proofs.lists.read_entries.Given as goal
+
+abbrev pub invariant-loop-part : goal.invariant-loop-part
+invariant-loop-part l = AreFirstEntries (bare l.fn.accepted.protocol) (map view l.parts) l.part-index l.found.items

@@ -1,6 +1,0 @@
-use Rattle.rcv_lanes.specs.Home.{AllMet}
-use Rattle.rcv_lanes.proofs.Meeting.{HaveBegunTo}
-use Rattle.rcv_lanes.proofs.meet.meet_from.Given as goal
-
-abbrev pub invariant-loop-to : goal.invariant-loop-to
-invariant-loop-to l = AllMet l.initial.lanes l.lanes × HaveBegunTo l.initial.lanes l.from l.to

@@ -1,6 +1,0 @@
-use Rattle.rcv_session.specs.Session.{net_for}
-use Rattle.rcv_lanes.specs.Making.{ArePointsBetween}
-use Rattle.rcv_lanes.proofs.opening.points_between.Given as goal
-
-abbrev pub invariant-loop-number : goal.invariant-loop-number
-invariant-loop-number l = ArePointsBetween (net_for l.fn.setup) l.from l.to l.number l.points.items

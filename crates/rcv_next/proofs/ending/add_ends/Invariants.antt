@@ -1,8 +1,0 @@
-use Rattle.std.proofs.Common.{◌≡◌, []}
-use Rattle.rcv_points.specs.Follow.{net_in}
-use Rattle.rcv_next.specs.Found.{Adds}
-use Rattle.rcv_next.proofs.Adding.{UpTo}
-use Rattle.rcv_next.proofs.ending.add_ends.Given as goal
-
-abbrev pub invariant-loop-before : goal.invariant-loop-before
-invariant-loop-before l = Adds (UpTo (λ k. (net_in l.points).offers k ≡ []) l.before) l.fn.places l.places
