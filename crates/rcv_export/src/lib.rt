@@ -3,13 +3,13 @@
 
 ghost use Rattle.rcv_export.specs.Laws.{MachinesAreReadBack, TablesAreReadBack, WordsStayWhole};
 
-mod line;
+pub mod line;
 mod messages;
 mod role;
 mod steps;
 mod table;
 mod text;
-mod words;
+pub mod words;
 
 pub use role::role_json;
 pub use table::table_json;

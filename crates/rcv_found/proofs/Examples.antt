@@ -1,6 +1,7 @@
--- Worked columns.
+-- Worked columns and letters.
 use Rattle.std.proofs.Common.{◌≡◌, codes, [], ◌∷◌, refl, arith}
 use Rattle.rcv_found.specs.Spots.{since_feed, column_of}
+use Rattle.rcv_found.specs.Letters.{letter_length}
 
 line_begun : since_feed (codes "ab\ncd") ≡ codes "cd"
 line_begun = refl
@@ -17,3 +18,15 @@ not_sixth e = omega (arith, e)
 
 wide : column_of (195 ∷ 169 ∷ []) ≡ 2
 wide = refl
+
+-- ---- bad letters
+
+-- a word, or one letter of two bytes
+a_word : letter_length (codes "ab1-c") ≡ 3
+a_word = refl
+
+a_letter : letter_length (195 ∷ 169 ∷ codes "ab") ≡ 2
+a_letter = refl
+
+not_more : letter_length (codes "!!") ≡ 2 → ⊥
+not_more e = omega (arith, e)

@@ -4,7 +4,7 @@ use Rattle.std.specs.Prelude.{slice_get}
 use Rattle.rcv_tree.specs.declared.refusal.Refusal.TheVariants as refusals
 use Rattle.rcv_lexer.specs.declared.token.Token.{Token}
 use Rattle.rcv_tree.specs.declared.refusal.TextError.TheVariants as errors
-use Rattle.rcv_lexer.specs.Tokens.{line_at}
+use Rattle.rcv_lexer.specs.Tokens.{IsLetter, line_at}
 use Rattle.rcv_lexer.specs.Symbols as scan
 use Rattle.rcv_syntax.specs.Codes as protocols_codes
 use Rattle.rcv_script.specs.Refusals as scripting
@@ -12,6 +12,7 @@ use Rattle.rcv_plan.specs.Refusing as planning
 use Rattle.rcv_found.specs.Grammars.{GrammarView, OfProtocol, OfScripts, OfPlan}
 use Rattle.rcv_found.specs.Stops.{IsRefusedBy}
 use Rattle.rcv_found.specs.Spots.{spot_of, IsWrongAt}
+use Rattle.rcv_found.specs.Letters.{IsLetterTold}
 use Rattle.rcv_found.specs.declared.wrong.Wrong.{Wrong}
 
 line_found : (bundle : List ℕ) (end : ℕ) (ts : List Token) (k : ℕ)
@@ -47,3 +48,7 @@ refused_there (OfPlan a) bundle ts end w wrong =
     let line : w.spot.line ≡ scan.line_before ts (line_at bundle end) (length first.1)
     = ap (λ s. s.line) wrong.spot ∙ line_is bundle end ts wrong.place (length first.1) first.4 in
     (first.0, first.1, first.2, cc)
+
+-- A bad letter's line is that of the place where it is told to stand.
+pub letter_line : (g : GrammarView) (bundle : List ℕ) (part : Span) (w : Wrong) → IsLetterTold g bundle part w → IsLetter bundle part w.spot.line
+letter_line g bundle part w told = (told.place, told.letter, ap (λ s. s.line) told.spot)

@@ -6,4 +6,5 @@ pub mod May
 pub mod Trial
 pub mod Seen
 pub mod Spots
+pub mod Letters
 pub mod Findings

@@ -7,17 +7,18 @@ ghost use Rattle.rcv_found.specs.Seen.{grammar_in};
 ghost use Rattle.rcv_found.specs.Findings.{IsFindingIn, LiesWrong};
 
 use crate::grammar::Grammar;
+use crate::letter::letter_at;
 use crate::wrong::{Wrong, wrong_at};
 use rcv_lexer::token::{Span, Token};
-use rcv_lexer::tokens;
-use rcv_tree::refusal::{Refusal, TextError};
+use rcv_lexer::{bad_letter, tokens};
+use rcv_tree::refusal::TextError;
 use std::alloc::{AllocError, Global};
 
 /// What is found in a part.
 #[derive(Drop)]
 pub enum Finding {
-    /// A bad letter on this line.
-    Letter(u32),
+    /// A bad letter.
+    Letter(Wrong),
     /// Its tokens are refused.
     Wrong(Wrong),
     /// They are read.
@@ -56,9 +57,12 @@ pub fn find(
     ensures found { IfOk result (IsFindingIn (grammar_in grammar.now) input.now part) }
     ensures lies { IfOk result (LiesWrong input.now) }
 {
+    if let Some(place) = bad_letter(input, part) {
+        let told = letter_at(alloc, grammar, input, part, place)?;
+        return Ok(Finding::Letter(told));
+    }
     match tokens(alloc, input, part) {
         Ok(list) => find_wrong(alloc, grammar, input, part, list.as_slice()),
-        Err(TextError::Refused(Refusal::Text { line, .. })) => Ok(Finding::Letter(line)),
         Err(TextError::Refused(_)) => unreachable!(),
         Err(TextError::Memory) => Err(AllocError),
     }

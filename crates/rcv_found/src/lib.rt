@@ -3,6 +3,7 @@
 
 pub mod finding;
 pub mod grammar;
+pub mod letter;
 pub mod may;
 pub mod spot;
 pub mod stop;

@@ -18,8 +18,8 @@ pub struct Spot {
     pub column: u32,
 }
 
-// Whether a letter begins with the byte.
-fn begins_letter(byte: u8) -> bool
+/// Whether a letter begins with the byte.
+pub fn begins_letter(byte: u8) -> bool
     ensures { result ≡ begins_letter byte }
 {
     byte < 128 || 192 <= byte
@@ -73,6 +73,15 @@ fn spot_by(bundle: &[u8], span: Span, line: u32) -> Spot
         line,
         column: column_of(&bundle[..span.start]),
     }
+}
+
+/// Where a stretch of the bundle stands.
+pub fn spot_at(bundle: &[u8], span: Span) -> Spot
+    requires short { length bundle.now + 1 < 2 ^ 32 }
+    requires inside { span.start ≤ length bundle.now }
+    ensures { result ≡ spot_by bundle.now span (line_at bundle.now span.start) }
+{
+    spot_by(bundle, span, line_at(bundle, span.start))
 }
 
 /// Where the token with this place stands; if the place is after all of them, where the part ends.

@@ -15,7 +15,7 @@ use Rattle.rcv_found.specs.declared.finding.Finding.{Finding}
 use Rattle.rcv_found.specs.Grammars.{GrammarView, OfProtocol, OfScripts, OfPlan}
 use Rattle.rcv_found.specs.Findings.{IsFindingIn}
 use Rattle.rcv_found.specs.declared.finding.Finding.TheVariants as findings
-use Rattle.rcv_found.proofs.Lining.{refused_there}
+use Rattle.rcv_found.proofs.Lining.{refused_there, letter_line}
 use Rattle.rcv_listing.specs.declared.unread.Unread.{Unread}
 use Rattle.rcv_listing.specs.Lines.{rule_text}
 use Rattle.rcv_listing.specs.Unread.{IsSaidBy, IsUnreadIn, IsUncalled, IsUnread, IsHalfRead, IsRuleTold, wrong_part, AddsUnread}
@@ -23,14 +23,17 @@ use Rattle.rcv_listing.specs.Listing.{AreRestRead}
 
 pub first_of_protocol : (input : List ℕ) (u : Unread) → IsUnreadIn OfProtocol input (parts_of input).protocol u
     → IsFirstRefusal input (Line u.code u.line)
-first_of_protocol input u (findings.Letter line, is, said) = rw (said.0, said.1) (letter line is)
+first_of_protocol input u (findings.Letter told, is, said) =
+    rw (said.0, said.1) (letter told.spot.line (letter_line OfProtocol input (parts_of input).protocol told is))
 first_of_protocol input u (findings.Wrong w, is, said) =
     rw (said.0, said.1) (unread is.0 w.code w.spot.line is.1 (refused_there OfProtocol input is.0 (parts_of input).protocol.end w is.2))
 first_of_protocol input u (findings.Taken, is, said) = absurd said
 
 pub first_of_scripts : (input : List ℕ) (p : Protocol) (u : Unread) → IsAcceptedOf input p
     → IsUnreadIn (OfScripts (record { protocol = p })) input (parts_of input).scripts u → IsFirstRefusal input (Line u.code u.line)
-first_of_scripts input p u accepted (findings.Letter line, is, said) = rw (said.0, said.1) (script_letter p line accepted is)
+first_of_scripts input p u accepted (findings.Letter told, is, said) =
+    rw (said.0, said.1) (script_letter p told.spot.line accepted
+    (letter_line (OfScripts (record { protocol = p })) input (parts_of input).scripts told is))
 first_of_scripts input p u accepted (findings.Wrong w, is, said) =
     rw (said.0, said.1) (unscripted p is.0 w.code w.spot.line accepted is.1
     (refused_there (OfScripts (record { protocol = p })) input is.0 (parts_of input).scripts.end w is.2))
@@ -39,8 +42,9 @@ first_of_scripts input p u accepted (findings.Taken, is, said) = absurd said
 pub first_of_plan : (input : List ℕ) (p : Protocol) (u : Unread) → IsAcceptedOf input p
     → IsFindingIn (OfScripts (record { protocol = p })) input (parts_of input).scripts findings.Taken
     → IsUnreadIn (OfPlan (record { protocol = p })) input (parts_of input).plan u → IsFirstRefusal input (Line u.code u.line)
-first_of_plan input p u accepted (tokens, cut, taken) (findings.Letter line, is, said) =
-    rw (said.0, said.1) (plan_letter p taken.0 line accepted (record { tokens = tokens; cut = cut; read = taken.1 }) is)
+first_of_plan input p u accepted (tokens, cut, taken) (findings.Letter told, is, said) =
+    rw (said.0, said.1) (plan_letter p taken.0 told.spot.line accepted (record { tokens = tokens; cut = cut; read = taken.1 })
+    (letter_line (OfPlan (record { protocol = p })) input (parts_of input).plan told is))
 first_of_plan input p u accepted (tokens, cut, taken) (findings.Wrong w, is, said) =
     rw (said.0, said.1) (unplanned p taken.0 is.0 w.code w.spot.line accepted (record { tokens = tokens; cut = cut; read = taken.1 }) is.1
     (refused_there (OfPlan (record { protocol = p })) input is.0 (parts_of input).plan.end w is.2))

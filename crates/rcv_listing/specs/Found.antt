@@ -20,10 +20,20 @@ found_words word =
     if length word == 0 then codes "the end of the text"
     else (if slice_index_or word 0 0 == 34 then codes "a text in quotes" else cut_words word)
 
+-- What a bad letter begins: by its first byte, or the word or letter itself.
+abbrev pub letter_words : List ℕ → List ℕ
+letter_words word =
+    if slice_index_or word 0 0 == 34 then codes "a text in quotes that doesn't end on its line, or is too long"
+    else (if slice_index_or word 0 0 == 47 then codes "\"/\", which begins no comment that ends" else cut_words word)
+
+-- A refusal by 10 is at a bad letter.
+abbrev pub what_words : ℕ → List ℕ → List ℕ
+what_words code word = if code == 10 then letter_words word else found_words word
+
 -- found WHAT at line LINE, column COLUMN
-abbrev pub found_text : List ℕ → Spot → List ℕ
-found_text input spot =
-    codes "found " ++ found_words (slice_range input spot.span.start spot.span.end) ++ codes " at line " ++ decimal spot.line
+abbrev pub found_text : List ℕ → ℕ → Spot → List ℕ
+found_text input code spot =
+    codes "found " ++ what_words code (slice_range input spot.span.start spot.span.end) ++ codes " at line " ++ decimal spot.line
     ++ codes ", column " ++ decimal spot.column ++ codes "\n"
 
 -- may stand here: THING, THING ..
@@ -39,4 +49,4 @@ may_text (x ∷ xs) = listed_text x xs
 
 -- Both lines.
 abbrev pub wrong_text : List ℕ → Wrong → List ℕ
-wrong_text input wrong = found_text input wrong.spot ++ may_text wrong.may.items
+wrong_text input wrong = found_text input wrong.code wrong.spot ++ may_text wrong.may.items

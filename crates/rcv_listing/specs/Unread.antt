@@ -22,7 +22,7 @@ use Rattle.rcv_listing.specs.Lines.{rule_text}
 
 -- What is said of a bad letter, and of wrong tokens.
 abbrev pub IsSaidBy : Finding → Unread → Type 0
-IsSaidBy (findings.Letter line) u = (u.code ≡ 10) × (u.line ≡ line) × (u.wrong ≡ None)
+IsSaidBy (findings.Letter told) u = (u.code ≡ 10) × (u.line ≡ told.spot.line) × (u.wrong ≡ Some told)
 IsSaidBy (findings.Wrong w) u = (u.code ≡ w.code) × (u.line ≡ w.spot.line) × (u.wrong ≡ Some w)
 IsSaidBy findings.Taken u = ⊥
 

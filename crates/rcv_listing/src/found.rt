@@ -3,7 +3,7 @@
 ghost use Rattle.std.specs.Prelude.{◌≡◌, ◌≤◌, ◌++◌, flat_map, OnOk};
 ghost use Rattle.rcv_lexer.specs.Parts.{LiesIn};
 ghost use Rattle.rcv_found.specs.Things.{said_of, quoted};
-ghost use Rattle.rcv_listing.specs.Found.{found_words, found_text, listed_text, may_text, next_text, wrong_text, cut_words, shown_length, rest_words};
+ghost use Rattle.rcv_listing.specs.Found.{found_words, letter_words, what_words, found_text, listed_text, may_text, next_text, wrong_text, cut_words, shown_length, rest_words};
 
 use rcv_found::spot::Spot;
 use rcv_found::thing::Thing;
@@ -21,8 +21,8 @@ fn write_quoted(text: &mut Writer, word: &[u8]) -> Result<(), AllocError>
     text.word(b"\"")
 }
 
-// What may stand somewhere.
-fn write_thing(text: &mut Writer, thing: &Thing) -> Result<(), AllocError>
+/// Writes what may stand somewhere. Fails if memory runs out.
+pub fn write_thing(text: &mut Writer, thing: &Thing) -> Result<(), AllocError>
     ensures { OnOk result (text.new ≡ text.old ++ said_of thing.now) }
 {
     match thing.kind() {
@@ -75,13 +75,35 @@ fn write_words(text: &mut Writer, word: &[u8]) -> Result<(), AllocError>
     }
 }
 
+// What a bad letter begins.
+fn write_letter(text: &mut Writer, word: &[u8]) -> Result<(), AllocError>
+    ensures { OnOk result (text.new ≡ text.old ++ letter_words word.now) }
+{
+    match word.first() {
+        Some(b'"') => text.word(b"a text in quotes that doesn't end on its line, or is too long"),
+        Some(b'/') => text.word(b"\"/\", which begins no comment that ends"),
+        _ => write_cut(text, word),
+    }
+}
+
+// What was found, by the code of the refusal.
+fn write_what(text: &mut Writer, code: u8, word: &[u8]) -> Result<(), AllocError>
+    ensures { OnOk result (text.new ≡ text.old ++ what_words code word.now) }
+{
+    if code == 10 {
+        write_letter(text, word)
+    } else {
+        write_words(text, word)
+    }
+}
+
 // What was found there.
-fn write_found(text: &mut Writer, input: &[u8], spot: &Spot) -> Result<(), AllocError>
+fn write_found(text: &mut Writer, input: &[u8], code: u8, spot: &Spot) -> Result<(), AllocError>
     requires { LiesIn input.now spot.now.span }
-    ensures { OnOk result (text.new ≡ text.old ++ found_text input.now spot.now) }
+    ensures { OnOk result (text.new ≡ text.old ++ found_text input.now code spot.now) }
 {
     text.word(b"found ")?;
-    write_words(text, &input[spot.span.start..spot.span.end])?;
+    write_what(text, code, &input[spot.span.start..spot.span.end])?;
     text.word(b" at line ")?;
     text.large_number(spot.line as u64)?;
     text.word(b", column ")?;
@@ -121,11 +143,11 @@ fn write_may(text: &mut Writer, things: &[Thing]) -> Result<(), AllocError>
     write_listed(text, first, more)
 }
 
-/// Writes what was found at a wrong token, and what may stand there. Fails if memory runs out.
+/// Writes what was found at a bad letter or a wrong token, and what may stand there. Fails if memory runs out.
 pub fn write_wrong(text: &mut Writer, input: &[u8], wrong: &Wrong) -> Result<(), AllocError>
     requires { LiesIn input.now wrong.now.spot.span }
     ensures { OnOk result (text.new ≡ text.old ++ wrong_text input.now wrong.now) }
 {
-    write_found(text, input, &wrong.spot)?;
+    write_found(text, input, wrong.code, &wrong.spot)?;
     write_may(text, wrong.may.as_slice())
 }

@@ -4,17 +4,17 @@
 ghost use Rattle.rcv_listing.specs.Going.{ListedGoOn};
 ghost use Rattle.rcv_listing.specs.Laws.{LinesAreThoseOfReceivers};
 
-mod found;
+pub mod found;
 mod listing;
-mod parts;
-mod read;
+pub mod parts;
+pub mod read;
 mod receivers;
-mod shown;
-mod table;
+pub mod shown;
+pub mod table;
 mod told;
-mod unread;
+pub mod unread;
 mod way;
-mod written;
+pub mod written;
 
 pub use listing::{Listing, points_text};
 pub use rcv_input::{InputError, Refused};

@@ -24,14 +24,14 @@ use rcv_tree::name::Names;
 use rcv_tree::refusal::TextError;
 use std::alloc::{AllocError, Global};
 
-/// The points of a protocol as text: a line for each, in text order.
+/// The points of a protocol as text, a line for each in text order, or as JSON.
 #[derive(Drop)]
 pub enum Listing {
     /// No rule of acceptance refuses the protocol, and its scripts and its plan are read.
     Accepted(Vec<u8>),
-    /// A rule refuses it: what the refusal says stands after the points.
+    /// A rule refuses it: what the refusal says stands with the points.
     RuledOut(Vec<u8>),
-    /// The scripts or the plan are refused: what the refusal says stands after the points.
+    /// The scripts or the plan are refused: what the refusal says stands with the points.
     HalfRead(Vec<u8>),
     /// The protocol isn't read: there are no points, and only what the refusal says.
     Unread(Vec<u8>),

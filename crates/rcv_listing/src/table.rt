@@ -53,8 +53,8 @@ impl Table<'_> {
         }
     }
 
-    // The lines of the calls through which a point came; none if there is no such point.
-    fn calls(&self, point: Point) -> &[u32]
+    /// The lines of the calls through which a point came; none if there is no such point.
+    pub fn calls(&self, point: Point) -> &[u32]
         ensures { result.now ≡ calls_of self.now.lines.now point }
     {
         match self.lines.get((point.0 as usize).saturating_sub(1)) {

@@ -77,6 +77,33 @@ fn a_wrong_word_is_named(rt: HostRuntime) -> Result<(), Fail> {
 }
 
 #[test]
+fn a_bad_letter_is_named(rt: HostRuntime) -> Result<(), Fail> {
+    let input = b"module m;\nglobal protocol P(role A, role B) {\n  m(Int) # A to B;\n}\n";
+    let (refused, text) = listed(rt.alloc(), input)?;
+    assert!(rt; refused);
+    assert!(rt;
+        text.as_slice().starts_with(
+            b"refused 10 Letter line 3\nfound \"#\" at line 3, column 10\nmay stand here: \"from\"\n"
+        )
+    );
+    Ok(())
+}
+
+#[test]
+fn nothing_may_stand_after_a_wrong_word(rt: HostRuntime) -> Result<(), Fail> {
+    let input = b"module m;\nglobal protocol P(role A, role B) {\n  m(Int) form A \"B;\n}\n";
+    let (refused, text) = listed(rt.alloc(), input)?;
+    assert!(rt; refused);
+    assert!(rt;
+        text.as_slice().starts_with(
+            b"refused 10 Letter line 3\nfound a text in quotes that doesn't end on its line, or is too long at \
+line 3, column 17\nEach word"
+        )
+    );
+    Ok(())
+}
+
+#[test]
 fn the_end_is_named(rt: HostRuntime) -> Result<(), Fail> {
     let input = b"module m;\nglobal protocol P(role A, role B) {\n  m(Int) from A to B;\n";
     let (refused, text) = listed(rt.alloc(), input)?;

@@ -18,7 +18,7 @@ use rcv_lexer::token::Span;
 use rcv_text::writer::Writer;
 use std::alloc::{AllocError, Global};
 
-/// A refusal at a line, and what is wrong with the tokens of the part, if its reader refuses them.
+/// A refusal at a line, and what is told of a bad letter or of the tokens of the part, if its reader refuses them.
 #[derive(Drop)]
 pub struct Unread {
     pub code: u8,
@@ -32,10 +32,10 @@ fn said_by(finding: Finding) -> Option<Unread>
     ensures lies { (input : List ℕ) → LiesWrong input finding → IfSome result (LiesSaid input) }
 {
     match finding {
-        Finding::Letter(line) => Some(Unread {
+        Finding::Letter(told) => Some(Unread {
             code: 10,
-            line,
-            wrong: None,
+            line: told.spot.line,
+            wrong: Some(told),
         }),
         Finding::Wrong(wrong) => Some(Unread {
             code: wrong.code,

@@ -5,7 +5,7 @@ use Rattle.std.specs.Str.{bytes_eq}
 use Rattle.std.proofs.lemmas.Bool.{cases_lt}
 use Rattle.std.proofs.lemmas.Slice.Eq.{bytes_eq-Decides}
 use Rattle.clap.specs.Words.{Kinds, Text, fault_of}
-use Rattle.rcv_look.specs.Commands.{CommandView, DrawJournal, DrawSession, DrawTold, ReplayJournal, DrawTable, ExportTable, DrawRole, ExportRole, DrawProtocol, ListPoints, ListFailures, Explain, Form, Usual, AsText, AsJson, AreFlags, Given, IsGiven, Says, IsWithin, IsCommand, IsNoCommand, given, line_of}
+use Rattle.rcv_look.specs.Commands.{CommandView, DrawJournal, DrawSession, DrawTold, ReplayJournal, DrawTable, ExportTable, DrawRole, ExportRole, DrawProtocol, ListPoints, ExportPoints, DrawFailures, ListFailures, ExportFailures, Explain, Form, Usual, AsText, AsJson, AreFlags, Given, IsGiven, Says, IsWithin, IsCommand, IsNoCommand, given, line_of}
 use Rattle.rcv_look.specs.Asked.{asked}
 use Rattle.rcv_look.proofs.OneCommand.{is_asked}
 use Rattle.rcv_look.specs.Program.{rcv_show}
@@ -89,7 +89,10 @@ says g (DrawRole name) = of_role g name Usual
 says g (ExportRole name) = of_role g name AsJson
 says g DrawProtocol = alone g (codes "protocol") Usual
 says g ListPoints = alone g (codes "points") Usual
+says g ExportPoints = alone g (codes "points") AsJson
+says g DrawFailures = alone g (codes "failures") Usual
 says g ListFailures = alone g (codes "failures") AsText
+says g ExportFailures = alone g (codes "failures") AsJson
 says g (Explain code) =
     both (is_given g (codes "explain") None (Some code) None Usual (is_none g.role) (is_number g.code code) (is_none g.session)) (is_at_most code 255)
 

@@ -13,8 +13,8 @@ use Rattle.rcv_listing.specs.declared.listing.Listing.{Listing}
 use Rattle.rcv_listing.specs.declared.listing.Listing.TheVariants.{Accepted, RuledOut, HalfRead, Unread}
 use Rattle.rcv_look.specs.declared.status.Status.{Status}
 use Rattle.rcv_look.specs.declared.status.Status.TheVariants as statuses
-use Rattle.rcv_look.specs.Commands.{CommandView, DrawJournal, DrawSession, DrawTold, ReplayJournal, DrawTable, ExportTable, DrawRole, ExportRole, DrawProtocol, ListPoints, ListFailures, Explain}
-use Rattle.rcv_look.specs.Drawing.{ArePoints, ListsAs, IsExplanation, explained, unknown}
+use Rattle.rcv_look.specs.Commands.{CommandView, DrawJournal, DrawSession, DrawTold, ReplayJournal, DrawTable, ExportTable, DrawRole, ExportRole, DrawProtocol, ListPoints, ExportPoints, DrawFailures, ListFailures, ExportFailures, Explain}
+use Rattle.rcv_look.specs.Drawing.{ArePoints, ArePointsAsJson, ListsAs, IsExplanation, explained, unknown}
 use Rattle.rcv_look.specs.Outcome.{IsVerdict, illegal, misclosed, drawn, IsTextAnswer, malformed, formed, shapeless, decoded, IsBundleAnswer, IsJournalAnswer, IsLaterAnswer, IsSessionAnswer, IsToldTextAnswer, IsToldBundleAnswer, IsToldAnswer, uncut, long, parted, status_of, IsReplayAnswer, IsChartAnswer, Draws, IsAnswer}
 use Rattle.rcv_look.specs.Outcome as outcomes
 
@@ -104,7 +104,10 @@ draws_end session (DrawSession number) s b draws = absurd draws
 draws_end session DrawTold s b draws = absurd draws
 draws_end session ReplayJournal s b draws = absurd draws
 draws_end session ListPoints s b draws = absurd draws
+draws_end session ExportPoints s b draws = absurd draws
+draws_end session DrawFailures s b draws = with_drawn s b draws.0
 draws_end session ListFailures s b draws = with_drawn s b draws.0
+draws_end session ExportFailures s b draws = with_drawn s b draws.0
 draws_end session (Explain code) s b draws = absurd draws
 
 chart_ends : (command : CommandView) (input : List ℕ) (s : Status) (b : List ℕ) → IsChartAnswer command input s b → EndsSo s b
@@ -119,6 +122,9 @@ lists_end (Unread text) s b lists = with_refused s b lists.0
 
 points_end : (input : List ℕ) (s : Status) (b : List ℕ) → ArePoints input s b → EndsSo s b
 points_end input s b points = lists_end points.listing s b points.lists
+
+points_as_json_end : (input : List ℕ) (s : Status) (b : List ℕ) → ArePointsAsJson input s b → EndsSo s b
+points_as_json_end input s b points = lists_end points.listing s b points.lists
 
 explanation_ends : (code : ℕ) (s : Status) (b : List ℕ) → IsExplanation code s b → EndsSo s b
 explanation_ends code s b (explained e named) = tt
@@ -135,5 +141,8 @@ answer_ends (DrawRole name) input s b answer = chart_ends (DrawRole name) input 
 answer_ends (ExportRole name) input s b answer = chart_ends (ExportRole name) input s b answer
 answer_ends DrawProtocol input s b answer = chart_ends DrawProtocol input s b answer
 answer_ends ListPoints input s b answer = points_end input s b answer
+answer_ends ExportPoints input s b answer = points_as_json_end input s b answer
+answer_ends DrawFailures input s b answer = chart_ends DrawFailures input s b answer
 answer_ends ListFailures input s b answer = chart_ends ListFailures input s b answer
+answer_ends ExportFailures input s b answer = chart_ends ExportFailures input s b answer
 answer_ends (Explain code) input s b answer = explanation_ends code s b answer

@@ -4,7 +4,7 @@ use Rattle.std.specs.Prelude.{unwrap_or, if◌then◌else◌}
 use Rattle.std.specs.Str.{bytes_eq}
 use Rattle.clap.specs.Words.{Text}
 use Rattle.rcv_look.specs.Asked.{asked_by, asked}
-use Rattle.rcv_look.specs.Commands.{CommandView, DrawJournal, DrawSession, DrawTold, ReplayJournal, DrawTable, ExportTable, DrawRole, ExportRole, DrawProtocol, ListPoints, ListFailures, Explain, Given, Says, journal_for}
+use Rattle.rcv_look.specs.Commands.{CommandView, DrawJournal, DrawSession, DrawTold, ReplayJournal, DrawTable, ExportTable, DrawRole, ExportRole, DrawProtocol, ListPoints, ExportPoints, DrawFailures, ListFailures, ExportFailures, Explain, Given, Says, journal_for}
 
 -- The word that is given, and what it asks for.
 by_word : (g : Given) (word : Text) → g.command ≡ Some word → asked g ≡ asked_by word g
@@ -31,8 +31,19 @@ is_asked g (ExportRole name) says =
     ∙ ap (λ (b : Bool). if b then ExportRole (unwrap_or g.role []) else DrawRole (unwrap_or g.role [])) says.flags.1
     ∙ ap ExportRole (the_role g name says.role_is)
 is_asked g DrawProtocol says = by_word g (codes "protocol") says.word_is
-is_asked g ListPoints says = by_word g (codes "points") says.word_is
-is_asked g ListFailures says = by_word g (codes "failures") says.word_is
+is_asked g ListPoints says = by_word g (codes "points") says.word_is ∙ ap (λ (b : Bool). if b then ExportPoints else ListPoints) says.flags.1
+is_asked g ExportPoints says = by_word g (codes "points") says.word_is ∙ ap (λ (b : Bool). if b then ExportPoints else ListPoints) says.flags.1
+is_asked g DrawFailures says =
+    by_word g (codes "failures") says.word_is
+    ∙ ap (λ (b : Bool). if b then ListFailures else (if g.json then ExportFailures else DrawFailures)) says.flags.0
+    ∙ ap (λ (b : Bool). if b then ExportFailures else DrawFailures) says.flags.1
+is_asked g ListFailures says =
+    by_word g (codes "failures") says.word_is
+    ∙ ap (λ (b : Bool). if b then ListFailures else (if g.json then ExportFailures else DrawFailures)) says.flags.0
+is_asked g ExportFailures says =
+    by_word g (codes "failures") says.word_is
+    ∙ ap (λ (b : Bool). if b then ListFailures else (if g.json then ExportFailures else DrawFailures)) says.flags.0
+    ∙ ap (λ (b : Bool). if b then ExportFailures else DrawFailures) says.flags.1
 is_asked g (Explain code) says =
     by_word g (codes "explain") says.word_is ∙ ap (λ (o : Option ℕ). Explain (unwrap_or o 0)) says.code_is
 

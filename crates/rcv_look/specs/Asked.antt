@@ -2,7 +2,7 @@
 use Rattle.std.specs.Prelude.{[], unwrap_or, if◌then◌else◌, codes}
 use Rattle.std.specs.Str.{bytes_eq}
 use Rattle.clap.specs.Words.{Text}
-use Rattle.rcv_look.specs.Commands.{CommandView, DrawTold, ReplayJournal, DrawTable, ExportTable, DrawRole, ExportRole, DrawProtocol, ListPoints, ListFailures, Explain, Given, journal_for}
+use Rattle.rcv_look.specs.Commands.{CommandView, DrawTold, ReplayJournal, DrawTable, ExportTable, DrawRole, ExportRole, DrawProtocol, ListPoints, ExportPoints, DrawFailures, ListFailures, ExportFailures, Explain, Given, journal_for}
 
 -- What a word asks for, with these options and flags.
 abbrev pub asked_by : Text → Given → CommandView
@@ -13,8 +13,8 @@ asked_by word g =
     else (if bytes_eq word (codes "table") then (if g.json then ExportTable else DrawTable)
     else (if bytes_eq word (codes "role") then (if g.json then ExportRole (unwrap_or g.role []) else DrawRole (unwrap_or g.role []))
     else (if bytes_eq word (codes "protocol") then DrawProtocol
-    else (if bytes_eq word (codes "points") then ListPoints
-    else (if bytes_eq word (codes "failures") then ListFailures
+    else (if bytes_eq word (codes "points") then (if g.json then ExportPoints else ListPoints)
+    else (if bytes_eq word (codes "failures") then (if g.text then ListFailures else (if g.json then ExportFailures else DrawFailures))
     else Explain (unwrap_or g.code 0))))))))
 
 abbrev pub asked : Given → CommandView

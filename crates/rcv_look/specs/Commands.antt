@@ -24,7 +24,10 @@ pub data CommandView : Type 0 where
   ExportRole : (name : Text) → CommandView
   DrawProtocol : CommandView
   ListPoints : CommandView
+  ExportPoints : CommandView
+  DrawFailures : CommandView
   ListFailures : CommandView
+  ExportFailures : CommandView
   Explain : (code : ℕ) → CommandView
 
 -- What a command says.
@@ -39,7 +42,10 @@ view_of (commands.Role role) = DrawRole role
 view_of (commands.RoleJson role) = ExportRole role
 view_of commands.Protocol = DrawProtocol
 view_of commands.Points = ListPoints
+view_of commands.PointsJson = ExportPoints
+view_of commands.Failures = DrawFailures
 view_of commands.FailuresText = ListFailures
+view_of commands.FailuresJson = ExportFailures
 view_of (commands.Explain code) = Explain code
 
 -- Words as their bytes.
@@ -136,7 +142,10 @@ Says g (DrawRole name) = IsGiven g (codes "role") (Some name) None None Usual
 Says g (ExportRole name) = IsGiven g (codes "role") (Some name) None None AsJson
 Says g DrawProtocol = IsGiven g (codes "protocol") None None None Usual
 Says g ListPoints = IsGiven g (codes "points") None None None Usual
+Says g ExportPoints = IsGiven g (codes "points") None None None AsJson
+Says g DrawFailures = IsGiven g (codes "failures") None None None Usual
 Says g ListFailures = IsGiven g (codes "failures") None None None AsText
+Says g ExportFailures = IsGiven g (codes "failures") None None None AsJson
 Says g (Explain code) = IsGiven g (codes "explain") None (Some code) None Usual
 
 -- Its number is in range.

@@ -16,6 +16,7 @@ use Rattle.rcv_explain.specs.Explained.{HasRule, IsNamed, spelled}
 use Rattle.rcv_listing.specs.declared.listing.Listing.{Listing}
 use Rattle.rcv_listing.specs.declared.listing.Listing.TheVariants.{Accepted, RuledOut, HalfRead, Unread}
 use Rattle.rcv_listing.specs.Listing.{IsListing}
+use Rattle.rcv_points_json.specs.PointsJson.{IsJson}
 use Rattle.rcv_project.specs.Local.{LocalView, IsLocalOf}
 use Rattle.rcv_export.specs.TableJson.{table_json}
 use Rattle.rcv_export.specs.RoleJson.{role_json}
@@ -171,6 +172,12 @@ ListsAs (Unread text) status bytes = (status ≡ Refused) × (bytes ≡ text.ite
 pub record ArePoints (input : List ℕ) (status : Status) (bytes : List ℕ) : Type 0 where
   pub listing : Listing
   pub is_listing : IsListing input listing
+  pub lists : ListsAs listing status bytes
+
+-- The answer to `points --json`: the same as JSON.
+pub record ArePointsAsJson (input : List ℕ) (status : Status) (bytes : List ℕ) : Type 0 where
+  pub listing : Listing
+  pub is_json : IsJson input listing
   pub lists : ListsAs listing status bytes
 
 -- `no rule N`

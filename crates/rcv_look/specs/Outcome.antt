@@ -21,7 +21,7 @@ use Rattle.rcv_diagnosis.specs.declared.written.Written.TheVariants.{Lines, Json
 use Rattle.rcv_diagnosis.specs.Diagnosing.{IsDiagnosis, is_json, IsJsonOf}
 use Rattle.rcv_look.specs.declared.status.Status.{Status}
 use Rattle.rcv_look.specs.declared.status.Status.TheVariants.{Drawn, Usage, Refused, ReadFault, WriteFault, Memory, TooLong, Illegal}
-use Rattle.rcv_look.specs.Commands.{CommandView, DrawJournal, DrawSession, DrawTold, ReplayJournal, DrawTable, ExportTable, DrawRole, ExportRole, DrawProtocol, ListPoints, ListFailures, Explain, IsCommand, IsNoCommand}
+use Rattle.rcv_look.specs.Commands.{CommandView, DrawJournal, DrawSession, DrawTold, ReplayJournal, DrawTable, ExportTable, DrawRole, ExportRole, DrawProtocol, ListPoints, ExportPoints, DrawFailures, ListFailures, ExportFailures, Explain, IsCommand, IsNoCommand}
 use Rattle.rcv_look.specs.Asking.{most_for, most_of_bundle, IsAskedOfSource}
 use Rattle.rcv_replay.specs.Cutting.{cut_of, bundle_of, journal_of, feeds_before, feeds_in, line_of_end}
 use Rattle.rcv_losses.specs.LossText.{IsLossesText}
@@ -207,7 +207,10 @@ Draws session (DrawSession number) status bytes = ⊥
 Draws session DrawTold status bytes = ⊥
 Draws session ReplayJournal status bytes = ⊥
 Draws session ListPoints status bytes = ⊥
+Draws session ExportPoints status bytes = ⊥
+Draws session DrawFailures status bytes = (status ≡ Drawn) × IsLossesDrawing session bytes
 Draws session ListFailures status bytes = (status ≡ Drawn) × IsLossesText session bytes
+Draws session ExportFailures status bytes = (status ≡ Drawn) × IsLossesJson session bytes
 Draws session (Explain code) status bytes = ⊥
 
 -- The answer to them: the first refusal of the input, or what they make of its session.
@@ -230,7 +233,10 @@ IsAnswer (DrawRole name) input status bytes = IsChartAnswer (DrawRole name) inpu
 IsAnswer (ExportRole name) input status bytes = IsChartAnswer (ExportRole name) input status bytes
 IsAnswer DrawProtocol input status bytes = IsChartAnswer DrawProtocol input status bytes
 IsAnswer ListPoints input status bytes = ArePoints input status bytes
+IsAnswer ExportPoints input status bytes = ArePointsAsJson input status bytes
+IsAnswer DrawFailures input status bytes = IsChartAnswer DrawFailures input status bytes
 IsAnswer ListFailures input status bytes = IsChartAnswer ListFailures input status bytes
+IsAnswer ExportFailures input status bytes = IsChartAnswer ExportFailures input status bytes
 IsAnswer (Explain code) input status bytes = IsExplanation code status bytes
 
 -- The words are this command, and its input isn't too long.

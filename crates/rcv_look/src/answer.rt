@@ -8,12 +8,12 @@ ghost use Rattle.rcv_look.specs.Outcome.{IsAnswer};
 use crate::charts::{protocol_answer, role_answer, table_answer};
 use crate::command::Command;
 use crate::exports::{role_json_answer, table_json_answer};
-use crate::failures::failures_text_answer;
+use crate::failures::{Form, failures_answer};
 use crate::journal::journal_answer;
 use crate::output::Output;
 use crate::replay::replay_answer;
 use crate::session::session_answer;
-use crate::texts::{explain_answer, points_answer};
+use crate::texts::{explain_answer, points_answer, points_json_answer};
 use crate::told::told_answer;
 use std::alloc::{AllocError, Global};
 
@@ -34,7 +34,10 @@ pub fn answer(alloc: Global, command: &Command, input: &[u8]) -> Result<Output, 
         Command::RoleJson { role } => role_json_answer(alloc, input, role.as_slice()),
         Command::Protocol => protocol_answer(alloc, input),
         Command::Points => points_answer(alloc, input),
-        Command::FailuresText => failures_text_answer(alloc, input),
+        Command::PointsJson => points_json_answer(alloc, input),
+        Command::Failures => failures_answer(alloc, input, Form::Picture),
+        Command::FailuresText => failures_answer(alloc, input, Form::Text),
+        Command::FailuresJson => failures_answer(alloc, input, Form::Json),
         Command::Explain { code } => explain_answer(alloc, *code),
     }
 }

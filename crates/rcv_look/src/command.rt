@@ -25,8 +25,14 @@ pub enum Command {
     Protocol,
     /// Lists the protocol's points with their lines, and explains what refuses the input.
     Points,
-    /// Lists what each crash would cost, a line for each.
+    /// Says the same as JSON, except for the rule's text.
+    PointsJson,
+    /// Draws what each crash would cost.
+    Failures,
+    /// Lists it, a line for each.
     FailuresText,
+    /// Says it as JSON.
+    FailuresJson,
     /// Explains the rule with this code.
     Explain { code: u32 },
 }

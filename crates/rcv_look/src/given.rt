@@ -172,6 +172,34 @@ impl<'a> Given<'a> {
         }
     }
 
+    // The points in the form that the flags say.
+    fn points(&self) -> Option<Command>
+        requires { (given_of self.now).command ≡ Some (codes "points") }
+        ensures some { IfSome result (λ command. Says (given_of self.now) (view_of command)) }
+        ensures none { IfNone result (Says (given_of self.now) (asked (given_of self.now)) → ⊥) }
+    {
+        if self.json {
+            self.as_json(Command::PointsJson)
+        } else {
+            self.alone(Command::Points)
+        }
+    }
+
+    // What crashes would cost, in the form that the flags say.
+    fn failures(&self) -> Option<Command>
+        requires { (given_of self.now).command ≡ Some (codes "failures") }
+        ensures some { IfSome result (λ command. Says (given_of self.now) (view_of command)) }
+        ensures none { IfNone result (Says (given_of self.now) (asked (given_of self.now)) → ⊥) }
+    {
+        if self.text {
+            self.as_text(Command::FailuresText)
+        } else if self.json {
+            self.as_json(Command::FailuresJson)
+        } else {
+            self.alone(Command::Failures)
+        }
+    }
+
     // What a role does, in the form that the flags say.
     fn of_role(&self, alloc: Global) -> Result<Command, WordsError>
         requires { (given_of self.now).command ≡ Some (codes "role") }
@@ -204,8 +232,8 @@ impl<'a> Given<'a> {
             "table" => self.table().ok_or(WordsError::Usage),
             "role" => self.of_role(alloc),
             "protocol" => self.alone(Command::Protocol).ok_or(WordsError::Usage),
-            "points" => self.alone(Command::Points).ok_or(WordsError::Usage),
-            "failures" => self.as_text(Command::FailuresText).ok_or(WordsError::Usage),
+            "points" => self.points().ok_or(WordsError::Usage),
+            "failures" => self.failures().ok_or(WordsError::Usage),
             "explain" => Ok(Command::Explain {
                 code: self.code().ok_or(WordsError::Usage)?,
             }),

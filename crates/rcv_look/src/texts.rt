@@ -1,13 +1,14 @@
 // The answer to `points` and `explain`.
 
 ghost use Rattle.std.specs.Prelude.{◌≡◌, ◌≤◌, length, IfOk};
-ghost use Rattle.rcv_look.specs.Drawing.{ArePoints, IsExplanation, ListsAs};
+ghost use Rattle.rcv_look.specs.Drawing.{ArePoints, ArePointsAsJson, IsExplanation, ListsAs};
 
 use crate::lines::no_rule;
 use crate::output::Output;
 use crate::status::Status;
 use rcv_explain::explanation_text;
 use rcv_listing::{Listing, points_text};
+use rcv_points_json::points_json;
 use std::alloc::{AllocError, Global};
 
 /// The points of the input's protocol, and what the input's first refusal says, if there is one: then it is a refusal.
@@ -17,6 +18,14 @@ pub fn points_answer(alloc: Global, input: &[u8]) -> Result<Output, AllocError>
     ensures { IfOk result (λ output. ArePoints input.now output.status output.bytes.items) }
 {
     Ok(listed(points_text(alloc, input)?))
+}
+
+/// The same as JSON, except for the rule's text and the choice that stands in a sender's way.
+pub fn points_json_answer(alloc: Global, input: &[u8]) -> Result<Output, AllocError>
+    requires { length input.now ≤ 1048576 }
+    ensures { IfOk result (λ output. ArePointsAsJson input.now output.status output.bytes.items) }
+{
+    Ok(listed(points_json(alloc, input)?))
 }
 
 // What is written of a listing.
