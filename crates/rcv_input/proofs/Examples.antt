@@ -31,7 +31,7 @@ no_role_line = refl
 
 -- a bad letter on the second line
 bad_letter : IsFirstRefusal (codes "\n#") (Line 10 2)
-bad_letter = letter 2 (record { token = None; len = 1 } ∷ [], codes "#", (refl, refl), λ e. cc, refl, refl)
+bad_letter = letter 2 (1, (record { token = None; len = 1 } ∷ [], codes "#", (refl, refl), λ e. cc, refl, refl), refl)
 
 -- cut off behind a line feed
 abbrev word_module : Token

@@ -116,4 +116,5 @@ crashes_twice =
 -- ---- a bad letter on its second line
 
 letter_in_plan : IsFirstRefusal (with_plan (codes "\n#")) (Line 10 4)
-letter_in_plan = plan_letter protocol (no_lines protocol.roles) 4 (is_accepted (codes "\n#")) (are_scripts (codes "\n#")) (space ∷ [], codes "#", (refl, refl), λ e. cc, refl, refl)
+letter_in_plan = plan_letter protocol (no_lines protocol.roles) 4 (is_accepted (codes "\n#")) (are_scripts (codes "\n#"))
+    (68, (space ∷ [], codes "#", (refl, refl), λ e. cc, refl, refl), refl)
