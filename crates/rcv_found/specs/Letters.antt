@@ -31,7 +31,7 @@ IsOpen g bundle tokens = IsTakenBy g bundle tokens ⊎ ((code : ℕ) × IsFirstA
 
 -- These may stand after the tokens: all that the grammar has there; and if something refuses them before their end, none is named.
 pub record AreInPlace (g : GrammarView) (input : List ℕ) (tokens : List Token) (may : List ThingView) : Type 0 where
-  pub open : IsOpen g input tokens → AreThose g input tokens (things_of g) may
+  pub opened : IsOpen g input tokens → AreThose g input tokens (things_of g) may
   pub shut : (IsOpen g input tokens → ⊥) → may ≡ []
 
 -- What is told of the bad letter of a part.

@@ -1,6 +1,6 @@
 // A bad letter: where it stands, and what may stand there.
 
-ghost use Rattle.std.specs.Prelude.{◌≡◌, ◌⊎◌, ◌+◌, ◌^◌, ◌<◌, ◌≤◌, ⊥, [], List, length, true, false, IfOk};
+ghost use Rattle.std.specs.Prelude.{◌≡◌, ◌⊎◌, ◌+◌, ◌^◌, ◌<◌, ◌≤◌, [], List, length, true, false, IfOk};
 ghost use Rattle.std.specs.List.{All};
 ghost use Rattle.rcv_lexer.specs.Parts.{LiesIn};
 ghost use Rattle.rcv_lexer.specs.Tokens.{AreTokens, IsLetterAt};
@@ -53,8 +53,8 @@ fn is_open(
     requires short { length bundle.now < 2 ^ 32 }
     requires few { length list.now < 2 ^ 32 }
     requires inside { All (λ t. LiesIn bundle.now t.span) list.now }
-    ensures yes { IfOk result (λ open. open ≡ true → IsOpen (grammar_in grammar.now) bundle.now list.now) }
-    ensures no { IfOk result (λ open. open ≡ false → IsOpen (grammar_in grammar.now) bundle.now list.now → ⊥) }
+    ensures yes { IfOk result (λ holds. holds ≡ true → IsOpen (grammar_in grammar.now) bundle.now list.now) }
+    ensures no { IfOk result (λ holds. holds ≡ false → IsOpen (grammar_in grammar.now) bundle.now list.now → ⊥) }
 {
     match stop_at(alloc, grammar, bundle, list)? {
         Some(stop) => Ok(stop.place == list.len()),

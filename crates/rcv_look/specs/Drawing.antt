@@ -16,6 +16,7 @@ use Rattle.rcv_explain.specs.Explained.{HasRule, IsNamed, spelled}
 use Rattle.rcv_listing.specs.declared.listing.Listing.{Listing}
 use Rattle.rcv_listing.specs.declared.listing.Listing.TheVariants.{Accepted, RuledOut, HalfRead, Unread}
 use Rattle.rcv_listing.specs.Listing.{IsListing}
+use Rattle.rcv_heat.specs.Shown.{IsFailuresPicture}
 use Rattle.rcv_points_json.specs.PointsJson.{IsJson}
 use Rattle.rcv_project.specs.Local.{LocalView, IsLocalOf}
 use Rattle.rcv_export.specs.TableJson.{table_json}
@@ -137,6 +138,12 @@ pub record IsProtocolDrawing (protocol : Protocol) (bytes : List ℕ) : Type 0 w
   pub picture : Picture
   pub chart : IsChart protocol.roles (body_of protocol.body) picture
   pub titled : titles_of picture ≡ statement_titles protocol.roles (body_of protocol.body)
+  pub is_text : IsTextOf picture bytes
+
+-- The bytes are a picture of what a session's crashes would cost.
+pub record IsFailuresDrawing (session : SessionView) (bytes : List ℕ) : Type 0 where
+  pub picture : Picture
+  pub is_picture : IsFailuresPicture session picture
   pub is_text : IsTextOf picture bytes
 
 -- The place of a name among others, counted from 0.

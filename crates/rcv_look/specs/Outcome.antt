@@ -25,11 +25,14 @@ use Rattle.rcv_look.specs.Commands.{CommandView, DrawJournal, DrawSession, DrawT
 use Rattle.rcv_look.specs.Asking.{most_for, most_of_bundle, IsAskedOfSource}
 use Rattle.rcv_replay.specs.Cutting.{cut_of, bundle_of, journal_of, feeds_before, feeds_in, line_of_end}
 use Rattle.rcv_losses.specs.LossText.{IsLossesText}
+use Rattle.rcv_costs_json.specs.CostsJson.{IsCostsJson}
+use Rattle.rcv_look.specs.declared.failures.Form.{Form}
+use Rattle.rcv_look.specs.declared.failures.Form.TheVariants as forms
 use Rattle.rcv_section.specs.declared.section.Section.{Section}
 use Rattle.rcv_section.specs.Sections.{IsSection, HasNoSection, section_text}
 use Rattle.rcv_later.specs.Later.{IsLaterOf}
 use Rattle.rcv_look.specs.Drawing.{IsJournalDrawing, IsToldDrawing, IsTableDrawing, IsTableJson, IsRoleAnswer, IsRoleDrawing, IsRoleJson}
-use Rattle.rcv_look.specs.Drawing.{IsProtocolDrawing, ArePoints, IsExplanation}
+use Rattle.rcv_look.specs.Drawing.{IsFailuresDrawing, IsProtocolDrawing, ArePoints, ArePointsAsJson, IsExplanation}
 
 -- The number of a status, with which the process ends.
 abbrev pub number_of : Status → ℕ
@@ -195,7 +198,13 @@ pub record IsReplayAnswer (input : List ℕ) (status : Status) (bytes : List ℕ
   pub diagnosis : IsDiagnosis input finding bytes
   pub is_status : status ≡ status_of finding
 
--- What the commands that draw or write a protocol make of it.
+-- The command that shows in this form what crashes would cost.
+abbrev pub failures_as : Form → CommandView
+failures_as forms.Picture = DrawFailures
+failures_as forms.Text = ListFailures
+failures_as forms.Json = ExportFailures
+
+-- What the commands that draw or write a protocol or a session make of it.
 abbrev pub Draws : SessionView → CommandView → Status → List ℕ → Type 0
 Draws session DrawTable status bytes = (status ≡ Drawn) × IsTableDrawing session.protocol bytes
 Draws session ExportTable status bytes = (status ≡ Drawn) × IsTableJson session.protocol bytes
@@ -208,9 +217,9 @@ Draws session DrawTold status bytes = ⊥
 Draws session ReplayJournal status bytes = ⊥
 Draws session ListPoints status bytes = ⊥
 Draws session ExportPoints status bytes = ⊥
-Draws session DrawFailures status bytes = (status ≡ Drawn) × IsLossesDrawing session bytes
+Draws session DrawFailures status bytes = (status ≡ Drawn) × IsFailuresDrawing session bytes
 Draws session ListFailures status bytes = (status ≡ Drawn) × IsLossesText session bytes
-Draws session ExportFailures status bytes = (status ≡ Drawn) × IsLossesJson session bytes
+Draws session ExportFailures status bytes = (status ≡ Drawn) × IsCostsJson session bytes
 Draws session (Explain code) status bytes = ⊥
 
 -- The answer to them: the first refusal of the input, or what they make of its session.

@@ -1,3 +1,5 @@
+mod Examples
+mod Restarting
 pub mod Worst
 pub mod Summing
 pub mod Saying

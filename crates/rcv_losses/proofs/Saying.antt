@@ -18,7 +18,7 @@ range_more a (suc n) =
     ∙ ap (λ l. a ∷ l) (range_more (a + 1) n)
     ∙ ap (λ k. a ∷ (range_with_len (a + 1) n ++ k ∷ [])) (omega arith)
 
-pub said_one_more : (f : ℕ → List ℕ) (old now new : List ℕ) (n : ℕ) → now ≡ old ++ flat_map f (range_with_len 0 n) → new ≡ now ++ f n → new ≡ old ++ flat_map f (range_with_len 0 (n + 1))
+pub said_one_more : {A : Type 0} (f : ℕ → List A) (old now new : List A) (n : ℕ) → now ≡ old ++ flat_map f (range_with_len 0 n) → new ≡ now ++ f n → new ≡ old ++ flat_map f (range_with_len 0 (n + 1))
 said_one_more f old now new n so is =
     is
     ∙ ap (λ l. l ++ f n) so

@@ -17,8 +17,8 @@ use rcv_tree::point::Point;
 use rcv_tree::role::{RoleId, RoleSet};
 use std::alloc::{AllocError, Global};
 
-// The line of a plan that makes the crash.
-fn write_crash(text: &mut Writer, setup: &Setup, cost: &Cost) -> Result<(), AllocError>
+/// The text goes on with the line of a plan that makes the crash of a declared role. Fails if memory runs out.
+pub fn write_crash(text: &mut Writer, setup: &Setup, cost: &Cost) -> Result<(), AllocError>
     requires { IsNamedCost setup.now cost.now }
     ensures { OnOk result (text.new ≡ text.old ++ crash_text setup.now cost.now) }
 {
@@ -58,8 +58,8 @@ fn write_between(
     }
 }
 
-// How many of the kept events are undone.
-fn write_share(text: &mut Writer, cost: &Cost) -> Result<(), AllocError>
+/// The text goes on with how many of the kept events are undone. Fails if memory runs out.
+pub fn write_share(text: &mut Writer, cost: &Cost) -> Result<(), AllocError>
     ensures { OnOk result (text.new ≡ text.old ++ share_text cost.now) }
 {
     text.word(b"undone ")?;
@@ -150,16 +150,26 @@ fn write_reach(text: &mut Writer, setup: &Setup, cost: &Cost) -> Result<(), Allo
     write_again(text, cost)
 }
 
-/// The text goes on with what one crash of a declared role costs, between events at points of the text: without the end
-/// of the line. Fails if memory runs out.
+// What one crash costs, without the end of the line.
 #[tactic(auto, unfolding(crate::specs::LossText::cost_text))]
-pub(crate) fn write_cost(text: &mut Writer, setup: &Setup, cost: &Cost) -> Result<(), AllocError>
+fn write_cost(text: &mut Writer, setup: &Setup, cost: &Cost) -> Result<(), AllocError>
     requires { IsNamedCost setup.now cost.now }
     ensures { OnOk result (text.new ≡ text.old ++ cost_text setup.now cost.now) }
 {
     write_where(text, setup, cost)?;
     write_loss(text, cost)?;
     write_reach(text, setup, cost)
+}
+
+/// What one crash of a declared role costs, between events at points of the text: its line, without the end. Fails if
+/// memory runs out.
+pub fn line_of(alloc: Global, setup: &Setup, cost: &Cost) -> Result<Vec<u8>, AllocError>
+    requires { IsNamedCost setup.now cost.now }
+    ensures { IfOk result (λ line. line.items ≡ cost_text setup.now cost.now) }
+{
+    let mut line = Writer::new(alloc);
+    write_cost(&mut line, setup, cost)?;
+    Ok(line.finish())
 }
 
 // The lines of some costs.

@@ -1,7 +1,7 @@
 // What the costs of a role come to, and which is the worst.
 
 ghost use Rattle.std.specs.Prelude.{◌≡◌, ◌<◌, ◌^◌, length};
-ghost use Rattle.rcv_losses.specs.Totals.{costs_by, undone_in_all, worse, worst_of};
+ghost use Rattle.rcv_losses.specs.Totals.{costs_by, undone_in_all, kept_in_all, worse, worst_of};
 
 use rcv_costs::Cost;
 use rcv_tree::role::RoleId;
@@ -18,6 +18,20 @@ pub fn undone_by(costs: &[Cost], role: RoleId) -> u64
         }
     }
     undone
+}
+
+/// How many events would be undone in all if after each crash of a role everybody were restarted: all events that are kept
+/// then. At most 2^64 - 1: a greater number stands for that.
+pub fn kept_by(costs: &[Cost], role: RoleId) -> u64
+    ensures { result ≡ kept_in_all (costs_by role costs.now) }
+{
+    let mut kept = 0u64;
+    for cost in costs {
+        if cost.role == role {
+            kept = kept.saturating_add(cost.kept);
+        }
+    }
+    kept
 }
 
 // The worse one of two costs: the first of those that undo as many events.

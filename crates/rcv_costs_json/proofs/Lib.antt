@@ -1,0 +1,5 @@
+mod Examples
+mod Growing
+mod Telling
+mod There
+mod Whole

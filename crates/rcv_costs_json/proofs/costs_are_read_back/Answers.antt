@@ -1,0 +1,5 @@
+use Rattle.rcv_costs_json.proofs.Whole.{costs_are_read_back}
+use Rattle.rcv_costs_json.proofs.costs_are_read_back.Goals as goal
+
+pub returns : goal.returns
+returns c = costs_are_read_back

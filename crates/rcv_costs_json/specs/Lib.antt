@@ -1,0 +1,3 @@
+pub mod CostsJson
+pub mod Told
+pub mod Laws

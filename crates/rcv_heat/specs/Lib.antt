@@ -1,0 +1,4 @@
+pub mod Heat
+pub mod Words
+pub mod Shown
+pub mod Laws
