@@ -1,8 +1,8 @@
 mod Examples
-mod Growing
+pub mod Growing
 mod LineFeed
 mod Machines
-mod Names
-mod Plain
+pub mod Names
+pub mod Plain
 mod Sorts
 mod Tables

@@ -79,7 +79,7 @@ IsPlainNumber (float x) = ⊥
 -- No deeper than this.
 abbrev mutual
   pub IsPlain : ℕ → Data → Type 0
-  IsPlain n null = ⊥
+  IsPlain n null = Unit {0}
   IsPlain n (boolean b) = Unit {0}
   IsPlain n (number x) = IsPlainNumber x
   IsPlain n (string s) = IsUtf8 s
@@ -101,7 +101,7 @@ number_back (float x) plain = absurd plain
 
 mutual
   value_back : (n : ℕ) (d : Data) → IsPlain n d → of_json (outline d) ≡ Some d
-  value_back n null plain = absurd plain
+  value_back n null plain = refl
   value_back n (boolean b) plain = refl
   value_back n (number x) plain = ap (option_map number) (number_back x plain)
   value_back n (string s) plain = refl
@@ -124,7 +124,7 @@ mutual
 
 mutual
   value_depth : (n : ℕ) (d : Data) → IsPlain n d → tree.depth (outline d) ≤ n
-  value_depth n null plain = absurd plain
+  value_depth n null plain = omega arith
   value_depth n (boolean b) plain = omega arith
   value_depth n (number x) plain = omega arith
   value_depth n (string s) plain = omega arith
@@ -146,7 +146,7 @@ number_writes (float x) plain = absurd plain
 
 mutual
   value_writes : (n : ℕ) (d : Data) → IsPlain n d → tree.HasNumbers (outline d)
-  value_writes n null plain = absurd plain
+  value_writes n null plain = tt
   value_writes n (boolean b) plain = tt
   value_writes n (number x) plain = number_writes x plain
   value_writes n (string s) plain = tt
@@ -168,7 +168,7 @@ number_whole (float x) plain = absurd plain
 
 mutual
   pub value_whole : (n : ℕ) (d : Data) → IsPlain n d → has_float d ≡ false
-  value_whole n null plain = absurd plain
+  value_whole n null plain = refl
   value_whole n (boolean b) plain = refl
   value_whole n (number x) plain = number_whole x plain
   value_whole n (string s) plain = refl
@@ -200,7 +200,7 @@ boolean_is_text false = IsUtf8-are_ascii (codes "false") refl
 
 mutual
   value_is_text : (n : ℕ) (d : Data) → IsPlain n d → IsUtf8 (compact_text d)
-  value_is_text n null plain = absurd plain
+  value_is_text n null plain = IsUtf8-are_ascii (codes "null") refl
   value_is_text n (boolean b) plain = boolean_is_text b
   value_is_text n (number x) plain = number_is_text x plain
   value_is_text n (string s) plain = IsUtf8-quoted s plain
