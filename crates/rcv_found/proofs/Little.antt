@@ -1,6 +1,8 @@
 -- Lists and their slices.
-use Rattle.std.proofs.Common.{◌≡◌, ◌≤◌, ℕ, zero, suc, ◌+◌, ◌-◌, List, [], ◌∷◌, ◌++◌, length, take, drop, refl, ◌∙◌, ap, subst, arith, length-append}
-use Rattle.std.specs.Prelude.{slice_range, slice_get, Some}
+use Rattle.std.proofs.Common.{Bool, ◌≡◌, ◌≤◌, ℕ, zero, suc, ◌+◌, ◌-◌, List, [], ◌∷◌, ◌++◌, length, take, drop, refl, ◌∙◌, ap, subst, arith, length-append}
+use Rattle.std.specs.Prelude.{slice_range, slice_get, take_while, Some}
+use Rattle.std.proofs.lemmas.List.Sums.{take_while-cons}
+use Rattle.std.proofs.lemmas.Bool.Decides.{nat_tests}
 use Rattle.std.proofs.lemmas.Option.{get_or_from_slice_get, slice_get_within}
 use Rattle.std.specs.List.{All}
 
@@ -70,3 +72,11 @@ slice_behind front more =
     let k : length front + length more - length front ≡ length more = omega arith in
     ap (λ (n : ℕ). take n (drop (length front) (front ++ more))) k
     ∙ ap (take (length more)) (drop_all_of front more) ∙ take_all_of more
+
+-- A run of bytes at the front is no longer than the whole.
+pub run_within : (p : ℕ → Bool) (text : List ℕ) → length (take_while p text) ≤ length text
+run_within p [] = omega arith
+run_within p (b ∷ bs) =
+    let cons = take_while-cons p b bs in
+    let more = run_within p bs in
+    grind (arith, nat_tests)

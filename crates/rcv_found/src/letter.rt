@@ -1,6 +1,6 @@
 // A bad letter: where it stands, and what may stand there.
 
-ghost use Rattle.std.specs.Prelude.{◌≡◌, ◌⊎◌, ◌+◌, ◌^◌, ◌<◌, ◌≤◌, [], List, length, true, false, IfOk};
+ghost use Rattle.std.specs.Prelude.{◌≡◌, ◌⊎◌, ◌+◌, ◌^◌, ◌<◌, ◌≤◌, [], List, length, not, take_while, true, false, IfOk};
 ghost use Rattle.std.specs.List.{All};
 ghost use Rattle.rcv_lexer.specs.Parts.{LiesIn};
 ghost use Rattle.rcv_lexer.specs.Tokens.{AreTokens, IsLetterAt};
@@ -8,6 +8,7 @@ ghost use Rattle.rcv_lexer.specs.declared.token.Token.{Token};
 ghost use Rattle.rcv_tree.specs.Words.{is_word_byte};
 ghost use Rattle.rcv_found.specs.Letters.{letter_length, IsOpen, IsLetterTold, AreInPlace};
 ghost use Rattle.rcv_found.specs.Seen.{grammar_in};
+ghost use Rattle.rcv_found.specs.Spots.{begins_letter};
 
 use crate::grammar::Grammar;
 use crate::may::what_may_stand;
@@ -27,18 +28,37 @@ fn is_word_byte(byte: u8) -> bool
     byte.is_ascii_alphabetic() || byte == b'_' || byte.is_ascii_digit()
 }
 
+// How far a word goes on.
+#[tactic(auto, using(crate::proofs::Little::run_within))]
+fn word_len(text: &[u8]) -> usize
+    ensures is { result ≡ length (take_while is_word_byte text.now) }
+    ensures within { result ≤ length text.now }
+{
+    text.iter()
+        .take_while(|byte| is_word_byte(**byte))
+        .count()
+}
+
+// How far a letter goes on.
+#[tactic(auto, using(crate::proofs::Little::run_within))]
+fn rest_len(text: &[u8]) -> usize
+    ensures is { result ≡ length (take_while (λ b. not (begins_letter b)) text.now) }
+    ensures within { result ≤ length text.now }
+{
+    text.iter()
+        .take_while(|byte| !begins_letter(**byte))
+        .count()
+}
+
 // How many bytes the word or the letter has that begins a text.
 fn letter_len(text: &[u8]) -> usize
     ensures is { result ≡ letter_length text.now }
     ensures within { result ≤ length text.now }
 {
-    let [first, rest @ ..] = text else {
-        return 0;
-    };
-    if is_word_byte(*first) {
-        1 + rest.iter().take_while(|byte| is_word_byte(**byte)).count()
-    } else {
-        1 + rest.iter().take_while(|byte| !begins_letter(**byte)).count()
+    match text {
+        [] => 0,
+        [first, rest @ ..] if is_word_byte(*first) => 1 + word_len(rest),
+        [_, rest @ ..] => 1 + rest_len(rest),
     }
 }
 
@@ -82,7 +102,6 @@ fn may_after(
 }
 
 // What may stand where this part ends.
-#[tactic(auto, using(crate::proofs::Opening::placed_for_all, crate::proofs::Opening::placed_for_none))]
 fn may_at_end(
     alloc: Global,
     grammar: &Grammar<'_>,

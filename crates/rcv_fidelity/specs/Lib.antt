@@ -1,0 +1,4 @@
+pub mod Machines
+pub mod Safe
+pub mod Restamped
+pub mod Laws
