@@ -60,7 +60,7 @@ fn wrong_value(
     json!(in alloc; {"code": code, "column": spot.column, "found": found, "line": line, "may": may})
 }
 
-// A refusal at a line, of which no more is known. Fails if memory runs out.
+// A refusal at a line, without more. Fails if memory runs out.
 fn plain_value(alloc: Global, code: u8, line: u32) -> Result<Value, AllocError>
     ensures { IfOk result (λ value. view value ≡ plain_data code line) }
 {
