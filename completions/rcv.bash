@@ -22,7 +22,8 @@ _rcv_complete() {
     project) COMPREPLY=($(compgen -W "--role" -- "$current")) ;;
     role) COMPREPLY=($(compgen -W "--role --json" -- "$current")) ;;
     table) COMPREPLY=($(compgen -W "--json" -- "$current")) ;;
-    failures) COMPREPLY=($(compgen -W "--text" -- "$current")) ;;
+    points) COMPREPLY=($(compgen -W "--json" -- "$current")) ;;
+    failures) COMPREPLY=($(compgen -W "--text --json" -- "$current")) ;;
     gen) COMPREPLY=($(compgen -W "--number" -- "$current")) ;;
     explain) COMPREPLY=($(compgen -W "--code" -- "$current")) ;;
     *) COMPREPLY=() ;;

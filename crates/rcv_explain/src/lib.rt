@@ -14,6 +14,3 @@ mod texts;
 pub use codes::{explain, explanation_text};
 pub use explanation::Explanation;
 pub use std::alloc::AllocError as Memory;
-
-#[cfg(test)]
-mod tests;

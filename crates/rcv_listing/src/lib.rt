@@ -33,6 +33,3 @@ pub fn lines_are_those_of_receivers()
 pub fn listed_go_on()
     ensures { ListedGoOn }
 {}
-
-#[cfg(test)]
-mod tests;

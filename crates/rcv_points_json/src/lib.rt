@@ -8,6 +8,3 @@ mod unread;
 pub use listed::points_json;
 pub use rcv_listing::Listing;
 pub use std::alloc::AllocError as Memory;
-
-#[cfg(test)]
-mod tests;

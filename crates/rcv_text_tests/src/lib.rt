@@ -1,6 +1,11 @@
-// Tests of the printer, through its public call, on what no input can say. They stand here because a crate with tests is
-// proved twice.
+// Tests of what writes texts, through its public calls. They stand here because a crate with tests is proved twice.
 #![tactic(auto)]
 
+#[cfg(test)]
+mod explain;
+#[cfg(test)]
+mod listing;
+#[cfg(test)]
+mod points_json;
 #[cfg(test)]
 mod printer;

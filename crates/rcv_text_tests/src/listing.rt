@@ -1,6 +1,6 @@
 // Listings of a protocol that is accepted, of one that a rule refuses, and of inputs that aren't read.
 
-use crate::{Listing, points_text};
+use rcv_listing::{Listing, points_text};
 use std::alloc::Global;
 use std::test::Fail;
 

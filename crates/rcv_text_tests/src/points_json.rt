@@ -1,6 +1,6 @@
 // The JSON of a protocol that is accepted, of one that a rule refuses, and of inputs that aren't read.
 
-use crate::{Listing, points_json};
+use rcv_points_json::{Listing, points_json};
 use std::alloc::Global;
 use std::test::Fail;
 

@@ -1,6 +1,6 @@
 // The examples of all codes: each is refused by its own code, and its repair is taken.
 
-use crate::explain;
+use rcv_explain::explain;
 use rcv_input::{InputError, read_input, refusal_line};
 use std::alloc::{AllocError, Global};
 use std::fmt::Write;
