@@ -1,0 +1,3 @@
+pub mod Met
+pub mod Laws
+pub mod Told
