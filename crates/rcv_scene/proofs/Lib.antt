@@ -1,4 +1,6 @@
 pub mod Lines
+pub mod Naming
+pub mod Labelling
 pub mod Places
 pub mod Telling
 pub mod Seeing
@@ -6,5 +8,8 @@ pub mod Wiring
 pub mod Returning
 pub mod Counting
 pub mod Footing
+pub mod Heading
 pub mod Planning
 pub mod Apart
+pub mod Plainness
+pub mod Examples

@@ -10,7 +10,8 @@ use Rattle.rcv_picture.specs.declared.group.Group.{Group}
 use Rattle.rcv_picture.specs.declared.group.Says.{Says}
 use Rattle.rcv_picture.specs.declared.group.Says.TheVariants as says
 use Rattle.rcv_scene.specs.Seen.{Seen, seen}
-use Rattle.rcv_session.specs.Session.{roles_of}
+use Rattle.rcv_points.specs.Follow.{net_in}
+use Rattle.rcv_session.specs.Session.{roles_of, net_for}
 use Rattle.rcv_fates.specs.Record.{RecordView, HasKept}
 use Rattle.rcv_story.specs.declared.story.Story.{Story}
 use Rattle.rcv_scene.specs.declared.layout.Layout.{Layout}
@@ -21,6 +22,7 @@ use Rattle.rcv_scene.specs.Recoveries.{AddsRecover, IsRecoverDrawn}
 use Rattle.rcv_scene.specs.Folds.{IsFoldDrawn}
 use Rattle.rcv_scene.specs.declared.ends.RoleEnd.{RoleEnd}
 use Rattle.rcv_scene.specs.Feet.{HasFeet}
+use Rattle.rcv_scene.specs.Heads.{HasHeads}
 
 -- This entry is drawn so.
 abbrev pub IsEntryDrawn : Scene → ℕ → Bool → entries.Entry → List Seen → Type 0
@@ -31,8 +33,8 @@ IsEntryDrawn scene place undone (Recover role concerned keeps removed) drawn = I
 
 -- Something more was drawn: the mark of this entry, at this height.
 abbrev pub AddsEntry : Scene → ℕ → Pixels → entries.Entry → Bool → List Seen → List Seen → Type 0
-AddsEntry scene place y (Send event) undone old new = AddsEvent scene.grid y event Sent undone old new
-AddsEntry scene place y (Recv event) undone old new = AddsEvent scene.grid y event Got undone old new
+AddsEntry scene place y (Send event) undone old new = AddsEvent scene place y event Sent undone old new
+AddsEntry scene place y (Recv event) undone old new = AddsEvent scene place y event Got undone old new
 AddsEntry scene place y (Crash role) undone old new = new ≡ old ++ crash_cross scene.grid y role
 AddsEntry scene place y (Recover role concerned keeps removed) undone old new = AddsRecover scene place y concerned keeps removed old new
 
@@ -61,6 +63,7 @@ AreMarks r undone = (kept : List Event) → HasKept r kept → HasKept (record r
 -- What is drawn is this: these rows of the record, with this story.
 pub record IsSceneOf (r : RecordView) (story : Story) (rows : List Says) (scene : Scene) : Type 0 where
   pub same_setup : scene.setup ≡ r.setup
+  pub same_points : net_in scene.points ≡ net_for r.setup
   pub same_says : scene.says ≡ rows
   pub same_entries : scene.entries ≡ r.entries
   pub same_story : scene.story ≡ story
@@ -71,9 +74,10 @@ pub record IsSceneOf (r : RecordView) (story : Story) (rows : List Says) (scene 
 abbrev pub IsPlanOf : RecordView → Story → List Says → Layout → Type 0
 IsPlanOf r story rows layout = IsSceneOf r story rows (scene_of layout)
 
--- There is one grid, and each group is drawn on it; one holds the feet of these roles.
+-- There is one grid, and each group is drawn on it; one holds the feet of these roles, and one the heads of all.
 pub record IsDrawnOnGrid (r : RecordView) (story : Story) (ends : List RoleEnd) (rows : List Says) (groups : List Group) : Type 0 where
   pub scene : Scene
   pub is_scene : IsSceneOf r story rows scene
   pub drawn : AreDrawn scene groups
   pub feet : HasFeet scene.grid ends groups
+  pub heads : HasHeads scene.setup scene.grid groups

@@ -6,6 +6,7 @@ use Rattle.rcv_picture.specs.declared.pixels.At.{At}
 use Rattle.rcv_picture.specs.declared.group.Counts.{Counts}
 use Rattle.rcv_picture.specs.declared.group.Says.{Says}
 use Rattle.rcv_picture.specs.declared.group.Says.TheVariants as says
+use Rattle.rcv_points.specs.Follow.{PointsView}
 use Rattle.rcv_session.specs.Session.{SessionView}
 use Rattle.rcv_story.specs.declared.story.Story.{Story}
 use Rattle.rcv_scene.specs.declared.layout.Row.{Row}
@@ -22,10 +23,11 @@ pub record Grid : Type 0 where
   pub numbers : Pixels
   pub notes : Pixels
 
--- What is drawn on it: the session, what the rows say of the entries, for each entry whether its event is undone, and the story
--- of the entries.
+-- What is drawn on it: the session, the points of its text, what the rows say of the entries, for each entry whether its event is
+-- undone, and the story of the entries.
 pub record Scene : Type 0 where
   pub setup : SessionView
+  pub points : PointsView
   pub grid : Grid
   pub says : List Says
   pub entries : List Entry
@@ -37,7 +39,15 @@ grid_of l = record { columns = l.columns.items; rows = l.rows.items; numbers = l
 
 abbrev pub scene_of : Layout → Scene
 scene_of l =
-    record { setup = l.setup.now; grid = grid_of l; says = l.says.now; entries = l.entries.now; undone = l.undone.items; story = l.story.now }
+    record {
+      setup = l.setup.now;
+      points = l.cast.points.now;
+      grid = grid_of l;
+      says = l.says.now;
+      entries = l.entries.now;
+      undone = l.undone.items;
+      story = l.story.now;
+    }
 
 -- The middle of a role's column.
 abbrev pub or_left : Option Pixels → Pixels
@@ -48,8 +58,9 @@ abbrev pub column : Grid → ℕ → Pixels
 column grid role = or_left (slice_get grid.columns role)
 
 -- The layout is one of these rows and entries.
-pub record IsLayoutOf (setup : SessionView) (rows : List Says) (entries : List Entry) (undone : List Bool) (story : Story) (l : Layout) : Type 0 where
+pub record IsLayoutOf (setup : SessionView) (points : PointsView) (rows : List Says) (entries : List Entry) (undone : List Bool) (story : Story) (l : Layout) : Type 0 where
   pub same_setup : l.setup.now ≡ setup
+  pub same_points : l.cast.points.now ≡ points
   pub same_says : l.says.now ≡ rows
   pub same_entries : l.entries.now ≡ entries
   pub same_undone : l.undone.items ≡ undone

@@ -2,11 +2,13 @@ pub mod Told
 pub mod Seen
 pub mod Wording
 pub mod Grid
+pub mod Labels
 pub mod Marks
 pub mod Wires
 pub mod Recoveries
 pub mod Folds
 pub mod Feet
+pub mod Heads
 pub mod Ends
 pub mod Drawn
 pub mod Laws

@@ -7,8 +7,9 @@ use Rattle.rcv_picture.specs.declared.pixels.Pixels.{Pixels}
 use Rattle.rcv_picture.specs.declared.look.Look.{Look}
 use Rattle.rcv_picture.specs.declared.look.Look.TheVariants as looks
 use Rattle.rcv_picture.specs.declared.shape.Anchor.TheVariants.{Start, Middle, End}
-use Rattle.rcv_scene.specs.Seen.{Seen, Disc, Words, at, pixels, further, cross, marks}
+use Rattle.rcv_scene.specs.Seen.{Seen, Disc, Words, at, pixels, further, cross}
 use Rattle.rcv_scene.specs.Grid.{Grid, Scene, column, IsOwnHeight}
+use Rattle.rcv_scene.specs.Labels.{IsSendLabel, IsRecvLabel}
 
 -- A Send is dark and a Recv is light, and both look different if they are undone. The number on them looks different on a Send,
 -- on a Recv, and on an undone Recv.
@@ -41,19 +42,24 @@ crash_cross grid y role =
     cross (at (column grid role) y) 8
     ++ Words (at (further (column grid role) 14) (further y 4)) Start looks.Failed (codes "crash") ∷ []
 
--- Something more was drawn: the mark of an event, and then no other mark.
-pub record AddsEvent (grid : Grid) (y : Pixels) (event : Event) (dir : Dir) (undone : Bool) (old new : List Seen) : Type 0 where
-  pub rest : List Seen
-  pub is : new ≡ old ++ (event_disc grid y event dir undone ++ rest)
-  pub plain : marks rest ≡ []
+-- The words beside the mark of an event are its label.
+abbrev pub IsLabel : Scene → ℕ → Pixels → Event → Dir → Bool → List Seen → Type 0
+IsLabel scene place y event Sent undone drawn = IsSendLabel scene y event undone drawn
+IsLabel scene place y event Got undone drawn = IsRecvLabel scene place y event undone drawn
 
--- The group of an event: the entry's number, its mark, and then no other mark.
+-- Something more was drawn: the mark of an event, and its label beside it.
+pub record AddsEvent (scene : Scene) (place : ℕ) (y : Pixels) (event : Event) (dir : Dir) (undone : Bool) (old new : List Seen) : Type 0 where
+  pub words : List Seen
+  pub label : IsLabel scene place y event dir undone words
+  pub is : new ≡ old ++ (event_disc scene.grid y event dir undone ++ words)
+
+-- The group of an event: the entry's number, its mark, and its label beside it.
 pub record IsEventDrawn (scene : Scene) (place : ℕ) (event : Event) (dir : Dir) (undone : Bool) (drawn : List Seen) : Type 0 where
   pub y : Pixels
   pub height : IsOwnHeight scene place y
-  pub rest : List Seen
-  pub is : drawn ≡ number_words scene.grid place y ∷ event_disc scene.grid y event dir undone ++ rest
-  pub plain : marks rest ≡ []
+  pub words : List Seen
+  pub label : IsLabel scene place y event dir undone words
+  pub is : drawn ≡ number_words scene.grid place y ∷ event_disc scene.grid y event dir undone ++ words
 
 -- The group of a Crash: the entry's number, and its mark.
 pub record IsCrashDrawn (scene : Scene) (place role : ℕ) (drawn : List Seen) : Type 0 where

@@ -1,5 +1,5 @@
 -- What is seen of shapes: all of them, except for where their places and texts lie in memory.
-use Rattle.std.specs.Prelude.{◌≡◌, ℕ, ◌+◌, ◌-◌, ◌^◌, min, Bool, true, false, List, [], ◌∷◌, ◌++◌, map, filter}
+use Rattle.std.specs.Prelude.{◌≡◌, ℕ, ◌+◌, ◌-◌, ◌^◌, min, Bool, true, false, Option, Some, None, List, [], ◌∷◌, ◌++◌, map, filter}
 use Rattle.rcv_picture.specs.declared.pixels.Pixels.{Pixels}
 use Rattle.rcv_picture.specs.declared.pixels.At.{At}
 use Rattle.rcv_picture.specs.declared.look.Look.{Look}
@@ -8,6 +8,7 @@ use Rattle.rcv_picture.specs.declared.shape.Anchor.{Anchor}
 use Rattle.rcv_picture.specs.declared.shape.Shape.{Shape}
 use Rattle.rcv_picture.specs.declared.shape.Shape.TheVariants.{Line, Rect, Circle, Path, Text}
 use Rattle.rcv_scene.specs.declared.shapes.Shapes.{Shapes}
+use Rattle.rcv_scene.specs.declared.shapes.Label.{Label}
 
 -- A straight stroke, a frame, a disc, a way from place to place, and words.
 pub data Seen : Type 0 where
@@ -69,8 +70,14 @@ is_mark (Words place anchor look text) = false
 abbrev pub marks : List Seen → List Seen
 marks drawn = filter is_mark drawn
 
--- Something more was drawn, and it is no mark.
-pub record AddsPlain (old new : List Seen) : Type 0 where
-  pub rest : List Seen
-  pub is : new ≡ old ++ rest
-  pub plain : marks rest ≡ []
+-- What is seen of a label.
+abbrev pub strike_seen : Option (At × At) → List Seen
+strike_seen (Some line) = Stroke line.0 line.1 looks.Strike ∷ []
+strike_seen None = []
+
+abbrev pub label_seen : Label → List Seen
+label_seen label = Words label.place label.anchor label.look label.text.items ∷ strike_seen label.strike
+
+abbrev pub labels_seen : Option Label → List Seen
+labels_seen (Some label) = label_seen label
+labels_seen None = []

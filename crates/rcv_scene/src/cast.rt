@@ -1,6 +1,6 @@
 // What a picture asks of a protocol and its plan.
 
-ghost use Rattle.std.specs.Prelude.{◌≡◌, true, IfSome};
+ghost use Rattle.std.specs.Prelude.{◌≡◌, true, IfOk, IfSome};
 ghost use Rattle.rcv_model.specs.Next.{IsPlaceOf, AreNext};
 ghost use Rattle.rcv_points.specs.Follow.{net_in};
 ghost use Rattle.rcv_session.specs.Session.{net_for};
@@ -18,19 +18,20 @@ pub struct Role<'a> {
     pub host: Option<&'a [u8]>,
 }
 
-/// The message of a point: its label, its ends, and whether a value comes with it.
+/// The message of a point: its label and its ends.
 #[derive(Clone, Copy)]
 pub struct Message<'a> {
     pub label: &'a [u8],
     pub sender: u8,
     pub receiver: u8,
-    pub has_value: bool,
 }
 
 /// The roles and messages of a protocol.
 #[derive(Drop)]
 pub struct Cast<'a> {
     pub name: &'a [u8],
+    /// The points of the text.
+    pub points: &'a Points,
     pub roles: Vec<Role<'a>>,
     pub messages: Vec<Message<'a>>,
 }
@@ -58,7 +59,6 @@ fn messages_of(alloc: Global, points: &Points) -> Result<Vec<Message<'_>>, Alloc
             label: points.label(point),
             sender: points.sender(point).0,
             receiver: points.receiver(point).0,
-            has_value: points.has_payload(point),
         })?;
     }
     Ok(messages)
@@ -101,11 +101,15 @@ pub fn next_at(setup: &Setup, role: RoleId, at: u16) -> Option<&[Point]>
 
 impl<'a> Cast<'a> {
     /// The cast of a setup. Fails if memory runs out.
-    pub fn of(alloc: Global, setup: &'a Setup) -> Result<Cast<'a>, AllocError> {
+    pub fn of(alloc: Global, setup: &'a Setup) -> Result<Cast<'a>, AllocError>
+        ensures { IfOk result (λ cast. net_in cast.points.now ≡ net_for setup.now) }
+    {
+        let points = setup.points();
         Ok(Cast {
             name: setup.protocol().name.as_slice(),
+            points,
             roles: roles_of(alloc, setup)?,
-            messages: messages_of(alloc, setup.points())?,
+            messages: messages_of(alloc, points)?,
         })
     }
 
@@ -136,7 +140,6 @@ impl<'a> Cast<'a> {
                 label: b"",
                 sender: 0,
                 receiver: 0,
-                has_value: false,
             },
         }
     }

@@ -6,7 +6,8 @@ ghost use Rattle.rcv_scene.specs.Grid.{column, grid_of};
 ghost use Rattle.rcv_scene.specs.Feet.{end_look, end_word, kept_words, foot_texts, AddsFoot, AreFeet};
 
 use crate::ends::{End, RoleEnd};
-use crate::layout::{FOOT, LABEL, Layout};
+use crate::label_text::LABEL;
+use crate::layout::{FOOT, Layout};
 use crate::shapes::Shapes;
 use crate::spans::{at, further};
 use crate::wording::{Piece, text_of};

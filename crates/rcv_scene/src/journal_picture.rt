@@ -5,6 +5,7 @@ ghost use Rattle.rcv_core.specs.Book.{BookView};
 ghost use Rattle.rcv_fates.specs.Record.{journal_of};
 ghost use Rattle.rcv_scene.specs.Grid.{Scene, grid_of, scene_of};
 ghost use Rattle.rcv_scene.specs.Feet.{HasFeet};
+ghost use Rattle.rcv_scene.specs.Heads.{HasHeads};
 ghost use Rattle.rcv_scene.specs.Drawn.{AreMarks, IsPlanOf, IsDrawnOnGrid};
 ghost use Rattle.rcv_scene.specs.Told.{told, said, Adds, AreTitled};
 
@@ -58,7 +59,8 @@ fn add_loose(
 
 // What stands above the columns: the title, the heads, and the bar.
 fn add_above(groups: &mut Vec<Group>, layout: &Layout<'_>) -> Result<(), AllocError>
-    ensures { OnOk result ((book : BookView) (scene : Scene) → Adds book scene groups.old.items groups.new.items []) }
+    ensures silent { OnOk result ((book : BookView) (scene : Scene) → Adds book scene groups.old.items groups.new.items []) }
+    ensures heads { OnOk result (HasHeads layout.now.setup.now (grid_of layout.now) groups.new.items) }
 {
     add_silent(groups, Vec::new(layout.alloc), heads(layout)?)?;
     add_silent(groups, Vec::new(layout.alloc), bar(layout)?)?;
@@ -74,6 +76,8 @@ fn add_below(
 ) -> Result<(), AllocError>
     ensures silent { OnOk result ((book : BookView) (scene : Scene) → Adds book scene groups.old.items groups.new.items []) }
     ensures feet { OnOk result (HasFeet (grid_of layout.now) ends.now groups.new.items) }
+    ensures heads { OnOk result (HasHeads layout.now.setup.now (grid_of layout.now) groups.old.items
+        → HasHeads layout.now.setup.now (grid_of layout.now) groups.new.items) }
 {
     add_silent(groups, Vec::new(layout.alloc), feet(layout, ends)?)?;
     add_silent(groups, Vec::new(layout.alloc), shapes)?;
@@ -112,6 +116,7 @@ fn groups_of(
 ) -> Result<(Vec<Group>, Pixels), AllocError>
     ensures adds { IfOk result (λ made. Adds (journal_of record.now) (scene_of layout.now) [] made.0.items (wires.now ++ rows.now)) }
     ensures feet { IfOk result (λ made. HasFeet (grid_of layout.now) ends.now made.0.items) }
+    ensures heads { IfOk result (λ made. HasHeads layout.now.setup.now (grid_of layout.now) made.0.items) }
 {
     let mut groups = Vec::new(alloc);
     add_background(&mut groups, layout)?;

@@ -7,6 +7,7 @@ ghost use Rattle.rcv_scene.specs.Grid.{AreBeside, AreBelow, IsBelow, PutsAt, IsL
 
 use crate::cast::{Cast, Role};
 use crate::ends::{End, RoleEnd};
+use crate::label_text::{LABEL, text_of_label};
 use crate::notes::width_of_notes;
 use crate::text_width::{Letters, wide, width_of};
 use crate::wording::{Piece, lines_of_name, shortened, text_of};
@@ -25,14 +26,11 @@ pub const FOLD_ROW: Pixels = Pixels(46);
 
 pub const ENTRY_ROW: Pixels = Pixels(24);
 
-/// A label of more letters is shortened, and stands at the foot in full.
-pub const LABEL: usize = 16;
-
 /// The height of a role's foot.
 pub const FOOT: Pixels = Pixels(36);
 
-/// The height of a line of a head, and of what stands in a head beside its lines.
-pub const HEAD_LINE: Pixels = Pixels(15);
+// The height of a line of a head, and of what stands in a head beside its lines.
+const HEAD_LINE: Pixels = Pixels(15);
 
 const HEAD_REST: Pixels = Pixels(12);
 
@@ -72,8 +70,6 @@ pub struct Layout<'a> {
     pub says: &'a [Says],
     /// For each entry whether its event isn't kept at the end.
     pub undone: Vec<bool>,
-    /// The lines of the name of each role.
-    pub names: Vec<Vec<&'a [u8]>>,
     /// What stands above all.
     pub title: Vec<u8>,
     /// Whether some entries are folded.
@@ -95,23 +91,6 @@ pub struct Layout<'a> {
     /// The rows, and for each entry the number of its row.
     rows: Vec<Row>,
     row_of: Vec<u32>,
-}
-
-/// A label with its value, as it stands beside a mark. Fails if memory runs out.
-pub fn label_of(alloc: Global, cast: &Cast<'_>, event: &Event) -> Result<Vec<u8>, AllocError> {
-    let message = cast.message(event.point);
-    let label = shortened(alloc, message.label, LABEL)?;
-    if !message.has_value {
-        return Ok(label);
-    }
-    text_of(
-        alloc,
-        &[
-            Piece::Word(label.as_slice()),
-            Piece::Word(b" "),
-            Piece::Value(event.value),
-        ],
-    )
 }
 
 // How wide a mark is at least, and how high a row is at least on each side of its middle.
@@ -223,7 +202,7 @@ fn widest_label(
         if let Says::Entry { place, .. } = row {
             match entries.get(*place as usize) {
                 Some(Entry::Send(event)) | Some(Entry::Recv(event)) => {
-                    let label = label_of(alloc, cast, event)?;
+                    let label = text_of_label(alloc, cast.points, event)?;
                     widest = widest.max(width_of(label.as_slice(), Letters::Plain));
                 }
                 _ => {}
@@ -240,7 +219,7 @@ fn width_of_note(
     event: &Event,
     again: bool,
 ) -> Result<Pixels, AllocError> {
-    let label = label_of(alloc, cast, event)?;
+    let label = text_of_label(alloc, cast.points, event)?;
     let more = if again { Pixels(36) } else { Pixels(0) };
     Ok(width_of(label.as_slice(), Letters::Small) + more + Pixels(18))
 }
@@ -479,7 +458,7 @@ pub fn lay_out<'a>(
     ends: &[RoleEnd],
     rows: &'a [Says],
 ) -> Result<Layout<'a>, AllocError>
-    ensures { IfOk result (λ l. IsLayoutOf setup.now rows.now entries.now undone.items story.now l) }
+    ensures { IfOk result (λ l. IsLayoutOf setup.now cast.entry.points.now rows.now entries.now undone.items story.now l) }
 {
     let names = names_of(alloc, cast.roles.as_slice())?;
     let (widest_name, most_lines) = sizes_of(names.as_slice());
@@ -529,7 +508,6 @@ pub fn lay_out<'a>(
         story,
         says: rows,
         undone,
-        names,
         title,
         folded: fold > 0,
         numbers,
@@ -549,7 +527,7 @@ pub fn lay_out<'a>(
 impl<'a> Layout<'a> {
     /// Makes each column so much wider. Fails if memory runs out.
     pub fn widen(&mut self, more: Pixels) -> Result<(), AllocError>
-        ensures { OnOk result (IsLayoutOf self.old.setup.now self.old.says.now self.old.entries.now self.old.undone.items self.old.story.now self.new) }
+        ensures { OnOk result (IsLayoutOf self.old.setup.now self.old.cast.points.now self.old.says.now self.old.entries.now self.old.undone.items self.old.story.now self.new) }
     {
         let all = more * self.cast.count();
         self.column = self.column + more;

@@ -1,9 +1,10 @@
 // The picture of a journal: where everything stands, and how it looks.
 #![tactic(auto)]
 
-ghost use Rattle.rcv_scene.specs.Laws.{ColumnsStandApart, RowsStandApart};
+ghost use Rattle.rcv_scene.specs.Laws.{ColumnsStandApart, RowsStandApart, LabelsAreNoMarks};
 
 mod bar;
+mod beside;
 mod cast;
 mod counts;
 pub mod ends;
@@ -12,6 +13,7 @@ mod folds;
 mod groups;
 mod heads;
 pub mod journal_picture;
+mod label_text;
 mod layout;
 mod legend;
 mod life;
@@ -35,4 +37,9 @@ pub fn columns_stand_apart()
 /// On a proper grid the middles of two rows are at least a row's least height apart.
 pub fn rows_stand_apart()
     ensures { RowsStandApart }
+{}
+
+/// No part of what stands beside the mark of an event looks like a mark.
+pub fn labels_are_no_marks()
+    ensures { LabelsAreNoMarks }
 {}

@@ -18,8 +18,8 @@ use std::alloc::{AllocError, Global};
 // Most lines have at most so many bytes.
 const LINE: usize = 48;
 
-// The name of a declared role.
-fn name_of(setup: &Setup, role: RoleId) -> &[u8]
+/// The name of a declared role.
+pub fn name_of(setup: &Setup, role: RoleId) -> &[u8]
     requires { role < roles_of setup.now }
     ensures { result.now ≡ name_of setup.now role }
 {

@@ -1,7 +1,7 @@
 // Lists of shapes that grow.
 
 ghost use Rattle.std.specs.Prelude.{◌≡◌, [], ◌∷◌, ◌++◌, OnOk};
-ghost use Rattle.rcv_scene.specs.Seen.{Stroke, Frame, Disc, Way, Words, seen, drawn_in, cross, AddsPlain};
+ghost use Rattle.rcv_scene.specs.Seen.{Stroke, Frame, Disc, Way, Words, seen, drawn_in, cross, strike_seen, label_seen, labels_seen};
 
 use crate::spans::{at, back, further};
 use rcv_picture::look::Look;
@@ -147,7 +147,7 @@ impl Shapes {
 
     // Adds a line through a text, if there is one.
     fn strike(&mut self, strike: Option<(At, At)>) -> Result<(), AllocError>
-        ensures { OnOk result (AddsPlain (drawn_in self.old) (drawn_in self.new)) }
+        ensures { OnOk result (drawn_in self.new ≡ drawn_in self.old ++ strike_seen strike) }
     {
         match strike {
             Some((from, to)) => self.line(from, to, Look::Strike),
@@ -157,7 +157,7 @@ impl Shapes {
 
     // Adds a label.
     fn some_label(&mut self, label: Label) -> Result<(), AllocError>
-        ensures { OnOk result (AddsPlain (drawn_in self.old) (drawn_in self.new)) }
+        ensures { OnOk result (drawn_in self.new ≡ drawn_in self.old ++ label_seen label) }
     {
         self.text(label.place, label.anchor, label.look, label.text)?;
         self.strike(label.strike)
@@ -165,7 +165,7 @@ impl Shapes {
 
     /// Adds a label, if there is one.
     pub fn label(&mut self, label: Option<Label>) -> Result<(), AllocError>
-        ensures { OnOk result (AddsPlain (drawn_in self.old) (drawn_in self.new)) }
+        ensures { OnOk result (drawn_in self.new ≡ drawn_in self.old ++ labels_seen label) }
     {
         match label {
             Some(label) => self.some_label(label),
