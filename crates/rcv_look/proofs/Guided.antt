@@ -2,7 +2,6 @@
 use Rattle.std.proofs.Common.{◌≡◌, ℕ, ◌+◌, ◌<◌, ◌≤◌, List, [], map, length, Some, None, sym, ◌∙◌, ap, subst}
 use Rattle.std.specs.Prelude.{Result, IfOk}
 use Rattle.rcv_tree.specs.declared.entry.Entry.{Entry}
-use Rattle.rcv_tree.specs.declared.event.Event.{Event}
 use Rattle.rcv_tree.specs.declared.protocol.Protocol.{Protocol}
 use Rattle.rcv_model.specs.Plan.{PlanLine}
 use Rattle.rcv_session.specs.Session.{SessionView}
@@ -19,7 +18,7 @@ use Rattle.rcv_retold.specs.Retold.{terms_for, HasSameText}
 use Rattle.rcv_retold.specs.Text.{IsToldText, IsFirstWrong}
 use Rattle.rcv_replay.specs.declared.cut.Cut.{Cut}
 use Rattle.rcv_replay.specs.Cutting.{cut_of, bundle_of, journal_of, feeds_before, line_of_end}
-use Rattle.rcv_fates.specs.Record.{RecordView, HasKept}
+use Rattle.rcv_fates.specs.Record.{RecordView}
 use Rattle.rcv_look.specs.declared.output.Output.{Output}
 use Rattle.rcv_look.specs.declared.status.Status.TheVariants as statuses
 use Rattle.rcv_model.specs.Text.{Body, body_of}

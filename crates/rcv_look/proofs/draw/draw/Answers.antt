@@ -1,7 +1,6 @@
 -- What was told is what the picture's groups say, what is shown is marked, and the text is short.
-use Rattle.std.proofs.Common.{◌≡◌, ◌≤◌, ℕ, length, ◌∙◌, ap, sym, subst}
+use Rattle.std.proofs.Common.{◌≤◌, length, ◌∙◌, ap, subst}
 use Rattle.std.proofs.lemmas.Result.{IfOk-weaker}
-use Rattle.rcv_story.specs.Shown.{AreShown}
 use Rattle.rcv_look.specs.Drawing.{most_drawn}
 use Rattle.rcv_look.proofs.Telling.{drawn_so}
 use Rattle.rcv_look.proofs.draw.draw.Goals as goal

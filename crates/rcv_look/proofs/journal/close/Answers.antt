@@ -1,5 +1,5 @@
 -- By the first closing line that is wrong, or the picture.
-use Rattle.std.proofs.Common.{rules, List, length, ap, ◌∙◌, subst}
+use Rattle.std.proofs.Common.{rules, List, ap, ◌∙◌, subst}
 use Rattle.rcv_journal.specs.declared.line.RoleLine.{RoleLine}
 use Rattle.rcv_journal.specs.Recorded.{JournalView}
 use Rattle.rcv_look.specs.Drawing.{IsJournalDrawing}

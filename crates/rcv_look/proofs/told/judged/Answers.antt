@@ -1,5 +1,5 @@
 -- The entries are told, and the lines behind them are right; or there is a first wrong line.
-use Rattle.std.proofs.Common.{◌≡◌, ◌+◌, ℕ, ◌∙◌, ap}
+use Rattle.std.proofs.Common.{◌+◌, ℕ, ◌∙◌, ap}
 use Rattle.rcv_told.specs.Told.{told}
 use Rattle.rcv_retold.specs.Retold.{terms_for}
 use Rattle.rcv_look.proofs.Guided.{wrong_said, drawn_said}

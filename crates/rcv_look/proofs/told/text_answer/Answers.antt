@@ -1,5 +1,5 @@
 -- The entries at the front are fewer than the text's bytes.
-use Rattle.std.proofs.Common.{◌≡◌, ◌<◌, ◌+◌, ◌^◌, ℕ, length, drop, sym, ◌∙◌, ap, subst, arith}
+use Rattle.std.proofs.Common.{◌≡◌, ℕ, length, drop, ◌∙◌, ap, subst, arith}
 use Rattle.rcv_tree.specs.declared.protocol.Protocol.{Protocol}
 use Rattle.rcv_guide.specs.Guide.{opened}
 use Rattle.rcv_retold.specs.Text.{AreFirst}
