@@ -1,5 +1,5 @@
 -- The definitions, computed at small examples.
-use Rattle.std.proofs.Common.{◌≡◌, ℕ, ◌+◌, ◌<◌, Some, None, List, [], ◌∷◌, refl, codes, arith}
+use Rattle.std.proofs.Common.{◌≡◌, Some, None, [], ◌∷◌, refl, codes, arith}
 use Rattle.std.specs.Fmt.{digits}
 use Rattle.std.specs.List.{All}
 use Rattle.std.proofs.lemmas.List.Elements.{All-nil, All-cons}
@@ -11,11 +11,13 @@ use Rattle.rcv_losses.specs.Totals.{worst_of}
 use Rattle.rcv_costs_json.specs.CostsJson.{failure_data, total_data, worst_data}
 use Rattle.rcv_costs_json.specs.Told.{FitsNumbers}
 
--- commit, point 1, from A to B; ack, point 2, from B to A
+-- A and B; commit, point 1, from A to B; ack, point 2, from B to A
+abbrev of_two : SessionView → SessionView
+of_two session = record session { protocol = record session.protocol { roles = codes "A" ∷ codes "B" ∷ [] } }
+
 record IsCommit (session : SessionView) : Type 0 where
-  roles : session.protocol.roles ≡ codes "A" ∷ codes "B" ∷ []
-  commit : (net_for session).label 1 ≡ codes "commit"
-  ack : (net_for session).label 2 ≡ codes "ack"
+  commit : (net_for (of_two session)).label 1 ≡ codes "commit"
+  ack : (net_for (of_two session)).label 2 ≡ codes "ack"
 
 -- B crashes between the two; and after both
 abbrev between : Cost
@@ -24,26 +26,26 @@ between = record { role = 1; count = 1; before = Some 1; after = Some 2; lost = 
 abbrev at_end : Cost
 at_end = record { role = 1; count = 2; before = Some 2; after = None; lost = 2; undone = 2; kept = 3; concerned = record { 0 = 3 }; again = 1 }
 
-a_failure : (session : SessionView) → IsCommit session → compact_text (failure_data session between) ≡ codes "{\"after\":\"commit\",\"again\":1,\"before\":\"ack\",\"concerned\":[\"A\",\"B\"],\"count\":1,\"kept\":2,\"lost\":1,\"role\":\"B\",\"undone\":1}"
+a_failure : (session : SessionView) → IsCommit session → compact_text (failure_data (of_two session) between) ≡ codes "{\"after\":\"commit\",\"again\":1,\"before\":\"ack\",\"concerned\":[\"A\",\"B\"],\"count\":1,\"kept\":2,\"lost\":1,\"role\":\"B\",\"undone\":1}"
 unfolding digits serde_json_on_literals
-a_failure session is = rw (is.roles, is.commit, is.ack) refl
+a_failure session is = rw (is.commit, is.ack) refl
 
 -- null stands for no event more
-the_last : (session : SessionView) → IsCommit session → compact_text (failure_data session at_end) ≡ codes "{\"after\":\"ack\",\"again\":1,\"before\":null,\"concerned\":[\"A\",\"B\"],\"count\":2,\"kept\":3,\"lost\":2,\"role\":\"B\",\"undone\":2}"
+the_last : (session : SessionView) → IsCommit session → compact_text (failure_data (of_two session) at_end) ≡ codes "{\"after\":\"ack\",\"again\":1,\"before\":null,\"concerned\":[\"A\",\"B\"],\"count\":2,\"kept\":3,\"lost\":2,\"role\":\"B\",\"undone\":2}"
 unfolding digits serde_json_on_literals
-the_last session is = rw (is.roles, is.ack) refl
+the_last session is = rw is.ack refl
 
-a_total : (session : SessionView) → IsCommit session → compact_text (total_data session (between ∷ at_end ∷ []) 1) ≡ codes "{\"kept\":5,\"role\":\"B\",\"undone\":3,\"worst\":2}"
+a_total : (session : SessionView) → compact_text (total_data (of_two session) (between ∷ at_end ∷ []) 1) ≡ codes "{\"kept\":5,\"role\":\"B\",\"undone\":3,\"worst\":2}"
 unfolding digits serde_json_on_literals
-a_total session is = rw is.roles refl
+a_total session = refl
 
-no_total : (session : SessionView) → IsCommit session → compact_text (total_data session (between ∷ at_end ∷ []) 0) ≡ codes "{\"kept\":0,\"role\":\"A\",\"undone\":0,\"worst\":null}"
+no_total : (session : SessionView) → compact_text (total_data (of_two session) (between ∷ at_end ∷ []) 0) ≡ codes "{\"kept\":0,\"role\":\"A\",\"undone\":0,\"worst\":null}"
 unfolding digits serde_json_on_literals
-no_total session is = rw is.roles refl
+no_total session = refl
 
-the_worst : (session : SessionView) → IsCommit session → compact_text (worst_data session (worst_of (between ∷ at_end ∷ []))) ≡ codes "{\"count\":2,\"role\":\"B\"}"
+the_worst : (session : SessionView) → compact_text (worst_data (of_two session) (worst_of (between ∷ at_end ∷ []))) ≡ codes "{\"count\":2,\"role\":\"B\"}"
 unfolding digits serde_json_on_literals
-the_worst session is = rw is.roles refl
+the_worst session = refl
 
 -- another count is another value, and so is no worst
 another_count : (session : SessionView) → failure_data session between ≡ failure_data session (record between { count = 2 }) → ⊥

@@ -2,4 +2,4 @@ mod Examples
 mod Growing
 mod Telling
 mod There
-mod Whole
+mod ReadBack

@@ -2,7 +2,7 @@
 -- are in order.
 use Rattle.std.specs.Prelude.{◌≡◌, ℕ, if◌then◌else◌, Option, None, Some, List, [], ◌∷◌, flat_map, map, codes}
 use Rattle.std.specs.List.{range_with_len}
-use Rattle.serde_json.specs.Data.{Data, member, no_members, null, object}
+use Rattle.serde_json.specs.Data.{Data, Members, member, no_members, null, object, put}
 use Rattle.rcv_tree.specs.Bits.{has_bit}
 use Rattle.rcv_session.specs.Session.{SessionView, roles_of, net_for}
 use Rattle.rcv_journal.specs.JournalText.{name_of}
@@ -27,6 +27,15 @@ concerned_data session set r = if has_bit set r then name_data session r ∷ [] 
 
 abbrev pub concerned_list : SessionView → ℕ → List Data
 concerned_list session set = flat_map (concerned_data session set) (range_with_len 0 (roles_of session))
+
+-- Members with the numbers of a cost, each under its key.
+abbrev pub with_losses : Cost → Members → Members
+with_losses cost members =
+    put (codes "undone") (count cost.undone) (put (codes "lost") (count cost.lost) (put (codes "kept") (count cost.kept) members))
+
+abbrev pub with_numbers : Cost → Members → Members
+with_numbers cost members =
+    with_losses cost (put (codes "count") (count cost.count) (put (codes "again") (count cost.again) members))
 
 -- One crash: `{"after":LABEL,"again":N,"before":LABEL,"concerned":[ROLE,..],"count":N,"kept":N,"lost":N,"role":ROLE,"undone":N}`.
 -- The role crashes after so many of its events: after that with one label, before that with the other.

@@ -1,5 +1,5 @@
 -- What the JSON value tells of a cost.
-use Rattle.std.specs.Prelude.{ℕ, ◌<◌, ◌^◌, Option, None, Some, List, length, map}
+use Rattle.std.specs.Prelude.{ℕ, ◌<◌, ◌^◌, Option, None, Some, List, length}
 use Rattle.std.specs.List.{All}
 use Rattle.rcv_session.specs.Session.{SessionView, net_for}
 use Rattle.rcv_journal.specs.JournalText.{name_of}

@@ -5,8 +5,6 @@ ghost use Rattle.rcv_costs_json.specs.Laws.{CostsAreReadBack, ValuesTellCosts};
 
 mod answers;
 mod failure;
-#[cfg(test)]
-mod tests;
 mod totals;
 mod whole;
 

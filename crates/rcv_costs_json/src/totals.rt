@@ -49,7 +49,8 @@ pub fn totals(alloc: Global, setup: &Setup, costs: &[Cost]) -> Result<Vec<Value>
 {
     let mut list = Vec::new(alloc);
     for role in 0..setup.roles() {
-        list.push(total_value(alloc, setup, costs, RoleId(role))?)?;
+        let value = total_value(alloc, setup, costs, RoleId(role))?;
+        list.push(value)?;
     }
     Ok(list)
 }

@@ -1,12 +1,12 @@
 -- Worked examples: a small share, where cells stand, and which cell has the mark.
-use Rattle.std.proofs.Common.{◌≡◌, ℕ, ◌++◌, false, true, Some, None, List, [], ◌∷◌, refl, arith, codes}
+use Rattle.std.proofs.Common.{◌≡◌, ℕ, false, true, Some, None, [], ◌∷◌, refl, arith, codes}
 use Rattle.std.specs.Fmt.{digits}
 use Rattle.rcv_picture.specs.declared.look.Look.TheVariants.{Plain, Head, Note, Lost}
 use Rattle.rcv_costs.specs.declared.numbers.Cost.{Cost}
 use Rattle.rcv_heat.specs.declared.grid.Grid.{Grid}
 use Rattle.rcv_losses.specs.Totals.{kept_in_all, worst_of}
 use Rattle.rcv_heat.specs.Heat.{column_of, row_of, bar_height, is_worst, tints_of, tint_of}
-use Rattle.rcv_heat.specs.Words.{saves_text, restart_text, name_look, totals_words, step_text}
+use Rattle.rcv_heat.specs.Words.{name_look, totals_words, step_text}
 
 -- 5 of 9 events are 26 of 48 pixels, all of them fill the cell, none of none are none
 a_share : bar_height 5 9 ≡ 26
@@ -57,8 +57,8 @@ not_tinted = refl
 
 -- they undo 3 events, and restarting everybody would undo 5; none of these numbers stands for the other
 their_totals :
-  totals_words 164 (small_cost ∷ worse_cost ∷ []) (worst_of (small_cost ∷ worse_cost ∷ []))
-  ≡ record { base = 177; look = Plain; text = codes "undone 3 in all" }
+    totals_words 164 (small_cost ∷ worse_cost ∷ []) (worst_of (small_cost ∷ worse_cost ∷ []))
+    ≡ record { base = 177; look = Plain; text = codes "undone 3 in all" }
     ∷ record { base = 192; look = Note; text = codes "restarting everybody: 5" }
     ∷ record { base = 207; look = Note; text = codes "worst at 2: undone 2 of 3" } ∷ []
 unfolding digits

@@ -1,5 +1,5 @@
 -- What is shown of sessions that differ in crash lines alone.
-use Rattle.std.proofs.Common.{◌≡◌, ℕ, List, Option, [], ◌∷◌, ◌++◌, length, map, take, refl, sym, ◌∙◌, ap, ap₂}
+use Rattle.std.proofs.Common.{◌≡◌, ℕ, ◌+◌, List, Option, [], ◌∷◌, ◌++◌, length, map, take, refl, sym, ◌∙◌, ap, ap₂}
 use Rattle.std.specs.Prelude.{flat_map, slice_index_or}
 use Rattle.std.specs.List.{range_with_len}
 use Rattle.rcv_tree.specs.declared.protocol.Protocol.{Protocol}
@@ -16,7 +16,7 @@ use Rattle.rcv_losses.specs.Totals.{costs_by, worst_of}
 use Rattle.rcv_losses.specs.LossText.{cost_text}
 use Rattle.rcv_heat.specs.declared.grid.Grid.{Grid}
 use Rattle.rcv_heat.specs.Heat.{row_of, AreCells, titled_in, ShowsCosts}
-use Rattle.rcv_heat.specs.Words.{Words, name_look, saves_text, title_text, head_words, names_words, totals_words, row_words, rows_words, foot_text, foot_words, all_words, SaysCosts}
+use Rattle.rcv_heat.specs.Words.{Words, name_look, saves_text, title_text, head_words, totals_words, row_words, rows_words, foot_text, foot_words, all_words, SaysCosts}
 
 pointwise : {A : Type 0} (f g : ℕ → List A) → ((r : ℕ) → f r ≡ g r) → (rs : List ℕ) → flat_map f rs ≡ flat_map g rs
 pointwise f g same [] = refl

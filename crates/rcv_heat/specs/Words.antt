@@ -1,6 +1,6 @@
 -- What the picture says in words: whose crashes a row shows, how often the role saves its state, what its crashes come to, and what
 -- restarting everybody would cost instead.
-use Rattle.std.specs.Prelude.{◌≡◌, ℕ, ◌+◌, ◌<◌, ◌==◌, ◌&&◌, nat_lt, Bool, false, if◌then◌else◌, Option, None, Some, List, [], ◌∷◌, ◌++◌, flat_map, take, codes, decimal}
+use Rattle.std.specs.Prelude.{◌≡◌, ℕ, ◌+◌, ◌==◌, ◌&&◌, nat_lt, Bool, false, if◌then◌else◌, Option, None, Some, List, [], ◌∷◌, ◌++◌, flat_map, take, codes, decimal}
 use Rattle.std.specs.List.{filter_map, range_with_len}
 use Rattle.rcv_picture.specs.declared.look.Look.{Look}
 use Rattle.rcv_picture.specs.declared.look.Look.TheVariants.{Plain, Head, Big, Note, Lost}

@@ -75,12 +75,7 @@ fn add_mark(
 }
 
 // The shapes of the cell of a cost.
-fn shapes_of(
-    alloc: Global,
-    grid: Grid,
-    marked: bool,
-    cost: &Cost,
-) -> Result<Vec<Shape>, AllocError>
+fn shapes_of(alloc: Global, grid: Grid, marked: bool, cost: &Cost) -> Result<Vec<Shape>, AllocError>
     requires { IsGrid grid }
     ensures { IfOk result (λ shapes. shapes.items ≡ shapes_of grid marked cost.now) }
 {

@@ -1,6 +1,6 @@
 // The picture of what crashes cost.
 
-ghost use Rattle.std.specs.Prelude.{◌≡◌, ◌∷◌, ◌<◌, ◌^◌, IfOk, length, map};
+ghost use Rattle.std.specs.Prelude.{◌≡◌, [], ◌∷◌, ◌<◌, ◌^◌, IfOk, length, map};
 ghost use Rattle.rcv_costs.specs.Named.{AreNamedCosts};
 ghost use Rattle.rcv_costs.specs.Rehearsal.{DiffersInCrashes};
 ghost use Rattle.rcv_losses.specs.LossText.{cost_text};
@@ -25,7 +25,7 @@ use std::alloc::{AllocError, Global};
 // Shapes without a title.
 fn untitled(alloc: Global, shapes: Vec<Shape>) -> Group
     ensures title { result.title.items ≡ [] }
-    ensures shapes { result.shapes ≡ shapes }
+    ensures shapes { result.shapes.items ≡ shapes.items }
 {
     Group {
         says: Says::Nothing,
@@ -55,11 +55,7 @@ fn groups_of(
 /// high as the share of the kept events that the crash undoes. A cell has the line of its cost as its title. It is
 /// tinted if the crash undoes events, and the worst one has a frame. Words say what the crashes of each role come to,
 /// and what restarting everybody would cost. Fails if memory runs out.
-pub fn losses_picture(
-    alloc: Global,
-    setup: &Setup,
-    costs: &Costs,
-) -> Result<Picture, AllocError>
+pub fn losses_picture(alloc: Global, setup: &Setup, costs: &Costs) -> Result<Picture, AllocError>
     requires named { AreNamedCosts setup.now costs.now.list.items }
     requires few { length costs.now.list.items < 2 ^ 32 }
     requires step { 0 < costs.now.step }

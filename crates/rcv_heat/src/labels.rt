@@ -35,9 +35,11 @@ const RIGHT: u32 = 240;
 const APART: u32 = 36;
 
 // How to read the picture.
-const CELL_HINT: &[u8] = b"A cell is one crash, after so many of the role's events. Tinted: it undoes events. Bar: their share of all kept events.";
+const CELL_HINT: &[u8] =
+    b"A cell is one crash, after so many of the role's events. Tinted: it undoes events. Bar: their share of all kept events.";
 
-const ROW_HINT: &[u8] = b"A full bar is what restarting everybody costs. Beside a row: all its crashes together. Dashed: the worst crash of all.";
+const ROW_HINT: &[u8] =
+    b"A full bar is what restarting everybody costs. Beside a row: all its crashes together. Dashed: the worst crash of all.";
 
 // Adds a text at this place.
 fn add_words(

@@ -7,8 +7,6 @@ mod cell;
 mod grid;
 mod heat;
 mod labels;
-#[cfg(test)]
-mod tests;
 mod words;
 
 pub use heat::{failures_picture, losses_picture};

@@ -1,5 +1,5 @@
 -- Worked examples: what restarting everybody costs, and numbers that don't fit.
-use Rattle.std.proofs.Common.{◌≡◌, ℕ, ◌-◌, ◌^◌, None, List, [], ◌∷◌, refl, arith}
+use Rattle.std.proofs.Common.{◌≡◌, ℕ, None, List, [], ◌∷◌, refl, arith}
 use Rattle.rcv_costs.specs.declared.numbers.Cost.{Cost}
 use Rattle.rcv_losses.specs.Totals.{costs_by, undone_in_all, kept_in_all}
 

@@ -1,7 +1,8 @@
 -- Restarting everybody costs no less than a crash.
-use Rattle.std.proofs.Common.{◌≡◌, ℕ, ◌+◌, ◌-◌, ◌^◌, ◌<◌, ◌≤◌, Bool, true, false, cond, List, [], ◌∷◌, ◌++◌, length, sym, ap, arith}
-use Rattle.std.specs.Prelude.{◌==◌, min}
+use Rattle.std.proofs.Common.{ℕ, ◌≤◌, Bool, true, false, cond, List, [], ◌∷◌, ◌++◌, arith}
+use Rattle.std.specs.Prelude.{◌==◌}
 use Rattle.std.specs.List.{All, sum_by}
+use Rattle.std.proofs.lemmas.List.Sums.{sum_by-cons}
 use Rattle.std.proofs.lemmas.List.Elements.{All-nil, All-cons, All-head, All-tail}
 use Rattle.rcv_tree.specs.declared.entry.Entry.{Entry}
 use Rattle.rcv_tree.specs.declared.entry.Entry.TheVariants.{Recover}
@@ -38,7 +39,11 @@ sums r [] all = omega arith
 sums r (cost ∷ costs) all = go (cost.role == r) (sums r costs (All-tail (λ (c : Cost). c.undone ≤ c.kept) cost costs all)) (All-head (λ (c : Cost). c.undone ≤ c.kept) cost costs all)
   where
     go : (b : Bool) → undone_in_all (costs_by r costs) ≤ sum_by (λ (c : Cost). c.kept) (costs_by r costs) → cost.undone ≤ cost.kept → undone_in_all (cond b (cost ∷ costs_by r costs) (costs_by r costs)) ≤ sum_by (λ (c : Cost). c.kept) (cond b (cost ∷ costs_by r costs) (costs_by r costs))
-    go true rest here = omega (arith, rest, here)
+    go true rest here =
+        let more = sum_by-cons (λ (c : Cost). c.undone) cost (costs_by r costs) in
+        let most = sum_by-cons (λ (c : Cost). c.kept) cost (costs_by r costs) in
+        let both : undone_in_all (cost ∷ costs_by r costs) ≤ sum_by (λ (c : Cost). c.kept) (cost ∷ costs_by r costs) = omega (arith, more, most, rest, here) in
+        both
     go false rest here = rest
 
 pub no_less : RestartingCostsNoLess

@@ -1,5 +1,5 @@
 -- What crashes cost, as text: a line for each crash, a line for each role, and the worst of all.
-use Rattle.std.specs.Prelude.{◌≡◌, ℕ, ◌==◌, if◌then◌else◌, Option, None, Some, List, [], ◌∷◌, ◌++◌, flat_map, codes, decimal}
+use Rattle.std.specs.Prelude.{◌≡◌, ℕ, ◌==◌, if◌then◌else◌, Option, None, Some, List, [], ◌++◌, flat_map, codes, decimal}
 use Rattle.std.specs.List.{range_with_len}
 use Rattle.rcv_tree.specs.Bits.{has_bit}
 use Rattle.rcv_session.specs.Session.{SessionView, roles_of, net_for}

@@ -1,5 +1,5 @@
 -- What the costs of a role come to, and which is the worst.
-use Rattle.std.specs.Prelude.{◌≡◌, ℕ, ◌-◌, ◌^◌, ◌<◌, ◌≤◌, ◌==◌, min, nat_lt, Bool, if◌then◌else◌, Option, MatchOption, None, Some, List, [], ◌∷◌, ◌++◌}
+use Rattle.std.specs.Prelude.{◌≡◌, ℕ, ◌-◌, ◌^◌, ◌<◌, ◌≤◌, ◌==◌, min, nat_lt, if◌then◌else◌, Option, MatchOption, None, Some, List, [], ◌∷◌, ◌++◌}
 use Rattle.std.specs.List.{All, sum_by, filter}
 use Rattle.rcv_session.specs.Session.{SessionView}
 use Rattle.rcv_costs.specs.declared.numbers.Cost.{Cost}

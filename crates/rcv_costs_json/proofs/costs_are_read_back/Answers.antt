@@ -1,4 +1,4 @@
-use Rattle.rcv_costs_json.proofs.Whole.{costs_are_read_back}
+use Rattle.rcv_costs_json.proofs.ReadBack.{costs_are_read_back}
 use Rattle.rcv_costs_json.proofs.costs_are_read_back.Goals as goal
 
 pub returns : goal.returns

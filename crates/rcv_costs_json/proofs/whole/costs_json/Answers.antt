@@ -6,7 +6,7 @@ use Rattle.rcv_export.specs.Pieces.{line_of}
 use Rattle.rcv_export.specs.ReadBack.{IsReadAs}
 use Rattle.rcv_export.proofs.Plain.{value_whole}
 use Rattle.rcv_costs_json.specs.CostsJson.{costs_data}
-use Rattle.rcv_costs_json.proofs.Whole.{plain_costs, costs_are_read_back}
+use Rattle.rcv_costs_json.proofs.ReadBack.{plain_costs, costs_are_read_back}
 use Rattle.rcv_costs_json.proofs.whole.costs_json.Goals as goal
 
 pub line_of-requires : goal.line_of-requires

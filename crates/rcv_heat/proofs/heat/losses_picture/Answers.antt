@@ -1,6 +1,5 @@
 -- The cells are the groups that have a title, and the words come first.
 use Rattle.std.proofs.Common.{List, map, ◌∙◌, sym, ap, subst}
-use Rattle.rcv_picture.specs.declared.shape.Shape.{Shape}
 use Rattle.rcv_picture.specs.declared.group.Group.{Group}
 use Rattle.rcv_costs.specs.declared.numbers.Cost.{Cost}
 use Rattle.rcv_losses.specs.Totals.{worst_of}

@@ -1,5 +1,5 @@
 -- The setup's protocol is as it was, and so are its names; and the step isn't 0.
-use Rattle.std.proofs.Common.{◌<◌, subst, sym, arith}
+use Rattle.std.proofs.Common.{subst, arith}
 use Rattle.rcv_tree.specs.declared.protocol.Protocol.{Protocol}
 use Rattle.rcv_accept.specs.Accepted.{IsAcceptedProtocol}
 use Rattle.rcv_costs.proofs.Naming.{named}

@@ -1,7 +1,8 @@
 -- The value of costs is plain, and so it is read back.
-use Rattle.std.proofs.Common.{◌≡◌, ℕ, suc, ◌+◌, ◌-◌, ◌*◌, ◌^◌, ◌<◌, ◌≤◌, Bool, true, false, cond, Option, None, Some, List, [], ◌∷◌, length, refl, arith, codes}
-use Rattle.std.specs.Prelude.{◌==◌, nat_lt, min, if◌then◌else◌}
+use Rattle.std.proofs.Common.{ℕ, suc, ◌*◌, ◌^◌, ◌<◌, ◌≤◌, Bool, true, false, cond, Option, None, Some, List, [], ◌∷◌, length, refl, arith, codes}
+use Rattle.std.specs.Prelude.{◌==◌, nat_lt, if◌then◌else◌}
 use Rattle.std.specs.List.{All, range_with_len}
+use Rattle.std.proofs.lemmas.List.Sums.{sum_by-cons}
 use Rattle.std.proofs.lemmas.List.Elements.{All-head, All-tail}
 use Rattle.json.proofs.Printed.Utf8.{IsUtf8-are_ascii}
 use Rattle.serde_json.specs.View.{items_of}
@@ -13,7 +14,7 @@ use Rattle.rcv_export.proofs.Plain.{IsPlain, ArePlain, line_is_read, plain_each,
 use Rattle.rcv_export.proofs.Names.{ascii_is_text}
 use Rattle.rcv_costs.specs.declared.numbers.Cost.{Cost}
 use Rattle.rcv_costs.specs.declared.numbers.Costs.{Costs}
-use Rattle.rcv_losses.specs.Totals.{costs_by, undone_in_all, kept_in_all, worse, worst_after, worst_of}
+use Rattle.rcv_losses.specs.Totals.{costs_by, undone_in_all, worse, worst_after, worst_of}
 use Rattle.rcv_costs_json.specs.CostsJson.{label_data, name_data, concerned_data, failure_data, worst_count, total_data, worst_data, costs_data}
 use Rattle.rcv_costs_json.specs.Told.{FitsNumbers, FitNumbers}
 use Rattle.rcv_costs_json.specs.Laws.{CostsAreReadBack}
@@ -24,8 +25,13 @@ undone_few r [] all = omega arith
 undone_few r (cost ∷ costs) all = go (cost.role == r) (undone_few r costs (All-tail FitsNumbers cost costs all)) (All-head FitsNumbers cost costs all).undone
   where
     go : (b : Bool) → undone_in_all (costs_by r costs) ≤ length costs * 2 ^ 32 → cost.undone < 2 ^ 32 → undone_in_all (cond b (cost ∷ costs_by r costs) (costs_by r costs)) ≤ suc (length costs) * 2 ^ 32
-    go true rest few = omega (arith, rest, few)
-    go false rest few = omega (arith, rest)
+    go true rest few =
+        let more = sum_by-cons (λ (c : Cost). c.undone) cost (costs_by r costs) in
+        let both : undone_in_all (cost ∷ costs_by r costs) ≤ suc (length costs) * 2 ^ 32 = omega (arith, more, rest, few) in
+        both
+    go false rest few =
+        let same : undone_in_all (costs_by r costs) ≤ suc (length costs) * 2 ^ 32 = omega (arith, rest) in
+        same
 
 -- the worst fits if all do
 abbrev Fits : Option Cost → Type 0
@@ -47,14 +53,13 @@ worst_fits best (cost ∷ costs) so all =
 
 worst_by_fits : (r : ℕ) (best : Option Cost) (costs : List Cost) → Fits best → All FitsNumbers costs → Fits (worst_after best (costs_by r costs))
 worst_by_fits r best [] so all = so
-worst_by_fits r best (cost ∷ costs) so all = go (cost.role == r)
+worst_by_fits r best (cost ∷ costs) so all =
+    let rest = All-tail FitsNumbers cost costs all in
+    go (cost.role == r) (worst_by_fits r (worse best cost) costs (worse_fits best cost so (All-head FitsNumbers cost costs all)) rest) (worst_by_fits r best costs so rest)
   where
-    rest : All FitsNumbers costs
-    rest = All-tail FitsNumbers cost costs all
-
-    go : (b : Bool) → Fits (worst_after best (cond b (cost ∷ costs_by r costs) (costs_by r costs)))
-    go true = worst_by_fits r (worse best cost) costs (worse_fits best cost so (All-head FitsNumbers cost costs all)) rest
-    go false = worst_by_fits r best costs so rest
+    go : (b : Bool) → Fits (worst_after (worse best cost) (costs_by r costs)) → Fits (worst_after best (costs_by r costs)) → Fits (worst_after best (cond b (cost ∷ costs_by r costs) (costs_by r costs)))
+    go true with_it without = with_it
+    go false with_it without = without
 
 module _ (session : SessionView) where
   plain_label : (n : ℕ) (o : Option ℕ) → IsPlain n (label_data session o)
@@ -153,10 +158,10 @@ module _ (session : SessionView) where
     ),
   )
 
-  plain_worst : (worst : Option Cost) → Fits worst → IsPlain 2 (worst_data session worst)
+  plain_worst : (worst : Option Cost) → Fits worst → IsPlain 4 (worst_data session worst)
   plain_worst None fits = tt
   plain_worst (Some cost) fits = (
-    1,
+    3,
     omega arith,
     (
       IsUtf8-are_ascii (codes "count") refl,

@@ -1,6 +1,6 @@
 // The text of what crashes cost in a small session, worked out by hand.
 
-use crate::answers::losses_text;
+use rcv_losses::losses_text;
 use rcv_core::setup::Setup;
 use rcv_input::read_input;
 use std::alloc::Global;

@@ -1,6 +1,6 @@
 // The picture of what crashes cost in a small session.
 
-use crate::heat::failures_picture;
+use rcv_heat::failures_picture;
 use rcv_core::setup::Setup;
 use rcv_input::read_input;
 use rcv_picture::picture::Picture;

@@ -1,6 +1,6 @@
 // The JSON of what crashes cost in a small session, worked out by hand.
 
-use crate::answers::failures_json;
+use rcv_costs_json::failures_json;
 use rcv_core::setup::Setup;
 use rcv_input::read_input;
 use std::alloc::Global;
