@@ -1,0 +1,4 @@
+mod Alone
+mod Examples
+mod Having
+mod Verdict
