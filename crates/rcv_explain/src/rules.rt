@@ -157,8 +157,8 @@ it sends. Or put its message before the choice.",
 /// Code 25.
 pub const MAYBE_DONE: Explanation = Explanation {
     name: b"MaybeDone",
-    rule: b"A role that has a next point comes to one on each way to the end. Otherwise it would wait for a message that may never
-come.",
+    rule: b"If a role may still have to act, it acts, or is told, on each way to the end. Otherwise it would wait for a message
+that may never come.",
     example: b"    module m;
     global protocol P(role A, role B, role C) {
       choice at A {
@@ -170,7 +170,8 @@ come.",
     }
 ",
     refusal: b"refused 25 MaybeDone C 0",
-    repair: b"tell the role on the other way, too.",
+    repair: b"tell the role on every other way to the end. For less, send it one message after the choice or the loop, from the
+same sender, with a label of its own.",
     repaired: b"    module m;
     global protocol P(role A, role B, role C) {
       choice at A {

@@ -195,8 +195,9 @@ pub const NOT_YET: Explanation = Explanation {
 ",
     refusal: b"refused 19 NotYet line 3",
     repair: b"write the blocks one after the other, those without a choice first; each role waits only for its own
-messages. If two blocks have a choice, write the second one into each branch of the first, with a message to its decider
-before it. Or write the `par` in the first protocol's own block; its blocks may have calls and loops of their own.",
+messages. Two blocks with a choice in a loop wait for each other: make each a protocol and a session of its own, or let
+their deciders tell each other what they chose. Or write the `par` in the first protocol's own block; its blocks may have
+calls and loops of their own.",
     repaired: b"    module m;
     global protocol P(role A, role B, role C, role D) {
       rec X { m() from A to B; n() from C to D; continue X; }
