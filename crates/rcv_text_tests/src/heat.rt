@@ -69,7 +69,8 @@ fn the_words_say_what_crashes_come_to(rt: HostRuntime) -> Result<(), Fail> {
         b"worst at 2: undone 2 of 3",
         b"worst: crash B 2, undone 2 of 3",
     ];
-    let words = picture.groups[0].shapes.as_slice();
+    let first = picture.groups.as_slice().first().ok_or("none")?;
+    let words = first.shapes.as_slice();
     assert!(rt; words.len() == 3 + rows.len());
     for (shape, row) in words[3..].iter().zip(rows) {
         assert!(rt; is_text(shape, row));
