@@ -1,7 +1,7 @@
 // The JSON of what crashes cost in a small session, worked out by hand.
 
-use rcv_costs_json::failures_json;
 use rcv_core::setup::Setup;
+use rcv_costs_json::failures_json;
 use rcv_input::read_input;
 use std::alloc::Global;
 use std::test::Fail;

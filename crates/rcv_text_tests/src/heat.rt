@@ -1,7 +1,7 @@
 // The picture of what crashes cost in a small session.
 
-use rcv_heat::failures_picture;
 use rcv_core::setup::Setup;
+use rcv_heat::failures_picture;
 use rcv_input::read_input;
 use rcv_picture::picture::Picture;
 use rcv_picture::shape::Shape;

@@ -1,8 +1,8 @@
 // The text of what crashes cost in a small session, worked out by hand.
 
-use rcv_losses::losses_text;
 use rcv_core::setup::Setup;
 use rcv_input::read_input;
+use rcv_losses::losses_text;
 use std::alloc::Global;
 use std::test::Fail;
 
