@@ -12,9 +12,9 @@ use crate::journal::of_journal;
 use crate::telling::refusal;
 use crate::written::{Written, is_json};
 use rcv_core::setup::Setup;
-use rcv_json_reader::{JsonError, read_json};
-use rcv_journal::recorded::Journal;
 use rcv_input::{Input, Refused};
+use rcv_journal::recorded::Journal;
+use rcv_json_reader::{JsonError, read_json};
 use rcv_lines::text::{LinesError, read_text};
 use std::alloc::{AllocError, Global};
 

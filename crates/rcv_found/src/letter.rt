@@ -34,9 +34,7 @@ fn word_len(text: &[u8]) -> usize
     ensures is { result ≡ length (take_while is_word_byte text.now) }
     ensures within { result ≤ length text.now }
 {
-    text.iter()
-        .take_while(|byte| is_word_byte(**byte))
-        .count()
+    text.iter().take_while(|byte| is_word_byte(**byte)).count()
 }
 
 // How far a letter goes on.

@@ -26,4 +26,4 @@ pub said_of_asking_behind : {T E : Type 0} (old s : SessionView) (asked : Questi
 said_of_asking_behind old s asked text after result judging history protocol =
     on_success (Says (accepted_of s) text after (Asks s asked)) (Says (accepted_of old) text after (IsAnswer old (line.Ask asked) s)) result
     (λ it. says_by old s text after (IsAnswer old (line.Ask asked) s) it.answer protocol
-      (answer_by old s s (line.Ask asked) it.answer judging history (unchanged_by s (line.Ask asked) it.answer (λ added new same. (it.is, same)))) it.text)
+    (answer_by old s s (line.Ask asked) it.answer judging history (unchanged_by s (line.Ask asked) it.answer (λ added new same. (it.is, same)))) it.text)

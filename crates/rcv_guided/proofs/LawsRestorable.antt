@@ -201,8 +201,7 @@ module _ (s : SessionView) {table : TableView} {ledger : LedgerView} (kept : IsG
 
 pub told_sessions_are_restorable : ToldSessionsAreRestorable
 told_sessions_are_restorable s table ledger history kept has session saves =
-    let past = holds_after (terms_of s.guide) (known kept) history has.may in
-    (
+    let past = holds_after (terms_of s.guide) (known kept) history has.may in (
       record {
         logs = kept.logs;
         numbers = kept.numbers;

@@ -68,7 +68,6 @@ module _ (s : SessionView) where
   roles_part [] rest numbers logs used incarnations told = refl
   roles_part (r ∷ rs) rest numbers logs used incarnations told = roles_part rs rest (slice_set numbers r (standing_numbers s r)) logs used (slice_set incarnations r (incarnation_of s r)) told
 
-
   flights_part : (es : List Event) → AreSent es → (rest : List Again) (numbers : List Numbers) (logs : List (List Event)) (used : ℕ) (incarnations : List ℕ) (told : List (List ℕ)) → restored_all (so_far s numbers logs used incarnations told) (map (flight_again s) es ++ rest) ≡ restored_all (so_far s (seed_all numbers es) (log_all logs es) (used + length es) incarnations told) rest
   flights_part [] sent rest numbers logs used incarnations told =
       let same : used ≡ used + 0 = omega arith in
@@ -175,9 +174,9 @@ module _ (s : SessionView) (form : HasForm s) (events : List Event) (are : AreRe
   logs_are =
       let many : length logs_then ≡ roles = as_many_logs events (log_all no_logs seeds) ∙ many_logs in
       lists_same logs_then s.guide.logs (many ∙ sym form.logs) (λ r lt.
-          let low : r < roles = omega (arith, lt, many) in
-          let there = form.logs in
-          slice_get-get_or logs_then r [] lt ∙ ap Some (log_then r low) ∙ sym (slice_get-get_or s.guide.logs r [] (omega (arith, low, there))))
+      let low : r < roles = omega (arith, lt, many) in
+      let there = form.logs in
+      slice_get-get_or logs_then r [] lt ∙ ap Some (log_then r low) ∙ sym (slice_get-get_or s.guide.logs r [] (omega (arith, low, there))))
 
   -- how many they are
   pub count_is : 0 + length seeds + length events ≡ all_events s.guide.logs
@@ -216,9 +215,9 @@ module _ (s : SessionView) (form : HasForm s) (events : List Event) (are : AreRe
   numbers_are =
       let many : length (seed_all numbers_first seeds) ≡ roles = as_many_numbers seeds numbers_first ∙ many_first in
       lists_same (seed_all numbers_first seeds) s.guide.numbers (many ∙ sym form.numbers) (λ r lt.
-          let low : r < roles = omega (arith, lt, many) in
-          let there = form.numbers in
-          slice_get-get_or (seed_all numbers_first seeds) r at_start lt ∙ ap Some (number_then r low) ∙ sym (slice_get-get_or s.guide.numbers r at_start (omega (arith, low, there))))
+      let low : r < roles = omega (arith, lt, many) in
+      let there = form.numbers in
+      slice_get-get_or (seed_all numbers_first seeds) r at_start lt ∙ ap Some (number_then r low) ∙ sym (slice_get-get_or s.guide.numbers r at_start (omega (arith, low, there))))
 
   -- the incarnations, and the saves
   incarnations_are : set_all (incarnation_of s) (replicate roles 0) (range_with_len 0 roles) ≡ s.incarnations

@@ -70,17 +70,18 @@ module _ (net : Net) (a r : ℕ) (sender receiver before : List Event) (e : Even
   in_front : (part more : List Event) → part ++ more ≡ sender → ((n : ℕ) (f : Event) → slice_get more n ≡ Some f → f.stamp ≡ m.stamp → ⊥) → (rest : List Message) × (drop (length (taken net a r before)) (put net a r part) ≡ m ∷ rest)
   in_front part more joined others =
       let low : length put_there.front < length part = ⊎_elim
-          (λ lt. lt)
-          (λ le.
-          let place : length put_there.front ≡ length part + (length put_there.front - length part) = omega (arith, le) in
-          absurd (others (length put_there.front - length part) put_there.item (sym (get_behind part more (length put_there.front - length part)) ∙ ap (λ l. slice_get l (length part + (length put_there.front - length part))) joined ∙ ap (slice_get sender) (sym place) ∙ put_at) put_stamp))
-          (cases_lt (length put_there.front) (length part)) in
-      let cut = cut_at part more put_there.front put_there.item put_there.back (joined ∙ sym put_there.whole) low in
-      (put net a r cut.0,
+      (λ lt. lt)
+      (λ le.
+      let place : length put_there.front ≡ length part + (length put_there.front - length part) = omega (arith, le) in
+      absurd (others (length put_there.front - length part) put_there.item (sym (get_behind part more (length put_there.front - length part)) ∙ ap (λ l. slice_get l (length part + (length put_there.front - length part))) joined ∙ ap (slice_get sender) (sym place) ∙ put_at) put_stamp))
+      (cases_lt (length put_there.front) (length part)) in
+      let cut = cut_at part more put_there.front put_there.item put_there.back (joined ∙ sym put_there.whole) low in (
+        put net a r cut.0,
         ap (λ n. drop n (put net a r part)) (sym put_there.number)
-        ∙ ap (λ l. drop (length (put net a r put_there.front)) (put net a r l)) cut.1
-        ∙ ap (drop (length (put net a r put_there.front))) (filter_map-append (put_by net a r) put_there.front (put_there.item ∷ cut.0) ∙ ap (λ o. put net a r put_there.front ++ cons_option o (put net a r cut.0)) put_there.gives)
-        ∙ drop-append_seam (put net a r put_there.front) (m ∷ put net a r cut.0))
+            ∙ ap (λ l. drop (length (put net a r put_there.front)) (put net a r l)) cut.1
+            ∙ ap (drop (length (put net a r put_there.front))) (filter_map-append (put_by net a r) put_there.front (put_there.item ∷ cut.0) ∙ ap (λ o. put net a r put_there.front ++ cons_option o (put net a r cut.0)) put_there.gives)
+            ∙ drop-append_seam (put net a r put_there.front) (m ∷ put net a r cut.0),
+      )
 
 -- ---- line by line
 module _ (s : SessionView) (form : HasForm s) (can : IsRestorable s) (events : List Event) (are : AreRemembered s.guide events) where
@@ -110,21 +111,23 @@ module _ (s : SessionView) (form : HasForm s) (can : IsRestorable s) (events : L
   roles_may zero a whole rest numbers incarnations may = may
   roles_may (suc n) a whole rest numbers incarnations may =
       let low : a < roles = omega (arith, whole) in
-      let few = can.few a low in
-      (record {
-        restoring = refl;
-        stand = record {
-          declared = low;
-          nothing = each_same roles a [];
-          place = can.sound.points a low;
-          forgotten = let m = few.made in omega (arith, m);
-          raw = few.raw;
-          attempt = few.attempts;
-          clock = few.clocks;
-        };
-        incarnation = can.incarnations a low;
-        unsaved = each_same (length s.saves.steps) a [];
-      }, roles_may n (a + 1) (omega (arith, whole)) rest (slice_set numbers a (standing_numbers s a)) (slice_set incarnations a (incarnation_of s a)) may)
+      let few = can.few a low in (
+        record {
+          restoring = refl;
+          stand = record {
+            declared = low;
+            nothing = each_same roles a [];
+            place = can.sound.points a low;
+            forgotten = let m = few.made in omega (arith, m);
+            raw = few.raw;
+            attempt = few.attempts;
+            clock = few.clocks;
+          };
+          incarnation = can.incarnations a low;
+          unsaved = each_same (length s.saves.steps) a [];
+        },
+        roles_may n (a + 1) (omega (arith, whole)) rest (slice_set numbers a (standing_numbers s a)) (slice_set incarnations a (incarnation_of s a)) may,
+      )
 
   -- an event fits behind those of its role that come before it
   event_at : (r : ℕ) (before behind : List Event) (e : Event) → before ++ e ∷ behind ≡ log_at s.guide.logs r → slice_get (log_at s.guide.logs r) (length before) ≡ Some e
@@ -197,9 +200,11 @@ module _ (s : SessionView) (form : HasForm s) (can : IsRestorable s) (events : L
   flights_may : (es done : List Event) → done ++ es ≡ seeds → All IsSeed es → (rest : List Again) → MayAll (flying seeds) rest → MayAll (flying done) (map (flight_again s) es ++ rest)
   flights_may [] done whole all rest may = subst (λ l. MayAll (flying l) rest) (sym (sym (append-nil done) ∙ whole)) may
   flights_may (e ∷ es) done whole all rest may =
-      let own = All-head IsSeed e es all in
-      (may_fly done es e whole own.0 own.1, subst (λ (x : SessionView). MayAll x (map (flight_again s) es ++ rest)) (sym (flown done es e whole own.0 own.1))
-        (flights_may es (done ++ e ∷ []) (append_assoc done (e ∷ []) es ∙ whole) (All-tail IsSeed e es all) rest may))
+      let own = All-head IsSeed e es all in (
+        may_fly done es e whole own.0 own.1,
+        subst (λ (x : SessionView). MayAll x (map (flight_again s) es ++ rest)) (sym (flown done es e whole own.0 own.1))
+            (flights_may es (done ++ e ∷ []) (append_assoc done (e ∷ []) es ∙ whole) (All-tail IsSeed e es all) rest may),
+      )
 
   -- ---- the events
   abbrev logs_first : List (List Event)
@@ -271,16 +276,17 @@ module _ (s : SessionView) (form : HasForm s) (can : IsRestorable s) (events : L
       lies : (rest : List Message) × (drop (length (taken (net_for s.guide) from e.role (log_at (log_all logs_first done) e.role))) (put (net_for s.guide) from e.role (log_at (log_all logs_first done) from)) ≡ message_in e ∷ rest)
       lies =
           let front = in_front (net_for s.guide) from e.role (log_at s.guide.logs from) (log_at s.guide.logs e.role) (so_much done e.role) e (events_of e.role es) (message_in e) before_it takes (can.queued from e.role)
-              (so_much done from) (events_of from (e ∷ es)) (whole_log done (e ∷ es) from whole)
-              (λ n f at_n same.
-              let one = one_of from (e ∷ es) n f at_n in
-              let high = none_earlier one.0 f one.1 in
-              let low = can.stamped.after e.role (length (so_much done e.role)) e there got in
-              omega (arith, same, high, low)) in
-          (front.0,
+          (so_much done from) (events_of from (e ∷ es)) (whole_log done (e ∷ es) from whole)
+          (λ n f at_n same.
+          let one = one_of from (e ∷ es) n f at_n in
+          let high = none_earlier one.0 f one.1 in
+          let low = can.stamped.after e.role (length (so_much done e.role)) e there got in
+          omega (arith, same, high, low)) in (
+            front.0,
             ap (λ l. drop (length (taken (net_for s.guide) from e.role l)) (put (net_for s.guide) from e.role (log_at (log_all logs_first done) from))) (log_now done e.role lt)
-            ∙ ap (λ l. drop (length (taken (net_for s.guide) from e.role (so_much done e.role))) (put (net_for s.guide) from e.role l)) (log_now done from declared)
-            ∙ front.1)
+                ∙ ap (λ l. drop (length (taken (net_for s.guide) from e.role (so_much done e.role))) (put (net_for s.guide) from e.role l)) (log_now done from declared)
+                ∙ front.1,
+          )
 
     turn_is : (d : Dir) → e.dir ≡ d → IsTurn (coming done).guide e d
     turn_is Sent is = (
@@ -322,16 +328,19 @@ module _ (s : SessionView) (form : HasForm s) (can : IsRestorable s) (events : L
   events_may : (es done : List Event) → done ++ es ≡ events → All (IsDeclaredIn s.guide) es → (rest : List Again) → MayAll (coming events) rest → MayAll (coming done) (map (λ e. again.Event e) es ++ rest)
   events_may [] done whole all rest may = subst (λ l. MayAll (coming l) rest) (sym (sym (append-nil done) ∙ whole)) may
   events_may (e ∷ es) done whole all rest may =
-      let lt = (All-head (IsDeclaredIn s.guide) e es all).role in
-      (may_come done es e whole lt, subst (λ (x : SessionView). MayAll x (map (λ e. again.Event e) es ++ rest)) (sym (came done es e whole lt))
-        (events_may es (done ++ e ∷ []) (append_assoc done (e ∷ []) es ∙ whole) (All-tail (IsDeclaredIn s.guide) e es all) rest may))
+      let lt = (All-head (IsDeclaredIn s.guide) e es all).role in (
+        may_come done es e whole lt,
+        subst (λ (x : SessionView). MayAll x (map (λ e. again.Event e) es ++ rest)) (sym (came done es e whole lt))
+            (events_may es (done ++ e ∷ []) (append_assoc done (e ∷ []) es ∙ whole) (All-tail (IsDeclaredIn s.guide) e es all) rest may),
+      )
 
   -- ---- the saves
   saves_may : (r : ℕ) (cs : List ℕ) → All (λ count. count ≤ made_of s r) cs → (used : ℕ) (incarnations : List ℕ) (told : List (List ℕ)) (rest : List Again) → MayAll (so_far s s.guide.numbers s.guide.logs used incarnations (save_all told r cs)) rest → MayAll (so_far s s.guide.numbers s.guide.logs used incarnations told) (map (λ count. again.Save r count) cs ++ rest)
   saves_may r [] all used incarnations told rest may = may
-  saves_may r (c ∷ cs) all used incarnations told rest may =
-      (record { restoring = refl; made = All-head (λ count. count ≤ made_of s r) c cs all },
-        saves_may r cs (All-tail (λ count. count ≤ made_of s r) c cs all) used incarnations (slice_set told r (with_count c (counts_at told r))) rest may)
+  saves_may r (c ∷ cs) all used incarnations told rest may = (
+    record { restoring = refl; made = All-head (λ count. count ≤ made_of s r) c cs all },
+    saves_may r cs (All-tail (λ count. count ≤ made_of s r) c cs all) used incarnations (slice_set told r (with_count c (counts_at told r))) rest may,
+  )
 
   all_saves_may : (n a : ℕ) → a + n ≡ roles → (used : ℕ) (incarnations : List ℕ) (told : List (List ℕ)) → MayAll (so_far s s.guide.numbers s.guide.logs used incarnations told) (flat_map (saves_again s) (range_with_len a n))
   all_saves_may zero a whole used incarnations told = tt
@@ -364,9 +373,9 @@ module _ (s : SessionView) (form : HasForm s) (can : IsRestorable s) (events : L
   all_may room = (
     record { nothing = refl; unsaved = λ r lt. each_same (length s.saves.steps) r []; told_is = can.told; least = can.least; most = can.most },
     subst (MayAll (so_far s (replicate roles at_start) no_logs 0 (replicate roles 0) no_saves))
-    (sym (append_assoc (map (role_again s) (range_with_len 0 roles) ++ map (flight_again s) seeds) event_lines last_lines
-    ∙ append_assoc (map (role_again s) (range_with_len 0 roles)) (map (flight_again s) seeds) (event_lines ++ last_lines)))
-    (roles_may roles 0 (omega arith) (map (flight_again s) seeds ++ (event_lines ++ last_lines)) (replicate roles at_start) (replicate roles 0) flights_then),
+        (sym (append_assoc (map (role_again s) (range_with_len 0 roles) ++ map (flight_again s) seeds) event_lines last_lines
+        ∙ append_assoc (map (role_again s) (range_with_len 0 roles)) (map (flight_again s) seeds) (event_lines ++ last_lines)))
+        (roles_may roles 0 (omega arith) (map (flight_again s) seeds ++ (event_lines ++ last_lines)) (replicate roles at_start) (replicate roles 0) flights_then),
   )
 
 pub snapshots_are_taken : SnapshotsAreTaken

@@ -10,8 +10,8 @@ ghost use Rattle.rcv_judge.specs.Closing.{limited_in, Closes, ClosesRight, IsFir
 use crate::same::{are_same_roles, is_same_line};
 use rcv_core::book::Book;
 use rcv_core::outcome::Outcome;
-use rcv_journal::recorded::Journal;
 use rcv_journal::line::{RoleLine, RoleWord};
+use rcv_journal::recorded::Journal;
 use rcv_journal::role_lines::lines_of;
 use rcv_tree::role::RoleId;
 use std::alloc::{AllocError, Global};

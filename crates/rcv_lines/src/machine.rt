@@ -6,8 +6,8 @@ ghost use Rattle.rcv_lines.specs.Line.{EntryLine, RoleLineOf, EndLine};
 ghost use Rattle.rcv_lines.specs.Reading.{nothing_read, Takes};
 
 use crate::line::Line;
-use rcv_journal::recorded::Journal;
 use rcv_journal::line::RoleLine;
+use rcv_journal::recorded::Journal;
 use rcv_tree::entry::Entry;
 use rcv_tree::role::RoleId;
 use std::alloc::{AllocError, Global};

@@ -15,10 +15,10 @@ use crate::output::Output;
 use crate::status::Status;
 use rcv_core::book::Book;
 use rcv_core::setup::Setup;
-use rcv_json_reader::{JsonError, read_json};
 use rcv_diagnosis::written::{Written, is_json};
-use rcv_journal::recorded::Journal;
 use rcv_input::read_input;
+use rcv_journal::recorded::Journal;
+use rcv_json_reader::{JsonError, read_json};
 use rcv_judge::closing::wrong_closing;
 use rcv_judge::judge::{JudgeError, judge};
 use rcv_lexer::line_feeds;
@@ -98,12 +98,7 @@ pub fn text_answer(
 }
 
 // The answer to lines.
-fn lines_answer(
-    alloc: Global,
-    setup: &Setup,
-    text: &[u8],
-    feeds: u32,
-) -> Result<Output, AllocError>
+fn lines_answer(alloc: Global, setup: &Setup, text: &[u8], feeds: u32) -> Result<Output, AllocError>
     requires lines { is_json text.now ≡ false }
     requires text { length text.now ≤ 134217728 }
     requires feeds { feeds ≤ 134217728 }
@@ -117,12 +112,7 @@ fn lines_answer(
 }
 
 // The answer to JSON.
-fn json_answer(
-    alloc: Global,
-    setup: &Setup,
-    text: &[u8],
-    feeds: u32,
-) -> Result<Output, AllocError>
+fn json_answer(alloc: Global, setup: &Setup, text: &[u8], feeds: u32) -> Result<Output, AllocError>
     requires json { is_json text.now ≡ true }
     requires feeds { feeds ≤ 134217728 }
     ensures { IfOk result (λ output. IsTextAnswer setup.now text.now feeds output.status output.bytes.items) }

@@ -5,8 +5,8 @@ ghost use Rattle.rcv_tree.specs.Bits.{members};
 ghost use Rattle.rcv_points.specs.Follow.{IsSetOfRole, net_in};
 ghost use Rattle.rcv_points.specs.Ahead.{IsAhead};
 
-use crate::reach::reach_from;
 use crate::points::Points;
+use crate::reach::reach_from;
 use rcv_tree::point::{Point, PointSet};
 use rcv_tree::role::RoleId;
 use std::alloc::{AllocError, Global};

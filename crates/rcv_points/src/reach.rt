@@ -8,10 +8,10 @@ ghost use Rattle.rcv_points.specs.Ahead.{IsReach, IsLaneReach};
 ghost use Rattle.rcv_points.specs.Found.{AreInText, IsOfferedBy, HasEnd};
 ghost use Rattle.rcv_points.specs.LaneSearch.{ReachedSoFar};
 
-use crate::places::Places;
-use crate::search::places_from;
 use crate::offered::Offered;
+use crate::places::Places;
 use crate::points::Points;
+use crate::search::places_from;
 use rcv_tree::point::PointSet;
 use rcv_tree::role::RoleId;
 

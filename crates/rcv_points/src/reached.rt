@@ -4,8 +4,8 @@ ghost use Rattle.std.specs.Prelude.{IfOk};
 ghost use Rattle.rcv_points.specs.Follow.{net_in};
 ghost use Rattle.rcv_points.specs.Reached.{AreReached};
 
-use crate::reach::reach_from;
 use crate::points::Points;
+use crate::reach::reach_from;
 use rcv_tree::point::Point;
 use rcv_tree::role::RoleId;
 use std::alloc::{AllocError, Global};

@@ -6,8 +6,8 @@ ghost use Rattle.rcv_tree.specs.Bits.{members};
 ghost use Rattle.rcv_points.specs.Follow.{IsSetOfRole, net_in};
 ghost use Rattle.rcv_points.specs.Found.{Adds, AreInText, ArePlacesFrom, IsOther};
 
-use crate::places::Places;
 use crate::offered::Offered;
+use crate::places::Places;
 use crate::points::Points;
 use rcv_tree::point::PointSet;
 use rcv_tree::role::RoleId;

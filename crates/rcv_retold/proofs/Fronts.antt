@@ -34,7 +34,7 @@ module _ (protocol : Protocol) (text : List ℕ) where
     pub one_more : (e : Entry) (line behind : List ℕ) → rest ≡ line ++ behind → 0 < length line → IsFormedEntry (bare protocol) e → line ≡ line_of protocol e → IsFront protocol text (entries ++ e ∷ []) (bytes + length line) behind
     one_more e line behind parts some formed is =
         let grown : entries_text protocol (entries ++ e ∷ []) ≡ entries_text protocol entries ++ line =
-            flat_map-append (line_of protocol) entries (e ∷ []) ∙ ap (λ l. entries_text protocol entries ++ l) (append-nil (line_of protocol e) ∙ sym is) in
+        flat_map-append (line_of protocol) entries (e ∷ []) ∙ ap (λ l. entries_text protocol entries ++ l) (append-nil (line_of protocol e) ∙ sym is) in
         let c = so_far.counted in
         let f = so_far.few in
         record {

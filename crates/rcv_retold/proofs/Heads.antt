@@ -30,7 +30,7 @@ pub behind_head : (n : ℕ) → n < 2 ^ 64 → (lines whole line behind : List �
 behind_head n few lines whole line behind is parts cut =
     let some : 0 < length whole = omega (arith, ap length is) in
     let same : line ∷ lines_of behind ≡ head n ∷ lines_of lines =
-        sym (cut some) ∙ ap lines_of (is ∙ head_is n lines) ∙ line_then (head n) lines (record { front = front n; ends = refl; only = lacking (front n) (front_lacks n few) }) in
+    sym (cut some) ∙ ap lines_of (is ∙ head_is n lines) ∙ line_then (head n) lines (record { front = front n; ends = refl; only = lacking (front n) (front_lacks n few) }) in
     let heads : line ≡ head n = cc in
     append_cancel_left (head n) behind lines (ap (λ l. l ++ behind) (sym heads) ∙ sym parts ∙ is ∙ head_is n lines)
 

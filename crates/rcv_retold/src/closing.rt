@@ -55,11 +55,7 @@ pub fn states_of(alloc: Global, guide: &Guide) -> Result<Vec<RoleState>, AllocEr
 }
 
 // The text goes on with the answer to `end`. Fails if memory runs out.
-fn write_end(
-    text: &mut Writer,
-    accepted: &Accepted,
-    states: &[RoleState],
-) -> Result<(), AllocError>
+fn write_end(text: &mut Writer, accepted: &Accepted, states: &[RoleState]) -> Result<(), AllocError>
     requires { All (λ s. s.role < length accepted.now.protocol.roles) states.now }
     ensures { OnOk result (text.new ≡ text.old ++ codes "end" ++ more_text (length states.now + 1)
         ++ states_text accepted.now.protocol states.now) }

@@ -56,11 +56,7 @@ fn entry_in(said: &Line) -> Option<Entry>
 }
 
 // The entry that a line says, if it says one. Fails if memory runs out.
-fn read_entry(
-    alloc: Global,
-    accepted: &Accepted,
-    line: &[u8],
-) -> Result<Option<Entry>, AllocError>
+fn read_entry(alloc: Global, accepted: &Accepted, line: &[u8]) -> Result<Option<Entry>, AllocError>
     ensures some { IfOk result (λ read. IfSome read (λ e. IsFormedEntry (bare accepted.now.protocol) e
         × (line.now ≡ line_of accepted.now.protocol e))) }
     ensures none { IfOk result (λ read. IfNone read ((e : TheEntry) → IsFormedEntry (bare accepted.now.protocol) e
@@ -76,11 +72,7 @@ fn read_entry(
 
 /// The entries that the first lines of a text say, up to the first line that says none. It doesn't ask whether they may
 /// be told. Fails if memory runs out.
-pub fn read_front(
-    alloc: Global,
-    accepted: &Accepted,
-    text: &[u8],
-) -> Result<Front, AllocError>
+pub fn read_front(alloc: Global, accepted: &Accepted, text: &[u8]) -> Result<Front, AllocError>
     ensures within { IfOk result (λ front. front.bytes ≤ length text.now) }
     ensures first { IfOk result (λ front. AreFirst accepted.now.protocol text.now front.entries.items
         (drop front.bytes text.now)) }

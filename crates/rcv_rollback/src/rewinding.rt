@@ -7,8 +7,8 @@ ghost use Rattle.rcv_rollback.specs.Halves.{Has, Lacks};
 ghost use Rattle.rcv_rollback.specs.Going.{CanRewind, CanRewindAlone, HasRewoundChannel, AreGoing, HaveMoved};
 
 use crate::halves::Half;
-use rcv_core::book::Book;
 use rcv_cells::two::{Together, two_together};
+use rcv_core::book::Book;
 use rcv_role::cell::Cell;
 use rcv_tree::role::RoleId;
 

@@ -6,8 +6,8 @@ ghost use Rattle.rcv_script.specs.Lines.{line_of};
 ghost use Rattle.rcv_script.specs.Acts.{acts_by_point, on_places, send_place};
 
 use crate::line::Line;
-use rcv_points::points::Message;
 use rcv_lexer::is;
+use rcv_points::points::Message;
 use rcv_tree::point::Point;
 use std::alloc::{AllocError, Global};
 use std::marker::Model;

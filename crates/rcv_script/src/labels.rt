@@ -9,8 +9,8 @@ ghost use Rattle.rcv_script.specs.Labels.{is_end, is_meant};
 ghost use Rattle.rcv_script.specs.Machine.{has_send};
 
 use crate::line::Line;
-use rcv_points::points::Points;
 use rcv_lexer::is;
+use rcv_points::points::Points;
 use rcv_tree::point::Point;
 
 /// Whether the role sends a message with this label, or receives it if that counts too. `bare` asks for one without

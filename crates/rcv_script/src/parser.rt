@@ -12,8 +12,8 @@ use crate::line::Line;
 use crate::sign::Sign;
 use crate::words::{LineKind, kind_of};
 use crate::writing::Writing;
-use rcv_points::points::Points;
 use rcv_lexer::Ahead;
+use rcv_points::points::Points;
 use rcv_tree::name::Name;
 use std::alloc::Global;
 

@@ -9,8 +9,8 @@ ghost use Rattle.rcv_super.specs.declared.whereabouts.Whereabouts.TheVariants.{H
 ghost use Rattle.rcv_super.specs.Bases.{IsStableIn, WasStable, CanForget, without_states};
 
 use crate::whereabouts::Whereabouts;
-use rcv_core::book::Book;
 use rcv_cells::house::House;
+use rcv_core::book::Book;
 use rcv_role::cell::Cell;
 
 // After so many turns that added entries the cells forget.

@@ -8,10 +8,10 @@ ghost use Rattle.rcv_super.specs.Bases.{AreBased};
 ghost use Rattle.rcv_super.specs.Steps.{HasRecovered};
 
 use crate::known::{concerned_by, know_all};
-use rcv_rollback::back::go_back;
-use rcv_rollback::halves::{split, unite};
 use rcv_core::book::Book;
 use rcv_role::cell::Cell;
+use rcv_rollback::back::go_back;
+use rcv_rollback::halves::{split, unite};
 use rcv_tree::role::RoleId;
 use std::alloc::{AllocError, Global};
 

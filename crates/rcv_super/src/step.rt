@@ -12,10 +12,10 @@ ghost use Rattle.rcv_super.specs.OneStep.{IsNextEvent, CanPoll, WasPolled, AreOu
 ghost use Rattle.rcv_alone.specs.Steps.{HasStepped};
 
 use crate::recovery::recover_alone;
-use rcv_core::book::Book;
-use rcv_gate::Gate;
 use rcv_cells::lanes::clear_logs;
 use rcv_cells::meet::meet_pair;
+use rcv_core::book::Book;
+use rcv_gate::Gate;
 use rcv_role::cell::Cell;
 use rcv_tree::entry::Entry;
 use rcv_tree::event::Event;

@@ -39,10 +39,10 @@ returns-in-Ok-Some-clause-wrong c = λ k same.
     let retold = subst (λ (l : List Entry). IsRetold (terms_for setup) l) items c.in-Ok.ensures.retold in
     let end = c.in-Ok-Some.ensures.end (told (terms_for setup) c.as_slice.result.now) c.in-Ok.ensures.memory in
     let closes = subst (λ (l : List Entry). IsClosing setup.protocol (told (terms_for setup) l) end.0) items
-        (closing_same _ setup.protocol c.in-Ok.ensures.protocol (told (terms_for setup) c.as_slice.result.now) end.0 end.1) in
+    (closing_same _ setup.protocol c.in-Ok.ensures.protocol (told (terms_for setup) c.as_slice.result.now) end.0 end.1) in
     let whole : take (length c.args.text.now - c.args.front.now.bytes) rest ≡ rest = take_all (length c.args.text.now - c.args.front.now.bytes) rest (omega (arith, length-drop c.args.front.now.bytes c.args.text.now)) in
     let differs = subst (λ (o : Option ℕ). MatchOption o (rest ≡ end.0) (IsFirstOther rest end.0)) c.in-Ok-Some.field-0-is
-        (subst (λ (l : List ℕ). MatchOption c.in-Ok-Some.field-0 (l ≡ end.0) (IsFirstOther l end.0)) whole end.2) in
+    (subst (λ (l : List ℕ). MatchOption c.in-Ok-Some.field-0 (l ≡ end.0) (IsFirstOther l end.0)) whole end.2) in
     let line : c.len.result + c.in-Ok-Some.number ≡ k = cc in
     subst (IsFirstWrong setup c.args.text.now) (ap (λ n. n + c.in-Ok-Some.number) (sym (c.len.ensures ∙ sym c.as_slice.ensures.len ∙ ap length items)) ∙ line)
     (wrong_rest setup c.protocol-protocol.ensures.accepted c.args.text.now entries rest first.formed first.is_text retold first.otherwise end.0 closes c.in-Ok-Some.number differs)
