@@ -8,8 +8,6 @@ mod numbers;
 mod points;
 mod rehearsal;
 mod sampling;
-#[cfg(test)]
-mod tests;
 
 pub use crashes::costs_of;
 pub use numbers::{Cost, Costs};

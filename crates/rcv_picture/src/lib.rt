@@ -13,8 +13,6 @@ pub mod pixels;
 pub mod shape;
 mod shapes;
 mod style;
-#[cfg(test)]
-mod tests;
 mod text;
 
 pub use text::picture_text;

@@ -6,8 +6,6 @@ mod counts;
 pub mod laws;
 mod mark;
 mod row;
-#[cfg(test)]
-mod tests;
 mod told;
 mod wire;
 

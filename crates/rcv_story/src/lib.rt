@@ -9,6 +9,4 @@ mod receipts;
 pub mod shown;
 mod stacks;
 pub mod story;
-#[cfg(test)]
-mod tests;
 mod undoing;

@@ -1,11 +1,11 @@
 // Sessions with a crash: what is told of their recoveries and messages.
 
-use crate::shown::shown_entries;
-use crate::story::{Dropped, Story, story_of};
 use rcv_core::book::Book;
 use rcv_core::setup::Setup;
 use rcv_fates::Record;
 use rcv_input::read_input;
+use rcv_story::shown::shown_entries;
+use rcv_story::story::{Dropped, Story, story_of};
 use rcv_tree::role::RoleId;
 use std::alloc::Global;
 use std::test::Fail;

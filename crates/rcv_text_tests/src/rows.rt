@@ -1,11 +1,11 @@
 // A session with a crash: which of its events are undone, which messages are drawn, and what a fold counts.
 
-use crate::told::{Told, tell};
 use rcv_core::book::Book;
 use rcv_core::setup::Setup;
 use rcv_fates::Record;
 use rcv_input::read_input;
 use rcv_picture::group::{Counts, Says};
+use rcv_rows::told::{Told, tell};
 use std::alloc::Global;
 use std::test::Fail;
 

@@ -1,12 +1,12 @@
 // A picture with each shape and each kind of group, and its text.
 
-use crate::group::{Counts, Group, Says};
-use crate::look::Look;
-use crate::picture::Picture;
-use crate::pixels::{Pixels, place};
-use crate::shape::{Anchor, Shape};
-use crate::style::style;
-use crate::text::picture_text;
+use rcv_picture::group::{Counts, Group, Says};
+use rcv_picture::look::Look;
+use rcv_picture::picture::Picture;
+use rcv_picture::pixels::{Pixels, place};
+use rcv_picture::shape::{Anchor, Shape};
+use rcv_picture::style::style;
+use rcv_picture::text::picture_text;
 use std::alloc::{AllocError, Global};
 use std::test::Fail;
 

@@ -1,8 +1,8 @@
 // What crashes cost in small sessions, counted by hand.
 
-use crate::crashes::costs_of;
-use crate::numbers::{Cost, Costs};
 use rcv_core::setup::Setup;
+use rcv_costs::crashes::costs_of;
+use rcv_costs::numbers::{Cost, Costs};
 use rcv_input::read_input;
 use rcv_tree::point::Point;
 use rcv_tree::role::{RoleId, RoleSet};
