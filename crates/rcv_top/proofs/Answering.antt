@@ -9,37 +9,22 @@ use Rattle.rcv_io.specs.declared.fault.ReadError.{ReadError}
 use Rattle.rcv_io.specs.declared.fault.ReadError.TheVariants as errors
 use Rattle.rcv_io.specs.Causes.{Rose}
 use Rattle.rcv_io.specs.Source.{Took, ReadsWhole}
-use Rattle.rcv_tree.specs.declared.entry.Entry.{Entry}
-use Rattle.rcv_model.specs.Net.{Net}
-use Rattle.rcv_model.specs.Next.{IsProper, IsAccepted}
-use Rattle.rcv_model.specs.Text.{Body, body_of}
-use Rattle.rcv_model.specs.Premises.{IsSession, IsSessionOf}
-use Rattle.rcv_model.specs.Journal.{Rules, State, reading, IsLegal}
-use Rattle.rcv_model.specs.Final.{IsFinal}
-use Rattle.rcv_model.proofs.Forms.{proper}
-use Rattle.rcv_model.proofs.Legal.{accepted_runs}
-use Rattle.rcv_model.proofs.Reached.{reach}
-use Rattle.rcv_model.proofs.Telling.{tells_right}
-use Rattle.rcv_theory.proofs.Foreseeing.{recoveries_are_foreseen}
-use Rattle.rcv_accept.specs.Accepted.{IsAcceptedProtocol}
+use Rattle.rcv_model.specs.Journal.{Rules, State, reading}
 use Rattle.rcv_session.specs.Session.{SessionView, rules_of}
 use Rattle.rcv_top.specs.declared.status.Status.{Status}
 use Rattle.rcv_top.specs.declared.status.Status.TheVariants as statuses
 use Rattle.rcv_words.specs.Commands.{CommandView, Run, RunMany, Check, Project, Table, Gen, Replay, Line, IsCommand, IsNoCommand}
 use Rattle.rcv_top.specs.Commands.{AskForSource, text_for}
 use Rattle.rcv_top.specs.Inputs.{ReadNothing, HasGot}
-use Rattle.rcv_top.specs.Running.{EndsAs, all_done, at_limit, IsSomeRun}
+use Rattle.rcv_top.specs.Running.{EndsAs, all_done, at_limit}
 use Rattle.rcv_top.specs.Many.{OneRun, is_limited, ended_as}
 use Rattle.rcv_top.specs.Outcome.{usage_line, most_bytes, Makes, IsAnswer, IsOutcome, usage, too_long, answered as answered_so, refused, made, replayed}
 use Rattle.rcv_replay.specs.declared.replayed.Replayed.{Replayed}
 use Rattle.rcv_replay.specs.declared.replayed.Replayed.TheVariants as replays
 use Rattle.rcv_top.specs.Replaying.{IsSaidOf}
-use Rattle.rcv_top.specs.Laws.{SessionsAreLegal}
-use Rattle.rcv_top.specs.Headline.{IsHeadline}
-use Rattle.rcv_top.proofs.Asking.{one_command, text_given, gen_asks, none_asks}
-use Rattle.rcv_top.specs.Calls.{Around, Answers, TellsFault, WroteNothing, source_of, HasTaken, IsInput, TakesTooMuch, WantsMemory, FailsToRead, Says, WritesLegalJournal}
+use Rattle.rcv_top.proofs.Asking.{text_given, gen_asks, none_asks}
+use Rattle.rcv_top.specs.Calls.{Around, Answers, TellsFault, WroteNothing, source_of, HasTaken, IsInput, TakesTooMuch, WantsMemory, FailsToRead, Says}
 use Rattle.rcv_top.specs.Writing.{Wrote}
-use Rattle.rcv_top.proofs.Traceless.{traceless_so}
 
 nothing_more : (o : Option (List ℕ)) → append_known o [] ≡ o
 nothing_more None = refl
@@ -72,7 +57,7 @@ ended_answers runs = go (list_any is_limited runs)
     go false = tt
 
 command_answers : (session : SessionView) (command : CommandView) (status : Status) (bytes : List ℕ) → Makes session command status bytes → IsAnswerStatus status
-command_answers session (Run workers json) status bytes makes = run_answers (rules_of session) (reading (rules_of session) makes.some.journal) status makes.some.is_journal.ends
+command_answers session (Run workers json) status bytes makes = run_answers (rules_of session) (reading (rules_of session) makes.journal) status makes.ends
 command_answers session (RunMany sessions workers json) status bytes (inl much) = subst IsAnswerStatus (sym much.status_is) tt
 command_answers session (RunMany sessions workers json) status bytes (inr fits) = subst IsAnswerStatus (sym fits.many_run.status_is) (ended_answers fits.many_run.runs)
 command_answers session Check status bytes makes = subst IsAnswerStatus (sym makes.0) tt
@@ -149,32 +134,6 @@ not_too_long command text status bytes answer same = subst IsAnswerStatus same (
 -- reading ended without a fault, and the count stays
 pub no_read_fault : (m n : ℕ) → m ≤ n → (m < n → ⊥) → n ≡ m
 no_read_fault m n later same = ⊎_elim (λ more. absurd (same more)) (λ few. omega (arith, later, few)) (cases_lt m n)
-
--- ---- the headline
-
--- a final legal journal of an accepted text is what the headline says
-pub headline_by : (rules : Rules) (body : Body) (journal : List Entry) → IsSessionOf rules body → IsLegal rules journal → IsFinal rules (reading rules journal) → IsHeadline rules journal
-headline_by rules body journal of_text legal final = record {
-  legal = legal;
-  runs = accepted_runs rules journal is_session.proper is_session.accepted legal;
-  reaches = λ front back e. reach rules body front back of_text.net of_text.form of_text.accepted (subst (IsLegal rules) (sym e) legal);
-  undoes = λ front back p concerned kept undone e. tells_right rules front back p concerned kept undone (subst (IsLegal rules) (sym e) legal);
-  spares = λ front back p concerned kept undone e. recoveries_are_foreseen rules front back p concerned kept undone is_session (subst (IsLegal rules) (sym e) legal);
-  final = final;
-}
-  where
-    is_session : IsSession rules
-    is_session = record {
-      proper = subst (λ (n : Net). IsProper n rules.roles) (sym of_text.net) (proper body rules.roles of_text.form);
-      accepted = subst (λ (n : Net). IsAccepted n rules.roles) (sym of_text.net) of_text.accepted;
-    }
-
--- and of an accepted protocol
-pub headline_of : (session : SessionView) (journal : List Entry) → IsAcceptedProtocol session.protocol → IsLegal (rules_of session) journal → IsFinal (rules_of session) (reading (rules_of session) journal) → IsHeadline (rules_of session) journal
-headline_of session journal lawful = headline_by (rules_of session) (body_of session.protocol.body) journal (record { net = refl; form = lawful.form; accepted = lawful.accepted })
-
-pub session_headline : SessionsAreLegal
-session_headline json input session journal status bytes taken held = headline_of session journal taken.protocol.accepted held.legal held.final
 
 -- ---- what was taken
 
@@ -271,46 +230,3 @@ fails_to_read words call command e is (inl (works, read)) why rose nothing = rec
   writes = nothing;
 }
 fails_to_read words call command e is (inr (number, gen, done)) why rose nothing = absurd (let memory = done.error in cc)
-
--- ---- the headline of what the call wrote
-
--- `run` works on the source
-run_works : (words : List (List ℕ)) (workers : ℕ) (json : Bool) → IsCommand words (Run workers json) → AskForSource words
-run_works words workers json is = (Run workers json, tt, is)
-
-pub wrote_headline : (words : List (List ℕ)) (call : Around) (command : CommandView) (v : Vec ℕ Global) (bytes : List ℕ) (status result : Status) (workers : ℕ) (json : Bool) → IsCommand words command → IsCommand words (Run workers json) → HasGot command (source_of call) (Ok v)
-    → IsAnswer command v.items status bytes → Wrote call.written_before call.written_after call.write_faults_before call.write_faults_after bytes status result → (result ≡ statuses.Completed) ⊎ (result ≡ statuses.Limited) → WritesLegalJournal json call result
-wrote_headline words call command v bytes status result workers json is run got answer (inr w) ended = absurd (⊎_elim (λ e. let f = w.0 in cc) (λ e. let f = w.0 in cc) ended)
-wrote_headline words call command v bytes status result workers json is run got answer (inl w) ended =
-    subst (WritesLegalJournal json call) (sym w.0) (go status bytes refl runs (⊎_elim (λ e. inl (sym w.0 ∙ e)) (λ e. inr (sym w.0 ∙ e)) ended))
-  where
-    same : command ≡ Run workers json
-    same = one_command words command (Run workers json) is run
-
-    text : Got words call command v.items
-    text = got_text words call command v is got
-
-    given : text.input ≡ v.items
-    given = sym (text_given (Run workers json) text.input tt) ∙ ap (λ (c : CommandView). text_for c text.input) (sym same) ∙ text.is_text
-
-    runs : IsAnswer (Run workers json) text.input status bytes
-    runs = subst (λ (t : List ℕ). IsAnswer (Run workers json) t status bytes) (sym given) (subst (λ (c : CommandView). IsAnswer c v.items status bytes) same answer)
-
-    go : (s : Status) (b : List ℕ) → b ≡ bytes → IsAnswer (Run workers json) text.input s b → (s ≡ statuses.Completed) ⊎ (s ≡ statuses.Limited) → WritesLegalJournal json call s
-    go s b is_bytes (replayed is answer) e = absurd (cc)
-    go s b is_bytes (refused whole refusal first) e = absurd (⊎_elim (λ f. cc) (λ f. cc) e)
-    go s b is_bytes (made session taken makes) e =
-        let held : IsSomeRun json session s bytes = subst (λ (l : List ℕ). IsSomeRun json session s l) is_bytes makes.some in
-        record {
-          input = text.input;
-          takes = text.is_input.taken.takes;
-          whole = text.is_input.whole (run_works words workers json run);
-          session = session;
-          taken = taken;
-          journal = held.journal;
-          bytes = bytes;
-          is_journal = held.is_journal;
-          writes = w.1;
-          headline = session_headline json text.input session held.journal s bytes taken held.is_journal;
-          traceless = traceless_so json text.input session held.journal s bytes taken held.is_journal;
-        }

@@ -1,5 +1,5 @@
 -- The session of what is taken comes to its end, and each role's line is known there.
-use Rattle.std.proofs.Common.{ℕ, ◌≤◌, Bool, true, false, List, length, refl, ⊎_elim}
+use Rattle.std.proofs.Common.{ℕ, Bool, true, false, List, length, refl, ⊎_elim}
 use Rattle.rcv_tree.specs.declared.entry.Entry.{Entry}
 use Rattle.rcv_model.specs.Text.{body_of}
 use Rattle.rcv_model.specs.Next.{IsProper}
@@ -13,7 +13,6 @@ use Rattle.rcv_model.proofs.Threads.{one_thread}
 use Rattle.rcv_model.proofs.Finals.{done_or_limited}
 use Rattle.rcv_model.proofs.GreatestLine as greatest
 use Rattle.rcv_input.specs.Input.{IsTaken}
-use Rattle.rcv_accept.specs.Accepted.{IsAcceptedProtocol}
 use Rattle.rcv_session.specs.Session.{SessionView, net_for, lines_of, roles_of, rules_of}
 use Rattle.rcv_journal.specs.declared.line.RoleLine.{RoleLine}
 use Rattle.rcv_journal.specs.JournalText.{journal_text, last_line}
@@ -22,13 +21,14 @@ use Rattle.rcv_journal.proofs.LinesExist.{lines_from, are_lines}
 use Rattle.rcv_top.specs.declared.status.Status.TheVariants.{Completed, Limited}
 use Rattle.rcv_top.specs.declared.status.Status.{Status}
 use Rattle.rcv_journal.specs.Json.{json_text}
-use Rattle.rcv_top.specs.Running.{EndsAs, all_done, at_limit, IsOneThreadRun}
+use Rattle.rcv_top.specs.Running.{CanRun, IsJournalOf, EndsAs, all_done, at_limit, IsRunOf}
 use Rattle.rcv_jobs.specs.Texts.{IsWritten}
 use Rattle.rcv_top.specs.Generating.{kept_in, IsSummaryRun}
 use Rattle.rcv_gen.specs.Summary.{summary_text}
 use Rattle.rcv_top.specs.Lining.{line_text, IsLineRun}
 use Rattle.rcv_top.specs.Laws.{SessionsEnd}
-use Rattle.rcv_top.proofs.Rooms.{room_of}
+use Rattle.rcv_top.proofs.Headlines.{journals_are_legal}
+use Rattle.rcv_top.proofs.Rooms.{taken_sessions_can_run}
 
 -- ---- what is written
 
@@ -54,25 +54,25 @@ record IsEnd (session : SessionView) : Type 0 where
   pub are_lines : AreLinesOf (rules_of session) (reading (rules_of session) journal) lines
   pub ends : (status : Status) × EndsAs (rules_of session) (reading (rules_of session) journal) status
 
-end_by : (session : SessionView) → IsAcceptedProtocol session.protocol → 1 ≤ (rules_of session).room → IsEnd session
-end_by session accepted room = record {
+end_by : (session : SessionView) → CanRun session → IsEnd session
+end_by session can = record {
   journal = one.0;
   alone = one.1;
   legal = law.legal one.1;
   final = final;
   lines = lines_from rules (reading rules one.0) lawful 0 rules.roles;
   are_lines = are_lines rules (reading rules one.0) lawful;
-  ends = ⊎_elim (λ done. (Completed, all_done done)) (λ at. (Limited, at_limit at)) (done_or_limited rules one.0 lawful accepted.accepted chooses room (law.legal one.1) final);
+  ends = ⊎_elim (λ done. (Completed, all_done done)) (λ at. (Limited, at_limit at)) (done_or_limited rules one.0 lawful can.accepted.accepted chooses can.room (law.legal one.1) final);
 }
   where
     rules : Rules
     rules = rules_of session
 
     lawful : IsProper rules.net rules.roles
-    lawful = proper (body_of session.protocol.body) (length session.protocol.roles) accepted.form
+    lawful = proper (body_of session.protocol.body) (length session.protocol.roles) can.accepted.form
 
     one : (journal : List Entry) × IsOneThread rules journal
-    one = one_thread rules lawful accepted.accepted.lanes_end
+    one = one_thread rules lawful can.accepted.accepted.lanes_end
 
     law : OneJournal rules one.0 one.0
     law = one_journal rules one.0 one.0
@@ -83,35 +83,32 @@ end_by session accepted room = record {
     chooses : ChoosesOffered rules
     chooses r events attempt zs some = chosen_in (net_for session) (lines_of session) r events attempt zs some
 
-end_of : (input : List ℕ) (session : SessionView) → IsTaken input session → IsEnd session
-end_of input session taken = end_by session taken.protocol.accepted (room_of input session taken)
+-- it is the journal of a session that can run
+journal_of : (session : SessionView) (can : CanRun session) (end : IsEnd session) → IsJournalOf session end.journal
+journal_of session can end = journals_are_legal session end.journal can end.legal end.final
 
 -- what one thread makes of it
-pub run_exists : (json : Bool) (session : SessionView) → IsAcceptedProtocol session.protocol → 1 ≤ (rules_of session).room → (status : Status) × (bytes : List ℕ) × IsOneThreadRun json session status bytes
-run_exists json session accepted room =
-    let end = end_by session accepted room in
+pub run_exists : (json : Bool) (session : SessionView) → CanRun session → (status : Status) × (bytes : List ℕ) × IsRunOf 1 json session status bytes
+run_exists json session can =
+    let end = end_by session can in
     let bytes = written json session end.journal end.lines end.are_lines in (
       end.ends.0,
       bytes.0,
-      record {
-        journal = end.journal;
-        is_journal = record { legal = end.legal; final = end.final; ends = end.ends.1; written = bytes.1 };
-        alone = end.alone;
-      },
+      record { journal = end.journal; is_journal = journal_of session can end; ends = end.ends.1; written = bytes.1; alone = λ one. end.alone },
     )
 
 pub sessions_end : SessionsEnd
-sessions_end json input session taken = run_exists json session taken.protocol.accepted (room_of input session taken)
+sessions_end json input session taken = run_exists json session (taken_sessions_can_run input session taken).0
 
 -- its summary under a number
 pub summary_exists : (number : ℕ) (input : List ℕ) (session : SessionView) → IsTaken input session → (bytes : List ℕ) × IsSummaryRun number session Completed bytes
 summary_exists number input session taken =
-    let end = end_of input session taken in (
+    let can = (taken_sessions_can_run input session taken).0 in
+    let end = end_by session can in (
       summary_text number (roles_of session) (net_for session).count end.journal (kept_in end.lines) (last_line session end.lines),
       record {
         journal = end.journal;
-        legal = end.legal;
-        final = end.final;
+        is_journal = journal_of session can end;
         alone = end.alone;
         summary = record { lines = end.lines; are_lines = end.are_lines; is_summary = refl };
         completed = refl;
@@ -121,14 +118,14 @@ summary_exists number input session taken =
 -- the stable line behind its journal
 pub line_exists : (input : List ℕ) (session : SessionView) → IsTaken input session → (bytes : List ℕ) × IsLineRun session Completed bytes
 line_exists input session taken =
-    let end = end_of input session taken in
+    let can = (taken_sessions_can_run input session taken).0 in
+    let end = end_by session can in
     let rules : Rules = rules_of session in
     let line = greatest.line_exists rules.net rules.every (reading rules end.journal).kept in (
       line_text session.protocol.roles line.0,
       record {
         journal = end.journal;
-        legal = end.legal;
-        final = end.final;
+        is_journal = journal_of session can end;
         alone = end.alone;
         line = record { counts = line.0; are_counts = line.1; is_text = refl };
         completed = refl;

@@ -38,13 +38,12 @@ use Rattle.rcv_top.specs.Commands.{AskForSeveral, AskForSource}
 use Rattle.rcv_top.specs.Generating.{IsSummaryRun}
 use Rattle.rcv_top.specs.Lining.{line_text, IsLineRun}
 use Rattle.rcv_top.specs.Laws.{HasOutcome}
-use Rattle.rcv_top.specs.Running.{IsOneThreadRun}
+use Rattle.rcv_top.specs.Running.{IsRunOf}
 use Rattle.rcv_top.specs.Recovering.{IsTableText, accepted_as}
 use Rattle.rcv_top.specs.Headline.{IsHeadline}
 use Rattle.rcv_top.specs.Outcome.{most_bytes, IsOutcome, answered, made}
 use Rattle.rcv_top.proofs.Asking.{one_command, check_command, gen_asks}
 use Rattle.rcv_top.proofs.Again.{checks_stay}
-use Rattle.rcv_top.proofs.Answering.{session_headline}
 use Rattle.rcv_top.proofs.Ending.{sessions_end, summary_exists, line_exists}
 use Rattle.rcv_top.proofs.Existing.{outcomes_exist}
 use Rattle.rcv_json.proofs.OneJson.{one_json}
@@ -134,25 +133,25 @@ printable : IsPrintable protocol
 printable = read_is_printable input (parts_of input).protocol tokens protocol [] cut is_read
 
 -- its session comes to an end, and its journal is what the headline says
-ended : (status : Status) × (bytes : List ℕ) × IsOneThreadRun false session status bytes
+ended : (status : Status) × (bytes : List ℕ) × IsRunOf 1 false session status bytes
 ended = sessions_end false input session taken
 
 headline : IsHeadline (rules_of session) ended.2.journal
-headline = session_headline false input session ended.2.journal ended.0 ended.1 taken ended.2.is_journal
+headline = ended.2.is_journal.headline
 
 -- so it is where the first role crashes, and both fail
-crashed : (status : Status) × (bytes : List ℕ) × IsOneThreadRun false planned.session status bytes
+crashed : (status : Status) × (bytes : List ℕ) × IsRunOf 1 false planned.session status bytes
 crashed = sessions_end false planned.input planned.session planned.is_taken
 
 headline_of_crashes : IsHeadline (rules_of planned.session) crashed.2.journal
-headline_of_crashes = session_headline false planned.input planned.session crashed.2.journal crashed.0 crashed.1 planned.is_taken crashed.2.is_journal
+headline_of_crashes = crashed.2.is_journal.headline
 
 -- it may be written as JSON, in one way
-in_json : (status : Status) × (bytes : List ℕ) × IsOneThreadRun true session status bytes
+in_json : (status : Status) × (bytes : List ℕ) × IsRunOf 1 true session status bytes
 in_json = sessions_end true input session taken
 
 same_json : in_json.1 ≡ in_json.1
-same_json = one_json session in_json.2.journal in_json.1 in_json.1 in_json.2.is_journal.written in_json.2.is_journal.written
+same_json = one_json session in_json.2.journal in_json.1 in_json.1 in_json.2.written in_json.2.written
 
 -- it has a summary, and one alone
 summed : (bytes : List ℕ) × IsSummaryRun 12 session Completed bytes
@@ -174,10 +173,10 @@ worked_line = refl
 
 -- each role and point of the journal has a name, and its last line tells whether all roles are done
 named : AreNamed session ended.2.journal
-named = legal_is_named session ended.2.journal lawful ended.2.is_journal.legal
+named = legal_is_named session ended.2.journal lawful ended.2.is_journal.headline.legal
 
-last : (last_line session ended.2.is_journal.written.lines ≡ codes "completed\n") ↔ AreDone (rules_of session) (reading (rules_of session) ended.2.journal)
-last = completed_is_written session (reading (rules_of session) ended.2.journal) ended.2.is_journal.written.lines ended.2.is_journal.written.are_lines
+last : (last_line session ended.2.written.lines ≡ codes "completed\n") ↔ AreDone (rules_of session) (reading (rules_of session) ended.2.journal)
+last = completed_is_written session (reading (rules_of session) ended.2.journal) ended.2.written.lines ended.2.written.are_lines
 
 -- `check` writes its canonical text, and nothing else; that is read as the same protocol
 checked : IsOutcome (codes "check" ∷ []) input Completed (canonical protocol)
@@ -220,4 +219,4 @@ same_acts : acts.0 ≡ acts.0
 same_acts = roles_have_one_text (accepted_as protocol) 0 acts.0 acts.0 lawful acts.1 acts.1
 
 same_journal : ended.1 ≡ ended.1
-same_journal = one_text session ended.2.journal ended.1 ended.1 ended.2.is_journal.written ended.2.is_journal.written
+same_journal = one_text session ended.2.journal ended.1 ended.1 ended.2.written ended.2.written

@@ -16,7 +16,7 @@ use Rattle.rcv_words.proofs.Deciding.{command_or_none}
 use Rattle.rcv_top.specs.Commands.{WorksOnSource, TakesWhole, text_for}
 use Rattle.rcv_gen.proofs.Lengths.{generated_fits}
 use Rattle.rcv_top.specs.Projection.{place_of}
-use Rattle.rcv_top.specs.Running.{IsOneThreadRun, IsRunOf}
+use Rattle.rcv_top.specs.Running.{IsRunOf}
 use Rattle.rcv_top.specs.Outcome.{most_bytes, usage_line, IsAnswer, Makes, usage, too_long, answered, refused, made, replayed}
 use Rattle.rcv_replay.specs.declared.replayed.Replayed.{Replayed}
 use Rattle.rcv_replay.specs.declared.replayed.Replayed.TheVariants as replays
@@ -33,8 +33,8 @@ use Rattle.rcv_top.proofs.TableTexts.{table_exists}
 -- ---- what a command makes
 
 -- the journal of one thread is one that any number of workers may make
-run_some : (workers : ℕ) (json : Bool) (session : SessionView) → (status : Status) × (bytes : List ℕ) × IsOneThreadRun json session status bytes → (status : Status) × (bytes : List ℕ) × IsRunOf workers json session status bytes
-run_some workers json session run = (run.0, run.1, record { some = record { journal = run.2.journal; is_journal = run.2.is_journal }; alone = λ one. run.2 })
+run_some : (workers : ℕ) (json : Bool) (session : SessionView) → (status : Status) × (bytes : List ℕ) × IsRunOf 1 json session status bytes → (status : Status) × (bytes : List ℕ) × IsRunOf workers json session status bytes
+run_some workers json session run = (run.0, run.1, record { journal = run.2.journal; is_journal = run.2.is_journal; ends = run.2.ends; written = run.2.written; alone = λ one. run.2.alone refl })
 
 makes_some : (input : List ℕ) (session : SessionView) (command : CommandView) → TakesWhole command → IsTaken input session → (status : Status) × (bytes : List ℕ) × Makes session command status bytes
 makes_some input session (Run workers json) whole taken = run_some workers json session (sessions_end json input session taken)

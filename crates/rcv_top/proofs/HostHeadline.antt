@@ -11,7 +11,7 @@ use Rattle.rcv_model.proofs.HostSession as host
 use Rattle.rcv_model.proofs.Session.{feed, feed_form, feed_accepted}
 use Rattle.rcv_theory.specs.Bystander.{KeepsAll}
 use Rattle.rcv_top.specs.Headline.{IsHeadline}
-use Rattle.rcv_top.proofs.Answering.{headline_by}
+use Rattle.rcv_top.proofs.Headlines.{headline_by}
 
 headline : IsHeadline host.rules host.journal
 headline = headline_by host.rules feed host.journal (record { net = refl; form = feed_form; accepted = feed_accepted }) host.legal host.final

@@ -13,14 +13,13 @@ use Rattle.rcv_model.proofs.Cases.{says, hears}
 use Rattle.rcv_theory.specs.Bystander.{KeepsAll}
 use Rattle.rcv_session.specs.Session.{rules_of}
 use Rattle.rcv_transparent.specs.Traces.{LeavesNoTrace}
-use Rattle.rcv_transparent.proofs.Traceless.{crashes_leave_no_trace}
 use Rattle.rcv_parallel.proofs.LaneSession as lanes
 use Rattle.rcv_parallel.proofs.LaneTraces.{view, same_rules, is_blind, is_done}
 use Rattle.rcv_top.specs.declared.status.Status.TheVariants.{Completed}
 use Rattle.rcv_top.specs.Headline.{IsHeadline}
-use Rattle.rcv_top.specs.Running.{all_done, IsJournalOf}
+use Rattle.rcv_top.specs.Running.{all_done, CanRun, IsRunOf}
 use Rattle.rcv_jobs.specs.Texts.{IsWritten}
-use Rattle.rcv_top.proofs.Answering.{headline_by, headline_of}
+use Rattle.rcv_top.proofs.Headlines.{headline_by, journals_are_legal}
 use Rattle.rcv_top.proofs.Ending.{has_text}
 use Rattle.rcv_top.proofs.LaneProtocol.{lawful}
 
@@ -56,17 +55,22 @@ c_restarts = (headline.spares lanes.front lanes.rest 1 (record { 0 = 7 }) lanes.
 text : (bytes : List ℕ) × IsWritten false view lanes.journal bytes
 text = has_text false view lanes.journal (subst (λ (x : Rules). IsProper x.net x.roles) (sym same_rules) lanes.text_proper)
 
-is_journal : IsJournalOf false view lanes.journal Completed text.0
-is_journal = record {
-  legal = is_done.legal;
-  final = subst (λ (x : Rules). IsFinal x (reading x lanes.journal)) (sym same_rules) lanes.final;
+can : CanRun view
+can = record { accepted = lawful; room = is_blind.room }
+
+-- some two workers may write it
+run : IsRunOf 2 false view Completed text.0
+run = record {
+  journal = lanes.journal;
+  is_journal = journals_are_legal view lanes.journal can is_done.legal (subst (λ (x : Rules). IsFinal x (reading x lanes.journal)) (sym same_rules) lanes.final);
   ends = all_done is_done.done;
   written = text.1;
+  alone = λ one. absurd (omega (arith, one));
 }
 
 headline_then : IsHeadline (rules_of view) lanes.journal
-headline_then = headline_of view lanes.journal lawful is_journal.legal is_journal.final
+headline_then = run.is_journal.headline
 
 -- no script reads the attempt, so the crash leaves no trace in what is kept
 no_trace : LeavesNoTrace view lanes.journal
-no_trace = crashes_leave_no_trace view lanes.journal is_blind (record { legal = is_journal.legal; done = is_done.done })
+no_trace = run.is_journal.traceless is_done.done is_blind.blind

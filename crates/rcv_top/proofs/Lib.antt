@@ -1,6 +1,7 @@
 pub mod Writing
+pub mod Headlines
+pub mod Rooms
 pub mod Adding
-pub mod Prepared
 pub mod Asking
 pub mod Sessions
 pub mod Summing
@@ -9,8 +10,8 @@ pub mod SameJson
 pub mod OneSummary
 pub mod OneLine
 pub mod Counting
-pub mod Rooms
 pub mod Runs
+pub mod Prepared
 pub mod ManyRuns
 pub mod Outcomes
 pub mod Workers
@@ -21,8 +22,7 @@ pub mod TableTexts
 pub mod Existing
 pub mod Again
 pub mod Traceless
-pub mod Alike
-pub mod ManyAnswering
+pub mod Asked
 mod Examples
 mod ManyExamples
 mod Unseen

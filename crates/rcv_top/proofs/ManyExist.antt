@@ -13,12 +13,12 @@ use Rattle.rcv_top.specs.declared.status.Status.TheVariants.{Refused}
 use Rattle.rcv_top.specs.Many.{OneRun, AreRuns, ended_as, texts_of, IsRunOfMany}
 use Rattle.rcv_top.proofs.Ending.{run_exists}
 use Rattle.rcv_top.proofs.ManyRuns.{IsRunAt, from_places}
-use Rattle.rcv_top.proofs.Rooms.{later_room}
+use Rattle.rcv_top.proofs.Rooms.{taken_sessions_can_run}
 
 -- each has a run
 run_at : (json : Bool) (input : List ℕ) (session : SessionView) → IsTaken input session → (i : ℕ) → (run : OneRun) × IsRunAt json session i run
 run_at json input session taken i =
-    let run = run_exists json (later session i) taken.protocol.accepted (later_room input session i taken) in
+    let run = run_exists json (later session i) ((taken_sessions_can_run input session taken).1 i) in
     (record { status = run.0; bytes = run.1 }, run.2)
 
 runs_some : (n : ℕ) (json : Bool) (input : List ℕ) (session : SessionView) → IsTaken input session → (runs : List OneRun) × AreRuns n json session runs

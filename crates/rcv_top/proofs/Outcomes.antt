@@ -28,6 +28,7 @@ use Rattle.rcv_tables.proofs.OneText.{one_table_text}
 use Rattle.rcv_top.specs.declared.status.Status.{Status}
 use Rattle.rcv_top.specs.Projection.{place_of, IsProjection}
 use Rattle.rcv_top.specs.Recovering.{accepted_as, IsTableText}
+use Rattle.rcv_top.specs.Running.{IsRunOf}
 use Rattle.rcv_top.specs.Generating.{kept_in, IsSummaryOf, IsSummaryRun}
 use Rattle.rcv_top.specs.Lining.{line_text as stable_text, IsLineBehind, IsLineOf, IsLineRun}
 use Rattle.rcv_top.specs.Outcome.{most_bytes, Makes, IsAsked, IsAnswer, usage, too_long, answered, refused, made, replayed}
@@ -191,9 +192,13 @@ is_for_one words (Gen number) few command = tt
 is_for_one words Replay few command = tt
 is_for_one words Line few command = tt
 
+-- one worker is one
+by_one : (workers : ℕ) (json : Bool) (session : SessionView) (status : Status) (bytes : List ℕ) → workers ≡ 1 → IsRunOf workers json session status bytes → IsRunOf 1 json session status bytes
+by_one workers json session status bytes one = subst (λ (n : ℕ). IsRunOf n json session status bytes) one
+
 -- what a command makes of two sessions that say the same
 one_making : (s t : SessionView) (command : CommandView) (a b : Status) (x y : List ℕ) → IsForOne command → IsAcceptedProtocol t.protocol → AreSame s t → Makes s command a x → Makes t command b y → (a ≡ b) × (x ≡ y)
-one_making s t (Run workers json) a b x y one lawful same m n = one_run json s t a b x y lawful same (m.alone one) (n.alone one)
+one_making s t (Run workers json) a b x y one lawful same m n = one_run json s t a b x y lawful same (by_one workers json s a x one m) (by_one workers json t b y one n)
 one_making s t (RunMany sessions workers json) a b x y one lawful same m n = one_run_of_many sessions json s t a b x y lawful same m n
 one_making s t Check a b x y one lawful same m n = (m.0 ∙ sym n.0, m.1 ∙ one_text_of s.protocol t.protocol same.protocols ∙ sym n.1)
 one_making s t (Project name) a b x y one lawful same m n = one_projection s.protocol t.protocol name a b x y lawful same.protocols m n

@@ -11,9 +11,10 @@ use Rattle.rcv_later.specs.Later.{later, IsLaterOf}
 use Rattle.rcv_later.proofs.Laters.{later_same}
 use Rattle.rcv_later.specs.Preparing.{PreparationView, Waits, preparation_of, IsPrepared, ArePrepared}
 use Rattle.rcv_top.specs.declared.status.Status.{Status}
-use Rattle.rcv_top.specs.Many.{OneRun, IsRun, IsTooMuch, IsManyRun, IsRunOfMany}
-use Rattle.rcv_top.specs.Sharing.{AreJobsOf, IsRunOfAll, IsRunOfPrepared}
-use Rattle.rcv_top.proofs.Runs.{run_moves}
+use Rattle.rcv_top.specs.Many.{OneRun, IsOneRun, IsTooMuch, IsManyRun, IsRunOfMany}
+use Rattle.rcv_top.specs.Sharing.{AreJobsOf, IsJobRun, IsRunOfAll, IsRunOfPrepared}
+use Rattle.rcv_top.proofs.Rooms.{taken_sessions_can_run}
+use Rattle.rcv_top.proofs.Runs.{job_moves}
 
 -- one job more
 pub no_jobs : (json : Bool) (prepared : List PreparationView) → AreJobsOf json prepared 0 []
@@ -59,11 +60,11 @@ through json prepared k old new are done = record {
     kept i d lt = done.1 i d lt
 
 -- the run of a session that was prepared is that of the session of the input
-moves_to : (json : Bool) (input : List ℕ) (session : SessionView) (i : ℕ) (t : SessionView) (run : OneRun) → IsTaken input session → IsLaterOf input i t → IsRun json t run → IsRun json (later session i) run
+moves_to : (json : Bool) (input : List ℕ) (session : SessionView) (i : ℕ) (t : SessionView) (run : OneRun) → IsTaken input session → IsLaterOf input i t → IsJobRun json t run → IsOneRun json (later session i) run
 moves_to json input session i t run taken of is =
     let same : AreSame of.session session = one_answer.sessions input of.session session of.taken taken in
-    run_moves json (later of.session i) (later session i) run.status run.bytes (later_same of.session session i same)
-    (subst (λ (s : SessionView). IsRun json s run) of.is_later is)
+    job_moves json (later of.session i) (later session i) run ((taken_sessions_can_run input session taken).1 i) (later_same of.session session i same)
+    (subst (λ (s : SessionView). IsJobRun json s run) of.is_later is)
 
 pub prepared_run : (n : ℕ) (json : Bool) (input : List ℕ) (session : SessionView) (prepared : List PreparationView) (status : Status) (bytes : List ℕ) → IsTaken input session → ArePrepared input n prepared
     → IsRunOfPrepared json prepared status bytes → IsManyRun n json session status bytes
@@ -90,7 +91,7 @@ prepared_run n json input session prepared status bytes taken are run = record {
         (subst (λ (x : List ℕ). IsLaterOf x (prepared_at i).by (job i).session) is.input_is
         (run.are_jobs.each i (preparation_of input i Waits) (job_of session json waiting) (let count = are.count in omega (arith, lt, count))))
 
-    each : (i : ℕ) (d : OneRun) → i < n → IsRun json (later session i) (slice_index_or all.runs i d)
+    each : (i : ℕ) (d : OneRun) → i < n → IsOneRun json (later session i) (slice_index_or all.runs i d)
     each i d lt =
         let inside : i < length run.jobs = let jobs = run.are_jobs.count in let count = are.count in omega (arith, lt, jobs, count) in
         moves_to json input session i (job i).session (slice_index_or all.runs i d) taken (is_later i lt) (all.are_runs.each i (job_of session json waiting) d inside)

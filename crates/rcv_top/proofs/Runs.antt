@@ -1,5 +1,6 @@
 -- What one thread makes of a session is one thing, and the same of two sessions that say the same.
-use Rattle.std.proofs.Common.{◌≡◌, ℕ, Bool, true, false, List, length, refl, ◌∙◌, subst}
+use Rattle.std.proofs.Common.{◌≡◌, ℕ, Bool, true, false, List, length, refl, sym, ◌∙◌, subst}
+use Rattle.std.specs.Prelude.{if◌then◌else◌}
 use Rattle.rcv_tree.specs.declared.entry.Entry.{Entry}
 use Rattle.rcv_model.specs.Text.{body_of}
 use Rattle.rcv_model.specs.Journal.{Rules, State, reading, IsLegal}
@@ -14,8 +15,12 @@ use Rattle.rcv_journal.proofs.OneText.{one_text}
 use Rattle.rcv_journal.proofs.SameText.{same_rules, same_text}
 use Rattle.rcv_json.proofs.OneJson.{one_json}
 use Rattle.rcv_top.specs.declared.status.Status.{Status}
-use Rattle.rcv_top.specs.Running.{EndsAs, all_done, at_limit, IsOneThreadRun}
-use Rattle.rcv_jobs.specs.Texts.{IsWritten}
+use Rattle.rcv_top.specs.declared.status.Status.TheVariants.{Completed, Limited}
+use Rattle.rcv_jobs.specs.Texts.{IsWritten, EndsWell, IsAloneText}
+use Rattle.rcv_top.specs.Running.{CanRun, EndsAs, all_done, at_limit, IsRunOf}
+use Rattle.rcv_top.specs.Many.{OneRun, IsOneRun}
+use Rattle.rcv_top.specs.Sharing.{IsJobRun}
+use Rattle.rcv_top.proofs.Headlines.{journals_are_legal}
 use Rattle.rcv_top.proofs.SameJson.{same_json}
 
 -- a final state ends in one way
@@ -43,19 +48,24 @@ written_moves false s t journal bytes same rules text = record {
   is_text = text.is_text ∙ same_text s t same.protocols.role_names same.protocols.bodies journal text.lines;
 }
 
--- what one thread made of one is what it makes of the other
-pub run_moves : (json : Bool) (s t : SessionView) (a : Status) (x : List ℕ) → AreSame s t → IsOneThreadRun json s a x → IsOneThreadRun json t a x
-run_moves json s t a x same run = record {
-  journal = run.journal;
-  is_journal = record {
-    legal = subst (λ (r : Rules). IsLegal r run.journal) rules run.is_journal.legal;
-    final = subst (λ (r : Rules). IsFinal r (reading r run.journal)) rules run.is_journal.final;
-    ends = subst (λ (r : Rules). EndsAs r (reading r run.journal) a) rules run.is_journal.ends;
-    written = written_moves json s t run.journal x same rules run.is_journal.written;
-  };
-  alone = subst (λ (r : Rules). IsOneThread r run.journal) rules run.alone;
+-- what a job made of one is what one worker makes of the other
+ends_by : (completed : Bool) (rules : Rules) (s : State) → EndsWell completed rules s → EndsAs rules s (if completed then Completed else Limited)
+ends_by true rules s done = all_done done
+ends_by false rules s at = at_limit at
+
+pub job_moves : (json : Bool) (s t : SessionView) (run : OneRun) → CanRun t → AreSame s t → IsJobRun json s run → IsOneRun json t run
+job_moves json s t run can same is = record {
+  journal = job.journal;
+  is_journal = journals_are_legal t job.journal can (subst (λ (r : Rules). IsLegal r job.journal) rules job.legal) (subst (λ (r : Rules). IsFinal r (reading r job.journal)) rules job.final);
+  ends = subst (λ (r : Rules). EndsAs r (reading r job.journal) run.status) rules
+      (subst (EndsAs (rules_of s) (reading (rules_of s) job.journal)) (sym is.status_is) (ends_by is.completed (rules_of s) (reading (rules_of s) job.journal) job.ends));
+  written = written_moves json s t job.journal run.bytes same rules job.written;
+  alone = λ one. subst (λ (r : Rules). IsOneThread r job.journal) rules job.alone;
 }
   where
+    job : IsAloneText s json is.completed run.bytes
+    job = is.text
+
     rules : rules_of s ≡ rules_of t
     rules = rules_same s t same
 
@@ -70,19 +80,40 @@ pub one_journal_of : (s t : SessionView) (j k : List Entry) → IsAcceptedProtoc
 one_journal_of s t j k lawful rules is other =
     (one_journal (rules_of t) j k).same (proper (body_of t.protocol.body) (length t.protocol.roles) lawful.form).two_ends (subst (λ (r : Rules). IsOneThread r j) rules is) other
 
--- two runs of a session
-pub same_run : (json : Bool) (t : SessionView) (a b : Status) (x y : List ℕ) → IsAcceptedProtocol t.protocol → IsOneThreadRun json t a x → IsOneThreadRun json t b y → (a ≡ b) × (x ≡ y)
-same_run json t a b x y lawful run other = (same_end (rules_of t) (reading (rules_of t) other.journal) a b ends other.is_journal.ends, one_written json t other.journal x y written other.is_journal.written)
+-- what decides status and bytes of the run of one thread
+pub record OneThreadText (json : Bool) (session : SessionView) (status : Status) (bytes : List ℕ) : Type 0 where
+  pub journal : List Entry
+  pub alone : IsOneThread (rules_of session) journal
+  pub ends : EndsAs (rules_of session) (reading (rules_of session) journal) status
+  pub written : IsWritten json session journal bytes
+
+pub text_of : (json : Bool) (session : SessionView) (status : Status) (bytes : List ℕ) → IsRunOf 1 json session status bytes → OneThreadText json session status bytes
+text_of json session status bytes run = record { journal = run.journal; alone = run.alone refl; ends = run.ends; written = run.written }
+
+-- of one session it is that of the other
+pub text_moves : (json : Bool) (s t : SessionView) (a : Status) (x : List ℕ) → AreSame s t → IsRunOf 1 json s a x → OneThreadText json t a x
+text_moves json s t a x same run = record {
+  journal = run.journal;
+  alone = subst (λ (r : Rules). IsOneThread r run.journal) rules (run.alone refl);
+  ends = subst (λ (r : Rules). EndsAs r (reading r run.journal) a) rules run.ends;
+  written = written_moves json s t run.journal x same rules run.written;
+}
+  where
+    rules : rules_of s ≡ rules_of t
+    rules = rules_same s t same
+
+-- two of them say the same
+pub one_text_run : (json : Bool) (t : SessionView) (a b : Status) (x y : List ℕ) → IsAcceptedProtocol t.protocol → OneThreadText json t a x → OneThreadText json t b y → (a ≡ b) × (x ≡ y)
+one_text_run json t a b x y lawful run other = (same_end (rules_of t) (reading (rules_of t) other.journal) a b ends other.ends, one_written json t other.journal x y written other.written)
   where
     journals : run.journal ≡ other.journal
     journals = one_journal_of t t run.journal other.journal lawful refl run.alone other.alone
 
     ends : EndsAs (rules_of t) (reading (rules_of t) other.journal) a
-    ends = subst (λ (es : List Entry). EndsAs (rules_of t) (reading (rules_of t) es) a) journals run.is_journal.ends
+    ends = subst (λ (es : List Entry). EndsAs (rules_of t) (reading (rules_of t) es) a) journals run.ends
 
     written : IsWritten json t other.journal x
-    written = subst (λ (es : List Entry). IsWritten json t es x) journals run.is_journal.written
+    written = subst (λ (es : List Entry). IsWritten json t es x) journals run.written
 
--- two runs of sessions that say the same
-pub one_run : (json : Bool) (s t : SessionView) (a b : Status) (x y : List ℕ) → IsAcceptedProtocol t.protocol → AreSame s t → IsOneThreadRun json s a x → IsOneThreadRun json t b y → (a ≡ b) × (x ≡ y)
-one_run json s t a b x y lawful same run other = same_run json t a b x y lawful (run_moves json s t a x same run) other
+pub one_run : (json : Bool) (s t : SessionView) (a b : Status) (x y : List ℕ) → IsAcceptedProtocol t.protocol → AreSame s t → IsRunOf 1 json s a x → IsRunOf 1 json t b y → (a ≡ b) × (x ≡ y)
+one_run json s t a b x y lawful same run other = one_text_run json t a b x y lawful (text_moves json s t a x same run) (text_of json t b y other)

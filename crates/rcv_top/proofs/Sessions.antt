@@ -14,11 +14,11 @@ use Rattle.rcv_input.specs.Line.{refusal_line}
 use Rattle.rcv_core.specs.Book.{BookView, EndsAlone}
 use Rattle.rcv_super.specs.Super.{SuperView, new_session}
 use Rattle.rcv_words.specs.Commands.{CommandView}
-use Rattle.rcv_top.specs.Finishing.{FinishesAs}
+use Rattle.rcv_top.specs.Finishing.{EndsSo, FinishesAs}
 use Rattle.rcv_top.specs.declared.status.Status.TheVariants as statuses
 use Rattle.rcv_top.specs.declared.status.Status.{Status}
 use Rattle.rcv_top.specs.declared.output.Output.{Output}
-use Rattle.rcv_top.specs.Running.{IsJournalOf, IsOneThreadRun, IsRunOf}
+use Rattle.rcv_top.specs.Running.{CanRun, IsRunOf}
 use Rattle.rcv_top.specs.Generating.{IsSummaryOf, IsSummaryRun}
 use Rattle.rcv_top.specs.Lining.{IsLineOf, IsLineRun}
 use Rattle.rcv_replay.specs.declared.replayed.Replayed.{Replayed}
@@ -26,6 +26,7 @@ use Rattle.rcv_replay.specs.Replaying.{IsReplay}
 use Rattle.rcv_top.specs.Commands.{TakesWhole}
 use Rattle.rcv_top.specs.Replaying.{IsSaidOf, IsReplayAnswer}
 use Rattle.rcv_top.specs.Outcome.{IsAnswer, Makes, refused, made}
+use Rattle.rcv_top.proofs.Headlines.{journals_are_legal}
 
 -- ---- a book that one thread ran to its end
 
@@ -40,50 +41,52 @@ ended session first last empty ends = record { journal = here.more; is = here.ad
     here : EndsAlone (record { setup = session; entries = [] }) last
     here = subst (λ (b : BookView). EndsAlone b last) empty ends
 
--- its journal is the one of one thread
-one_run : (json : Bool) (session : SessionView) (book : BookView) (status : Status) (bytes : List ℕ) → Ended session book → IsJournalOf json book.setup book.entries status bytes → IsOneThreadRun json session status bytes
-one_run json session book status bytes e held = record { journal = e.journal; is_journal = subst (λ (b : BookView). IsJournalOf json b.setup b.entries status bytes) e.is held; alone = e.alone }
-
 -- what workers brought to its end
-run_of : (workers : ℕ) (json : Bool) (session : SessionView) (first : BookView) (status : Status) (bytes : List ℕ) → first ≡ record { setup = session; entries = [] } → FinishesAs workers json first status bytes → IsRunOf workers json session status bytes
-run_of workers json session first status bytes empty done = record {
-  some = record { journal = done.last.entries; is_journal = subst (λ (s : SessionView). IsJournalOf json s done.last.entries status bytes) same done.is_journal };
-  alone = λ one. one_run json session done.last status bytes (ended session first done.last empty (done.finished.alone one)) done.is_journal;
+pub run_of : (workers : ℕ) (json : Bool) (session : SessionView) (first : BookView) (status : Status) (bytes : List ℕ) → CanRun session → first ≡ record { setup = session; entries = [] } → FinishesAs workers json first status bytes → IsRunOf workers json session status bytes
+run_of workers json session first status bytes can empty done = record {
+  journal = done.last.entries;
+  is_journal = journals_are_legal session done.last.entries can held.legal held.final;
+  ends = held.ends;
+  written = held.written;
+  alone = λ one.
+      let e = ended session first done.last empty (done.finished.alone one) in
+      subst (IsOneThread (rules_of session)) (sym (ap (λ (b : BookView). b.entries) e.is)) e.alone;
 }
   where
     same : done.last.setup ≡ session
     same = ap (λ (b : BookView). b.setup) done.finished.added ∙ ap (λ (b : BookView). b.setup) empty
 
+    held : EndsSo json session done.last.entries status bytes
+    held = subst (λ (s : SessionView). EndsSo json s done.last.entries status bytes) same done.ends_so
+
 -- the same of a session's book
-pub ran : (workers : ℕ) (json : Bool) (session : SessionView) (first : SuperView) → first ≡ new_session session
+pub ran : (workers : ℕ) (json : Bool) (session : SessionView) (first : SuperView) → CanRun session → first ≡ new_session session
     → (status : Status) (bytes : List ℕ) → FinishesAs workers json first.book status bytes → IsRunOf workers json session status bytes
-ran workers json session first empty status bytes = run_of workers json session first.book status bytes (ap (λ (v : SuperView). v.book) empty)
+ran workers json session first can empty status bytes = run_of workers json session first.book status bytes can (ap (λ (v : SuperView). v.book) empty)
 
 -- the summary of what a book alone brought to its end
-pub summed : (number : ℕ) (session : SessionView) (first last : BookView) (status : Status) (bytes : List ℕ) → first ≡ record { setup = session; entries = [] } → EndsAlone first last
+pub summed : (number : ℕ) (session : SessionView) (first last : BookView) (status : Status) (bytes : List ℕ) → CanRun session → first ≡ record { setup = session; entries = [] } → EndsAlone first last
     → IsSummaryOf last.setup last.entries number bytes → status ≡ statuses.Completed → IsSummaryRun number session status bytes
-summed number session first last status bytes empty ends summary completed =
+summed number session first last status bytes can empty ends summary completed =
     let e = ended session first last empty ends in
     let law = one_journal (rules_of session) e.journal e.journal in
     record {
       journal = e.journal;
-      legal = law.legal e.alone;
-      final = law.final e.alone;
+      is_journal = journals_are_legal session e.journal can (law.legal e.alone) (law.final e.alone);
       alone = e.alone;
       summary = subst (λ (b : BookView). IsSummaryOf b.setup b.entries number bytes) e.is summary;
       completed = completed;
     }
 
 -- the stable line behind the journal of such a book
-pub lined : (session : SessionView) (first last : BookView) (status : Status) (bytes : List ℕ) → first ≡ record { setup = session; entries = [] } → EndsAlone first last
+pub lined : (session : SessionView) (first last : BookView) (status : Status) (bytes : List ℕ) → CanRun session → first ≡ record { setup = session; entries = [] } → EndsAlone first last
     → IsLineOf last.setup last.entries bytes → status ≡ statuses.Completed → IsLineRun session status bytes
-lined session first last status bytes empty ends line completed =
+lined session first last status bytes can empty ends line completed =
     let e = ended session first last empty ends in
     let law = one_journal (rules_of session) e.journal e.journal in
     record {
       journal = e.journal;
-      legal = law.legal e.alone;
-      final = law.final e.alone;
+      is_journal = journals_are_legal session e.journal can (law.legal e.alone) (law.final e.alone);
       alone = e.alone;
       line = subst (λ (b : BookView). IsLineOf b.setup b.entries bytes) e.is line;
       completed = completed;

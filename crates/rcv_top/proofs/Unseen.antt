@@ -23,15 +23,17 @@ use Rattle.rcv_model.proofs.Stepping.{final_by}
 use Rattle.rcv_session.specs.Session.{lines_of, rules_of}
 use Rattle.rcv_input.proofs.Planned.{input, session, is_taken}
 use Rattle.rcv_input.proofs.Worked.{one, its_body}
-use Rattle.rcv_transparent.specs.Calm.{calm, ReadsNoAttempt}
+use Rattle.rcv_transparent.specs.Calm.{calm, ReadsNoAttempt, IsDoneJournal}
 use Rattle.rcv_transparent.specs.Traces.{LeavesNoTrace}
 use Rattle.rcv_top.specs.declared.status.Status.{Status}
 use Rattle.rcv_top.specs.declared.status.Status.TheVariants.{Completed}
-use Rattle.rcv_top.specs.Running.{all_done, IsJournalOf, IsRunOf}
+use Rattle.rcv_top.specs.Running.{all_done, CanRun, IsRunOf}
 use Rattle.rcv_jobs.specs.Texts.{IsWritten}
 use Rattle.rcv_top.specs.Laws.{CompletesBlind}
 use Rattle.rcv_top.proofs.Ending.{has_text}
-use Rattle.rcv_top.proofs.Traceless.{sessions_leave_no_trace, calm_sessions_complete}
+use Rattle.rcv_top.proofs.Headlines.{journals_are_legal}
+use Rattle.rcv_top.proofs.Rooms.{taken_sessions_can_run}
+use Rattle.rcv_top.proofs.Traceless.{calm_sessions_complete}
 
 abbrev pub net : Net
 net = net_of one
@@ -87,15 +89,26 @@ done (suc (suc r)) lt z n = omega arith
 final : IsFinal rules (reading rules journal)
 final = final_by rules s4 (lawful.two_ends, net_one) refl
 
-pub text : (bytes : List ℕ) × IsWritten false session journal bytes
+text : (bytes : List ℕ) × IsWritten false session journal bytes
 text = has_text false session journal (subst (λ (x : Rules). IsProper x.net x.roles) (sym same_rules) lawful)
 
-pub is_journal : IsJournalOf false session journal Completed text.0
-is_journal = record {
+pub is_done : IsDoneJournal session journal
+is_done = record {
   legal = subst (λ (x : Rules). IsLegal x journal) (sym same_rules) legal;
-  final = subst (λ (x : Rules). IsFinal x (reading x journal)) (sym same_rules) final;
-  ends = all_done (subst (λ (x : Rules). AreDone x (reading x journal)) (sym same_rules) done);
+  done = subst (λ (x : Rules). AreDone x (reading x journal)) (sym same_rules) done;
+}
+
+pub can : CanRun session
+can = (taken_sessions_can_run input session is_taken).0
+
+-- some two workers may write it
+run : IsRunOf 2 false session Completed text.0
+run = record {
+  journal = journal;
+  is_journal = journals_are_legal session journal can is_done.legal (subst (λ (x : Rules). IsFinal x (reading x journal)) (sym same_rules) final);
+  ends = all_done is_done.done;
   written = text.1;
+  alone = λ one. absurd (omega (arith, one));
 }
 
 -- there are no scripts
@@ -104,12 +117,12 @@ blind zero = tt
 blind (suc zero) = tt
 blind (suc (suc r)) = tt
 
-completes : CompletesBlind false input session journal text.0
-completes = record { taken = is_taken; blind = blind; is_journal = is_journal }
-
 no_trace : LeavesNoTrace session journal
-no_trace = sessions_leave_no_trace false input session journal text.0 completes
+no_trace = run.is_journal.traceless is_done.done blind
+
+pub completes : CompletesBlind session journal
+completes = record { can = can; blind = blind; done = is_done }
 
 -- four workers complete the session without the crash line, too
 by_four : (status : Status) (bytes : List ℕ) → IsRunOf 4 false (calm session) status bytes → status ≡ Completed
-by_four status bytes run = calm_sessions_complete false input session journal text.0 completes 4 false status bytes run
+by_four status bytes run = calm_sessions_complete session journal completes 4 false status bytes run

@@ -3,7 +3,6 @@
 use Rattle.std.proofs.Common.{◌≡◌, ℕ, zero, suc, false, List, [], ◌∷◌, refl, sym, ap, subst, arith}
 use Rattle.rcv_tree.specs.declared.entry.Entry.{Entry}
 use Rattle.rcv_tree.specs.declared.entry.Entry.TheVariants.{Send, Recv}
-use Rattle.rcv_model.specs.Next.{IsProper}
 use Rattle.rcv_model.specs.Plan.{session_rules}
 use Rattle.rcv_model.specs.Journal.{Rules, State, start, after, place, reading, IsLegal}
 use Rattle.rcv_model.specs.Final.{IsFinal, AreDone}
@@ -14,15 +13,15 @@ use Rattle.rcv_session.specs.Session.{net_for, lines_of, rules_of}
 use Rattle.rcv_plan.specs.Shifted.{shifted}
 use Rattle.rcv_input.proofs.Planned.{input, session, is_taken}
 use Rattle.rcv_input.proofs.Worked.{one, its_body}
-use Rattle.rcv_jobs.specs.Texts.{IsWritten}
 use Rattle.rcv_later.specs.Later.{later}
+use Rattle.rcv_transparent.specs.Calm.{IsDoneJournal}
 use Rattle.rcv_transparent.specs.Traces.{AreAlike}
-use Rattle.rcv_top.specs.declared.status.Status.TheVariants.{Completed}
 use Rattle.rcv_top.specs.Headline.{IsHeadline}
-use Rattle.rcv_top.specs.Running.{all_done, IsJournalOf}
-use Rattle.rcv_top.specs.Laws.{BothComplete}
-use Rattle.rcv_top.proofs.Alike.{many_sessions_are_legal, sessions_keep_alike}
-use Rattle.rcv_top.proofs.Ending.{has_text}
+use Rattle.rcv_top.specs.Running.{CanRun, IsJournalOf}
+use Rattle.rcv_top.specs.Laws.{CompletesBlind}
+use Rattle.rcv_top.proofs.Headlines.{journals_are_legal}
+use Rattle.rcv_top.proofs.Rooms.{taken_sessions_can_run}
+use Rattle.rcv_top.proofs.Traceless.{sessions_keep_alike}
 use Rattle.rcv_top.proofs.Unseen as unseen
 use Rattle.rcv_top.proofs.Unseen.{net, net_one, lawful, blind}
 
@@ -55,23 +54,27 @@ done (suc (suc r)) lt z n = omega arith
 final : IsFinal rules (reading rules journal)
 final = final_by rules s2 (lawful.two_ends, net_one) refl
 
-text : (bytes : List ℕ) × IsWritten false (later session 1) journal bytes
-text = has_text false (later session 1) journal (subst (λ (x : Rules). IsProper x.net x.roles) (sym same_rules) lawful)
-
-is_journal : IsJournalOf false (later session 1) journal Completed text.0
-is_journal = record {
+is_done : IsDoneJournal (later session 1) journal
+is_done = record {
   legal = subst (λ (x : Rules). IsLegal x journal) (sym same_rules) legal;
-  final = subst (λ (x : Rules). IsFinal x (reading x journal)) (sym same_rules) final;
-  ends = all_done (subst (λ (x : Rules). AreDone x (reading x journal)) (sym same_rules) done);
-  written = text.1;
+  done = subst (λ (x : Rules). AreDone x (reading x journal)) (sym same_rules) done;
 }
 
+can : CanRun (later session 1)
+can = (taken_sessions_can_run input session is_taken).1 1
+
+is_journal : IsJournalOf (later session 1) journal
+is_journal = journals_are_legal (later session 1) journal can is_done.legal (subst (λ (x : Rules). IsFinal x (reading x journal)) (sym same_rules) final)
+
 headline : IsHeadline (rules_of (later session 1)) journal
-headline = many_sessions_are_legal false input session 1 journal Completed text.0 is_taken is_journal
+headline = is_journal.headline
+
+completes : CompletesBlind (later session 1) journal
+completes = record { can = can; blind = blind; done = is_done }
 
 -- the first one is the session of the plan as it was read
-both : BothComplete false input session 0 1 unseen.journal journal
-both = record { taken = is_taken; blind = blind; first_bytes = unseen.text.0; is_first = unseen.is_journal; second_bytes = text.0; is_second = is_journal }
+first_completes : CompletesBlind (later session 0) unseen.journal
+first_completes = unseen.completes
 
 alike : AreAlike (net_for session) (reading (rules_of (later session 0)) unseen.journal) (reading (rules_of (later session 1)) journal)
-alike = sessions_keep_alike false input session 0 1 unseen.journal journal both
+alike = sessions_keep_alike session 0 1 unseen.journal journal first_completes completes

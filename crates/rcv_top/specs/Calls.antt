@@ -1,26 +1,15 @@
 -- What a call of the program took from its source and wrote to its sink, for each status.
-use Rattle.std.specs.Prelude.{◌≡◌, ℕ, ◌<◌, ◌≤◌, Bool, List, [], length, slice_index_or}
+use Rattle.std.specs.Prelude.{◌≡◌, ℕ, ◌<◌, ◌≤◌, List, [], length}
 use Rattle.std.specs.declared.option.Option.{Option}
 use Rattle.std.specs.Io.KnownBytes.{append_known, IsAtEnd}
-use Rattle.rcv_tree.specs.declared.entry.Entry.{Entry}
 use Rattle.rcv_io.specs.Causes.{Rose}
 use Rattle.rcv_io.specs.Source.{Took}
 use Rattle.rcv_io.specs.Sink.{WroteBeginning}
-use Rattle.rcv_model.specs.Final.{IsOneThread}
-use Rattle.rcv_session.specs.Session.{SessionView, rules_of}
-use Rattle.rcv_transparent.specs.Calm.{ReadsNoAttempt}
-use Rattle.rcv_transparent.specs.Traces.{LeavesNoTrace}
 use Rattle.rcv_top.specs.declared.status.Status.{Status}
 use Rattle.rcv_top.specs.declared.status.Status.TheVariants.{Completed, Usage, Refused, Limited, ReadFault, WriteFault, Memory, TooLong, Wrong}
 use Rattle.rcv_top.specs.Commands.{AskForSource}
 use Rattle.rcv_top.specs.Inputs.{Reading, ReadNothing}
-use Rattle.rcv_input.specs.Input.{IsTaken}
-use Rattle.rcv_joined.specs.Joined.{joined}
-use Rattle.rcv_later.specs.Later.{later}
-use Rattle.rcv_top.specs.Running.{IsJournalOf}
-use Rattle.rcv_top.specs.Many.{OneRun, ended_as, texts_of, IsTooMuch}
 use Rattle.rcv_top.specs.Outcome.{most_bytes, IsOutcome}
-use Rattle.rcv_top.specs.Headline.{IsHeadline}
 
 -- What is told of a source and a sink before and after a call.
 pub record Around : Type 0 where
@@ -144,42 +133,3 @@ pub record TellsFault (before now : ℕ) (fault result : Status) : Type 0 where
   pub later : before ≤ now
   pub only : result ≡ fault → Rose before now
   pub always : before < now → result ≡ fault
-
--- The whole input is taken as a session. What was written is the JSON or the text of a journal of it that is as the headline says. If all
--- roles come to be done and no script reads the attempt, its crashes leave no trace in what is kept.
-pub record WritesLegalJournal (json : Bool) (call : Around) (status : Status) : Type 0 where
-  pub input : List ℕ
-  pub takes : Takes call input
-  pub whole : IsAtEnd call.rest_after
-  pub session : SessionView
-  pub taken : IsTaken input session
-  pub journal : List Entry
-  pub bytes : List ℕ
-  pub is_journal : IsJournalOf json session journal status bytes
-  pub writes : call.written_after ≡ append_known call.written_before bytes
-  pub headline : IsHeadline (rules_of session) journal
-  pub traceless : status ≡ Completed → ReadsNoAttempt session → LeavesNoTrace session journal
-
--- The journal that one thread makes of a session is as the headline says, and these are how it ended and its bytes. If all roles come to be
--- done and no script reads the attempt, its crashes leave no trace in what is kept.
-pub record IsLegalRun (json : Bool) (session : SessionView) (run : OneRun) : Type 0 where
-  pub journal : List Entry
-  pub is_journal : IsJournalOf json session journal run.status run.bytes
-  pub alone : IsOneThread (rules_of session) journal
-  pub headline : IsHeadline (rules_of session) journal
-  pub traceless : run.status ≡ Completed → ReadsNoAttempt session → LeavesNoTrace session journal
-
--- The whole input is taken as a session. What was written is the journals of so many sessions of it, in order, as the status says. Each is
--- as the headline says; in session i, counted from 0, each crash line has a count that is i more.
-pub record WritesLegalJournals (sessions : ℕ) (json : Bool) (call : Around) (status : Status) : Type 0 where
-  pub input : List ℕ
-  pub takes : Takes call input
-  pub whole : IsAtEnd call.rest_after
-  pub session : SessionView
-  pub taken : IsTaken input session
-  pub fits : IsTooMuch sessions session → ⊥
-  pub runs : List OneRun
-  pub count : length runs ≡ sessions
-  pub each : (i : ℕ) (d : OneRun) → i < sessions → IsLegalRun json (later session i) (slice_index_or runs i d)
-  pub ended : status ≡ ended_as runs
-  pub writes : call.written_after ≡ append_known call.written_before (joined json 0 (texts_of runs))

@@ -2,14 +2,15 @@
 use Rattle.std.specs.Prelude.{◌≡◌, ℕ, List, sum_by}
 use Rattle.rcv_tree.specs.declared.entry.Entry.{Entry}
 use Rattle.rcv_session.specs.Session.{SessionView, net_for, roles_of, rules_of}
-use Rattle.rcv_model.specs.Journal.{reading, IsLegal}
-use Rattle.rcv_model.specs.Final.{IsFinal, IsOneThread}
+use Rattle.rcv_model.specs.Journal.{reading}
+use Rattle.rcv_model.specs.Final.{IsOneThread}
 use Rattle.rcv_journal.specs.declared.line.RoleLine.{RoleLine}
 use Rattle.rcv_journal.specs.JournalText.{last_line}
 use Rattle.rcv_journal.specs.Lines.{AreLinesOf}
 use Rattle.rcv_gen.specs.Summary.{summary_text}
 use Rattle.rcv_top.specs.declared.status.Status.{Status}
 use Rattle.rcv_top.specs.declared.status.Status.TheVariants.{Completed}
+use Rattle.rcv_top.specs.Running.{IsJournalOf}
 
 -- How many events the lines of the roles say are kept.
 abbrev pub kept_in : List RoleLine → ℕ
@@ -26,8 +27,7 @@ pub record IsSummaryOf (session : SessionView) (journal : List Entry) (number : 
 -- line does.
 pub record IsSummaryRun (number : ℕ) (session : SessionView) (status : Status) (bytes : List ℕ) : Type 0 where
   pub journal : List Entry
-  pub legal : IsLegal (rules_of session) journal
-  pub final : IsFinal (rules_of session) (reading (rules_of session) journal)
+  pub is_journal : IsJournalOf session journal
   pub alone : IsOneThread (rules_of session) journal
   pub summary : IsSummaryOf session journal number bytes
   pub completed : status ≡ Completed

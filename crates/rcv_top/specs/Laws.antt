@@ -1,19 +1,20 @@
 -- What holds of the definitions.
-use Rattle.std.specs.Prelude.{◌≡◌, ℕ, ◌≤◌, Bool, codes, List, [], ◌∷◌, length}
+use Rattle.std.specs.Prelude.{◌≡◌, ◌⊎◌, ℕ, ◌≤◌, Bool, codes, List, [], ◌∷◌, length}
 use Rattle.rcv_tree.specs.declared.entry.Entry.{Entry}
 use Rattle.rcv_session.specs.Session.{SessionView, net_for, rules_of}
-use Rattle.rcv_model.specs.Journal.{reading}
+use Rattle.rcv_model.specs.Journal.{reading, IsLegal}
+use Rattle.rcv_model.specs.Final.{IsFinal}
 use Rattle.rcv_input.specs.Input.{IsTaken}
-use Rattle.rcv_transparent.specs.Calm.{calm, ReadsNoAttempt}
-use Rattle.rcv_transparent.specs.Traces.{AreAlike, LeavesNoTrace}
+use Rattle.rcv_transparent.specs.Calm.{calm, ReadsNoAttempt, IsDoneJournal}
+use Rattle.rcv_transparent.specs.Traces.{AreAlike}
 use Rattle.rcv_later.specs.Later.{later}
 use Rattle.rcv_top.specs.declared.status.Status.{Status}
-use Rattle.rcv_top.specs.declared.status.Status.TheVariants.{Completed}
-use Rattle.rcv_words.specs.Commands.{RunMany, IsCommand}
+use Rattle.rcv_top.specs.declared.status.Status.TheVariants.{Completed, Limited}
+use Rattle.rcv_words.specs.Commands.{Run, RunMany, IsCommand}
 use Rattle.rcv_top.specs.Commands.{AskForSeveral}
-use Rattle.rcv_top.specs.Running.{IsJournalOf, IsOneThreadRun, IsRunOf}
+use Rattle.rcv_top.specs.Running.{CanRun, IsJournalOf, IsRunOf}
+use Rattle.rcv_top.specs.Many.{AreWritten}
 use Rattle.rcv_top.specs.Outcome.{most_bytes, IsOutcome}
-use Rattle.rcv_top.specs.Headline.{IsHeadline}
 
 -- If the words don't ask for several workers of one session, status and bytes are a function of the words and the input.
 abbrev pub OneOutcome : Type 0
@@ -36,61 +37,61 @@ HasOutcome words input = (status : Status) × (bytes : List ℕ) × IsOutcome wo
 abbrev pub OutcomesExist : Type 0
 OutcomesExist = (words : List (List ℕ)) (input : List ℕ) → HasOutcome words input
 
--- If an input is taken as a session, a journal of this session is what the headline says, even if the sink took only a beginning of its
--- bytes.
-abbrev pub SessionsAreLegal : Type 0
-SessionsAreLegal =
-    (json : Bool) (input : List ℕ) (session : SessionView) (journal : List Entry) (status : Status) (bytes : List ℕ)
-    → IsTaken input session → IsJournalOf json session journal status bytes → IsHeadline (rules_of session) journal
+-- The words ask for a run, and what they answered isn't a refusal.
+abbrev pub HasEnded : Status → Type 0
+HasEnded status = (status ≡ Completed) ⊎ (status ≡ Limited)
 
--- An input whose scripts don't read the attempt is taken as this session, and this journal of it leaves all roles done.
-pub record CompletesBlind (json : Bool) (input : List ℕ) (session : SessionView) (journal : List Entry) (bytes : List ℕ) : Type 0 where
-  pub taken : IsTaken input session
+-- What `run` answered, written whole or in part, is what its workers make of the session that the input is taken as.
+abbrev pub OutcomesAreRuns : Type 0
+OutcomesAreRuns =
+    (words : List (List ℕ)) (input : List ℕ) (workers : ℕ) (json : Bool) (status : Status) (bytes : List ℕ)
+    → IsCommand words (Run workers json) → HasEnded status → IsOutcome words input status bytes
+    → (session : SessionView) × IsTaken input session × IsRunOf workers json session status bytes
+
+-- With `--sessions` it is the journals of so many sessions, which aren't too much.
+abbrev pub OutcomesAreManyRuns : Type 0
+OutcomesAreManyRuns =
+    (words : List (List ℕ)) (input : List ℕ) (sessions workers : ℕ) (json : Bool) (status : Status) (bytes : List ℕ)
+    → IsCommand words (RunMany sessions workers json) → HasEnded status → IsOutcome words input status bytes
+    → (session : SessionView) × IsTaken input session × AreWritten sessions json session status bytes
+
+-- A session that is taken can run, and so can each later one of several of it.
+abbrev pub TakenSessionsCanRun : Type 0
+TakenSessionsCanRun =
+    (input : List ℕ) (session : SessionView) → IsTaken input session → CanRun session × ((i : ℕ) → CanRun (later session i))
+
+-- Each legal and final journal of a session that can run is as the headline says, and leaves no trace of its crashes.
+abbrev pub JournalsAreLegal : Type 0
+JournalsAreLegal =
+    (session : SessionView) (journal : List Entry) → CanRun session → IsLegal (rules_of session) journal
+    → IsFinal (rules_of session) (reading (rules_of session) journal) → IsJournalOf session journal
+
+-- A session that can run, whose scripts don't read the attempt, with a legal journal that leaves all roles done.
+pub record CompletesBlind (session : SessionView) (journal : List Entry) : Type 0 where
+  pub can : CanRun session
   pub blind : ReadsNoAttempt session
-  pub is_journal : IsJournalOf json session journal Completed bytes
+  pub done : IsDoneJournal session journal
 
--- Its crashes leave no trace in what is kept.
-abbrev pub SessionsLeaveNoTrace : Type 0
-SessionsLeaveNoTrace =
-    (json : Bool) (input : List ℕ) (session : SessionView) (journal : List Entry) (bytes : List ℕ)
-    → CompletesBlind json input session journal bytes → LeavesNoTrace session journal
-
--- And the session without its crash lines completes, with any number of workers.
+-- Then it also completes without its crash lines, with any number of workers.
 abbrev pub CalmSessionsComplete : Type 0
 CalmSessionsComplete =
-    (json : Bool) (input : List ℕ) (session : SessionView) (journal : List Entry) (bytes : List ℕ)
-    → CompletesBlind json input session journal bytes
-    → (workers : ℕ) (as_json : Bool) (status : Status) (written : List ℕ) → IsRunOf workers as_json (calm session) status written
+    (session : SessionView) (journal : List Entry) → CompletesBlind session journal
+    → (workers : ℕ) (json : Bool) (status : Status) (bytes : List ℕ) → IsRunOf workers json (calm session) status bytes
     → status ≡ Completed
 
--- The journal of each of several sessions, counted from 0, is what the headline says.
-abbrev pub ManySessionsAreLegal : Type 0
-ManySessionsAreLegal =
-    (json : Bool) (input : List ℕ) (session : SessionView) (i : ℕ) (journal : List Entry) (status : Status) (bytes : List ℕ)
-    → IsTaken input session → IsJournalOf json (later session i) journal status bytes → IsHeadline (rules_of (later session i)) journal
-
--- An input whose scripts don't read the attempt is taken as this session, and of several sessions of it two, i and k,
--- complete with these journals.
-pub record BothComplete (json : Bool) (input : List ℕ) (session : SessionView) (i k : ℕ) (first second : List Entry) : Type 0 where
-  pub taken : IsTaken input session
-  pub blind : ReadsNoAttempt session
-  pub first_bytes : List ℕ
-  pub is_first : IsJournalOf json (later session i) first Completed first_bytes
-  pub second_bytes : List ℕ
-  pub is_second : IsJournalOf json (later session k) second Completed second_bytes
-
--- They keep the same, however far apart their crashes are: each role did the same, and each channel carried the same, except for stamps.
+-- If two of several sessions, i and k, do so, they keep the same, however far apart their crashes are: each role did the same, and each
+-- channel carried the same, except for stamps.
 abbrev pub SessionsKeepAlike : Type 0
 SessionsKeepAlike =
-    (json : Bool) (input : List ℕ) (session : SessionView) (i k : ℕ) (first second : List Entry)
-    → BothComplete json input session i k first second
+    (session : SessionView) (i k : ℕ) (first second : List Entry)
+    → CompletesBlind (later session i) first → CompletesBlind (later session k) second
     → AreAlike (net_for session) (reading (rules_of (later session i)) first) (reading (rules_of (later session k)) second)
 
 -- The session of each input that is taken comes to its end: all roles are done, or some role is at the limit.
 abbrev pub SessionsEnd : Type 0
 SessionsEnd =
     (json : Bool) (input : List ℕ) (session : SessionView) → IsTaken input session
-    → (status : Status) × (bytes : List ℕ) × IsOneThreadRun json session status bytes
+    → (status : Status) × (bytes : List ℕ) × IsRunOf 1 json session status bytes
 
 -- If what `check` wrote has at most as many bytes as an input may have, `check` writes the same bytes when it reads them.
 abbrev pub ChecksStay : Type 0

@@ -1,5 +1,6 @@
 pub mod Commands
 pub mod Writing
+pub mod Headline
 pub mod Running
 pub mod Many
 pub mod Sharing
@@ -10,7 +11,6 @@ pub mod Recovering
 pub mod Replaying
 pub mod Lining
 pub mod Outcome
-pub mod Headline
 pub mod Inputs
 pub mod Calls
 pub mod Laws

@@ -2,13 +2,14 @@
 use Rattle.std.specs.Prelude.{◌≡◌, ℕ, codes, decimal, List, ◌++◌, flat_map, length}
 use Rattle.std.specs.List.{range_with_len}
 use Rattle.rcv_tree.specs.declared.entry.Entry.{Entry}
-use Rattle.rcv_model.specs.Journal.{Rules, reading, IsLegal}
-use Rattle.rcv_model.specs.Final.{IsFinal, IsOneThread}
+use Rattle.rcv_model.specs.Journal.{Rules, reading}
+use Rattle.rcv_model.specs.Final.{IsOneThread}
 use Rattle.rcv_model.specs.StableLine.{IsStableLine}
 use Rattle.rcv_session.specs.Session.{SessionView, rules_of}
 use Rattle.rcv_tables.specs.TableText.{name_of}
 use Rattle.rcv_top.specs.declared.status.Status.{Status}
 use Rattle.rcv_top.specs.declared.status.Status.TheVariants.{Completed}
+use Rattle.rcv_top.specs.Running.{IsJournalOf}
 
 -- The counts are the stable line of what the journal keeps: how many events of each role no recovery takes back.
 abbrev pub IsLineBehind : Rules → List Entry → (ℕ → ℕ) → Type 0
@@ -36,8 +37,7 @@ pub record IsLineOf (session : SessionView) (journal : List Entry) (bytes : List
 -- is: it is the same if the session is limited.
 pub record IsLineRun (session : SessionView) (status : Status) (bytes : List ℕ) : Type 0 where
   pub journal : List Entry
-  pub legal : IsLegal (rules_of session) journal
-  pub final : IsFinal (rules_of session) (reading (rules_of session) journal)
+  pub is_journal : IsJournalOf session journal
   pub alone : IsOneThread (rules_of session) journal
   pub line : IsLineOf session journal bytes
   pub completed : status ≡ Completed

@@ -8,22 +8,22 @@ use Rattle.rcv_joined.specs.Joined.{joined}
 use Rattle.rcv_later.specs.Later.{later}
 use Rattle.rcv_top.specs.declared.status.Status.{Status}
 use Rattle.rcv_top.specs.declared.status.Status.TheVariants.{Completed, Refused, Limited}
-use Rattle.rcv_top.specs.Running.{IsOneThreadRun}
+use Rattle.rcv_top.specs.Running.{IsRunOf}
 
 -- How one of several sessions ended, and its journal as it is written.
 pub record OneRun : Type 0 where
   pub status : Status
   pub bytes : List ℕ
 
--- The journal is the one that one thread makes of this session.
-abbrev pub IsRun : Bool → SessionView → OneRun → Type 0
-IsRun json session run = IsOneThreadRun json session run.status run.bytes
+-- It is what one worker makes of this session.
+abbrev pub IsOneRun : Bool → SessionView → OneRun → Type 0
+IsOneRun json session run = IsRunOf 1 json session run.status run.bytes
 
 -- These are the runs of so many sessions, in order: run i, counted from 0, is that of session i, in which each crash line
 -- has a count that is i more.
 pub record AreRuns (sessions : ℕ) (json : Bool) (session : SessionView) (runs : List OneRun) : Type 0 where
   pub count : length runs ≡ sessions
-  pub each : (i : ℕ) (d : OneRun) → i < sessions → IsRun json (later session i) (slice_index_or runs i d)
+  pub each : (i : ℕ) (d : OneRun) → i < sessions → IsOneRun json (later session i) (slice_index_or runs i d)
 
 -- It was limited.
 abbrev pub says_limited : Status → Bool

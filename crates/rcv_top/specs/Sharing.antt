@@ -1,5 +1,6 @@
 -- What jobs make of the sessions that were prepared.
 use Rattle.std.specs.Prelude.{◌≡◌, ℕ, ◌<◌, Bool, List, [], ◌∷◌, ◌++◌, length, map, slice_index_or, if◌then◌else◌}
+use Rattle.rcv_session.specs.Session.{SessionView}
 use Rattle.rcv_jobs.specs.Texts.{IsAloneText}
 use Rattle.rcv_jobs.specs.Jobs.{JobView}
 use Rattle.rcv_joined.specs.Joined.{joined}
@@ -7,8 +8,8 @@ use Rattle.rcv_later.specs.Preparing.{PreparationView}
 use Rattle.rcv_later.specs.Later.{IsLaterOf}
 use Rattle.rcv_top.specs.declared.journals.Journals.{Journals}
 use Rattle.rcv_top.specs.declared.status.Status.{Status}
-use Rattle.rcv_top.specs.declared.status.Status.TheVariants.{Limited}
-use Rattle.rcv_top.specs.Many.{OneRun, IsRun, ended_as, texts_of}
+use Rattle.rcv_top.specs.declared.status.Status.TheVariants.{Completed, Limited}
+use Rattle.rcv_top.specs.Many.{OneRun, ended_as, texts_of}
 
 -- All jobs write JSON, or all write lines.
 abbrev pub AreAs : Bool → List JobView → Type 0
@@ -22,10 +23,16 @@ pub record AreJobsOf (json : Bool) (prepared : List PreparationView) (k : ℕ) (
       (i : ℕ) (p : PreparationView) (d : JobView) → i < k
       → IsLaterOf (slice_index_or prepared i p).input (slice_index_or prepared i p).by (slice_index_or jobs i d).session
 
+-- The journal that a job wrote of this session, and how that ended.
+pub record IsJobRun (json : Bool) (session : SessionView) (run : OneRun) : Type 0 where
+  pub completed : Bool
+  pub text : IsAloneText session json completed run.bytes
+  pub status_is : run.status ≡ (if completed then Completed else Limited)
+
 -- These are the runs of the sessions of jobs, in order.
 pub record AreRunsOf (json : Bool) (jobs : List JobView) (runs : List OneRun) : Type 0 where
   pub count : length runs ≡ length jobs
-  pub each : (i : ℕ) (j : JobView) (d : OneRun) → i < length jobs → IsRun json (slice_index_or jobs i j).session (slice_index_or runs i d)
+  pub each : (i : ℕ) (j : JobView) (d : OneRun) → i < length jobs → IsJobRun json (slice_index_or jobs i j).session (slice_index_or runs i d)
 
 -- The status says how their sessions ended, and the bytes are their journals, one after the other.
 pub record IsRunOfAll (json : Bool) (jobs : List JobView) (status : Status) (bytes : List ℕ) : Type 0 where
@@ -60,6 +67,6 @@ pub record AreJournalsOf (jobs : List JobView) (k : ℕ) (all : Journals) : Type
   pub count : length runs ≡ k
   pub each :
       (i : ℕ) (j : JobView) (d : OneRun) → i < k
-      → IsRun (slice_index_or jobs i j).json (slice_index_or jobs i j).session (slice_index_or runs i d)
+      → IsJobRun (slice_index_or jobs i j).json (slice_index_or jobs i j).session (slice_index_or runs i d)
   pub status_is : all.status ≡ ended_as runs
   pub texts_are : lent all ≡ texts_of runs

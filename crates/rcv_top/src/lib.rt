@@ -1,9 +1,9 @@
 // The whole program as one call: from words and an input to a status and bytes.
 #![tactic(auto)]
 
-ghost use Rattle.rcv_top.specs.Laws.{ChecksStay, OneOutcome, OutcomesExist};
-ghost use Rattle.rcv_top.specs.Laws.{CalmSessionsComplete, SessionsAreLegal, SessionsEnd, SessionsLeaveNoTrace};
-ghost use Rattle.rcv_top.specs.Laws.{ManySessionsAreLegal, SessionsKeepAlike, WorkersDecideNothing};
+ghost use Rattle.rcv_top.specs.Laws.{ChecksStay, OneOutcome, OutcomesAreManyRuns, OutcomesAreRuns, OutcomesExist};
+ghost use Rattle.rcv_top.specs.Laws.{CalmSessionsComplete, JournalsAreLegal, SessionsEnd, SessionsKeepAlike};
+ghost use Rattle.rcv_top.specs.Laws.{TakenSessionsCanRun, WorkersDecideNothing};
 
 mod answer;
 mod call;
@@ -38,19 +38,25 @@ pub fn outcomes_exist()
     ensures { OutcomesExist }
 {}
 
-/// The journal of each session is what the headline says.
-pub fn sessions_are_legal()
-    ensures { SessionsAreLegal }
+/// What `run` answered, written whole or in part, is what its workers make of the session that the input is taken as.
+pub fn outcomes_are_runs()
+    ensures { OutcomesAreRuns }
 {}
 
-/// If no script reads the attempt and the session completes, its crashes leave no trace in what is kept.
-pub fn sessions_leave_no_trace()
-    ensures { SessionsLeaveNoTrace }
+/// With `--sessions` it is the journals of so many sessions.
+pub fn outcomes_are_many_runs()
+    ensures { OutcomesAreManyRuns }
 {}
 
-/// The journal of each of several sessions is what the headline says.
-pub fn many_sessions_are_legal()
-    ensures { ManySessionsAreLegal }
+/// A session that is taken can run, and so can each later one of several of it.
+pub fn taken_sessions_can_run()
+    ensures { TakenSessionsCanRun }
+{}
+
+/// Each legal and final journal of a session that can run is as the headline says, and leaves no trace of its crashes if
+/// no script reads the attempt and all roles are done.
+pub fn journals_are_legal()
+    ensures { JournalsAreLegal }
 {}
 
 /// If no script reads the attempt, any two of several sessions that complete keep the same.

@@ -4,6 +4,7 @@ ghost use Rattle.std.specs.Prelude.{◌≡◌, ◌<◌, ◌≤◌, ◌++◌, len
 ghost use Rattle.rcv_script.specs.Scripts.{AreScriptsFor};
 ghost use Rattle.rcv_plan.specs.Lines.{IsPlanned};
 ghost use Rattle.rcv_top.specs.Lining.{count_text, counts_text, line_text, IsLineOf, IsLineRun};
+ghost use Rattle.rcv_top.specs.Running.{CanRun};
 
 use crate::output::Output;
 use crate::status::Status;
@@ -19,6 +20,8 @@ use std::alloc::{AllocError, Global};
 pub fn run_line(alloc: Global, taken: Input) -> Result<Output, AllocError>
     requires belong { AreScriptsFor taken.accepted.protocol taken.scripts }
     requires planned { IsPlanned (length taken.accepted.protocol.roles) taken.plan }
+    requires can_run { CanRun
+        (record { protocol = taken.accepted.protocol; scripts = taken.scripts.lines; plan = taken.plan }) }
     ensures { IfOk result (λ output. IsLineRun
         (record { protocol = taken.accepted.protocol; scripts = taken.scripts.lines; plan = taken.plan })
         output.status output.bytes.items) }
@@ -29,6 +32,7 @@ pub fn run_line(alloc: Global, taken: Input) -> Result<Output, AllocError>
 
 // Runs the session of a setup. The caller keeps the setup, and frees it at one place.
 fn run_setup(alloc: Global, setup: &Setup) -> Result<Output, AllocError>
+    requires { CanRun setup.now }
     ensures { IfOk result (λ output. IsLineRun setup.now output.status output.bytes.items) }
 {
     let mut book = Book::new(alloc, setup)?;

@@ -5,8 +5,9 @@ ghost use Rattle.rcv_session.specs.Session.{rules_of};
 ghost use Rattle.rcv_script.specs.Scripts.{AreScriptsFor};
 ghost use Rattle.rcv_plan.specs.Lines.{IsPlanned};
 ghost use Rattle.rcv_core.specs.Book.{state_of, IsAtEnd};
-ghost use Rattle.rcv_top.specs.Finishing.{FinishesAs};
-ghost use Rattle.rcv_top.specs.Running.{EndsAs, EndsSo, IsJournalOf, IsRunOf};
+ghost use Rattle.rcv_model.specs.Journal.{IsLegal};
+ghost use Rattle.rcv_top.specs.Finishing.{EndsSo, FinishesAs};
+ghost use Rattle.rcv_top.specs.Running.{CanRun, EndsAs, IsRunOf};
 ghost use Rattle.rcv_top.specs.Writing.{Writes};
 
 use crate::output::write;
@@ -40,6 +41,8 @@ pub fn run<R: Threads + Sync, K: Sink, G: Gate + Sync>(
     requires most { workers ≤ 8 }
     requires belong { AreScriptsFor taken.accepted.protocol taken.scripts }
     requires planned { IsPlanned (length taken.accepted.protocol.roles) taken.plan }
+    requires can_run { CanRun
+        (record { protocol = taken.accepted.protocol; scripts = taken.scripts.lines; plan = taken.plan }) }
     ensures later { K.faults sink.old ≤ K.faults sink.new }
     ensures runs { Writes (IsRunOf workers json
         (record { protocol = taken.accepted.protocol; scripts = taken.scripts.lines; plan = taken.plan }))
@@ -62,6 +65,7 @@ fn run_setup<R: Threads + Sync, K: Sink, G: Gate + Sync>(
 ) -> Result<Status, AllocError>
     requires least { 1 ≤ workers }
     requires most { workers ≤ 8 }
+    requires can_run { CanRun setup.now }
     ensures later { K.faults sink.old ≤ K.faults sink.new }
     ensures runs { Writes (IsRunOf workers json setup.now)
         (K.written sink.old) (K.written sink.new) (K.faults sink.old) (K.faults sink.new) result }
@@ -114,7 +118,7 @@ fn write_journal<K: Sink>(
 ) -> Result<Status, AllocError>
     requires { IsAtEnd book.now }
     ensures later { K.faults sink.old ≤ K.faults sink.new }
-    ensures writes { Writes (IsJournalOf json book.now.setup book.now.entries)
+    ensures writes { Writes (EndsSo json book.now.setup book.now.entries)
         (K.written sink.old) (K.written sink.new) (K.faults sink.old) (K.faults sink.new) result }
 {
     // Tells the proof that the journal is legal.
@@ -128,7 +132,8 @@ fn write_journal<K: Sink>(
 
 // Writes it as JSON.
 fn write_json<K: Sink>(alloc: Global, book: &Book<'_>, sink: &mut K) -> Result<Status, AllocError>
-    requires { IsAtEnd book.now }
+    requires end { IsAtEnd book.now }
+    requires legal { IsLegal (rules_of book.now.setup) book.now.entries }
     ensures later { K.faults sink.old ≤ K.faults sink.new }
     ensures writes { Writes (EndsSo true book.now.setup book.now.entries)
         (K.written sink.old) (K.written sink.new) (K.faults sink.old) (K.faults sink.new) result }
@@ -139,7 +144,8 @@ fn write_json<K: Sink>(alloc: Global, book: &Book<'_>, sink: &mut K) -> Result<S
 
 // Writes it as lines, page by page.
 fn write_lines<K: Sink>(alloc: Global, book: &Book<'_>, sink: &mut K) -> Result<Status, AllocError>
-    requires { IsAtEnd book.now }
+    requires end { IsAtEnd book.now }
+    requires legal { IsLegal (rules_of book.now.setup) book.now.entries }
     ensures later { K.faults sink.old ≤ K.faults sink.new }
     ensures writes { Writes (EndsSo false book.now.setup book.now.entries)
         (K.written sink.old) (K.written sink.new) (K.faults sink.old) (K.faults sink.new) result }

@@ -1,4 +1,4 @@
-use Rattle.rcv_top.proofs.Alike.{sessions_keep_alike}
+use Rattle.rcv_top.proofs.Traceless.{sessions_keep_alike}
 use Rattle.rcv_top.proofs.sessions_keep_alike.Goals as goal
 
 pub returns : goal.returns

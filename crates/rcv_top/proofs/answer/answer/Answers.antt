@@ -18,6 +18,7 @@ use Rattle.rcv_top.specs.Running.{IsRunOf}
 use Rattle.rcv_top.specs.Outcome.{IsAnswer, made, replayed}
 use Rattle.rcv_top.specs.Projection.{IsProjection}
 use Rattle.rcv_top.specs.Writing.{Writes}
+use Rattle.rcv_top.proofs.Rooms.{taken_sessions_can_run}
 use Rattle.rcv_top.proofs.Sessions.{made_of, refused_of}
 use Rattle.rcv_top.proofs.Writing.{widen, put_writes}
 use Rattle.rcv_top.proofs.answer.answer.Goals as goal
@@ -122,3 +123,12 @@ pub returns-in-Err-clause-answers : goal.returns-in-Err-clause-answers
 returns-in-Err-clause-answers g c =
     put_writes (g.K.Sink.written c.args.sink.now) (g.K.Sink.written c.put-in-Err.new.sink) (g.K.Sink.faults c.args.sink.now) (g.K.Sink.faults c.put-in-Err.new.sink)
     (IsAnswer (view_of c.args.command.now) c.args.input.now) c.refuse.result c.put-in-Err.result (refused_of c.args.input.now (view_of c.args.command.now) c.in-Err.error c.refuse.result (takes_whole c.args.command.now (λ is. let yes = c.is_replay.ensures.1 is in let no = c.if-is_replay.false in absurd (cc))) c.in-Err.ensures.taken c.refuse.ensures) c.put-in-Err.ensures.put
+
+pub run-requires-clause-can_run : goal.run-requires-clause-can_run
+run-requires-clause-can_run g c coded lives = (taken_sessions_can_run c.args.input.now (record { protocol = c.in-Ok.taken.accepted.protocol; scripts = c.in-Ok.taken.scripts.lines; plan = c.in-Ok.taken.plan }) c.in-Ok.ensures.taken).0
+
+pub run_generated-requires-clause-can_run : goal.run_generated-requires-clause-can_run
+run_generated-requires-clause-can_run g c coded lives = (taken_sessions_can_run c.args.input.now (record { protocol = c.in-Ok.taken.accepted.protocol; scripts = c.in-Ok.taken.scripts.lines; plan = c.in-Ok.taken.plan }) c.in-Ok.ensures.taken).0
+
+pub run_line-requires-clause-can_run : goal.run_line-requires-clause-can_run
+run_line-requires-clause-can_run g c coded lives = (taken_sessions_can_run c.args.input.now (record { protocol = c.in-Ok.taken.accepted.protocol; scripts = c.in-Ok.taken.scripts.lines; plan = c.in-Ok.taken.plan }) c.in-Ok.ensures.taken).0

@@ -4,8 +4,7 @@ use Rattle.std.specs.Prelude.{Ok, Err}
 use Rattle.rcv_words.specs.Commands.{texts_of, view_of}
 use Rattle.rcv_top.specs.Outcome.{IsAnswer}
 use Rattle.rcv_top.specs.Calls.{around}
-use Rattle.rcv_top.proofs.Answering.{answer_said, wrote_headline, usage_said, too_much, wants_at_once, wants_memory, sink_tells, source_tells, not_read_fault, not_write_fault, no_read_fault}
-use Rattle.rcv_top.proofs.ManyAnswering.{wrote_journals}
+use Rattle.rcv_top.proofs.Answering.{answer_said, usage_said, too_much, wants_at_once, wants_memory, sink_tells, source_tells, not_read_fault, not_write_fault, no_read_fault}
 use Rattle.rcv_top.proofs.call.recover.Goals as goal
 
 pub returns-in-Err-Usage-clause-says : goal.returns-in-Err-Usage-clause-says
@@ -34,20 +33,6 @@ returns-in-Ok-answer-clause-says g c =
     answer_said (texts_of c.args.words.now) (around g.S.Source.rest g.S.Source.given g.S.Source.faults c.args.source.now c.input_of.new.source g.K.Sink.written g.K.Sink.faults c.args.sink.now c.answer.new.sink)
     (view_of c.in-Ok.command) c.in-Ok-input_of.input w.bytes w.status _ c.in-Ok.ensures.command c.in-Ok-input_of.ensures.got c.in-Ok-input_of.ensures.short
     (subst (λ (t : List ℕ). IsAnswer (view_of c.in-Ok.command) t w.status w.bytes) c.as_slice.ensures.value w.is_kind) w.wrote
-
-pub returns-in-Ok-answer-clause-headline : goal.returns-in-Ok-answer-clause-headline
-returns-in-Ok-answer-clause-headline g c workers json is_run ended =
-    let w = c.in-Ok-answer.ensures.answers in
-    wrote_headline (texts_of c.args.words.now) (around g.S.Source.rest g.S.Source.given g.S.Source.faults c.args.source.now c.input_of.new.source g.K.Sink.written g.K.Sink.faults c.args.sink.now c.answer.new.sink)
-    (view_of c.in-Ok.command) c.in-Ok-input_of.input w.bytes w.status _ workers json c.in-Ok.ensures.command is_run c.in-Ok-input_of.ensures.got
-    (subst (λ (t : List ℕ). IsAnswer (view_of c.in-Ok.command) t w.status w.bytes) c.as_slice.ensures.value w.is_kind) w.wrote ended
-
-pub returns-in-Ok-answer-clause-many : goal.returns-in-Ok-answer-clause-many
-returns-in-Ok-answer-clause-many g c sessions workers json is_many ended =
-    let w = c.in-Ok-answer.ensures.answers in
-    wrote_journals (texts_of c.args.words.now) (around g.S.Source.rest g.S.Source.given g.S.Source.faults c.args.source.now c.input_of.new.source g.K.Sink.written g.K.Sink.faults c.args.sink.now c.answer.new.sink)
-    (view_of c.in-Ok.command) c.in-Ok-input_of.input sessions workers json c.in-Ok.ensures.command is_many c.in-Ok-input_of.ensures.got w.bytes w.status _
-    (subst (λ (t : List ℕ). IsAnswer (view_of c.in-Ok.command) t w.status w.bytes) c.as_slice.ensures.value w.is_kind) w.wrote ended
 
 pub returns-in-Ok-answer-clause-source_faults : goal.returns-in-Ok-answer-clause-source_faults
 returns-in-Ok-answer-clause-source_faults g c =

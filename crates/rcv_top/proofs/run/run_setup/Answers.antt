@@ -9,5 +9,5 @@ pub returns-clause-runs : goal.returns-clause-runs
 returns-clause-runs g c =
     widen (g.K.Sink.written c.args.sink.now) (g.K.Sink.written c.finish.new.sink) (g.K.Sink.faults c.args.sink.now) (g.K.Sink.faults c.finish.new.sink)
     (FinishesAs c.args.workers c.args.json c.in_ok-session.session.book) (IsRunOf c.args.workers c.args.json c.args.setup.now) c.finish.result
-    (ran c.args.workers c.args.json c.args.setup.now c.in_ok-session.session c.in_ok-session.ensures)
+    (ran c.args.workers c.args.json c.args.setup.now c.in_ok-session.session c.requires.can_run c.in_ok-session.ensures)
     c.finish.ensures.finishes

@@ -10,7 +10,7 @@ returns-in-Ok-clause-writes g c =
     record {
       status = c.status_of-status.result;
       bytes = whole.bytes;
-      is_kind = record { ends = c.status_of-status.ensures; written = whole.is_text };
+      is_kind = record { legal = c.requires.legal; final = c.requires.end; ends = c.status_of-status.ensures; written = whole.is_text };
       wrote = inl (refl, whole.written, whole.fine);
     }
 
@@ -20,6 +20,6 @@ returns-in-Err-WriteFault-clause-writes g c =
     record {
       status = c.status_of-status.result;
       bytes = some.bytes;
-      is_kind = record { ends = c.status_of-status.ensures; written = some.is_text };
+      is_kind = record { legal = c.requires.legal; final = c.requires.end; ends = c.status_of-status.ensures; written = some.is_text };
       wrote = inr (refl, some.rose, some.beginning);
     }
