@@ -37,7 +37,7 @@ HasOutcome words input = (status : Status) × (bytes : List ℕ) × IsOutcome wo
 abbrev pub OutcomesExist : Type 0
 OutcomesExist = (words : List (List ℕ)) (input : List ℕ) → HasOutcome words input
 
--- The words ask for a run, and what they answered isn't a refusal.
+-- A run ended: it completed, or it was limited.
 abbrev pub HasEnded : Status → Type 0
 HasEnded status = (status ≡ Completed) ⊎ (status ≡ Limited)
 
