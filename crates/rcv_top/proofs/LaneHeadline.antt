@@ -69,8 +69,10 @@ run = record {
 }
 
 headline_then : IsHeadline (rules_of view) lanes.journal
+unfolding run
 headline_then = run.is_journal.headline
 
 -- no script reads the attempt, so the crash leaves no trace in what is kept
 no_trace : LeavesNoTrace view lanes.journal
+unfolding run
 no_trace = run.is_journal.traceless is_done.done is_blind.blind

@@ -118,6 +118,7 @@ blind (suc zero) = tt
 blind (suc (suc r)) = tt
 
 no_trace : LeavesNoTrace session journal
+unfolding run
 no_trace = run.is_journal.traceless is_done.done blind
 
 pub completes : CompletesBlind session journal

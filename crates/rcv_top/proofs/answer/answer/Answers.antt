@@ -128,7 +128,7 @@ pub run-requires-clause-can_run : goal.run-requires-clause-can_run
 run-requires-clause-can_run g c coded lives = (taken_sessions_can_run c.args.input.now (record { protocol = c.in-Ok.taken.accepted.protocol; scripts = c.in-Ok.taken.scripts.lines; plan = c.in-Ok.taken.plan }) c.in-Ok.ensures.taken).0
 
 pub run_generated-requires-clause-can_run : goal.run_generated-requires-clause-can_run
-run_generated-requires-clause-can_run g c coded lives = (taken_sessions_can_run c.args.input.now (record { protocol = c.in-Ok.taken.accepted.protocol; scripts = c.in-Ok.taken.scripts.lines; plan = c.in-Ok.taken.plan }) c.in-Ok.ensures.taken).0
+run_generated-requires-clause-can_run g c = (taken_sessions_can_run c.args.input.now (record { protocol = c.in-Ok.taken.accepted.protocol; scripts = c.in-Ok.taken.scripts.lines; plan = c.in-Ok.taken.plan }) c.in-Ok.ensures.taken).0
 
 pub run_line-requires-clause-can_run : goal.run_line-requires-clause-can_run
-run_line-requires-clause-can_run g c coded lives = (taken_sessions_can_run c.args.input.now (record { protocol = c.in-Ok.taken.accepted.protocol; scripts = c.in-Ok.taken.scripts.lines; plan = c.in-Ok.taken.plan }) c.in-Ok.ensures.taken).0
+run_line-requires-clause-can_run g c = (taken_sessions_can_run c.args.input.now (record { protocol = c.in-Ok.taken.accepted.protocol; scripts = c.in-Ok.taken.scripts.lines; plan = c.in-Ok.taken.plan }) c.in-Ok.ensures.taken).0

@@ -11,4 +11,4 @@ returns-clause-runs g c =
     c.in_ok-setup.ensures c.run_setup.ensures.runs
 
 pub run_setup-requires-clause-can_run : goal.run_setup-requires-clause-can_run
-run_setup-requires-clause-can_run g c = subst CanRun (sym c.in_ok-setup.ensures) c.requires.can_run
+run_setup-requires-clause-can_run g c coded lives = subst CanRun (sym c.in_ok-setup.ensures) c.requires.can_run
