@@ -1,8 +1,7 @@
 // What crashes cost in small sessions, counted by hand.
 
 use rcv_core::setup::Setup;
-use rcv_costs::crashes::costs_of;
-use rcv_costs::numbers::{Cost, Costs};
+use rcv_costs::{Cost, Costs, costs_of};
 use rcv_input::read_input;
 use rcv_tree::point::Point;
 use rcv_tree::role::{RoleId, RoleSet};

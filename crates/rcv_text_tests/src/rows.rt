@@ -5,7 +5,7 @@ use rcv_core::setup::Setup;
 use rcv_fates::Record;
 use rcv_input::read_input;
 use rcv_picture::group::{Counts, Says};
-use rcv_rows::told::{Told, tell};
+use rcv_rows::{Told, tell};
 use std::alloc::Global;
 use std::test::Fail;
 
