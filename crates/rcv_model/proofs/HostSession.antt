@@ -1,5 +1,5 @@
 -- The worked protocol on hosts: B and D share one, so that B's crash takes D along, and C by B's start, and leaves A.
-use Rattle.std.proofs.Common.{◌≡◌, ℕ, zero, suc, Bool, false, List, [], ◌∷◌, ◌++◌, length, refl, arith}
+use Rattle.std.proofs.Common.{◌≡◌, ℕ, zero, suc, Bool, List, [], ◌∷◌, ◌++◌, length, refl, arith}
 use Rattle.std.specs.Prelude.{if◌then◌else◌, replicate, slice_index}
 use Rattle.rcv_tree.specs.Bits.{has_bit, is_listed}
 use Rattle.rcv_tree.specs.declared.event.Dir.TheVariants.{Got}

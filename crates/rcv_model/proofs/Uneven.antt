@@ -1,6 +1,6 @@
 -- Hosts whose roles save at different steps, a role that has made more than it keeps, and roles that are due at once.
 use Rattle.std.proofs.Common.{◌≡◌, ℕ, zero, suc, List, [], ◌∷◌, ◌++◌, refl, arith}
-use Rattle.std.specs.Prelude.{pos, false, replicate}
+use Rattle.std.specs.Prelude.{pos, replicate}
 use Rattle.rcv_tree.specs.declared.entry.Entry.{Entry}
 use Rattle.rcv_tree.specs.declared.entry.Entry.TheVariants.{Crash}
 use Rattle.rcv_model.specs.Text.{Body, End, Single}
