@@ -14,8 +14,8 @@ pub entry_sent : (rules : Rules) (s : State) (e : Event) → MaySend rules s e �
 entry_sent rules s e may = ap (λ (d : Dir). entry_of d e) may.is_send
 
 pub entry_got : (rules : Rules) (s : State) (e : Event) → MayRecv rules s e → entry_of e.dir e ≡ Recv e
-entry_got rules s e may = ap (λ (d : Dir). entry_of d e) may.is_recv
+entry_got rules s e may = ap (λ (d : Dir). entry_of d e) may.own.is_recv
 
 pub next_event : (book : BookView) (dir : Dir) (e : Event) → May (rules_of book.setup) (state_of book) (entry_of dir e) → IsNextEvent book e
 next_event book Sent e may = record { declared = may.free.declared; next = may.next.sound e.point may.among }
-next_event book Got e may = record { declared = may.free.declared; next = may.next.sound e.point may.among }
+next_event book Got e may = record { declared = may.own.free.declared; next = may.own.next.sound e.point may.among }

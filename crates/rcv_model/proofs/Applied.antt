@@ -310,10 +310,10 @@ d_next_offered = next_offered net 3 0 6 ((next_by net feed_one 3 0 refl).sound 6
 
 -- one step may come, and it is there
 first_step : IsStep rules s5 first_recover
-first_step = ((refl, λ q lt c. only_b q lt c), b_recovers)
+first_step = (((omega arith, refl), λ q lt c. only_b q lt c), b_recovers)
   where
     only_b : (q : ℕ) → q < 1 → IsCrashed s5 q → ⊥
-    only_b zero lt c = cc
+    only_b zero lt c = let x = c.1 in cc
     only_b (suc q) lt c = omega arith
 
 no_other : (e : Entry) → IsStep rules s5 e → first_recover ≡ e
@@ -338,7 +338,7 @@ some_step : ((e : Entry) × IsStep rules s5 e) ⊎ IsFinal rules s5
 some_step = step_or_final rules feed_proper feed_accepted.lanes_end s5 refl
 
 b_has_one : (concerned : RoleSet) × (kept : List ℕ) × (undone : ℕ) × May rules s5 (Recover 1 concerned kept undone)
-b_has_one = (_, _, _, recovery rules s5 1 feed_proper feed_accepted.lanes_end refl)
+b_has_one = (_, _, _, recovery rules s5 1 feed_proper feed_accepted.lanes_end (omega arith, refl))
 
 -- with and without crashes the channel from A to B was used alike
 alike : UsedAlike net (reading rules journal) (reading (without_crashes rules) calm.0) 0 1
@@ -362,7 +362,7 @@ a_stands : IsUndone net s5.kept lost 0 → ⊥
 a_stands u = let t = (blocked_iff_undone net lost s5.kept queued [] (hears 1 1 10 2 1 ∷ says 1 2 11 3 ∷ hears 2 2 11 4 3 ∷ []) (says 0 1 10 1) refl).1 u in absurd (cc)
 
 recovery_first : IsStep rules s5 (Send (says 0 3 0 2)) → ⊥
-recovery_first step = step.0 1 refl
+recovery_first step = step.0 1 (omega arith, refl)
 
 not_one_thread : IsOneThread rules journal → ⊥
 not_one_thread thread = thread.1.0.2.1 0 (omega arith) (Send (says 0 3 0 2), (refl, send_by rules feed_one s1 (says 0 3 0 2) refl refl refl refl refl refl refl, omega arith))

@@ -1,17 +1,20 @@
 -- At the end each role has crashed exactly as often as it has crash lines that its raw count has come to.
-use Rattle.std.proofs.Common.{◌≡◌, ℕ, zero, suc, ◌+◌, ◌<◌, ◌≤◌, Bool, true, false, cond, Some, List, [], ◌∷◌, length, refl, sym, ap, subst, ◌⊎◌, inl, inr, ⊎_elim, arith}
-use Rattle.std.specs.Prelude.{nat_le, replicate, slice_get, slice_index}
+use Rattle.std.proofs.Common.{◌≡◌, ℕ, zero, suc, ◌<◌, ◌≤◌, Bool, true, false, cond, List, [], ◌∷◌, refl, sym, ap, subst, ◌⊎◌, inl, inr, ⊎_elim, arith}
+use Rattle.std.specs.Prelude.{nat_le, replicate}
 use Rattle.std.specs.List.{count_by}
 use Rattle.std.proofs.lemmas.Bool.{cases_eq, cases_lt, cases_Bool}
 use Rattle.std.proofs.lemmas.List.Sums.{sum_by-cons}
 use Rattle.std.proofs.lemmas.Bool.Decides.{nat_tests}
+use Rattle.rcv_tree.specs.Numbers.{fresh}
+use Rattle.rcv_tree.specs.declared.numbers.Numbers.{Numbers}
 use Rattle.rcv_tree.specs.declared.event.Event.{Event}
 use Rattle.rcv_tree.specs.declared.entry.Entry.{Entry}
 use Rattle.rcv_tree.specs.declared.entry.Entry.TheVariants.{Send, Recv, Crash, Recover}
-use Rattle.rcv_model.specs.Journal.{Rules, State, start, bump, after, after_event, reading_from, reading, May, IsLegalFrom, IsLegal}
+use Rattle.rcv_model.specs.Journal.{Rules, State, numbers_at, start, advanced, failed, numbers_behind, kept_by, group_of, concerned_in, after, after_event, reading_from, reading, May, IsLegalFrom, IsLegal}
 use Rattle.rcv_model.specs.Final.{IsFinal}
 use Rattle.rcv_model.specs.NumberLaws.{lines_reached}
-use Rattle.rcv_model.proofs.Numbers.{Bounds, at_start, after_one, sizes, bounded, bump_at, bump_other}
+use Rattle.rcv_model.proofs.Roles.{set_here, set_else, set_keeps, mapped_keeps, within, runs}
+use Rattle.rcv_model.proofs.Numbers.{bounded}
 
 -- a greater count comes to no fewer lines
 reaches_more : (a b : ℕ) → a ≤ b → (xs : List ℕ) → count_by (λ n. nat_le n a) xs ≤ count_by (λ n. nat_le n b) xs
@@ -25,48 +28,48 @@ reaches_more a b le (x ∷ xs) =
     one y (inl s) (inr t) = absurd (grind (arith, nat_tests))
     one y (inr s) t = omega (arith, ap {B = ℕ} (λ (b : Bool). cond b 1 0) s)
 
-no_number : (n r : ℕ) → slice_index (replicate n 0) r ≡ 0
+no_number : (n r : ℕ) → (numbers_at (replicate n fresh) r).crashes ≡ 0
 no_number zero r = refl
 no_number (suc n) zero = refl
 no_number (suc n) (suc r) = no_number n r
 
 module _ (rules : Rules) where
   -- in a legal journal no role has crashed more often than its raw count has come to lines
-  at_most_after : (s : State) (e : Event) (r : ℕ) → e.role < length s.raw → slice_index s.crashes r ≤ lines_reached rules s r → slice_index s.crashes r ≤ lines_reached rules (after_event s e) r
-  at_most_after s e r inside few = go (cases_eq e.role r)
+  abbrev IsFew : State → ℕ → Type 0
+  IsFew s r = (numbers_at s.roles r).crashes ≤ lines_reached rules s r
+
+  few_more : (s t : State) (r : ℕ) → (numbers_at t.roles r).crashes ≡ (numbers_at s.roles r).crashes → (numbers_at s.roles r).raw ≤ (numbers_at t.roles r).raw → IsFew s r → IsFew t r
+  few_more s t r same le few = omega (arith, few, same, reaches_more (numbers_at s.roles r).raw (numbers_at t.roles r).raw le (rules.crash_lines r))
+
+  few_after : (s : State) (e : Event) (r : ℕ) → (numbers_at s.roles e.role).crashed ≡ false → IsFew s r → IsFew (after_event s e) r
+  few_after s e r running few = few_more s (after_event s e) r (set_keeps (λ (n : Numbers). n.crashes) s.roles e.role r (advanced (numbers_at s.roles e.role) e.stamp) refl) (⊎_elim (λ f. own f) (λ f. omega (arith, ap (λ n. n.raw) (set_else s.roles e.role r (advanced (numbers_at s.roles e.role) e.stamp) f))) (cases_eq e.role r)) few
     where
-      more : slice_index s.raw r ≤ slice_index (bump s.raw e.role) r → slice_index s.crashes r ≤ lines_reached rules (after_event s e) r
-      more le = omega (arith, few, reaches_more (slice_index s.raw r) (slice_index (bump s.raw e.role) r) le (rules.crash_lines r))
+      own : e.role ≡ r → (numbers_at s.roles r).raw ≤ (numbers_at (after_event s e).roles r).raw
+      own f = subst (λ q. (numbers_at s.roles q).raw ≤ (numbers_at (after_event s e).roles q).raw) f (omega (arith, ap (λ n. n.raw) (set_here s.roles e.role (advanced (numbers_at s.roles e.role) e.stamp) (within s.roles e.role running))))
 
-      go : (e.role ≡ r) ⊎ (e.role ≡ r → ⊥) → slice_index s.crashes r ≤ lines_reached rules (after_event s e) r
-      go (inl f) = more (subst (λ q. slice_index s.raw q ≤ slice_index (bump s.raw e.role) q) f (omega (arith, bump_at s.raw e.role inside)))
-      go (inr f) = more (omega (arith, bump_other s.raw e.role r f))
-
-  at_most_one : (n : ℕ) (s : State) (e : Entry) (r : ℕ) → Bounds rules n s → May rules s e → slice_index s.crashes r ≤ lines_reached rules s r → slice_index (after rules s e).crashes r ≤ lines_reached rules (after rules s e) r
-  at_most_one n s (Send e) r b may few = at_most_after s e r (subst (λ m. e.role < m) (sym (sizes rules n s b).raw) may.free.declared) few
-  at_most_one n s (Recv e) r b may few = at_most_after s e r (subst (λ m. e.role < m) (sym (sizes rules n s b).raw) may.free.declared) few
-  at_most_one n s (Crash p) r b may few = ⊎_elim (λ f. own f) (λ f. subst (λ m. m ≤ lines_reached rules s r) (sym (bump_other s.crashes p r f)) few) (cases_eq p r)
+  few_one : (s : State) (e : Entry) (r : ℕ) → May rules s e → IsFew s r → IsFew (after rules s e) r
+  few_one s (Send e) r may few = few_after s e r may.free.running few
+  few_one s (Recv e) r may few = few_after s e r may.own.free.running few
+  few_one s (Crash p) r may few = ⊎_elim (λ f. own f) (λ f. few_more s (after rules s (Crash p)) r (ap (λ n. n.crashes) (set_else s.roles p r (failed (numbers_at s.roles p)) f)) (omega (arith, set_keeps (λ (n : Numbers). n.raw) s.roles p r (failed (numbers_at s.roles p)) refl)) few) (cases_eq p r)
     where
-      own : p ≡ r → slice_index (bump s.crashes p) r ≤ lines_reached rules s r
-      own f = subst (λ q. slice_index (bump s.crashes p) q ≤ lines_reached rules s q) f (omega (arith, bump_at s.crashes p (subst (λ m. p < m) (sym (sizes rules n s b).crashes) may.0), may.1.1))
-  at_most_one n s (Recover p concerned kept undone) r b may few = few
+      here : IsFew (after rules s (Crash p)) p
+      here = let same = set_here s.roles p (failed (numbers_at s.roles p)) (within s.roles p may.1.0) in subst (λ n. n.crashes ≤ count_by (λ m. nat_le m n.raw) (rules.crash_lines p)) (sym same) (omega (arith, may.1.1))
 
-  at_most : (n : ℕ) (s : State) (journal : List Entry) (r : ℕ) → Bounds rules n s → IsLegalFrom rules s journal → slice_index s.crashes r ≤ lines_reached rules s r → slice_index (reading_from rules s journal).crashes r ≤ lines_reached rules (reading_from rules s journal) r
-  at_most n s [] r b legal few = few
-  at_most n s (e ∷ journal) r b legal few = at_most (n + 1) (after rules s e) journal r (after_one rules n s e b legal.0) legal.1 (at_most_one n s e r b legal.0 few)
+      own : p ≡ r → IsFew (after rules s (Crash p)) r
+      own f = subst (IsFew (after rules s (Crash p))) f here
+  few_one s (Recover p concerned kept undone) r may few =
+      let back = numbers_behind s (group_of rules p) (concerned_in rules s p) (kept_by rules s p) in
+      few_more s (after rules s (Recover p concerned kept undone)) r (mapped_keeps (λ (n : Numbers). n.crashes) back (λ i n. refl) 0 r s.roles) (omega (arith, mapped_keeps (λ (n : Numbers). n.raw) back (λ i n. refl) 0 r s.roles)) few
 
--- a mark that isn't set
-not_marked : (bs : List Bool) (r : ℕ) → r < length bs → (slice_get bs r ≡ Some true → ⊥) → slice_get bs r ≡ Some false
-not_marked [] r lt none = absurd (omega (arith, lt))
-not_marked (true ∷ bs) zero lt none = absurd (none refl)
-not_marked (false ∷ bs) zero lt none = refl
-not_marked (b ∷ bs) (suc r) lt none = not_marked bs r (omega (arith, lt)) none
+  few_all : (s : State) (journal : List Entry) (r : ℕ) → IsLegalFrom rules s journal → IsFew s r → IsFew (reading_from rules s journal) r
+  few_all s [] r legal few = few
+  few_all s (e ∷ journal) r legal few = few_all (after rules s e) journal r legal.1 (few_one s e r legal.0 few)
 
-pub crashes_are_as_planned : (rules : Rules) (journal : List Entry) (r : ℕ) → IsLegal rules journal → IsFinal rules (reading rules journal) → r < rules.roles → slice_index (reading rules journal).crashes r ≡ lines_reached rules (reading rules journal) r
+pub crashes_are_as_planned : (rules : Rules) (journal : List Entry) (r : ℕ) → IsLegal rules journal → IsFinal rules (reading rules journal) → r < rules.roles → (numbers_at (reading rules journal).roles r).crashes ≡ lines_reached rules (reading rules journal) r
 crashes_are_as_planned rules journal r legal final lt =
     let s = reading rules journal in
     let b = bounded rules journal legal in
-    let most = at_most rules 0 (start rules.roles) journal r (at_start rules) legal (omega (arith, no_number rules.roles r)) in
-    let calm = not_marked s.crashed r (subst (λ m. r < m) (sym b.numbers.crashed) lt) (final.none_crashed r) in
-    let not_less : slice_index s.crashes r < lines_reached rules s r → ⊥ = λ less. final.none_due r lt (calm, less) in
-    ⊎_elim (λ less. absurd (not_less less)) (λ same. omega (arith, most, same)) (cases_lt (slice_index s.crashes r) (lines_reached rules s r))
+    let most = few_all rules (start rules.roles) journal r legal (omega (arith, no_number rules.roles r)) in
+    let calm = runs s r (subst (λ m. r < m) (sym b.numbers) lt) (final.none_crashed r) in
+    let not_less : (numbers_at s.roles r).crashes < lines_reached rules s r → ⊥ = λ less. final.none_due r lt (calm, less) in
+    ⊎_elim (λ less. absurd (not_less less)) (λ same. omega (arith, most, same)) (cases_lt (numbers_at s.roles r).crashes (lines_reached rules s r))

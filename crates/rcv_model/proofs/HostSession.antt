@@ -1,5 +1,5 @@
 -- The worked protocol on hosts: B and D share one, so that B's crash takes D along, and C by B's start, and leaves A.
-use Rattle.std.proofs.Common.{◌≡◌, ℕ, zero, suc, Bool, false, List, [], ◌∷◌, ◌++◌, length, refl, arith}
+use Rattle.std.proofs.Common.{◌≡◌, ℕ, zero, suc, Bool, List, [], ◌∷◌, ◌++◌, length, refl, arith}
 use Rattle.std.specs.Prelude.{if◌then◌else◌, replicate, slice_index}
 use Rattle.rcv_tree.specs.Bits.{has_bit, is_listed}
 use Rattle.rcv_tree.specs.declared.event.Dir.TheVariants.{Got}
@@ -12,7 +12,7 @@ use Rattle.rcv_model.specs.TableLaws.{IsForeseen}
 use Rattle.rcv_model.specs.UndoLaws.{TellsRight}
 use Rattle.rcv_model.specs.NumberLaws.{lines_reached}
 use Rattle.rcv_model.specs.Transparent.{without_crashes, DidTheSame, IsSteady}
-use Rattle.rcv_model.specs.Journal.{Rules, State, start, after, place, reading, durable, group_of, concerned_in, kept_by, May, IsLegal, KeepsRuns}
+use Rattle.rcv_model.specs.Journal.{Rules, State, numbers_at, start, after, place, reading, durable, group_of, concerned_in, kept_by, May, IsLegal, KeepsRuns}
 use Rattle.rcv_model.specs.Final.{IsFinal, AreDone, IsCompleted, IsOneThread, ChoosesOffered}
 use Rattle.rcv_model.proofs.Cases.{says, hears, recover}
 use Rattle.rcv_model.proofs.Checked.{next_by, send_by, recv_by}
@@ -31,6 +31,7 @@ use Rattle.rcv_model.proofs.Steady.{steady}
 use Rattle.rcv_model.proofs.Stepping.{final_by}
 use Rattle.rcv_model.proofs.Threads.{one_thread}
 use Rattle.rcv_model.proofs.Transparency.{transparent}
+use Rattle.rcv_model.proofs.Roles.{up}
 
 -- B crashes at its second event; neither it nor D has saved any
 abbrev pub plan : List PlanLine
@@ -83,7 +84,7 @@ s7 = after rules s6 (Crash 1)
 
 -- all that B, C and D did is gone, and their clocks are above all that they were
 abbrev pub s8 : State
-s8 = record { kept = says 0 1 10 1 ∷ says 0 3 0 2 ∷ []; raw = 2 ∷ 2 ∷ 1 ∷ 1 ∷ []; crashes = 0 ∷ 1 ∷ 0 ∷ 0 ∷ []; crashed = replicate 4 false; attempts = 0 ∷ 1 ∷ 1 ∷ 1 ∷ []; clocks = 2 ∷ 5 ∷ 5 ∷ 5 ∷ [] }
+s8 = record { kept = says 0 1 10 1 ∷ says 0 3 0 2 ∷ []; roles = up 2 0 0 2 ∷ up 2 1 1 5 ∷ up 1 0 1 5 ∷ up 1 0 1 5 ∷ [] }
 
 eight : after rules s7 back ≡ s8
 eight = refl
@@ -119,7 +120,7 @@ abbrev s18 : State
 s18 = after rules s17 (Recv (hears 3 6 0 7 4))
 
 pub recovers : May rules s7 back
-recovers = may_recover rules s7 1 feed_proper feed_accepted.lanes_end 14 (replicate 8 0) 4 refl (omega arith) (below_8 (λ q. has_bit 14 q ≡ is_listed (concerned_in rules s7 1) q) refl refl refl refl refl refl refl refl) refl (below_8 (λ q. slice_index (replicate 8 0) q ≡ (if has_bit 14 q then length (acts q (kept_by rules s7 1)) else 0)) refl refl refl refl refl refl refl refl) refl
+recovers = may_recover rules s7 1 feed_proper feed_accepted.lanes_end 14 (replicate 8 0) 4 (omega arith, refl) (omega arith) (below_8 (λ q. has_bit 14 q ≡ is_listed (concerned_in rules s7 1) q) refl refl refl refl refl refl refl refl) refl (below_8 (λ q. slice_index (replicate 8 0) q ≡ (if has_bit 14 q then length (acts q (kept_by rules s7 1)) else 0)) refl refl refl refl refl refl refl refl) refl
 
 pub legal : IsLegal rules journal
 legal =
@@ -140,10 +141,10 @@ tells : TellsRight rules (reading rules front) (reading rules (front ++ back ∷
 tells = tells_right rules front rest 1 _ _ _ legal
 
 -- B crashed once, as its one line says, and D, which failed with it, not at all
-b_as_planned : slice_index (reading rules journal).crashes 1 ≡ lines_reached rules (reading rules journal) 1
+b_as_planned : (numbers_at (reading rules journal).roles 1).crashes ≡ lines_reached rules (reading rules journal) 1
 b_as_planned = crashes_are_as_planned rules journal 1 legal final (omega arith)
 
-d_as_planned : slice_index (reading rules journal).crashes 3 ≡ 0
+d_as_planned : (numbers_at (reading rules journal).roles 3).crashes ≡ 0
 d_as_planned = crashes_are_as_planned rules journal 3 legal final (omega arith)
 
 -- C restarts by B's start, and D by its own

@@ -1,6 +1,6 @@
 -- Hosts whose roles save at different steps, a role that has made more than it keeps, and roles that are due at once.
 use Rattle.std.proofs.Common.{◌≡◌, ℕ, zero, suc, List, [], ◌∷◌, ◌++◌, refl, arith}
-use Rattle.std.specs.Prelude.{pos, false, replicate}
+use Rattle.std.specs.Prelude.{pos, replicate}
 use Rattle.rcv_tree.specs.declared.entry.Entry.{Entry}
 use Rattle.rcv_tree.specs.declared.entry.Entry.TheVariants.{Crash}
 use Rattle.rcv_model.specs.Text.{Body, End, Single}
@@ -11,6 +11,7 @@ use Rattle.rcv_model.specs.Final.{IsStep}
 use Rattle.rcv_model.proofs.Cases.{plain, ping, sent, got, says, send, recv, recover}
 use Rattle.rcv_model.proofs.Checked.{send_by}
 use Rattle.rcv_model.proofs.OneLane.{one_lane}
+use Rattle.rcv_model.proofs.Roles.{up}
 
 -- A tells B three times, B tells C, and C tells A. A and B share a host: A saves each event, B each third one
 abbrev round_trip : Body
@@ -27,7 +28,7 @@ both_crashed =
 
 -- A has saved all, and loses only what depends on B's lost Send; B keeps the three events that it has saved itself; C is concerned
 -- by B's start, since A has none; and one Recover takes the marks of both
-one_recovery : reading uneven (both_crashed ++ recover 0 7 (3 ∷ 3 ∷ replicate 6 0) 4 ∷ []) ≡ record { kept = sent 0 1 1 ∷ sent 0 2 2 ∷ sent 0 3 3 ∷ got 1 1 2 1 ∷ got 1 2 3 2 ∷ got 1 3 4 3 ∷ []; raw = 4 ∷ 4 ∷ 2 ∷ []; crashes = 1 ∷ 1 ∷ 0 ∷ []; crashed = replicate 3 false; attempts = 1 ∷ 1 ∷ 1 ∷ []; clocks = 9 ∷ 9 ∷ 9 ∷ [] }
+one_recovery : reading uneven (both_crashed ++ recover 0 7 (3 ∷ 3 ∷ replicate 6 0) 4 ∷ []) ≡ record { kept = sent 0 1 1 ∷ sent 0 2 2 ∷ sent 0 3 3 ∷ got 1 1 2 1 ∷ got 1 2 3 2 ∷ got 1 3 4 3 ∷ []; roles = up 4 1 1 9 ∷ up 4 1 1 9 ∷ up 2 0 1 9 ∷ [] }
 one_recovery = refl
 
 -- what is saved is counted among the kept events: A has made two, keeps one, and saves each second one
@@ -37,7 +38,7 @@ twice = plain ping 2 (λ r. 2) (λ r. 1 ∷ 2 ∷ [])
 abbrev lost_once : List Entry
 lost_once = send 0 1 1 ∷ Crash 0 ∷ recover 0 3 (replicate 8 0) 1 ∷ []
 
-lost_again : reading twice (lost_once ++ send 0 1 3 ∷ Crash 0 ∷ recover 0 3 (replicate 8 0) 1 ∷ []) ≡ record { kept = []; raw = 2 ∷ 0 ∷ []; crashes = 2 ∷ 0 ∷ []; crashed = false ∷ false ∷ []; attempts = 2 ∷ 0 ∷ []; clocks = 4 ∷ 4 ∷ [] }
+lost_again : reading twice (lost_once ++ send 0 1 3 ∷ Crash 0 ∷ recover 0 3 (replicate 8 0) 1 ∷ []) ≡ record { kept = []; roles = up 2 2 2 4 ∷ up 0 0 0 4 ∷ [] }
 lost_again = refl
 
 -- a crash that undoes nothing is no attempt: A sends its attempt, which is still 0
@@ -65,4 +66,4 @@ not_the_higher : IsStep at_once (start 2) (Crash 1) → ⊥
 not_the_higher step = step.1.1 0 (omega arith) (refl, omega arith)
 
 not_before_the_recovery : IsStep at_once (reading at_once (Crash 0 ∷ [])) (Crash 1) → ⊥
-not_before_the_recovery step = step.0 0 refl
+not_before_the_recovery step = step.0 0 (omega arith, refl)

@@ -1,6 +1,6 @@
 -- A lane beside goes on while the other one recovers: the worked text with lanes once more, where C's message still waits
 -- for D when B crashes. D isn't concerned, and what it does may come behind the recovery as without it.
-use Rattle.std.proofs.Common.{◌≡◌, ℕ, zero, suc, ◌<◌, cond, true, false, List, [], ◌∷◌, ◌++◌, length, take, drop, refl, sym, ◌∙◌, ap, subst, inl, inr, ne_eqb, arith}
+use Rattle.std.proofs.Common.{◌≡◌, ℕ, zero, suc, ◌<◌, cond, true, List, [], ◌∷◌, ◌++◌, length, take, drop, refl, sym, ◌∙◌, ap, subst, inl, inr, ne_eqb, arith}
 use Rattle.std.specs.Prelude.{pos, if◌then◌else◌, slice_index}
 use Rattle.std.proofs.lemmas.Bool.Decides.{nat_tests}
 use Rattle.rcv_tree.specs.Bits.{has_bit, is_listed}
@@ -10,7 +10,7 @@ use Rattle.rcv_tree.specs.declared.entry.Timed.{Timed}
 use Rattle.rcv_tree.specs.declared.entry.Entry.TheVariants.{Send, Recv, Crash}
 use Rattle.rcv_model.specs.Net.{IsIn, IsPrefix}
 use Rattle.rcv_model.specs.Run.{acts, put, taken, channel, IsRun}
-use Rattle.rcv_model.specs.Journal.{State, after, reading_from, reading, concerned_in, kept_by, May, IsLegal}
+use Rattle.rcv_model.specs.Journal.{State, after, reading_from, reading, concerned_in, kept_by, May, IsLegal, own_of, MayOwnRecv}
 use Rattle.rcv_model.proofs.Cases.{says, hears, recover}
 use Rattle.rcv_model.proofs.Journals.{below_8}
 use Rattle.rcv_model.proofs.Keeping.{by_role, taken_same, queued_now}
@@ -20,8 +20,8 @@ use Rattle.rcv_model.proofs.Stepping.{due_not}
 use Rattle.rcv_model.proofs.Undoing.{put_same}
 use Rattle.rcv_theory.specs.Bystander.{KeepsAll}
 use Rattle.rcv_theory.specs.BystanderLaws.{IsRoundBeside}
-use Rattle.rcv_theory.specs.Own.{own_of, own_behind}
-use Rattle.rcv_theory.specs.Round.{entries, events_in, of_role, IsLocalRecv, IsLog, IsRound, IsMerge}
+use Rattle.rcv_theory.specs.Own.{own_behind}
+use Rattle.rcv_theory.specs.Round.{entries, events_in, of_role, IsLog, IsRound, IsMerge}
 use Rattle.rcv_theory.proofs.BesideRounds.{legal_front, beside_recovery}
 use Rattle.rcv_theory.proofs.Besides.{keeps}
 use Rattle.rcv_theory.proofs.Following.{bystander_follows, concerned_goes_back}
@@ -30,6 +30,7 @@ use Rattle.rcv_parallel.proofs.LaneNexts.{next_in}
 use Rattle.rcv_parallel.proofs.LaneSteps.{send_in, recv_in}
 use Rattle.rcv_parallel.proofs.LaneSession.{net, text_proper, text_accepted, rules, kept, journal, s0, s5, legal}
 use Rattle.rcv_parallel.proofs.LaneLaws.{is_session}
+use Rattle.rcv_model.proofs.Roles.{up}
 
 -- ---- B crashes before D has received c, and before C has received e
 
@@ -63,7 +64,7 @@ abbrev goes_back : Entry
 goes_back = recover 1 7 kept 3
 
 recovers : May rules u9 goes_back
-recovers = may_recover rules u9 1 text_proper text_accepted.lanes_end 7 kept 3 refl (omega arith) (below_8 (λ q. has_bit 7 q ≡ is_listed (concerned_in rules u9 1) q) refl refl refl refl refl refl refl refl) refl (below_8 (λ q. slice_index kept q ≡ (if has_bit 7 q then length (acts q (kept_by rules u9 1)) else 0)) refl refl refl refl refl refl refl refl) refl
+recovers = may_recover rules u9 1 text_proper text_accepted.lanes_end 7 kept 3 (omega arith, refl) (omega arith) (below_8 (λ q. has_bit 7 q ≡ is_listed (concerned_in rules u9 1) q) refl refl refl refl refl refl refl refl) refl (below_8 (λ q. slice_index kept q ≡ (if has_bit 7 q then length (acts q (kept_by rules u9 1)) else 0)) refl refl refl refl refl refl refl refl) refl
 
 recovered : IsLegal rules (early ++ goes_back ∷ [])
 recovered = legal_join rules s0 early (goes_back ∷ []) early_legal (recovers, tt)
@@ -91,7 +92,7 @@ from_c : (z : ℕ) → IsIn z (3 ∷ []) → (net.receiver z ≡ 3) × (net.send
 from_c z (inl e) = (ap net.receiver e, ap net.sender e)
 from_c z (inr i) = absurd i
 
-d_may : IsLocalRecv rules u9 (hears 3 3 0 2 1)
+d_may : MayOwnRecv rules (own_of u9 3) (hears 3 3 0 2 1)
 d_may = record { free = record { declared = omega arith; running = refl; not_due = due_not rules u9 3 refl; below_limit = omega arith }; offered = 3 ∷ []; some = λ e. cc; from = 2; next = next_in net 4 text_proper 3 0 refl; receives = from_c; is_recv = refl; sender = refl; stamp = refl }
 
 each_log : (r : ℕ) → IsLog rules r u9 (logs r)
@@ -168,5 +169,5 @@ d_follows = bystander_follows rules early 1 (record { 0 = 7 }) kept 3 logs (d_he
 c_goes_back : own_of (reading rules (early ++ goes_back ∷ entries (d_hears ∷ []))) 2 ≡ own_behind rules u9 1 2
 c_goes_back = concerned_goes_back rules early 1 (record { 0 = 7 }) kept 3 logs (d_hears ∷ []) is_session beside 2 (omega arith) refl
 
-c_gets_the_clock : own_behind rules u9 1 2 ≡ record { events = says 2 3 0 1 ∷ []; raw = 1; crashes = 0; crashed = false; attempt = 0; clock = 6 }
+c_gets_the_clock : own_behind rules u9 1 2 ≡ record { events = says 2 3 0 1 ∷ []; numbers = up 1 0 0 6 }
 c_gets_the_clock = refl

@@ -1,7 +1,7 @@
 -- The laws on runs, stuck states, messages and recoveries, applied to the worked session with lanes: each has something to
 -- speak of there.
 use Rattle.std.proofs.Common.{◌≡◌, ℕ, zero, suc, ◌<◌, Bool, List, [], ◌∷◌, ◌++◌, refl, sym, ap, subst, ◌⊎◌, inl, inr, ⊎_elim, arith}
-use Rattle.std.specs.Prelude.{pos, slice_index}
+use Rattle.std.specs.Prelude.{pos}
 use Rattle.rcv_tree.specs.declared.event.Dir.TheVariants.{Got}
 use Rattle.rcv_model.specs.Net.{IsIn, opened, IsWalk}
 use Rattle.rcv_model.specs.Run.{joint_of, channel, IsRun, IsReachedState}
@@ -12,7 +12,7 @@ use Rattle.rcv_model.specs.TableLaws.{IsForeseen}
 use Rattle.rcv_model.specs.Undo.{UndoesExactly, keep_of, picked}
 use Rattle.rcv_model.specs.UndoLaws.{TellsRight}
 use Rattle.rcv_model.specs.Premises.{IsSession, IsBystander}
-use Rattle.rcv_model.specs.Journal.{durable, group_of, events_of, reading, IsDue, KeepsRuns}
+use Rattle.rcv_model.specs.Journal.{numbers_at, durable, group_of, events_of, reading, IsDue, KeepsRuns}
 use Rattle.rcv_model.specs.Final.{CanAct, AreDone, HasOneAtLimit, ChoosesOffered}
 use Rattle.rcv_model.proofs.Choosing.{chosen_in}
 use Rattle.rcv_model.proofs.Finals.{no_stuck, done_or_limited}
@@ -75,13 +75,13 @@ no_due (suc (suc (suc zero))) lt d = due_not rules s12 3 refl d
 no_due (suc (suc (suc (suc r)))) lt d = omega arith
 
 not_stuck_then : IsNotStuckIn rules (reading rules (front ++ back ∷ []))
-not_stuck_then = no_stuck rules (front ++ back ∷ []) text_proper text_accepted chooses (omega arith) (legal_front rules s0 (front ++ back ∷ []) rest legal) (λ r c. calm_by s12.crashed refl r c) no_due
+not_stuck_then = no_stuck rules (front ++ back ∷ []) text_proper text_accepted chooses (omega arith) (legal_front rules s0 (front ++ back ∷ []) rest legal) (λ r c. calm_by s12 refl r c) no_due
 
 -- so some role can make a step: A isn't done, for a and b are next, and nobody has come to the limit
 a_chooses : IsNext net 0 1 2
 a_chooses = (next_in net 4 text_proper 0 1 refl).sound 2 (inr (inl refl))
 
-below_limit : (r : ℕ) → r < 4 → slice_index (reading rules (front ++ back ∷ [])).raw r ≡ rules.limit → ⊥
+below_limit : (r : ℕ) → r < 4 → (numbers_at (reading rules (front ++ back ∷ [])).roles r).raw ≡ rules.limit → ⊥
 below_limit zero lt e = let f : ◌≡◌ {A = ℕ} 3 10000 = e in omega (arith, f)
 below_limit (suc zero) lt e = let f : ◌≡◌ {A = ℕ} 4 10000 = e in omega (arith, f)
 below_limit (suc (suc zero)) lt e = let f : ◌≡◌ {A = ℕ} 2 10000 = e in omega (arith, f)

@@ -1,7 +1,7 @@
 -- A worked session with two lanes side by side and a stage behind them: a host of the first lane's two roles crashes when
 -- both lanes are at their ends and the stage behind is done. The recovery undoes a part of the first lane and the stage
 -- behind it, and nothing of the other lane.
-use Rattle.std.proofs.Common.{◌≡◌, ℕ, zero, suc, false, Some, None, List, [], ◌∷◌, ◌++◌, length, refl, ap, ◌∙◌, ◌⊎◌, inl, inr, arith}
+use Rattle.std.proofs.Common.{◌≡◌, ℕ, zero, suc, Some, None, List, [], ◌∷◌, ◌++◌, length, refl, ap, ◌∙◌, ◌⊎◌, inl, inr, arith}
 use Rattle.std.specs.Prelude.{if◌then◌else◌, replicate, slice_index, pos}
 use Rattle.rcv_tree.specs.Bits.{has_bit, is_listed}
 use Rattle.rcv_tree.specs.declared.entry.Entry.{Entry}
@@ -27,6 +27,7 @@ use Rattle.rcv_model.proofs.Recovering.{may_recover}
 use Rattle.rcv_parallel.proofs.LaneNexts.{next_in}
 use Rattle.rcv_parallel.proofs.LaneAccepted.{accepted_in_lanes}
 use Rattle.rcv_parallel.proofs.LaneSteps.{send_in, recv_in, final_in}
+use Rattle.rcv_model.proofs.Roles.{up}
 
 -- par { rec L { choice at A { a from A to B; continue L; } or { b from A to B; } } } and { c from C to D; } e from B to C;
 abbrev pub a_or_b : Body
@@ -171,11 +172,7 @@ s11 = after rules s10 c_receives
 abbrev pub s12 : State
 s12 = record {
   kept = says 0 1 0 1 ∷ says 2 3 0 1 ∷ says 0 1 0 2 ∷ hears 1 1 0 2 1 ∷ hears 3 3 0 2 1 ∷ hears 1 1 0 3 2 ∷ [];
-  raw = 3 ∷ 4 ∷ 2 ∷ 1 ∷ [];
-  crashes = 0 ∷ 1 ∷ 0 ∷ 0 ∷ [];
-  crashed = replicate 4 false;
-  attempts = 1 ∷ 1 ∷ 1 ∷ 0 ∷ [];
-  clocks = 7 ∷ 7 ∷ 7 ∷ 2 ∷ [];
+  roles = up 3 0 1 7 ∷ up 4 1 1 7 ∷ up 2 0 1 7 ∷ up 1 0 0 2 ∷ [];
 }
 
 twelve : after rules s11 back ≡ s12
@@ -197,7 +194,7 @@ pub sixteen : reading rules journal ≡ s16
 sixteen = refl
 
 pub recovers : May rules s11 back
-recovers = may_recover rules s11 1 text_proper text_accepted.lanes_end 7 kept 4 refl (omega arith) (below_8 (λ q. has_bit 7 q ≡ is_listed (concerned_in rules s11 1) q) refl refl refl refl refl refl refl refl) refl (below_8 (λ q. slice_index kept q ≡ (if has_bit 7 q then length (acts q (kept_by rules s11 1)) else 0)) refl refl refl refl refl refl refl refl) refl
+recovers = may_recover rules s11 1 text_proper text_accepted.lanes_end 7 kept 4 (omega arith, refl) (omega arith) (below_8 (λ q. has_bit 7 q ≡ is_listed (concerned_in rules s11 1) q) refl refl refl refl refl refl refl refl) refl (below_8 (λ q. slice_index kept q ≡ (if has_bit 7 q then length (acts q (kept_by rules s11 1)) else 0)) refl refl refl refl refl refl refl refl) refl
 
 pub legal : IsLegal rules journal
 legal =

@@ -1,5 +1,5 @@
 -- Each law has something to speak of: applied to the worked session, with a round beside its first recovery.
-use Rattle.std.proofs.Common.{◌≡◌, ℕ, zero, suc, ◌<◌, ◌≤◌, true, false, Some, List, [], ◌∷◌, ◌++◌, length, take, drop, refl, sym, ◌∙◌, ap, subst, ◌⊎◌, inl, inr, arith, ne_eqb}
+use Rattle.std.proofs.Common.{◌≡◌, ℕ, zero, suc, ◌<◌, ◌≤◌, true, Some, List, [], ◌∷◌, ◌++◌, length, take, drop, refl, sym, ◌∙◌, ap, subst, ◌⊎◌, inl, inr, arith, ne_eqb}
 use Rattle.std.specs.Prelude.{pos, replicate, slice_get}
 use Rattle.std.proofs.lemmas.Bool.Decides.{nat_tests}
 use Rattle.rcv_tree.specs.declared.event.Event.{Event}
@@ -10,8 +10,7 @@ use Rattle.rcv_model.specs.Next.{AreNext}
 use Rattle.rcv_model.specs.Run.{acts, put, taken, IsRun, IsRunOf}
 use Rattle.rcv_model.specs.Undo.{bound_of, keep_within}
 use Rattle.rcv_tree.specs.Bits.{has_bit}
-use Rattle.rcv_model.specs.Journal.{durable, group_of, events_of, after, place, reading_from, reading, IsDue, MaySend, IsLegal}
-use Rattle.rcv_model.specs.Numbers.{HasNumbers}
+use Rattle.rcv_model.specs.Journal.{own_of, durable, group_of, events_of, after, place, reading_from, reading, IsDue, MaySend, MayOwnRecv, IsLegal}
 use Rattle.rcv_model.specs.Premises.{IsSession}
 use Rattle.rcv_model.specs.Final.{CanAct, AreDone, HasOneAtLimit}
 use Rattle.rcv_model.proofs.Applied.{runs, queued, chooses}
@@ -24,6 +23,7 @@ use Rattle.rcv_model.proofs.Lists.{some_same}
 use Rattle.rcv_model.specs.Next.{IsAccepted}
 use Rattle.rcv_model.specs.Places.{net_of}
 use Rattle.rcv_model.proofs.Hosts.{apart_rules, apart_front, apart_recover, apart_journal, q4, four_proper, apart_recovers, apart_legal}
+use Rattle.rcv_model.proofs.Roles.{up, down}
 use Rattle.rcv_model.proofs.Same.{one_next}
 use Rattle.rcv_model.proofs.Session.{net, feed_proper, feed_accepted, rules, before, first_recover, meanwhile, rest, s0, s5, s6, s20, b_recovers, journal_legal}
 use Rattle.rcv_model.proofs.Stepping.{calm_by, due_not}
@@ -34,8 +34,8 @@ use Rattle.rcv_theory.specs.Foreseen.{IsSparedOrForeseen}
 use Rattle.rcv_theory.specs.Counts.{IsGreatestClosed, kept_counts, capped, IsLowered, IsLowest}
 use Rattle.rcv_theory.specs.Expected.{IsExpected}
 use Rattle.rcv_theory.specs.BystanderLaws.{IsRoundBeside}
-use Rattle.rcv_theory.specs.Own.{own_of, own_after, own_through, own_behind, IsOwnLog}
-use Rattle.rcv_theory.specs.Round.{IsBefore, Placed, NeverFalls, AreOf, role_of, entries, events_in, of_role, IsLocalRecv, IsLog, IsRound, IsMerge, IsAscending, IsByStamp, in_order}
+use Rattle.rcv_theory.specs.Own.{own_through, own_behind}
+use Rattle.rcv_theory.specs.Round.{IsBefore, Placed, NeverFalls, AreOf, role_of, entries, events_in, of_role, IsLog, IsRound, IsMerge, IsAscending, IsByStamp, in_order}
 use Rattle.rcv_theory.specs.RoundLaws.{IsMergedRound}
 use Rattle.rcv_tree.specs.declared.entry.Timed.{Timed}
 use Rattle.rcv_theory.proofs.BesideRounds.{legal_front, beside_recovery}
@@ -45,7 +45,7 @@ use Rattle.rcv_theory.proofs.Expecting.{unexpected}
 use Rattle.rcv_theory.proofs.Foreseeing.{recoveries_are_foreseen}
 use Rattle.rcv_theory.proofs.Following.{follows_log, bystander_follows, concerned_goes_back}
 use Rattle.rcv_theory.proofs.Merging.{kept_log, legal_join, merged_round}
-use Rattle.rcv_theory.proofs.Owning.{logs_by_own, after_own, through_log, own_recovery}
+use Rattle.rcv_theory.proofs.Owning.{through_log, own_recovery}
 use Rattle.rcv_theory.proofs.StampLists.{stamp_orders, one_order}
 use Rattle.rcv_theory.proofs.Stamps.{never_falls, order_kept, stamp_order}
 use Rattle.rcv_model.proofs.OneLane.{one_lane}
@@ -108,7 +108,7 @@ no_due (suc (suc (suc zero))) lt d = due_not rules s6 3 refl d
 no_due (suc (suc (suc (suc r)))) lt d = omega arith
 
 goes_on : AreDone rules (reading rules (before ++ first_recover ∷ [])) ⊎ (((r : ℕ) × (r < 4) × CanAct rules (reading rules (before ++ first_recover ∷ [])) r) ⊎ HasOneAtLimit rules (reading rules (before ++ first_recover ∷ [])))
-goes_on = no_stuck rules (before ++ first_recover ∷ []) feed_proper feed_accepted chooses (omega arith) (legal_front rules s0 (before ++ first_recover ∷ []) (meanwhile ++ rest) journal_legal) (λ r c. calm_by s6.crashed refl r c) no_due
+goes_on = no_stuck rules (before ++ first_recover ∷ []) feed_proper feed_accepted chooses (omega arith) (legal_front rules s0 (before ++ first_recover ∷ []) (meanwhile ++ rest) journal_legal) (λ r c. calm_by s6 refl r c) no_due
 
 -- meanwhile A and D have logs of their own
 abbrev a_sends : Timed
@@ -135,7 +135,7 @@ to_d z (inl e) = (ap net.receiver e, ap net.sender e)
 to_d z (inr (inl e)) = (ap net.receiver e, ap net.sender e)
 to_d z (inr (inr i)) = absurd i
 
-may_d : IsLocalRecv rules s5 (hears 3 3 0 3 2)
+may_d : MayOwnRecv rules (own_of s5 3) (hears 3 3 0 3 2)
 may_d = record { free = record { declared = omega arith; running = refl; not_due = due_not rules s5 3 refl; below_limit = omega arith }; offered = 3 ∷ 6 ∷ []; some = λ e. cc; from = 0; next = next_by net feed_one 3 0 refl; receives = to_d; is_recv = refl; sender = refl; stamp = refl }
 
 each_log : (r : ℕ) → IsLog rules r s5 (logs r)
@@ -215,7 +215,7 @@ that_one : (stamp_orders 4 logs none_above).0 ≡ placed
 that_one = one_order logs (stamp_orders 4 logs none_above).0 placed (stamp_orders 4 logs none_above).1 by_stamp
 
 d_rises : NeverFalls (logs 3)
-d_rises = never_falls rules 3 s5 (logs 3) refl (each_log 3)
+d_rises = never_falls rules 3 s5 (logs 3) (each_log 3)
 
 -- it is a merge; it may come behind B's crash, and behind B's recovery
 merge : IsMerge net s5.kept logs (in_order placed)
@@ -257,31 +257,22 @@ d_beside = bystander_follows rules before 1 (record { 0 = 6 }) (replicate 8 0) 3
 b_beside : own_of (reading rules (before ++ first_recover ∷ meanwhile)) 1 ≡ own_behind rules s5 1 1
 b_beside = concerned_goes_back rules before 1 (record { 0 = 6 }) (replicate 8 0) 3 logs (in_order placed) session beside 1 (omega arith) refl
 
-b_goes_back : own_behind rules s5 1 1 ≡ record { events = []; raw = 2; crashes = 1; crashed = false; attempt = 1; clock = 5 }
+b_goes_back : own_behind rules s5 1 1 ≡ record { events = []; numbers = up 2 1 1 5 }
 b_goes_back = refl
 
 -- who isn't concerned has other numbers than a concerned role would: A has its attempt and its clock still
 a_stays : own_of (after rules s5 first_recover) 0 ≡ own_of s5 0
 a_stays = refl
 
--- a log is one of its role's own events and numbers, a step leaves of its role what the role makes of it
-size : HasNumbers 4 s5
-size = record { raw = refl; crashes = refl; crashed = refl; attempts = refl; clocks = refl }
-
-d_own_log : IsOwnLog rules 3 (own_of s5 3) (logs 3)
-d_own_log = (logs_by_own rules 3 s5 (logs 3) size).0 (each_log 3)
-
-a_own_step : own_of (after rules s5 (Send (says 0 3 0 2))) 0 ≡ own_after (own_of s5 0) (Send (says 0 3 0 2))
-a_own_step = after_own rules s5 2 (Send (says 0 3 0 2)) size (refl, may_a)
-
+-- a log leaves of its role what the role makes of it
 d_through : own_of (reading_from rules s5 (entries (logs 3))) 3 ≡ own_through (own_of s5 3) (logs 3)
-d_through = through_log rules 3 s5 (logs 3) size (each_log 3)
+d_through = through_log rules 3 s5 (logs 3) (each_log 3)
 
-d_makes : own_through (own_of s5 3) (logs 3) ≡ record { events = hears 3 3 0 3 2 ∷ []; raw = 1; crashes = 1; crashed = true; attempt = 0; clock = 3 }
+d_makes : own_through (own_of s5 3) (logs 3) ≡ record { events = hears 3 3 0 3 2 ∷ []; numbers = down 1 1 0 3 }
 d_makes = refl
 
 c_own_recovery : own_of (after rules s5 first_recover) 2 ≡ own_behind rules s5 1 2
-c_own_recovery = own_recovery rules s5 1 2 (record { 0 = 6 }) (replicate 8 0) 3 size queued (omega arith)
+c_own_recovery = own_recovery rules s5 1 2 (record { 0 = 6 }) (replicate 8 0) 3 queued (omega arith)
 
 -- the order by stamp keeps the logs
 own_entries : (r : ℕ) → AreOf r (logs r)
@@ -295,7 +286,7 @@ own_entries (suc (suc (suc zero))) (suc (suc i)) x e = absurd (cc)
 own_entries (suc (suc (suc (suc r)))) i x e = absurd (cc)
 
 d_in_order : of_role 3 (in_order placed) ≡ logs 3
-d_in_order = order_kept logs placed (λ r. never_falls rules r s5 (logs r) refl (each_log r)) own_entries by_stamp 3
+d_in_order = order_kept logs placed (λ r. never_falls rules r s5 (logs r) (each_log r)) own_entries by_stamp 3
 
 -- a Recv before its Send is no merge, and without its Send no round
 not_merged : IsMerge net s5.kept logs (d_hears ∷ a_sends ∷ d_crashes ∷ []) → ⊥
@@ -321,7 +312,7 @@ not_a_round m = let p = m.match 0 3 in nothing_begins p.0 p.1
     nothing_begins rest e = cc
 
 -- a role that is done takes nothing
-b_is_done : IsLocalRecv rules s20 (hears 1 4 0 11 3) → ⊥
+b_is_done : MayOwnRecv rules (own_of s20 1) (hears 1 4 0 11 3) → ⊥
 b_is_done m = m.some (one_next net 1 (place s20 1) m.offered [] m.next (next_by net feed_one 1 (place s20 1) refl))
 
 -- with a host: A and D fail, and C, which isn't concerned, keeps everything

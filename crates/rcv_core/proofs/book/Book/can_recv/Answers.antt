@@ -10,10 +10,10 @@ use Rattle.rcv_core.proofs.book.Book.can_recv.Goals as goal
 pub front-requires : goal.front-requires
 front-requires c =
     let here = subst (λ (b : BookView). IsNextRecv b c.args.role c.args.from) (sym c.self.view_is) c.requires in
-    (low_from c.self.inside.setup.now c.self.inside.ledger.entries c.self.inside.standings.items c.self.inside.ledger c.self.invariant.book c.args.role c.args.from here, low_to c.self.inside.setup.now c.self.inside.ledger.entries c.self.inside.standings.items c.self.inside.ledger c.self.invariant.book c.args.role c.args.from here)
+    (low_from c.self.inside.setup.now c.self.inside.ledger.entries c.self.inside.numbers.items c.self.inside.ledger c.self.invariant.book c.args.role c.args.from here, low_to c.self.inside.setup.now c.self.inside.ledger.entries c.self.inside.numbers.items c.self.inside.ledger c.self.invariant.book c.args.role c.args.from here)
 
 pub returns : goal.returns
 returns c =
     let here = subst (λ (b : BookView). IsNextRecv b c.args.role c.args.from) (sym c.self.view_is) c.requires in
     subst (λ (b : BookView). IsTrue c.is_some.result ↔ CanAct (rules_of b.setup) (state_of b) c.args.role) c.self.view_is
-    (able_to_recv c.self.inside.setup.now c.self.inside.ledger.entries c.self.inside.standings.items c.self.inside.ledger c.self.invariant.book c.args.role c.args.from here c.front.result c.is_some.result c.front.ensures c.is_some.ensures)
+    (able_to_recv c.self.inside.setup.now c.self.inside.ledger.entries c.self.inside.numbers.items c.self.inside.ledger c.self.invariant.book c.args.role c.args.from here c.front.result c.is_some.result c.front.ensures c.is_some.ensures)

@@ -15,8 +15,8 @@ returns-then-remembered-ne0 c =
     let step = subst (λ (b : BookView). IsNextStep b c.args.role c.args.offered.now) (sym c.self.view_is) c.requires.step in
     let sends = subst (λ (b : BookView). AreSent (net_for b.setup) c.args.role c.args.offered.now) (sym c.self.view_is) c.requires.sends in
     let which = c.index.ensures ∙ ap (λ q. get_or c.self.inside.choices.items q c.index.result.now) c.role.view_is in
-    point_told setup c.self.inside.ledger.entries c.self.inside.standings.items c.self.inside.ledger c.self.invariant.book c.args.role c.args.offered.now step sends c.index.result.now
-    (remembered setup c.self.inside.ledger.entries c.self.inside.standings.items c.self.inside.ledger c.self.invariant.book c.args.role step.free.declared c.index.result.now c.self.inside.choices.items c.self.invariant.chosen which (λ e. let f = c.if-remembered-ne0.true in grind (arith, nat_tests)) _ refl)
+    point_told setup c.self.inside.ledger.entries c.self.inside.numbers.items c.self.inside.ledger c.self.invariant.book c.args.role c.args.offered.now step sends c.index.result.now
+    (remembered setup c.self.inside.ledger.entries c.self.inside.numbers.items c.self.inside.ledger c.self.invariant.book c.args.role step.free.declared c.index.result.now c.self.inside.choices.items c.self.invariant.chosen which (λ e. let f = c.if-remembered-ne0.true in grind (arith, nat_tests)) _ refl)
     c.args.self.now c.self.view_is
 
 pub choose-requires-clause-some : goal.choose-requires-clause-some
@@ -25,7 +25,7 @@ choose-requires-clause-some c = c.requires.sends.some
 pub choose-requires-clause-points : goal.choose-requires-clause-points
 choose-requires-clause-points c =
     let step = subst (λ (b : BookView). IsNextStep b c.args.role c.args.offered.now) (sym c.self.view_is) c.requires.step in
-    offered_told c.self.inside.setup.now c.self.inside.ledger.entries c.self.inside.standings.items c.self.inside.ledger c.self.invariant.book c.args.role c.args.offered.now step
+    offered_told c.self.inside.setup.now c.self.inside.ledger.entries c.self.inside.numbers.items c.self.inside.ledger c.self.invariant.book c.args.role c.args.offered.now step
 
 pub returns : goal.returns
 returns c =

@@ -33,7 +33,7 @@ overflow_sub-result c =
     let lt = declared_in c.args.self.now setup c.self.inside.ledger.entries c.args.role c.self.view_is c.requires.declared in
     let next = subst (λ (b : BookView). IsNextOf b c.args.role c.args.point) (sym c.self.view_is) c.requires.next in
     let of = of_next setup c.args.role (place (left_by setup c.self.inside.ledger.entries) c.args.role) c.args.point c.self.invariant.book.protocol next in
-    let order = in_order setup c.self.inside.ledger.entries c.self.inside.standings.items c.self.inside.ledger c.self.invariant.book c.args.role c.receiver.result (low_role setup c.args.role c.self.invariant.book.protocol lt) (subst (λ q. q < 8) (sym c.receiver.ensures) of.receiver) in
+    let order = in_order setup c.self.inside.ledger.entries c.self.inside.numbers.items c.self.inside.ledger c.self.invariant.book c.args.role c.receiver.result (low_role setup c.args.role c.self.invariant.book.protocol lt) (subst (λ q. q < 8) (sym c.receiver.ensures) of.receiver) in
     omega (arith, order, c.counts-put.ensures.put, c.counts-put.ensures.taken)
 
 pub returns : goal.returns
@@ -42,4 +42,4 @@ returns c =
     let lt = declared_in c.args.self.now setup c.self.inside.ledger.entries c.args.role c.self.view_is c.requires.declared in
     let next = subst (λ (b : BookView). IsNextOf b c.args.role c.args.point) (sym c.self.view_is) c.requires.next in
     let of = of_next setup c.args.role (place (left_by setup c.self.inside.ledger.entries) c.args.role) c.args.point c.self.invariant.book.protocol next in
-    room_told setup c.self.inside.ledger.entries c.self.inside.standings.items c.self.inside.ledger c.self.invariant.book c.args.role c.args.point c.receiver.result c.counts-put.result.0 c.counts-put.result.1 c.room.result (nat_lt (c.counts-put.result.0 - c.counts-put.result.1) c.room.result) lt of c.receiver.ensures c.counts-put.ensures.put c.counts-put.ensures.taken c.room.ensures.value refl c.args.self.now c.self.view_is
+    room_told setup c.self.inside.ledger.entries c.self.inside.numbers.items c.self.inside.ledger c.self.invariant.book c.args.role c.args.point c.receiver.result c.counts-put.result.0 c.counts-put.result.1 c.room.result (nat_lt (c.counts-put.result.0 - c.counts-put.result.1) c.room.result) lt of c.receiver.ensures c.counts-put.ensures.put c.counts-put.ensures.taken c.room.ensures.value refl c.args.self.now c.self.view_is

@@ -15,10 +15,10 @@ use Rattle.rcv_core.proofs.Making.{logs_are, carried, few_to_cut}
 use Rattle.rcv_core.proofs.book.Book.stable_line.Goals as goal
 
 pub stable_line-requires-clause-carried : goal.stable_line-requires-clause-carried
-stable_line-requires-clause-carried c = subst (λ (net : Net). AreCarried net c.self.inside.ledger.logs c.self.inside.ledger.channels) (sym c.points.ensures) (carried c.self.inside.setup.now c.self.inside.ledger.entries c.self.inside.standings.items c.self.inside.ledger c.self.invariant.book)
+stable_line-requires-clause-carried c = subst (λ (net : Net). AreCarried net c.self.inside.ledger.logs c.self.inside.ledger.channels) (sym c.points.ensures) (carried c.self.inside.setup.now c.self.inside.ledger.entries c.self.inside.numbers.items c.self.inside.ledger c.self.invariant.book)
 
 pub stable_line-requires-clause-few : goal.stable_line-requires-clause-few
-stable_line-requires-clause-few c = few_to_cut c.self.inside.setup.now c.self.inside.ledger.entries c.self.inside.standings.items c.self.inside.ledger c.self.invariant.book
+stable_line-requires-clause-few c = few_to_cut c.self.inside.setup.now c.self.inside.ledger.entries c.self.inside.numbers.items c.self.inside.ledger c.self.invariant.book
 
 pub stable_line-requires-clause-steps : goal.stable_line-requires-clause-steps
 stable_line-requires-clause-steps c r low = (c.everys-everys.ensures r low).1
@@ -27,7 +27,7 @@ pub returns : goal.returns
 returns c =
     let setup = c.self.inside.setup.now in
     let entries = c.self.inside.ledger.entries in
-    let are = logs_are setup entries c.self.inside.standings.items c.self.inside.ledger c.self.invariant.book in
+    let are = logs_are setup entries c.self.inside.numbers.items c.self.inside.ledger c.self.invariant.book in
     let h = (left_by setup entries).kept in
     let is = subst (λ (net : Net). IsLineOf net c.self.inside.ledger.logs (slice_index c.everys-everys.result) c.stable_line.result) c.points.ensures c.stable_line.ensures in
     let none : (r : ℕ) → 8 ≤ r → length (acts r h) ≡ 0 = (λ r high.

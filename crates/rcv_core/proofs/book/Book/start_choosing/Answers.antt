@@ -11,10 +11,10 @@ pub choose_anew-requires-clause-logs : goal.choose_anew-requires-clause-logs
 choose_anew-requires-clause-logs c = c.self.invariant.book.holds.logs
 
 pub choose_anew-requires-clause-stand : goal.choose_anew-requires-clause-stand
-choose_anew-requires-clause-stand c = ap length c.as_slice.ensures.value ∙ c.self.invariant.book.stand.all
+choose_anew-requires-clause-stand c = ap length c.as_slice.ensures.value ∙ c.self.invariant.book.many
 
 pub choose_anew-requires-clause-ready : goal.choose_anew-requires-clause-ready
-choose_anew-requires-clause-ready c = ready c.self.inside.setup.now c.self.inside.ledger.entries c.self.inside.standings.items c.self.inside.ledger c.self.invariant.book
+choose_anew-requires-clause-ready c = ready c.self.inside.setup.now c.self.inside.ledger.entries c.self.inside.numbers.items c.self.inside.ledger c.self.invariant.book
 
 pub choose_anew-requires-clause-stayed : goal.choose_anew-requires-clause-stayed
 choose_anew-requires-clause-stayed c =
