@@ -81,7 +81,7 @@ module _ (rules : Rules) (journal : List Entry) (legal : IsLegal rules journal) 
       go (inr f) =
           let w = within t journal there.0 (Recv origin.item) f in
           let m : MayRecv rules (reading rules (take there.0 journal)) origin.item = may_at rules journal there.0 (Recv origin.item) legal w.1 in
-          absurd (not_got origin.item m.is_recv kind.0)
+          absurd (not_got origin.item m.own.is_recv kind.0)
 
   message : IsMessage rules.net journal there.0 t
   message = record { sent = origin.item; got = got; send_at = place.1; recv_at = at; sender = kind.1 ∙ sym (may.own.receives got.point may.among).1; stamp = ap (λ (m : Message). m.stamp) gives.1 }
