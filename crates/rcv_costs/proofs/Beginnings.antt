@@ -1,17 +1,19 @@
 -- Beginnings of one thread's journal: how they grow, that each journal begins with them, and what is in front of a recovery.
-use Rattle.std.proofs.Common.{◌≡◌, ℕ, ◌+◌, true, false, Some, List, [], ◌∷◌, ◌++◌, length, length-append, length-set, get_or, replicate, refl, ◌∙◌, ap, subst, ◌⊎◌, inl, inr, arith}
-use Rattle.std.specs.Prelude.{slice_set}
+use Rattle.std.proofs.Common.{◌≡◌, ℕ, ◌+◌, ◌<◌, List, [], ◌∷◌, ◌++◌, length, length-append, length-set, refl, sym, ◌∙◌, ap, subst, ◌⊎◌, inl, inr, arith}
 use Rattle.std.specs.List.{All}
-use Rattle.std.proofs.lemmas.List.{get_or-set_same}
-use Rattle.std.proofs.lemmas.List.Elements.{All-nil, All-cons, All-head, All-tail, All-replicate}
-use Rattle.std.proofs.lemmas.Option.{slice_get-get_or, slice_get_within, get_or_from_slice_get}
+use Rattle.std.proofs.lemmas.List.{length-replicate, get_or-replicate}
+use Rattle.std.proofs.lemmas.List.Elements.{All-nil, All-cons, All-head, All-tail}
+use Rattle.rcv_tree.specs.Numbers.{fresh}
+use Rattle.rcv_tree.specs.declared.numbers.Numbers.{Numbers}
+use Rattle.rcv_tree.specs.declared.event.Event.{Event}
 use Rattle.rcv_tree.specs.declared.entry.Entry.{Entry}
 use Rattle.rcv_tree.specs.declared.entry.Entry.TheVariants.{Send, Recv, Crash, Recover}
 use Rattle.rcv_model.specs.Net.{HasTwoEnds}
 use Rattle.rcv_model.specs.Plain.{IsSendOrRecv}
-use Rattle.rcv_model.specs.Journal.{Rules, State, start, after_event, after, reading_from, IsDue}
+use Rattle.rcv_model.specs.Journal.{Rules, State, nobody, numbers_at, start, advanced, failed, after_event, after, reading_from, IsDue}
 use Rattle.rcv_model.specs.Final.{IsCrashed, IsFinal, IsStep, IsOneThreadFrom}
 use Rattle.rcv_model.proofs.OneThread.{one_step}
+use Rattle.rcv_model.proofs.Roles.{set_here, set_keeps, within, not_crashed}
 use Rattle.rcv_costs.specs.Rehearsal.{IsNoRecover, IsBeginningFrom}
 
 -- one step more
@@ -39,17 +41,21 @@ at_end rules s (e ∷ j) final x = absurd ((one_step rules s e e).none final x.0
 
 -- nobody is crashed at the start
 pub none_at_start : (roles r : ℕ) → IsCrashed (start roles) r → ⊥
-none_at_start roles r e =
-    let a : get_or (replicate roles false) r false ≡ false = All-replicate (λ b. b ≡ false) roles false refl r false (slice_get_within (replicate roles false) r true e) in
-    let b : get_or (replicate roles false) r false ≡ true = get_or_from_slice_get (replicate roles false) r true false e in
-    absurd (cc)
+none_at_start roles r =
+    not_crashed (start roles) r (λ lt. ap (λ (x : Numbers). x.crashed) (get_or-replicate roles r fresh nobody (subst (λ n. r < n) (length-replicate roles fresh) lt)))
+
+-- and by an event nobody crashes
+pub none_behind : (s : State) (e : Event) → ((r : ℕ) → IsCrashed s r → ⊥) → (r : ℕ) → IsCrashed (after_event s e) r → ⊥
+none_behind s e none r c = none r (
+  subst (λ n. r < n) (length-set s.roles e.role _) c.0,
+  sym (set_keeps (λ (x : Numbers). x.crashed) s.roles e.role r (advanced (numbers_at s.roles e.role) e.stamp) refl) ∙ c.1,
+)
 
 -- a crash marks its role
 pub crashed_now : (rules : Rules) (s : State) (p : ℕ) → IsDue rules s p → IsCrashed (after rules s (Crash p)) p
 crashed_now rules s p due =
-    let lt = slice_get_within s.crashed p false due.0 in
-    slice_get-get_or (slice_set s.crashed p true) p false (omega (arith, lt, length-set s.crashed p true))
-    ∙ ap Some (get_or-set_same s.crashed p true false lt)
+    let lt = within s.roles p due.0 in
+    (subst (λ n. p < n) (sym (length-set s.roles p _)) lt, ap (λ (x : Numbers). x.crashed) (set_here s.roles p (failed (numbers_at s.roles p)) lt))
 
 -- so the next step is a Recover
 recovers_next : (rules : Rules) (s : State) (p : ℕ) (e : Entry) → IsDue rules s p → IsStep rules (after rules s (Crash p)) e → IsNoRecover e → ⊥
@@ -79,26 +85,31 @@ one_before rules s e k is x part = record {
 
 pub parted : (rules : Rules) (s : State) (k : List Entry) → ((r : ℕ) → IsCrashed s r → ⊥) → IsBeginningFrom rules s k → All IsNoRecover k → Parted rules s k
 parted rules s [] none b all = record { events = []; only = All-nil IsSendOrRecv; steps = tt; rest = inl refl }
-parted rules s (Send e ∷ k) none b all = one_before rules s (Send e) k tt b.0 (parted rules (after_event s e) k none b.1 (All-tail IsNoRecover (Send e) k all))
-parted rules s (Recv e ∷ k) none b all = one_before rules s (Recv e) k tt b.0 (parted rules (after_event s e) k none b.1 (All-tail IsNoRecover (Recv e) k all))
+parted rules s (Send e ∷ k) none b all = one_before rules s (Send e) k tt b.0 (parted rules (after_event s e) k (none_behind s e none) b.1 (All-tail IsNoRecover (Send e) k all))
+parted rules s (Recv e ∷ k) none b all = one_before rules s (Recv e) k tt b.0 (parted rules (after_event s e) k (none_behind s e none) b.1 (All-tail IsNoRecover (Recv e) k all))
 parted rules s (Recover p c d u ∷ k) none b all = absurd (All-head IsNoRecover (Recover p c d u) k all tt)
 parted rules s (Crash p ∷ []) none b all = record { events = []; only = All-nil IsSendOrRecv; steps = tt; rest = inr (p, refl, b.0) }
 parted rules s (Crash p ∷ (x ∷ k)) none b all = absurd (recovers_next rules s p x b.0.1.0 b.1.0 (All-head IsNoRecover x k (All-tail IsNoRecover (Crash p) (x ∷ k) all)))
 
 -- events crash nobody, and all are kept
-pub marks_stay : (rules : Rules) (s : State) (k : List Entry) → All IsSendOrRecv k → (reading_from rules s k).crashed ≡ s.crashed
-marks_stay rules s [] all = refl
-marks_stay rules s (Send e ∷ k) all = marks_stay rules (after_event s e) k (All-tail IsSendOrRecv (Send e) k all)
-marks_stay rules s (Recv e ∷ k) all = marks_stay rules (after_event s e) k (All-tail IsSendOrRecv (Recv e) k all)
-marks_stay rules s (Crash p ∷ k) all = absurd (All-head IsSendOrRecv (Crash p) k all)
-marks_stay rules s (Recover p c d u ∷ k) all = absurd (All-head IsSendOrRecv (Recover p c d u) k all)
+pub sizes_stay : (rules : Rules) (s : State) (k : List Entry) → All IsSendOrRecv k → length (reading_from rules s k).roles ≡ length s.roles
+sizes_stay rules s [] all = refl
+sizes_stay rules s (Send e ∷ k) all = sizes_stay rules (after_event s e) k (All-tail IsSendOrRecv (Send e) k all) ∙ length-set s.roles e.role _
+sizes_stay rules s (Recv e ∷ k) all = sizes_stay rules (after_event s e) k (All-tail IsSendOrRecv (Recv e) k all) ∙ length-set s.roles e.role _
+sizes_stay rules s (Crash p ∷ k) all = absurd (All-head IsSendOrRecv (Crash p) k all)
+sizes_stay rules s (Recover p c d u ∷ k) all = absurd (All-head IsSendOrRecv (Recover p c d u) k all)
 
-pub crashes_stay : (rules : Rules) (s : State) (k : List Entry) → All IsSendOrRecv k → (reading_from rules s k).crashes ≡ s.crashes
-crashes_stay rules s [] all = refl
-crashes_stay rules s (Send e ∷ k) all = crashes_stay rules (after_event s e) k (All-tail IsSendOrRecv (Send e) k all)
-crashes_stay rules s (Recv e ∷ k) all = crashes_stay rules (after_event s e) k (All-tail IsSendOrRecv (Recv e) k all)
-crashes_stay rules s (Crash p ∷ k) all = absurd (All-head IsSendOrRecv (Crash p) k all)
-crashes_stay rules s (Recover p c d u ∷ k) all = absurd (All-head IsSendOrRecv (Recover p c d u) k all)
+-- what an event leaves of a role's numbers
+pub numbers_stay : {A : Type 0} (g : Numbers → A) → ((x : Numbers) (stamp : ℕ) → g (advanced x stamp) ≡ g x) → (rules : Rules) (s : State) (k : List Entry) → All IsSendOrRecv k → (r : ℕ) → g (numbers_at (reading_from rules s k).roles r) ≡ g (numbers_at s.roles r)
+numbers_stay g same rules s [] all r = refl
+numbers_stay g same rules s (Send e ∷ k) all r =
+    numbers_stay g same rules (after_event s e) k (All-tail IsSendOrRecv (Send e) k all) r
+    ∙ set_keeps g s.roles e.role r (advanced (numbers_at s.roles e.role) e.stamp) (same (numbers_at s.roles e.role) e.stamp)
+numbers_stay g same rules s (Recv e ∷ k) all r =
+    numbers_stay g same rules (after_event s e) k (All-tail IsSendOrRecv (Recv e) k all) r
+    ∙ set_keeps g s.roles e.role r (advanced (numbers_at s.roles e.role) e.stamp) (same (numbers_at s.roles e.role) e.stamp)
+numbers_stay g same rules s (Crash p ∷ k) all r = absurd (All-head IsSendOrRecv (Crash p) k all)
+numbers_stay g same rules s (Recover p c d u ∷ k) all r = absurd (All-head IsSendOrRecv (Recover p c d u) k all)
 
 pub all_kept : (rules : Rules) (s : State) (k : List Entry) → All IsSendOrRecv k → length (reading_from rules s k).kept ≡ length s.kept + length k
 all_kept rules s [] all = omega arith

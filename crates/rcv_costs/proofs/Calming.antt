@@ -1,18 +1,19 @@
 -- What comes of other crash lines: a step that is no crash is a step under them too, if they make no role due.
 use Rattle.std.proofs.Common.{◌≡◌, ℕ, ◌<◌, ◌≤◌, List, [], ◌∷◌, refl, sym, ◌∙◌, ap, subst, arith}
-use Rattle.std.specs.Prelude.{slice_index}
 use Rattle.std.specs.List.{All}
 use Rattle.std.proofs.lemmas.List.Elements.{All-head, All-tail}
 use Rattle.rcv_tree.specs.declared.event.Event.{Event}
+use Rattle.rcv_tree.specs.declared.numbers.Numbers.{Numbers}
 use Rattle.rcv_tree.specs.declared.entry.Entry.{Entry}
 use Rattle.rcv_tree.specs.declared.entry.Entry.TheVariants.{Send, Recv, Crash, Recover}
 use Rattle.rcv_model.specs.Plain.{IsSendOrRecv}
-use Rattle.rcv_model.specs.Journal.{Rules, State, events_of, after_event, reading_from, IsDue, IsFree, MaySend, MayRecv}
+use Rattle.rcv_model.specs.Journal.{Rules, State, numbers_at, events_of, advanced, after_event, reading_from, IsDue, IsFree, MaySend, MayRecv}
 use Rattle.rcv_model.specs.Final.{IsCrashed, IsActOf, CanAct, IsFinal, IsStep, IsOneThreadFrom}
 use Rattle.rcv_model.specs.Transparent.{without_crashes}
 use Rattle.rcv_model.proofs.Keeping.{by_role_other}
-use Rattle.rcv_model.proofs.Numbers.{bump_other}
+use Rattle.rcv_model.proofs.Roles.{set_else}
 use Rattle.rcv_costs.specs.Rehearsal.{IsBeginningFrom}
+use Rattle.rcv_costs.proofs.Beginnings.{none_behind}
 
 -- the same rules with these crash lines
 abbrev pub with_lines : Rules → (ℕ → List ℕ) → Rules
@@ -42,15 +43,19 @@ module _ (rules : Rules) (f : ℕ → List ℕ) (s : State) (idle : NoneDue rule
 
   recv_moves : (e : Event) → MayRecv rules s e → MayRecv (with_lines rules f) s e
   recv_moves e m = record {
-    free = free_moves e.role m.free;
-    offered = m.offered;
-    from = m.from;
-    next = m.next;
-    receives = m.receives;
-    is_recv = m.is_recv;
+    own = record {
+      free = free_moves e.role m.own.free;
+      offered = m.own.offered;
+      some = m.own.some;
+      from = m.own.from;
+      next = m.own.next;
+      receives = m.own.receives;
+      is_recv = m.own.is_recv;
+      sender = m.own.sender;
+      stamp = m.own.stamp;
+    };
     among = m.among;
     front = m.front;
-    stamp = m.stamp;
   }
 
   act_moves : (r : ℕ) (e : Entry) → IsActOf rules s r e → IsActOf (with_lines rules f) s r e
@@ -101,17 +106,19 @@ module _ (rules : Rules) where
   final_without s final = final_moves rules (λ r. []) s (λ r lt. never_due rules s r) final
 
   -- a role that has come to the limit makes no event more
-  pub stuck : (p : ℕ) (s : State) (j : List Entry) → ((r : ℕ) → IsCrashed s r → ⊥) → rules.limit ≤ slice_index s.raw p → IsOneThreadFrom (without_crashes rules) s j → events_of p (reading_from (without_crashes rules) s j).kept ≡ events_of p s.kept
+  pub stuck : (p : ℕ) (s : State) (j : List Entry) → ((r : ℕ) → IsCrashed s r → ⊥) → rules.limit ≤ (numbers_at s.roles p).raw → IsOneThreadFrom (without_crashes rules) s j → events_of p (reading_from (without_crashes rules) s j).kept ≡ events_of p s.kept
   stuck p s [] none most x = refl
   stuck p s (Send e ∷ j) none most x =
-      let low : slice_index s.raw e.role < rules.limit = x.0.3.1.free.below_limit in
-      let other : e.role ≡ p → ⊥ = λ f. absurd (let same = ap (slice_index s.raw) f in omega (arith, low, most, same)) in
-      stuck p (after_event s e) j none (subst (λ n. rules.limit ≤ n) (sym (bump_other s.raw e.role p other)) most) x.1
+      let low : (numbers_at s.roles e.role).raw < rules.limit = x.0.3.1.free.below_limit in
+      let other : e.role ≡ p → ⊥ = λ f. absurd (let same = ap (λ r. (numbers_at s.roles r).raw) f in omega (arith, low, most, same)) in
+      let stays = ap (λ (n : Numbers). n.raw) (set_else s.roles e.role p (advanced (numbers_at s.roles e.role) e.stamp) other) in
+      stuck p (after_event s e) j (none_behind s e none) (subst (λ n. rules.limit ≤ n) (sym stays) most) x.1
       ∙ by_role_other p s.kept e other
   stuck p s (Recv e ∷ j) none most x =
-      let low : slice_index s.raw e.role < rules.limit = x.0.3.1.free.below_limit in
-      let other : e.role ≡ p → ⊥ = λ f. absurd (let same = ap (slice_index s.raw) f in omega (arith, low, most, same)) in
-      stuck p (after_event s e) j none (subst (λ n. rules.limit ≤ n) (sym (bump_other s.raw e.role p other)) most) x.1
+      let low : (numbers_at s.roles e.role).raw < rules.limit = x.0.3.1.own.free.below_limit in
+      let other : e.role ≡ p → ⊥ = λ f. absurd (let same = ap (λ r. (numbers_at s.roles r).raw) f in omega (arith, low, most, same)) in
+      let stays = ap (λ (n : Numbers). n.raw) (set_else s.roles e.role p (advanced (numbers_at s.roles e.role) e.stamp) other) in
+      stuck p (after_event s e) j (none_behind s e none) (subst (λ n. rules.limit ≤ n) (sym stays) most) x.1
       ∙ by_role_other p s.kept e other
   stuck p s (Crash q ∷ j) none most x = absurd (never_due rules s q x.0.1.0)
   stuck p s (Recover q c d u ∷ j) none most x = absurd (none q x.0.0.0)

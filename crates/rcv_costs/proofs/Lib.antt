@@ -1,5 +1,5 @@
-pub mod Calming
 pub mod Beginnings
+pub mod Calming
 pub mod Sessions
 pub mod Runs
 pub mod Sums

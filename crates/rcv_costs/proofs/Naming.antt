@@ -34,7 +34,7 @@ module _ (session : SessionView) (accepted : IsAcceptedProtocol session.protocol
       let here = of_next session e.role (place s e.role) e.point accepted (x.0.3.1.next.sound e.point x.0.3.1.among) in
       events_named (after_event s e) j (All-tail IsSendOrRecv (Send e) j all) x.1 (all_and IsIn s.kept e in_text (here.first, here.last))
   events_named s (Recv e ∷ j) all x in_text =
-      let here = of_next session e.role (place s e.role) e.point accepted (x.0.3.1.next.sound e.point x.0.3.1.among) in
+      let here = of_next session e.role (place s e.role) e.point accepted (x.0.3.1.own.next.sound e.point x.0.3.1.among) in
       events_named (after_event s e) j (All-tail IsSendOrRecv (Recv e) j all) x.1 (all_and IsIn s.kept e in_text (here.first, here.last))
   events_named s (Crash p ∷ j) all x in_text = absurd (All-head IsSendOrRecv (Crash p) j all)
   events_named s (Recover p c d u ∷ j) all x in_text = absurd (All-head IsSendOrRecv (Recover p c d u) j all)

@@ -1,31 +1,33 @@
 -- The session in which one role alone crashes, beside the one in which nobody does: what is told of both up to the recovery.
-use Rattle.std.proofs.Common.{◌≡◌, ℕ, zero, suc, ◌+◌, ◌<◌, ◌≤◌, Bool, true, false, cond, Some, List, [], ◌∷◌, ◌++◌, length, length-append, replicate, refl, sym, ◌∙◌, ap, subst, ◌⊎◌, inl, inr, ⊎_elim, append_assoc, eq-eqb, ne_eqb, arith}
-use Rattle.std.specs.Prelude.{◌==◌, if◌then◌else◌, nat_le, slice_get, slice_index}
+use Rattle.std.proofs.Common.{◌≡◌, ℕ, ◌+◌, ◌<◌, ◌≤◌, Bool, true, false, cond, List, [], ◌∷◌, ◌++◌, length, length-append, refl, sym, ◌∙◌, ap, subst, ◌⊎◌, inl, inr, ⊎_elim, append_assoc, eq-eqb, ne_eqb, arith}
+use Rattle.std.specs.Prelude.{◌==◌, if◌then◌else◌, nat_le}
 use Rattle.std.specs.List.{All, count_by}
 use Rattle.std.proofs.lemmas.Bool.{cases_eq, cases_lt}
 use Rattle.std.proofs.lemmas.Bool.Decides.{nat_tests}
-use Rattle.std.proofs.lemmas.List.{length-replicate}
+use Rattle.std.proofs.lemmas.List.{length-set, get_or-replicate}
+use Rattle.rcv_tree.specs.Numbers.{fresh}
+use Rattle.rcv_tree.specs.declared.numbers.Numbers.{Numbers}
 use Rattle.rcv_tree.specs.declared.role.RoleSet.{RoleSet}
 use Rattle.rcv_tree.specs.declared.entry.Entry.{Entry}
 use Rattle.rcv_tree.specs.declared.entry.Entry.TheVariants.{Send, Recv, Crash, Recover}
 use Rattle.rcv_model.specs.Net.{HasTwoEnds}
 use Rattle.rcv_model.specs.Run.{acts}
-use Rattle.rcv_model.specs.Journal.{Rules, State, start, after, reading_from, reading, events_of, IsDue}
+use Rattle.rcv_model.specs.Journal.{Rules, State, nobody, numbers_at, failed, start, after, reading_from, reading, events_of, IsDue}
 use Rattle.rcv_model.specs.Final.{IsCrashed, IsFinal, IsStep, IsOneThreadFrom, IsOneThread}
 use Rattle.rcv_model.specs.Transparent.{without_crashes}
 use Rattle.rcv_model.proofs.Bystanders.{as_many}
 use Rattle.rcv_model.proofs.Forms.{proper}
 use Rattle.rcv_model.proofs.OneThread.{one_journal}
 use Rattle.rcv_model.proofs.Quiet.{quiet_end}
+use Rattle.rcv_model.proofs.Roles.{set_else}
 use Rattle.rcv_model.proofs.StableLines.{reading_join}
 use Rattle.rcv_model.proofs.Threads.{one_thread}
-use Rattle.rcv_theory.proofs.Besides.{set_other}
 use Rattle.rcv_session.specs.Session.{SessionView, text_of, roles_of, rules_of}
 use Rattle.rcv_accept.specs.Accepted.{IsAcceptedProtocol}
 use Rattle.rcv_transparent.specs.Calm.{calm}
 use Rattle.rcv_costs.specs.Rehearsal.{crash_session, IsRecover, IsNoRecover, IsBeginningFrom}
 use Rattle.rcv_costs.specs.Costs.{IsCalmRun}
-use Rattle.rcv_costs.proofs.Beginnings.{Parted, parted, steps_more, begins, at_end, none_at_start, crashed_now, marks_stay, crashes_stay, all_kept}
+use Rattle.rcv_costs.proofs.Beginnings.{Parted, parted, steps_more, begins, at_end, none_at_start, crashed_now, sizes_stay, numbers_stay, all_kept}
 use Rattle.rcv_costs.proofs.Calming.{same_reading, steps_move, final_without, stuck}
 use Rattle.rcv_costs.proofs.Sessions.{rules_crash, line_of}
 
@@ -59,33 +61,28 @@ own : (b : Bool) (n : ℕ) → b ≡ true → (if b then n ∷ [] else []) ≡ n
 own true n e = refl
 own false n e = absurd (cc)
 
-index_none : (roles q : ℕ) → slice_index (replicate roles 0) q ≡ 0
-index_none zero q = refl
-index_none (suc n) zero = refl
-index_none (suc n) (suc q) = index_none n q
-
 module _ (session : SessionView) (p n : ℕ) where
   abbrev rules : Rules
   rules = rules_of (crash_session session p n)
 
-  due_line : (s : State) (q : ℕ) → IsDue rules s q → (q ≡ p) × (n ≤ slice_index s.raw p)
+  due_line : (s : State) (q : ℕ) → IsDue rules s q → (q ≡ p) × (n ≤ (numbers_at s.roles p).raw)
   due_line s q due = ⊎_elim
       (λ (e : p ≡ q).
       let is = line_of session p n q ∙ own (p == q) n (eq-eqb p q e) in
-      let lt = subst (λ lines. slice_index s.crashes q < count_by (λ m. nat_le m (slice_index s.raw q)) lines) is due.1 in
-      (sym e, subst (λ r. n ≤ slice_index s.raw r) (sym e) (reached n (slice_index s.raw q) (slice_index s.crashes q) lt)))
+      let lt = subst (λ lines. (numbers_at s.roles q).crashes < count_by (λ m. nat_le m (numbers_at s.roles q).raw) lines) is due.1 in
+      (sym e, subst (λ r. n ≤ (numbers_at s.roles r).raw) (sym e) (reached n (numbers_at s.roles q).raw (numbers_at s.roles q).crashes lt)))
       (λ other.
       let is = line_of session p n q ∙ whose (p == q) n (ne_eqb p q other) in
-      let lt = subst (λ lines. slice_index s.crashes q < count_by (λ m. nat_le m (slice_index s.raw q)) lines) is due.1 in
+      let lt = subst (λ lines. (numbers_at s.roles q).crashes < count_by (λ m. nat_le m (numbers_at s.roles q).raw) lines) is due.1 in
       absurd (omega (arith, lt)))
       (cases_eq p q)
 
-  line_due : (s : State) → slice_get s.crashed p ≡ Some false → slice_index s.crashes p ≡ 0 → n ≤ slice_index s.raw p → IsDue rules s p
+  line_due : (s : State) → (numbers_at s.roles p).crashed ≡ false → (numbers_at s.roles p).crashes ≡ 0 → n ≤ (numbers_at s.roles p).raw → IsDue rules s p
   line_due s up first le =
       let is = line_of session p n p ∙ own (p == p) n (eq-eqb p p refl) in (
         up,
-        subst (λ lines. slice_index s.crashes p < count_by (λ m. nat_le m (slice_index s.raw p)) lines) (sym is)
-            (subst (λ c. c < count_by (λ m. nat_le m (slice_index s.raw p)) (n ∷ [])) (sym first) (reaches n (slice_index s.raw p) le)),
+        subst (λ lines. (numbers_at s.roles p).crashes < count_by (λ m. nat_le m (numbers_at s.roles p).raw) lines) (sym is)
+            (subst (λ c. c < count_by (λ m. nat_le m (numbers_at s.roles p).raw) (n ∷ [])) (sym first) (reaches n (numbers_at s.roles p).raw le)),
       )
 
   module _ (accepted : IsAcceptedProtocol session.protocol) where
@@ -101,7 +98,10 @@ module _ (session : SessionView) (p n : ℕ) where
       before = reading_from rules (start rules.roles) part.events
 
       none_crashed : (r : ℕ) → IsCrashed before r → ⊥
-      none_crashed r e = none_at_start rules.roles r (subst (λ bs. slice_get bs r ≡ Some true) (marks_stay rules (start rules.roles) part.events part.only) e)
+      none_crashed r e = none_at_start rules.roles r (
+        subst (λ n. r < n) (sizes_stay rules (start rules.roles) part.events part.only) e.0,
+        sym (numbers_stay (λ (x : Numbers). x.crashed) (λ x stamp. refl) rules (start rules.roles) part.events part.only r) ∙ e.1,
+      )
 
       -- a journal of the session without crashes begins with these events
       calm_rest : (j : List Entry) → IsOneThread (without_crashes rules) j → (rest : List Entry) × (j ≡ part.events ++ rest) × IsOneThreadFrom (without_crashes rules) before rest
@@ -162,18 +162,14 @@ module _ (session : SessionView) (p n : ℕ) where
               let here : IsFinal rules before = subst (λ l. IsFinal rules (reading rules l)) e final in
               let same : reading (without_crashes rules) j ≡ before = calm_end j alone here in
               let quiet = (quiet_end (without_crashes rules) (λ r. refl) j ((one_journal (without_crashes rules) j j).legal alone)).1.whole p in
-              let raw : slice_index before.raw p ≡ length (acts p before.kept) = subst (λ (t : State). slice_index t.raw p ≡ length (acts p t.kept)) same quiet in
+              let raw : (numbers_at before.roles p).raw ≡ length (acts p before.kept) = subst (λ (t : State). (numbers_at t.roles p).raw ≡ length (acts p t.kept)) same quiet in
               let many : n ≤ length (events_of p before.kept) = subst (λ (t : State). n ≤ length (events_of p t.kept)) same few in
-              let size = length-replicate rules.roles false in
-              let up : slice_get before.crashed p ≡ Some false =
-              subst (λ bs. slice_get bs p ≡ Some false) (sym (marks_stay rules (start rules.roles) part.events part.only)) (up_at_start rules.roles p low) in
-              let first : slice_index before.crashes p ≡ 0 = ap (λ l. slice_index l p) (crashes_stay rules (start rules.roles) part.events part.only) ∙ index_none rules.roles p in
+              let at_first = get_or-replicate rules.roles p fresh nobody low in
+              let up : (numbers_at before.roles p).crashed ≡ false =
+              numbers_stay (λ (x : Numbers). x.crashed) (λ x stamp. refl) rules (start rules.roles) part.events part.only p ∙ ap (λ (x : Numbers). x.crashed) at_first in
+              let first : (numbers_at before.roles p).crashes ≡ 0 =
+              numbers_stay (λ (x : Numbers). x.crashes) (λ x stamp. refl) rules (start rules.roles) part.events part.only p ∙ ap (λ (x : Numbers). x.crashes) at_first in
               here.none_due p low (line_due before up first (omega (arith, raw, many, as_many p before.kept)))
-            where
-              up_at_start : (roles q : ℕ) → q < roles → slice_get (replicate roles false) q ≡ Some false
-              up_at_start zero q lt = absurd (omega (arith, lt))
-              up_at_start (suc roles) zero lt = refl
-              up_at_start (suc roles) (suc q) lt = up_at_start roles q (omega (arith, lt))
           go (inr a) =
               (subst (λ (t : State). IsFinal rules t) (behind_crash a.0 a.1) final).none_crashed a.0 (crashed_now rules before a.0 a.2.1.0)
 
@@ -192,7 +188,10 @@ module _ (session : SessionView) (p n : ℕ) where
               let whole = ap length a.1 in (
                 ⊎_elim
                     (λ (e : q ≡ a.0). e ∙ is)
-                    (λ other. absurd (none_crashed q (sym (set_other before.crashed a.0 q true other) ∙ marked)))
+                    (λ other. absurd (none_crashed q (
+                      subst (λ n. q < n) (length-set before.roles a.0 _) marked.0,
+                      sym (ap (λ (x : Numbers). x.crashed) (set_else before.roles a.0 q (failed (numbers_at before.roles a.0)) (λ f. other (sym f)))) ∙ marked.1,
+                    )))
                     (cases_eq q a.0),
                 omega (arith, events, same, whole, length-append part.events (Crash a.0 ∷ [])),
               )

@@ -42,7 +42,7 @@ named_is_declared session (Recover p concerned kept undone) is = is
 -- an entry that may come
 pub may_is_declared : (book : BookView) → IsAcceptedProtocol book.setup.protocol → IsLegal (rules_of book.setup) book.entries → (e : Entry) → May (rules_of book.setup) (state_of book) e → IsDeclared book.setup e
 may_is_declared book plain legal e may =
-    named_is_declared book.setup e (named book.setup (proper (text_of book.setup) (roles_of book.setup) plain.form) (state_of book) e (bounded (rules_of book.setup) book.entries legal).numbers.crashed may)
+    named_is_declared book.setup e (named book.setup (proper (text_of book.setup) (roles_of book.setup) plain.form) (state_of book) e (bounded (rules_of book.setup) book.entries legal).numbers may)
 
 -- what a role could do
 pub is_shown : (book : BookView) → IsAcceptedProtocol book.setup.protocol → IsLegal (rules_of book.setup) book.entries → (r : ℕ) (could : Could) → IsCould book r could → IsShown book.setup could

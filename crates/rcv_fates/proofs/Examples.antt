@@ -71,7 +71,7 @@ below_8 P a b c d e f g h (suc (suc (suc (suc (suc (suc (suc zero))))))) lt = h
 below_8 P a b c d e f g h (suc (suc (suc (suc (suc (suc (suc (suc q)))))))) lt = absurd (omega arith)
 
 m3 : MayRecover rules s3 1 3 (1 ∷ replicate 7 0) 1
-m3 = may_recover rules s3 1 ping_proper ping_accepted.lanes_end 3 (1 ∷ replicate 7 0) 1 refl (omega arith) (below_8 (λ q. has_bit 3 q ≡ is_listed (concerned_in rules s3 1) q) refl refl refl refl refl refl refl refl) refl (below_8 (λ q. slice_index (1 ∷ replicate 7 0) q ≡ cond (has_bit 3 q) (length (acts q (kept_by rules s3 1))) 0) refl refl refl refl refl refl refl refl) refl
+m3 = may_recover rules s3 1 ping_proper ping_accepted.lanes_end 3 (1 ∷ replicate 7 0) 1 (omega arith, refl) (omega arith) (below_8 (λ q. has_bit 3 q ≡ is_listed (concerned_in rules s3 1) q) refl refl refl refl refl refl refl refl) refl (below_8 (λ q. slice_index (1 ∷ replicate 7 0) q ≡ cond (has_bit 3 q) (length (acts q (kept_by rules s3 1))) 0) refl refl refl refl refl refl refl refl) refl
 
 m4 : MayRecv rules s4 (got 1 1 4 1)
 m4 = may_recv (λ r. 100) lines s4 1 0 4 0 1 [] (omega arith) begin (λ e. omega arith) refl (λ d. let x = d.1 in omega arith) (omega arith) refl refl refl refl refl

@@ -59,15 +59,15 @@ module _ (rules : Rules) (journal : List Entry) (legal : IsLegal rules journal) 
   kept : List Event
   kept = (reading rules (take t journal)).kept
 
-  origin : From (put_by rules.net may.from got.role) kept (length (taken rules.net may.from got.role kept)) (message_of got)
+  origin : From (put_by rules.net may.own.from got.role) kept (length (taken rules.net may.own.from got.role kept)) (message_of got)
   unfolding kept
-  origin = from_of (put_by rules.net may.from got.role) kept (length (taken rules.net may.from got.role kept)) (message_of got) (front_at (length (taken rules.net may.from got.role kept)) (put rules.net may.from got.role kept) may.front.0 (message_of got) may.front.1)
+  origin = from_of (put_by rules.net may.own.from got.role) kept (length (taken rules.net may.own.from got.role kept)) (message_of got) (front_at (length (taken rules.net may.own.from got.role kept)) (put rules.net may.own.from got.role kept) may.front.0 (message_of got) may.front.1)
 
-  gives : (puts_on rules.net may.from got.role origin.item ≡ true) × (put_message origin.item ≡ message_of got)
-  gives = put_by_true rules.net may.from got.role origin.item (message_of got) origin.gives
+  gives : (puts_on rules.net may.own.from got.role origin.item ≡ true) × (put_message origin.item ≡ message_of got)
+  gives = put_by_true rules.net may.own.from got.role origin.item (message_of got) origin.gives
 
-  kind : (is_sent origin.item.dir ≡ true) × (origin.item.role ≡ may.from)
-  kind = is_send rules.net may.from got.role origin.item gives.0
+  kind : (is_sent origin.item.dir ≡ true) × (origin.item.role ≡ may.own.from)
+  kind = is_send rules.net may.own.from got.role origin.item gives.0
 
   there : (i : ℕ) × IsEventAt (take t journal) i origin.item
   unfolding kept
@@ -81,10 +81,10 @@ module _ (rules : Rules) (journal : List Entry) (legal : IsLegal rules journal) 
       go (inr f) =
           let w = within t journal there.0 (Recv origin.item) f in
           let m : MayRecv rules (reading rules (take there.0 journal)) origin.item = may_at rules journal there.0 (Recv origin.item) legal w.1 in
-          absurd (not_got origin.item m.is_recv kind.0)
+          absurd (not_got origin.item m.own.is_recv kind.0)
 
   message : IsMessage rules.net journal there.0 t
-  message = record { sent = origin.item; got = got; send_at = place.1; recv_at = at; sender = kind.1 ∙ sym (may.receives got.point may.among).1; stamp = ap (λ (m : Message). m.stamp) gives.1 }
+  message = record { sent = origin.item; got = got; send_at = place.1; recv_at = at; sender = kind.1 ∙ sym (may.own.receives got.point may.among).1; stamp = ap (λ (m : Message). m.stamp) gives.1 }
 
   only : (s : ℕ) → IsMessage rules.net journal s t → s ≡ there.0
   unfolding message

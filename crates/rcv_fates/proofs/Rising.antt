@@ -1,6 +1,6 @@
 -- The stamps of one role grow along the kept events, so an event is found by its stamp.
 use Rattle.std.proofs.Common.{◌≡◌, ℕ, zero, suc, ◌+◌, ◌<◌, ◌≤◌, Bool, true, false, cond, Some, List, [], ◌∷◌, ◌++◌, length, refl, sym, ◌∙◌, ap, subst, inl, inr, ⊎_elim, arith, eq-eqb, eqb-true}
-use Rattle.std.specs.Prelude.{◌==◌, slice_get, slice_index}
+use Rattle.std.specs.Prelude.{◌==◌, slice_get}
 use Rattle.std.proofs.lemmas.Bool.{cases_lt}
 use Rattle.std.proofs.lemmas.List.{length-replicate}
 use Rattle.std.proofs.lemmas.Option.{slice_get_within, slice_get-get_or}
@@ -8,7 +8,7 @@ use Rattle.rcv_tree.specs.declared.event.Event.{Event}
 use Rattle.rcv_tree.specs.declared.entry.Entry.{Entry}
 use Rattle.rcv_tree.specs.declared.entry.Entry.TheVariants.{Send, Recv, Crash, Recover}
 use Rattle.rcv_model.specs.Undo.{bound_of}
-use Rattle.rcv_model.specs.Journal.{Rules, State, start, durable, group_of, events_of, after, reading_from, reading, May, IsLegalFrom, IsLegal}
+use Rattle.rcv_model.specs.Journal.{Rules, State, numbers_at, start, durable, group_of, events_of, after, reading_from, reading, May, IsLegalFrom, IsLegal}
 use Rattle.rcv_model.proofs.Lists.{some_same}
 use Rattle.rcv_fates.specs.Fates.{IsAmong}
 use Rattle.rcv_fates.specs.Sends.{IsNumberOf}
@@ -38,28 +38,28 @@ rising_more (x ∷ xs) e r new = (λ d i same. ⊎_elim (λ a. r.0 d a same) (λ
 -- the kept events rise, up to the clocks
 pub record Sorted (s : State) : Type 0 where
   pub rising : Rising s.kept
-  pub low : AllAre (λ d. d.stamp ≤ slice_index s.clocks d.role) s.kept
+  pub low : AllAre (λ d. d.stamp ≤ (numbers_at s.roles d.role).clock) s.kept
 
 module _ (rules : Rules) where
-  new_event : (s : State) (e : Event) → Sorted s → slice_index s.clocks e.role < e.stamp → Rising (s.kept ++ e ∷ [])
-  new_event s e sorted above = rising_more s.kept e sorted.rising (λ d i same. let a = sorted.low d i in let b = subst (λ r. slice_index s.clocks r < e.stamp) (sym same) above in omega (arith, a, b))
+  new_event : (s : State) (e : Event) → Sorted s → (numbers_at s.roles e.role).clock < e.stamp → Rising (s.kept ++ e ∷ [])
+  new_event s e sorted above = rising_more s.kept e sorted.rising (λ d i same. let a = sorted.low d i in let b = subst (λ r. (numbers_at s.roles r).clock < e.stamp) (sym same) above in omega (arith, a, b))
 
-  rising_after : (s : State) (x : Entry) → length s.clocks ≡ rules.roles → May rules s x → Sorted s → Rising (after rules s x).kept
+  rising_after : (s : State) (x : Entry) → length s.roles ≡ rules.roles → May rules s x → Sorted s → Rising (after rules s x).kept
   rising_after s (Send e) size may sorted = new_event s e sorted (stamps rules s (Send e) e size may (inl refl)).above
   rising_after s (Recv e) size may sorted = new_event s e sorted (stamps rules s (Recv e) e size may (inr refl)).above
   rising_after s (Crash p) size may sorted = sorted.rising
   rising_after s (Recover p concerned kept undone) size may sorted =
       kept_keeps Rising rising_less rules.net (bound_of (group_of rules p) (durable rules s) s.kept) (record { events = []; stopped = [] }) s.kept sorted.rising
 
-  sorted_after : (s : State) (x : Entry) → length s.clocks ≡ rules.roles → May rules s x → Sorted s → Sorted (after rules s x)
+  sorted_after : (s : State) (x : Entry) → length s.roles ≡ rules.roles → May rules s x → Sorted s → Sorted (after rules s x)
   sorted_after s x size may sorted = record {
     rising = rising_after s x size may sorted;
-    low = all_after rules (λ d. d.stamp ≤ slice_index (after rules s x).clocks d.role) s x
+    low = all_after rules (λ d. d.stamp ≤ (numbers_at (after rules s x).roles d.role).clock) s x
         (λ e f. let a = (stamps rules s x e size may f).now in omega (arith, a))
         (λ d i. let a = sorted.low d i in let b = (ticks rules s x size may).low d.role in omega (arith, a, b));
   }
 
-  sorted_from : (s : State) (journal : List Entry) → length s.clocks ≡ rules.roles → IsLegalFrom rules s journal → Sorted s → Sorted (reading_from rules s journal)
+  sorted_from : (s : State) (journal : List Entry) → length s.roles ≡ rules.roles → IsLegalFrom rules s journal → Sorted s → Sorted (reading_from rules s journal)
   sorted_from s [] size legal sorted = sorted
   sorted_from s (x ∷ journal) size legal sorted = sorted_from (after rules s x) journal (ticks rules s x size legal.0).size legal.1 (sorted_after s x size legal.0 sorted)
 

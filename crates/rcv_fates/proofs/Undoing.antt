@@ -43,7 +43,7 @@ declared_from rules s (Send x ∷ journal) zero e legal at = ⊎_elim
     at
 declared_from rules s (Recv x ∷ journal) zero e legal at = ⊎_elim
     (λ (f : Some (Recv x) ≡ Some (Send e)). absurd (cc))
-    (λ (f : Some (Recv x) ≡ Some (Recv e)). let g : x ≡ e = cc in subst (λ (y : Event). y.role < rules.roles) g legal.0.free.declared)
+    (λ (f : Some (Recv x) ≡ Some (Recv e)). let g : x ≡ e = cc in subst (λ (y : Event). y.role < rules.roles) g legal.0.own.free.declared)
     at
 declared_from rules s (Crash p ∷ journal) zero e legal at = ⊎_elim (λ f. absurd (cc)) (λ f. absurd (cc)) at
 declared_from rules s (Recover p c k u ∷ journal) zero e legal at = ⊎_elim (λ f. absurd (cc)) (λ f. absurd (cc)) at

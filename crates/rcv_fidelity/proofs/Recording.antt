@@ -1,8 +1,8 @@
 -- Legal journals keep steps of machines. And each run is what one of them keeps, stamps apart: each role chooses what it did.
 use Rattle.std.proofs.Common.{◌≡◌, ℕ, suc, ◌+◌, ◌<◌, ◌≤◌, max, Bool, true, false, cond, Option, Some, None, List, [], ◌∷◌, ◌++◌, length, map, drop, refl, sym, ◌∙◌, ap, subst, inl, append_assoc, append-nil, length-append, arith, eq-eqb}
-use Rattle.std.specs.Prelude.{ℤ, pos, ◌==◌, slice_get, slice_index, if◌then◌else◌}
+use Rattle.std.specs.Prelude.{ℤ, pos, ◌==◌, slice_get, if◌then◌else◌}
 use Rattle.std.specs.List.{filter_map, cons_option}
-use Rattle.std.proofs.lemmas.List.{drop-map, length-map, map-append, length-replicate}
+use Rattle.std.proofs.lemmas.List.{drop-map, length-map, map-append}
 use Rattle.std.proofs.lemmas.List.Elements.{filter-append}
 use Rattle.std.proofs.lemmas.Option.{slice_get-get_or}
 use Rattle.std.proofs.Math.Seq.{get_or-append_seam}
@@ -18,12 +18,13 @@ use Rattle.rcv_model.specs.Run.{Act, act_of, acts, place_of, put, taken, channel
 use Rattle.rcv_model.specs.Next.{AreNext, IsProper, IsAccepted}
 use Rattle.rcv_model.specs.Script.{first_point}
 use Rattle.rcv_model.specs.Transparent.{Fact, fact_of, facts}
-use Rattle.rcv_model.specs.Journal.{Rules, State, start, events_of, after, reading_from, reading, IsFree, MaySend, MayRecv, May, IsLegalFrom, IsLegal}
+use Rattle.rcv_model.specs.Journal.{Rules, State, nobody, numbers_at, start, events_of, own_of, after, reading_from, reading, IsFree, MaySend, MayOwnRecv, MayRecv, May, IsLegalFrom, IsLegal}
 use Rattle.rcv_model.specs.Premises.{IsSession}
 use Rattle.rcv_model.proofs.Facts.{Letter, letter_of, comes_from, goes_to, takes_told, puts_told, same_acts}
 use Rattle.rcv_model.proofs.Keeping.{message_of, is_by}
 use Rattle.rcv_model.proofs.Legal.{accepted_runs}
 use Rattle.rcv_model.proofs.Quiet.{Quiet, at_start, after_one, quiet_end}
+use Rattle.rcv_model.proofs.Roles.{place_is}
 use Rattle.rcv_model.proofs.Scanning.{among as to_listed, is_member as of_listed}
 use Rattle.rcv_project.specs.Act.{ActView, Sending, Receiving, Ended, IsActAt}
 use Rattle.rcv_fidelity.specs.Laws.{IsAcceptedNet}
@@ -148,7 +149,6 @@ made e dir stamp sent = record { role = e.role; dir = dir; point = e.point; valu
 record Follows (roles : ℕ) (g : List Event) (s : State) : Type 0 where
   same : AreRestamped s.kept g
   quiet : Quiet roles s
-  size : length s.crashed ≡ roles
 
 module _ (net : Net) (roles : ℕ) (proper : IsProper net roles) (accepted : IsAccepted net roles) (h : List Event) where
   -- the entry of an event of the run
@@ -169,13 +169,10 @@ module _ (net : Net) (roles : ℕ) (proper : IsProper net roles) (accepted : IsA
     free : e.role < roles → IsFree (rules_by net roles h) s e.role
     free lt = record {
       declared = lt;
-      running = slice_get-get_or s.crashed e.role false inside ∙ ap Some (f.quiet.calm e.role false inside);
+      running = f.quiet.calm e.role nobody (subst (λ n. e.role < n) (sym f.quiet.size) lt);
       not_due = λ d. (let x = d.1 in omega arith);
       below_limit = omega (arith, f.quiet.whole e.role, ap length done_alike, few_acts e.role g, length-append g (e ∷ rest), ap length whole);
     }
-      where
-        inside : e.role < length s.crashed
-        inside = subst (λ n. e.role < n) (sym f.size) lt
 
     -- what the role did at this place of its events in the run
     here : slice_get (events_of e.role h) (length (events_of e.role s.kept)) ≡ Some e
@@ -191,28 +188,27 @@ module _ (net : Net) (roles : ℕ) (proper : IsProper net roles) (accepted : IsA
     sends = sym (ap number_in here)
 
     -- one event more, with other stamps
-    follows : (entry : Entry) (dir : Dir) (stamp sent : ℕ) → e.dir ≡ dir → May (rules_by net roles h) s entry → (after (rules_by net roles h) s entry).kept ≡ s.kept ++ made e dir stamp sent ∷ [] → (after (rules_by net roles h) s entry).crashed ≡ s.crashed → Follows roles (g ++ e ∷ []) (after (rules_by net roles h) s entry)
-    follows entry dir stamp sent d may kept crashed = record {
+    follows : (entry : Entry) (dir : Dir) (stamp sent : ℕ) → e.dir ≡ dir → May (rules_by net roles h) s entry → (after (rules_by net roles h) s entry).kept ≡ s.kept ++ made e dir stamp sent ∷ [] → Follows roles (g ++ e ∷ []) (after (rules_by net roles h) s entry)
+    follows entry dir stamp sent d may kept = record {
       same =
           ap (map deed_of) kept ∙ map-append deed_of s.kept (made e dir stamp sent ∷ [])
           ∙ ap (λ l. l ++ deed_of (made e dir stamp sent) ∷ []) f.same
           ∙ ap (λ x. map deed_of g ++ deed e.role x e.point e.value ∷ []) (sym d)
           ∙ sym (map-append deed_of g (e ∷ []));
       quiet = (after_one (rules_by net roles h) (λ r. refl) s entry f.quiet may).1;
-      size = ap length crashed ∙ f.size;
     }
 
     send_entry : (zs : List ℕ) → IsActAt net e.role (place_after e.role g) (Sending zs) → e.dir ≡ Sent → IsIn e.point zs → IsEntryOf g e s
-    send_entry zs does d i = record { entry = Send event; may = may; follows = follows (Send event) Sent event.stamp event.stamp d may refl refl }
+    send_entry zs does d i = record { entry = Send event; may = may; follows = follows (Send event) Sent event.stamp event.stamp d may refl }
       where
         event : Event
-        event = made e Sent (slice_index s.clocks e.role + 1) (slice_index s.clocks e.role + 1)
+        event = made e Sent ((numbers_at s.roles e.role).clock + 1) ((numbers_at s.roles e.role).clock + 1)
 
         may : MaySend (rules_by net roles h) s event
         may = record {
           free = free (declared net roles proper e.role (place_after e.role g) e.point (does.0.sound e.point i));
           offered = zs;
-          next = subst (λ l. AreNext net e.role (place_of 0 l) zs) (sym done_alike) does.0;
+          next = subst (λ k. AreNext net e.role k zs) (sym (place_is s e.role ∙ ap (place_of 0) done_alike)) does.0;
           sends = does.2;
           is_send = refl;
           among = i;
@@ -223,26 +219,29 @@ module _ (net : Net) (roles : ℕ) (proper : IsProper net roles) (accepted : IsA
         }
 
     recv_entry : (from : ℕ) (zs : List ℕ) → IsActAt net e.role (place_after e.role g) (Receiving from zs) → e.dir ≡ Got → IsIn e.point zs → TakesFront net from g e → IsEntryOf g e s
-    recv_entry from zs does d i takes = record { entry = Recv event; may = may; follows = follows (Recv event) Got event.stamp event.sent d may refl refl }
+    recv_entry from zs does d i takes = record { entry = Recv event; may = may; follows = follows (Recv event) Got event.stamp event.sent d may refl }
       where
         waits : (stamp : ℕ) × (others : List Message) × (channel net from e.role s.kept ≡ lying e.point e.value stamp ∷ others)
         waits = front_of (channel net from e.role s.kept) takes.0 (message_of e) (same_letters net from e.role s.kept g f.same ∙ ap (map letter_of) takes.1)
 
         event : Event
-        event = made e Got (max (slice_index s.clocks e.role) waits.0 + 1) waits.0
+        event = made e Got (max (numbers_at s.roles e.role).clock waits.0 + 1) waits.0
 
-        may : MayRecv (rules_by net roles h) s event
-        may = record {
+        own : MayOwnRecv (rules_by net roles h) (own_of s e.role) event
+        own = record {
           free = free (declared net roles proper e.role (place_after e.role g) e.point (does.0.sound e.point i));
           offered = zs;
+          some = λ none. subst (IsIn e.point) none i;
           from = from;
-          next = subst (λ l. AreNext net e.role (place_of 0 l) zs) (sym done_alike) does.0;
+          next = subst (λ k. AreNext net e.role k zs) (sym (place_is s e.role ∙ ap (place_of 0) done_alike)) does.0;
           receives = does.2;
           is_recv = refl;
-          among = i;
-          front = (waits.1, waits.2);
+          sender = (does.2 e.point i).1;
           stamp = refl;
         }
+
+        may : MayRecv (rules_by net roles h) s event
+        may = record { own = own; among = i; front = (waits.1, waits.2) }
 
     entry_of : IsMachineStep net g e → IsEntryOf g e s
     entry_of step = go step.act step.does step.makes
@@ -262,7 +261,7 @@ module _ (net : Net) (roles : ℕ) (proper : IsProper net roles) (accepted : IsA
 
   pub journal_of : IsRun net h → (journal : List Entry) × IsJournalOf (rules_by net roles h) h journal
   journal_of run =
-      let all = goes_on [] h (start roles) refl (record { same = refl; quiet = at_start (rules_by net roles h) (λ r. refl); size = length-replicate roles false }) (steps_of_run net roles proper accepted h run) in
+      let all = goes_on [] h (start roles) refl (record { same = refl; quiet = at_start (rules_by net roles h) (λ r. refl) }) (steps_of_run net roles proper accepted h run) in
       (all.journal, record { legal = all.legal; acts = (quiet_end (rules_by net roles h) (λ r. refl) all.journal all.legal).0; kept = all.kept })
 
 pub journals_exist : (net : Net) (roles : ℕ) (h : List Event) → IsAcceptedNet net roles → IsRun net h → (rules : Rules) × (journal : List Entry) × AreCalmRules net roles rules × IsJournalOf rules h journal

@@ -1,21 +1,21 @@
 -- A guide with one role more that is down.
 use Rattle.std.proofs.Common.{◌≡◌, ℕ, ◌+◌, ◌<◌, true, false, Some, List, length, length-set, take, refl, sym, ◌∙◌, ap, subst, ⊎_elim, arith}
-use Rattle.std.specs.Prelude.{slice_set}
 use Rattle.std.proofs.lemmas.Bool.{cases_eq}
 use Rattle.std.proofs.lemmas.List.{get_or-set_same, get_or-set_other}
 use Rattle.rcv_tree.specs.declared.entry.Entry.TheVariants.{Crash}
+use Rattle.rcv_tree.specs.declared.numbers.Numbers as counts
 use Rattle.rcv_model.specs.Next.{IsPlaceOf}
 use Rattle.rcv_model.specs.Run.{taken}
-use Rattle.rcv_theory.proofs.Besides.{set_other}
+use Rattle.rcv_model.specs.Journal.{numbers_at as counted_at, failed as counted_down}
+use Rattle.rcv_model.proofs.Roles.{set_here as counted_here, set_else as counted_else}
 use Rattle.rcv_tables.specs.Rows.{TableView}
 use Rattle.rcv_ledger.specs.Logs.{log_at}
 use Rattle.rcv_ledger.specs.Ledger.{LedgerView}
-use Rattle.rcv_told.specs.Told.{Remembered}
+use Rattle.rcv_told.specs.Told.{Remembered, after_crash}
 use Rattle.rcv_guide.specs.declared.numbers.Numbers.{Numbers}
 use Rattle.rcv_guide.specs.Numbers.{at_start, numbers_at, with_crash, AreNumbersOf}
 use Rattle.rcv_guide.specs.Guide.{GuideView, net_for, roles_of, stand, most_told, with_numbers, IsMemory, IsAfter, AreFewOf, IsGuide}
 use Rattle.rcv_guide.proofs.Memories.{declared_by, down_held}
-use Rattle.rcv_guide.proofs.Growing.{set_here}
 
 abbrev fallen : Numbers → Numbers
 fallen x = record x { down = true }
@@ -41,7 +41,7 @@ module _ {g : GuideView} {table : TableView} {ledger : LedgerView} (kept : IsGui
   pub there : p < length g.numbers
   there = let a = kept.numbers in let b = declared in omega (arith, a, b)
 
-  memory_crash : (m : Remembered) → IsMemory g m → IsMemory (with_numbers g (with_crash g.numbers p)) (record m { down = slice_set m.down p true })
+  memory_crash : (m : Remembered) → IsMemory g m → IsMemory (with_numbers g (with_crash g.numbers p)) (after_crash m p)
   memory_crash m is = record {
     events = is.events;
     queued = is.queued;
@@ -50,45 +50,44 @@ module _ {g : GuideView} {table : TableView} {ledger : LedgerView} (kept : IsGui
         seeds = is.numbers_are.have.seeds;
         forgotten = is.numbers_are.have.forgotten;
         points = is.numbers_are.have.points;
-        raw = is.numbers_are.have.raw;
-        attempts = is.numbers_are.have.attempts;
-        clocks = is.numbers_are.have.clocks;
-        down = length-set m.down p true ∙ is.numbers_are.have.down;
+        roles = length-set m.roles p _ ∙ is.numbers_are.have.roles;
       };
       all = length-set g.numbers p _ ∙ is.numbers_are.all;
       each = λ r low. ⊎_elim
-          (λ same. subst (λ q. AreNumbersOf (record m { down = slice_set m.down p true }) q (numbers_at (with_crash g.numbers p) q)) same own)
+          (λ same. subst (λ q. AreNumbersOf (after_crash m p) q (numbers_at (with_crash g.numbers p) q)) same own)
           (λ other. others r low other)
           (cases_eq p r);
     };
   }
     where
-      own : AreNumbersOf (record m { down = slice_set m.down p true }) p (numbers_at (with_crash g.numbers p) p)
+      own : AreNumbersOf (after_crash m p) p (numbers_at (with_crash g.numbers p) p)
       own =
           let old = is.numbers_are.each p declared in
-          subst (λ (x : Numbers). AreNumbersOf (record m { down = slice_set m.down p true }) p x) (sym (fallen_own g.numbers p there))
+          let counted = counted_here m.roles p (counted_down (counted_at m.roles p)) (let a = is.numbers_are.have.roles in let b = declared in omega (arith, a, b)) in
+          subst (λ (x : Numbers). AreNumbersOf (after_crash m p) p x) (sym (fallen_own g.numbers p there))
           (record {
             seeds = old.seeds;
             forgotten = old.forgotten;
             point = old.point;
-            raw = old.raw;
-            attempt = old.attempt;
-            clock = old.clock;
-            down = set_here m.down p true (let a = is.numbers_are.have.down in let b = declared in omega (arith, a, b));
+            raw = ap (λ (x : counts.Numbers). x.raw) counted ∙ old.raw;
+            attempt = ap (λ (x : counts.Numbers). x.attempt) counted ∙ old.attempt;
+            clock = ap (λ (x : counts.Numbers). x.clock) counted ∙ old.clock;
+            down = ap (λ (x : counts.Numbers). x.crashed) counted;
           })
 
-      others : (r : ℕ) → r < roles_of g → (p ≡ r → ⊥) → AreNumbersOf (record m { down = slice_set m.down p true }) r (numbers_at (with_crash g.numbers p) r)
+      others : (r : ℕ) → r < roles_of g → (p ≡ r → ⊥) → AreNumbersOf (after_crash m p) r (numbers_at (with_crash g.numbers p) r)
       others r low other =
           let old = is.numbers_are.each r low in
-          subst (λ (x : Numbers). AreNumbersOf (record m { down = slice_set m.down p true }) r x) (sym (fallen_other g.numbers p there r other))
+          let counted = counted_else m.roles p r (counted_down (counted_at m.roles p)) other in
+          subst (λ (x : Numbers). AreNumbersOf (after_crash m p) r x) (sym (fallen_other g.numbers p there r other))
           (record {
             seeds = old.seeds;
             forgotten = old.forgotten;
             point = old.point;
-            raw = old.raw;
-            attempt = old.attempt;
-            clock = old.clock;
-            down = set_other m.down p r true (λ f. other (sym f)) ∙ old.down;
+            raw = ap (λ (x : counts.Numbers). x.raw) counted ∙ old.raw;
+            attempt = ap (λ (x : counts.Numbers). x.attempt) counted ∙ old.attempt;
+            clock = ap (λ (x : counts.Numbers). x.clock) counted ∙ old.clock;
+            down = ap (λ (x : counts.Numbers). x.crashed) counted ∙ old.down;
           })
 
   pub crash_after : IsAfter g (with_numbers g (with_crash g.numbers p)) (Crash p)
@@ -120,7 +119,7 @@ module _ {g : GuideView} {table : TableView} {ledger : LedgerView} (kept : IsGui
     logs = kept.logs;
     numbers = length-set g.numbers p _ ∙ kept.numbers;
     holds = record {
-      memory = record kept.holds.memory { down = slice_set kept.holds.memory.down p true };
+      memory = after_crash kept.holds.memory p;
       is = memory_crash kept.holds.memory kept.holds.is;
       holds = kept.holds.holds;
     };

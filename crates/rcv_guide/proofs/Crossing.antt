@@ -1,7 +1,7 @@
 -- Ping, where A has sent its message and saved its state behind that, and B has done nothing: A's Send is forgotten, with its
 -- message in flight. The line stays where it is.
 use Prim.Native.Nat.{zero, suc}
-use Rattle.std.proofs.Common.{◌≡◌, ℕ, ◌+◌, ◌<◌, ◌≤◌, false, cond, List, [], ◌∷◌, ◌++◌, length, take, drop, replicate, refl, sym, ◌∙◌, ap, subst, inl, inr, append-nil, ne_eqb, arith}
+use Rattle.std.proofs.Common.{◌≡◌, ℕ, ◌+◌, ◌<◌, ◌≤◌, cond, List, [], ◌∷◌, ◌++◌, length, take, drop, replicate, refl, sym, ◌∙◌, ap, subst, inl, inr, append-nil, ne_eqb, arith}
 use Rattle.std.specs.Prelude.{slice_index, slice_index_or}
 use Rattle.rcv_tree.specs.declared.event.Event.{Event}
 use Rattle.rcv_tree.specs.declared.protocol.Protocol.{Protocol}
@@ -12,6 +12,7 @@ use Rattle.rcv_model.specs.Run.{acts, place_of, put, taken}
 use Rattle.rcv_model.specs.Journal.{events_of}
 use Rattle.rcv_model.proofs.Cases.{ping, says}
 use Rattle.rcv_model.proofs.Keeping.{queued_nil}
+use Rattle.rcv_model.proofs.Roles.{up}
 use Rattle.rcv_model.proofs.Steps.{send_queued}
 use Rattle.rcv_ledger.specs.Logs.{log_at}
 use Rattle.rcv_ledger.proofs.Lists.{none_there}
@@ -71,10 +72,7 @@ module _ (protocol : Protocol) (text : body_of protocol.body ≡ ping) (two : le
         seeds = 0 ∷ 0 ∷ [];
         forgotten = 0 ∷ 0 ∷ [];
         points = 0 ∷ 0 ∷ [];
-        raw = 1 ∷ 0 ∷ [];
-        attempts = 0 ∷ 0 ∷ [];
-        clocks = 1 ∷ 0 ∷ [];
-        down = false ∷ false ∷ [];
+        roles = up 1 0 0 1 ∷ up 0 0 0 0 ∷ [];
       }
 
   whole_events : (r : ℕ) → events_of r whole.held ≡ log_at before.logs r
@@ -94,7 +92,7 @@ module _ (protocol : Protocol) (text : body_of protocol.body ≡ ping) (two : le
       events = whole_events;
       queued = send_queued (net_for before) [] sent (queued_nil (net_for before)) refl;
       numbers_are = record {
-        have = record { seeds = sym two; forgotten = sym two; points = sym two; raw = sym two; attempts = sym two; clocks = sym two; down = sym two };
+        have = record { seeds = sym two; forgotten = sym two; points = sym two; roles = sym two };
         all = sym two;
         each = λ r lt. whole_numbers r (subst (λ n. r < n) two lt);
       };
@@ -126,10 +124,7 @@ module _ (protocol : Protocol) (text : body_of protocol.body ≡ ping) (two : le
           seeds = sym two;
           forgotten = sym two;
           points = sym two;
-          raw = is.numbers_are.have.raw;
-          attempts = is.numbers_are.have.attempts;
-          clocks = is.numbers_are.have.clocks;
-          down = is.numbers_are.have.down;
+          roles = is.numbers_are.have.roles;
         };
         all = sym two;
         each = λ r lt. short_numbers r (subst (λ n. r < n) two lt);
@@ -204,10 +199,7 @@ module _ (protocol : Protocol) (text : body_of protocol.body ≡ ping) (two : le
       };
       old_queued = is.queued;
       new_queued = is.queued;
-      raw = refl;
-      attempts = refl;
-      clocks = refl;
-      down = refl;
+      roles = refl;
     }
 
   gone_now : (r : ℕ) → r < 2 → (numbers_at after.numbers r).forgotten ≡ (numbers_at before.numbers r).forgotten + slice_index one r

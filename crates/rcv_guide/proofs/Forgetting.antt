@@ -132,10 +132,10 @@ module _ (g : GuideView) (counts ends : List ℕ) (many : length g.logs ≡ role
             seeds = got_of (λ (x : Numbers). x.seeds) new r low;
             forgotten = got_of (λ (x : Numbers). x.forgotten) new r low;
             point = got_of (λ (x : Numbers). x.point) new r low;
-            raw = old.raw ∙ ap (λ (x : Numbers). Some x.raw) (sym (number_is r lt));
-            attempt = old.attempt ∙ ap (λ (x : Numbers). Some x.attempt) (sym (number_is r lt));
-            clock = old.clock ∙ ap (λ (x : Numbers). Some x.clock) (sym (number_is r lt));
-            down = old.down ∙ ap (λ (x : Numbers). Some x.down) (sym (number_is r lt));
+            raw = old.raw ∙ ap (λ (x : Numbers). x.raw) (sym (number_is r lt));
+            attempt = old.attempt ∙ ap (λ (x : Numbers). x.attempt) (sym (number_is r lt));
+            clock = old.clock ∙ ap (λ (x : Numbers). x.clock) (sym (number_is r lt));
+            down = old.down ∙ ap (λ (x : Numbers). x.down) (sym (number_is r lt));
           }
 
       pub memory_short : (used : ℕ) → IsMemory (forgot used) (short m)
@@ -147,10 +147,7 @@ module _ (g : GuideView) (counts ends : List ℕ) (many : length g.logs ≡ role
             seeds = length-map new (λ (x : Numbers). x.seeds) ∙ numbered_new;
             forgotten = length-map new (λ (x : Numbers). x.forgotten) ∙ numbered_new;
             points = length-map new (λ (x : Numbers). x.point) ∙ numbered_new;
-            raw = mem.numbers_are.have.raw;
-            attempts = mem.numbers_are.have.attempts;
-            clocks = mem.numbers_are.have.clocks;
-            down = mem.numbers_are.have.down;
+            roles = mem.numbers_are.have.roles;
           };
           all = numbered_new;
           each = numbers_short;
@@ -330,10 +327,7 @@ module _ (g : GuideView) (counts ends : List ℕ) (many : length g.logs ≡ role
         messages = messages_all;
         old_queued = mem.queued;
         new_queued = is.queued;
-        raw = refl;
-        attempts = refl;
-        clocks = refl;
-        down = refl;
+        roles = refl;
       }
 
     pub has_forgotten : (used : ℕ) → used ≡ length fresh.entries → HasForgotten g (forgot used) counts room

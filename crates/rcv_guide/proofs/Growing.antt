@@ -8,14 +8,16 @@ use Rattle.std.proofs.lemmas.Grind.{get_or-set_at}
 use Rattle.std.proofs.lemmas.List.Sums.{sum_by-cons}
 use Rattle.std.proofs.lemmas.Option.{slice_get-get_or}
 use Rattle.rcv_tree.specs.declared.event.Event.{Event}
+use Rattle.rcv_tree.specs.declared.numbers.Numbers as counts
 use Rattle.rcv_tree.specs.declared.event.Dir.TheVariants.{Sent, Got}
 use Rattle.rcv_model.specs.ByPoints.{IsByEnd}
 use Rattle.rcv_model.specs.Run.{taken, IsQueued}
 use Rattle.rcv_model.specs.Next.{IsPlaceOf}
+use Rattle.rcv_model.specs.Journal.{numbers_at as counted_at, advanced as counted_more}
 use Rattle.rcv_model.proofs.Explained.{by_role_own}
 use Rattle.rcv_model.proofs.Keeping.{by_role_other}
 use Rattle.rcv_model.proofs.Located.{get_below}
-use Rattle.rcv_theory.proofs.Besides.{set_other}
+use Rattle.rcv_model.proofs.Roles.{set_here as counted_here, set_else as counted_else}
 use Rattle.rcv_checkpoint.specs.declared.state.State as checkpoints
 use Rattle.rcv_checkpoint.specs.Stack.{StackView, with_states}
 use Rattle.rcv_tables.specs.Rows.{TableView}
@@ -27,7 +29,6 @@ use Rattle.rcv_guide.specs.declared.numbers.Numbers.{Numbers}
 use Rattle.rcv_guide.specs.Numbers.{at_start, numbers_at, with_advanced, AreNumbersOf}
 use Rattle.rcv_guide.specs.Failing.{all_events}
 use Rattle.rcv_guide.specs.Guide.{GuideView, net_for, roles_of, no_vars, with_event, HasRoom, IsMemory, IsSoundMemory, AreStamped, AreFewOf, IsGuide}
-use Rattle.rcv_guide.proofs.Memories.{raw_at}
 
 pub set_here : {A : Type 0} (xs : List A) (i : ℕ) (y : A) → i < length xs → slice_get (slice_set xs i y) i ≡ Some y
 set_here xs i y lt = slice_get-get_or (slice_set xs i y) i y (omega (arith, lt, length-set xs i y)) ∙ ap Some (get_or-set_same xs i y y lt)
@@ -109,29 +110,31 @@ module _ (g : GuideView) (m : Remembered) (is : IsMemory g m) (e : Event) (lt : 
   own_numbers =
       let old = is.numbers_are.each e.role lt in
       let have = is.numbers_are.have in
+      let counted = counted_here m.roles e.role (counted_more (counted_at m.roles e.role) e.stamp) (let a = have.roles in omega (arith, lt, a)) in
       subst (λ (x : Numbers). AreNumbersOf (after_event m e) e.role x) (sym (more_own g.numbers e in_numbers))
       (record {
         seeds = old.seeds;
         forgotten = old.forgotten;
         point = old.point;
-        raw = set_here m.raw e.role _ (let a = have.raw in omega (arith, lt, a)) ∙ ap (λ n. Some (n + 1)) (raw_at g m is e.role lt);
-        attempt = old.attempt;
-        clock = set_here m.clocks e.role e.stamp (let a = have.clocks in omega (arith, lt, a));
-        down = old.down;
+        raw = ap (λ (x : counts.Numbers). x.raw) counted ∙ ap (λ n. n + 1) old.raw;
+        attempt = ap (λ (x : counts.Numbers). x.attempt) counted ∙ old.attempt;
+        clock = ap (λ (x : counts.Numbers). x.clock) counted;
+        down = ap (λ (x : counts.Numbers). x.crashed) counted ∙ old.down;
       })
 
   other_numbers : (r : ℕ) → r < roles_of g → (e.role ≡ r → ⊥) → AreNumbersOf (after_event m e) r (numbers_at (with_advanced g.numbers e) r)
   other_numbers r low other =
       let old = is.numbers_are.each r low in
+      let counted = counted_else m.roles e.role r (counted_more (counted_at m.roles e.role) e.stamp) other in
       subst (λ (x : Numbers). AreNumbersOf (after_event m e) r x) (sym (more_other g.numbers e in_numbers r other))
       (record {
         seeds = old.seeds;
         forgotten = old.forgotten;
         point = old.point;
-        raw = set_other m.raw e.role r _ (λ f. other (sym f)) ∙ old.raw;
-        attempt = old.attempt;
-        clock = set_other m.clocks e.role r e.stamp (λ f. other (sym f)) ∙ old.clock;
-        down = old.down;
+        raw = ap (λ (x : counts.Numbers). x.raw) counted ∙ old.raw;
+        attempt = ap (λ (x : counts.Numbers). x.attempt) counted ∙ old.attempt;
+        clock = ap (λ (x : counts.Numbers). x.clock) counted ∙ old.clock;
+        down = ap (λ (x : counts.Numbers). x.crashed) counted ∙ old.down;
       })
 
   pub memory_more : IsQueued (net_for g) (m.held ++ e ∷ []) → IsMemory (with_event g e) (after_event m e)
@@ -146,10 +149,7 @@ module _ (g : GuideView) (m : Remembered) (is : IsMemory g m) (e : Event) (lt : 
         seeds = is.numbers_are.have.seeds;
         forgotten = is.numbers_are.have.forgotten;
         points = is.numbers_are.have.points;
-        raw = length-set m.raw e.role _ ∙ is.numbers_are.have.raw;
-        attempts = is.numbers_are.have.attempts;
-        clocks = length-set m.clocks e.role e.stamp ∙ is.numbers_are.have.clocks;
-        down = is.numbers_are.have.down;
+        roles = length-set m.roles e.role _ ∙ is.numbers_are.have.roles;
       };
       all = length-set g.numbers e.role _ ∙ is.numbers_are.all;
       each = λ r low. ⊎_elim

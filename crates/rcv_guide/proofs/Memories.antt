@@ -11,7 +11,8 @@ use Rattle.rcv_model.proofs.Keeping.{acts_through, put_through, taken_through}
 use Rattle.rcv_model.proofs.Lists.{some_same}
 use Rattle.rcv_ledger.specs.Logs.{log_at}
 use Rattle.rcv_ledger.proofs.Lists.{none_there}
-use Rattle.rcv_told.specs.Told.{Remembered, standpoint, place, made, IsSend, IsRecv}
+use Rattle.rcv_told.specs.Told.{Remembered, down_at, standpoint, place, made, IsSend, IsRecv}
+use Rattle.rcv_told.proofs.Telling.{down_here as down_told}
 use Rattle.rcv_guide.specs.declared.numbers.Numbers.{Numbers}
 use Rattle.rcv_guide.specs.Numbers.{at_start, numbers_at, down_of, AreNumbersOf}
 use Rattle.rcv_guide.specs.Guide.{GuideView, net_for, roles_of, stand, in_channel, IsMemory}
@@ -71,15 +72,6 @@ module _ (g : GuideView) (m : Remembered) (is : IsMemory g m) where
     pub point_at : slice_index m.points r ≡ (numbers_at g.numbers r).point
     point_at = get_or_from_slice_get m.points r (numbers_at g.numbers r).point 0 own.point
 
-    pub raw_at : slice_index m.raw r ≡ (numbers_at g.numbers r).raw
-    raw_at = get_or_from_slice_get m.raw r (numbers_at g.numbers r).raw 0 own.raw
-
-    pub attempt_at : slice_index m.attempts r ≡ (numbers_at g.numbers r).attempt
-    attempt_at = get_or_from_slice_get m.attempts r (numbers_at g.numbers r).attempt 0 own.attempt
-
-    pub clock_at : slice_index m.clocks r ≡ (numbers_at g.numbers r).clock
-    clock_at = get_or_from_slice_get m.clocks r (numbers_at g.numbers r).clock 0 own.clock
-
     pub place_at : place m r ≡ (stand g r).place
     place_at =
         ap (λ k. place_of k (drop (slice_index m.seeds r) (acts r m.held))) point_at
@@ -104,8 +96,11 @@ module _ (g : GuideView) (m : Remembered) (is : IsMemory g m) where
   pub declared_by : (r : ℕ) (b : Bool) → (stand g r).down ≡ Some b → r < roles_of g
   declared_by r b e = let d = down_there g.numbers r b e in let lt = d.0 in let a = is.numbers_are.all in omega (arith, lt, a)
 
-  pub down_held : (r : ℕ) (b : Bool) → (stand g r).down ≡ Some b → slice_get m.down r ≡ Some b
-  down_held r b e = (is.numbers_are.each r (declared_by r b e)).down ∙ ap Some (down_there g.numbers r b e).1
+  pub down_held : (r : ℕ) (b : Bool) → (stand g r).down ≡ Some b → down_at m r ≡ Some b
+  down_held r b e =
+      let lt = declared_by r b e in
+      let a = is.numbers_are.have.roles in
+      down_told m.roles r (omega (arith, lt, a)) ∙ ap Some ((is.numbers_are.each r lt).down ∙ (down_there g.numbers r b e).1)
 
   -- what may be told to the guide may be told to the memory
   pub tells_send : (e : Event) → IsSend (net_for g) (stand g e.role) e → IsSend (net_for g) (standpoint (net_for g) m e.role) e
@@ -116,7 +111,7 @@ module _ (g : GuideView) (m : Remembered) (is : IsMemory g m) where
         next = subst (λ k. IsNext (net_for g) e.role k e.point) (sym (place_at e.role lt)) may.next;
         sends = may.sends;
         is_send = may.is_send;
-        stamp = may.stamp ∙ ap (λ c. c + 1) (sym (clock_at e.role lt));
+        stamp = may.stamp ∙ ap (λ c. c + 1) (sym (is.numbers_are.each e.role lt).clock);
         sent = may.sent;
       }
 
@@ -129,5 +124,5 @@ module _ (g : GuideView) (m : Remembered) (is : IsMemory g m) where
         receives = may.receives;
         is_recv = may.is_recv;
         front = (may.front.0, lies ((net_for g).sender e.point) e.role ∙ may.front.1);
-        stamp = may.stamp ∙ ap (λ c. max c e.sent + 1) (sym (clock_at e.role lt));
+        stamp = may.stamp ∙ ap (λ c. max c e.sent + 1) (sym (is.numbers_are.each e.role lt).clock);
       }

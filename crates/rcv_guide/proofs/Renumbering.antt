@@ -4,8 +4,11 @@ use Rattle.std.specs.Prelude.{slice_get, slice_set}
 use Rattle.std.proofs.lemmas.Bool.{cases_eq}
 use Rattle.std.proofs.lemmas.List.{get_or-set_same, get_or-set_other}
 use Rattle.rcv_tree.specs.declared.event.Event.{Event}
+use Rattle.rcv_tree.specs.declared.numbers.Numbers as counts
 use Rattle.rcv_model.specs.Next.{IsPlaceOf}
 use Rattle.rcv_model.specs.Run.{taken}
+use Rattle.rcv_model.specs.Journal.{numbers_at as counted_at}
+use Rattle.rcv_model.proofs.Roles.{set_here as counted_here, set_else as counted_else}
 use Rattle.rcv_theory.proofs.Besides.{set_other}
 use Rattle.rcv_tables.specs.Rows.{TableView}
 use Rattle.rcv_ledger.specs.Logs.{log_at}
@@ -32,6 +35,10 @@ module _ (numbers : List Numbers) (p : ℕ) (x : Numbers) (lt : p < length numbe
       (λ other. ap f (now_other r other))
       (cases_eq p r)
 
+-- these numbers, with the crashes of others
+abbrev recounted : counts.Numbers → Numbers → counts.Numbers
+recounted n x = record { raw = x.raw; crashes = n.crashes; crashed = x.down; attempt = x.attempt; clock = x.clock }
+
 -- a memory with these numbers of a role, and these events
 abbrev pub renumbered : List Event → Remembered → ℕ → Numbers → Remembered
 renumbered held m p x =
@@ -40,10 +47,7 @@ renumbered held m p x =
       seeds = slice_set m.seeds p x.seeds;
       forgotten = slice_set m.forgotten p x.forgotten;
       points = slice_set m.points p x.point;
-      raw = slice_set m.raw p x.raw;
-      attempts = slice_set m.attempts p x.attempt;
-      clocks = slice_set m.clocks p x.clock;
-      down = slice_set m.down p x.down;
+      roles = slice_set m.roles p (recounted (counted_at m.roles p) x);
     }
 
 module _ (roles : ℕ) (held : List Event) (m : Remembered) (numbers : List Numbers) (are : AreNumbers roles m numbers) (p : ℕ) (x : Numbers) (lt : p < roles) where
@@ -53,27 +57,29 @@ module _ (roles : ℕ) (held : List Event) (m : Remembered) (numbers : List Numb
   own_now : AreNumbersOf (renumbered held m p x) p x
   own_now =
       let have = are.have in
+      let counted = counted_here m.roles p (recounted (counted_at m.roles p) x) (let a = have.roles in omega (arith, lt, a)) in
       record {
         seeds = set_here m.seeds p x.seeds (let a = have.seeds in omega (arith, lt, a));
         forgotten = set_here m.forgotten p x.forgotten (let a = have.forgotten in omega (arith, lt, a));
         point = set_here m.points p x.point (let a = have.points in omega (arith, lt, a));
-        raw = set_here m.raw p x.raw (let a = have.raw in omega (arith, lt, a));
-        attempt = set_here m.attempts p x.attempt (let a = have.attempts in omega (arith, lt, a));
-        clock = set_here m.clocks p x.clock (let a = have.clocks in omega (arith, lt, a));
-        down = set_here m.down p x.down (let a = have.down in omega (arith, lt, a));
+        raw = ap (λ (y : counts.Numbers). y.raw) counted;
+        attempt = ap (λ (y : counts.Numbers). y.attempt) counted;
+        clock = ap (λ (y : counts.Numbers). y.clock) counted;
+        down = ap (λ (y : counts.Numbers). y.crashed) counted;
       }
 
   others_now : (r : ℕ) → r < roles → (p ≡ r → ⊥) → AreNumbersOf (renumbered held m p x) r (numbers_at numbers r)
   others_now r low other =
       let old = are.each r low in
+      let counted = counted_else m.roles p r (recounted (counted_at m.roles p) x) other in
       record {
         seeds = set_other m.seeds p r x.seeds (λ f. other (sym f)) ∙ old.seeds;
         forgotten = set_other m.forgotten p r x.forgotten (λ f. other (sym f)) ∙ old.forgotten;
         point = set_other m.points p r x.point (λ f. other (sym f)) ∙ old.point;
-        raw = set_other m.raw p r x.raw (λ f. other (sym f)) ∙ old.raw;
-        attempt = set_other m.attempts p r x.attempt (λ f. other (sym f)) ∙ old.attempt;
-        clock = set_other m.clocks p r x.clock (λ f. other (sym f)) ∙ old.clock;
-        down = set_other m.down p r x.down (λ f. other (sym f)) ∙ old.down;
+        raw = ap (λ (y : counts.Numbers). y.raw) counted ∙ old.raw;
+        attempt = ap (λ (y : counts.Numbers). y.attempt) counted ∙ old.attempt;
+        clock = ap (λ (y : counts.Numbers). y.clock) counted ∙ old.clock;
+        down = ap (λ (y : counts.Numbers). y.crashed) counted ∙ old.down;
       }
 
   pub renumbered_are : AreNumbers roles (renumbered held m p x) (slice_set numbers p x)
@@ -82,10 +88,7 @@ module _ (roles : ℕ) (held : List Event) (m : Remembered) (numbers : List Numb
       seeds = length-set m.seeds p _ ∙ are.have.seeds;
       forgotten = length-set m.forgotten p _ ∙ are.have.forgotten;
       points = length-set m.points p _ ∙ are.have.points;
-      raw = length-set m.raw p _ ∙ are.have.raw;
-      attempts = length-set m.attempts p _ ∙ are.have.attempts;
-      clocks = length-set m.clocks p _ ∙ are.have.clocks;
-      down = length-set m.down p _ ∙ are.have.down;
+      roles = length-set m.roles p _ ∙ are.have.roles;
     };
     all = length-set numbers p x ∙ are.all;
     each = λ r low. ⊎_elim

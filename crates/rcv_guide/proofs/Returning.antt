@@ -1,22 +1,22 @@
 -- A guide that went back to what a failure leaves.
 use Rattle.std.proofs.Common.{◌≡◌, ℕ, zero, suc, ◌+◌, ◌<◌, ◌≤◌, ◌^◌, Bool, true, false, cond, Some, List, [], ◌∷◌, length, take, refl, sym, ◌∙◌, ap, subst, ◌⊎◌, inl, inr, ⊎_elim, arith}
-use Rattle.std.specs.Prelude.{◌==◌, max, slice_get, slice_index, slice_index_or}
+use Rattle.std.specs.Prelude.{◌==◌, max, slice_get, slice_index}
 use Rattle.std.specs.List.{sum_by, range_with_len}
 use Rattle.std.proofs.lemmas.Bool.{cases_Bool, cases_lt}
 use Rattle.std.proofs.lemmas.List.{length-take, take-take}
 use Rattle.std.proofs.lemmas.List.Sums.{sum_by-cons}
-use Rattle.std.proofs.lemmas.Option.{slice_get-get_or, get_or_from_slice_get}
 use Rattle.rcv_tree.specs.Bits.{has_bit, is_listed}
 use Rattle.rcv_tree.specs.declared.event.Event.{Event}
+use Rattle.rcv_tree.specs.declared.numbers.Numbers as counts
 use Rattle.rcv_tree.specs.declared.entry.Entry.{Entry}
 use Rattle.rcv_tree.specs.declared.protocol.Protocol.{Protocol}
 use Rattle.rcv_model.specs.Run.{acts, taken}
 use Rattle.rcv_model.specs.Plan.{PlanLine}
 use Rattle.rcv_model.specs.Next.{IsPlaceOf}
-use Rattle.rcv_model.specs.Journal.{events_of, unmarked, attempts_after, greatest, clocks_after}
+use Rattle.rcv_model.specs.Journal.{events_of, numbers_at as counted_at, greatest, map_roles, numbers_behind}
 use Rattle.rcv_model.proofs.Bystanders.{as_many}
 use Rattle.rcv_model.proofs.Keeping.{scan_of}
-use Rattle.rcv_model.proofs.Numbers.{length_unmarked}
+use Rattle.rcv_model.proofs.Roles.{length_mapped, mapped_at}
 use Rattle.rcv_model.proofs.Scanning.{is_member}
 use Rattle.rcv_theory.specs.Counts.{kept_counts}
 use Rattle.rcv_checkpoint.specs.Stack.{StackView}
@@ -26,7 +26,7 @@ use Rattle.rcv_ledger.specs.Logs.{log_at}
 use Rattle.rcv_ledger.specs.Ledger.{LedgerView, stack_at, Holds, MayCut, IsCutTo}
 use Rattle.rcv_ledger.proofs.Holding.{kept_may_be_cut_to, cuts_hold_what_is_kept}
 use Rattle.rcv_ledger.proofs.Lists.{get_taken, take_prefix, none_there}
-use Rattle.rcv_told.specs.Told.{Remembered, made_of, group_of, held_of, bound_at, left_at, roles_in, after_recovery}
+use Rattle.rcv_told.specs.Told.{Remembered, state_of, made_of, group_of, held_of, bound_at, left_at, roles_in, after_recovery}
 use Rattle.rcv_guide.specs.declared.numbers.Numbers.{Numbers}
 use Rattle.rcv_guide.specs.declared.recovery.Recovery.{Recovery}
 use Rattle.rcv_guide.specs.Numbers.{at_start, numbers_at, latest_from, back_from, AreNumbersOf, AreBack}
@@ -35,48 +35,24 @@ use Rattle.rcv_guide.specs.Guide.{GuideView, guide_of, net_for, roles_of, terms_
 use Rattle.rcv_guide.proofs.Starting.{view_with}
 use Rattle.rcv_guide.proofs.Recutting.{same_cut}
 use Rattle.rcv_guide.proofs.Sets.{in_set, not_in_set}
-use Rattle.rcv_guide.proofs.Memories.{many_held, seeds_at, attempt_at, clock_at, down_held}
+use Rattle.rcv_guide.proofs.Memories.{many_held, seeds_at, down_held}
 use Rattle.rcv_guide.proofs.Guides.{low, log_is, many_logs, none_beyond}
 use Rattle.rcv_guide.proofs.Leaving.{left_begins, left_within, seeds_left}
 
-length_attempts : (r : ℕ) (old new : List Event) (xs : List ℕ) → length (attempts_after r old new xs) ≡ length xs
-length_attempts r old new [] = refl
-length_attempts r old new (x ∷ xs) = ap suc (length_attempts (r + 1) old new xs)
-
-length_clocks : (qs : List ℕ) (clock r : ℕ) (xs : List ℕ) → length (clocks_after qs clock r xs) ≡ length xs
-length_clocks qs clock r [] = refl
-length_clocks qs clock r (x ∷ xs) = ap suc (length_clocks qs clock (r + 1) xs)
-
--- a recovery, number by number
-attempt_behind : (old new : List Event) (r q : ℕ) (xs : List ℕ) → q < length xs → slice_index (attempts_after r old new xs) q ≡ cond (length (acts (r + q) new) == length (acts (r + q) old)) (slice_index xs q) (slice_index xs q + 1)
-attempt_behind old new r q [] lt = absurd (omega arith)
-attempt_behind old new r zero (a ∷ xs) lt = ap (λ n. cond (length (acts n new) == length (acts n old)) a (a + 1)) (omega arith)
-attempt_behind old new r (suc q) (a ∷ xs) lt = attempt_behind old new (r + 1) q xs (omega arith) ∙ ap (λ n. cond (length (acts n new) == length (acts n old)) (slice_index xs q) (slice_index xs q + 1)) (omega arith)
-
-clock_behind : (qs : List ℕ) (clock r q : ℕ) (xs : List ℕ) → q < length xs → slice_index (clocks_after qs clock r xs) q ≡ cond (is_listed qs (r + q)) clock (slice_index xs q)
-clock_behind qs clock r q [] lt = absurd (omega arith)
-clock_behind qs clock r zero (c ∷ xs) lt = ap (λ n. cond (is_listed qs n) clock c) (omega arith)
-clock_behind qs clock r (suc q) (c ∷ xs) lt = clock_behind qs clock (r + 1) q xs (omega arith) ∙ ap (λ n. cond (is_listed qs n) clock (slice_index xs q)) (omega arith)
-
-mark_behind : (qs : List ℕ) (r q : ℕ) (bs : List Bool) → q < length bs → slice_index_or (unmarked qs r bs) q true ≡ cond (is_listed qs (r + q)) false (slice_index_or bs q true)
-mark_behind qs r q [] lt = absurd (omega arith)
-mark_behind qs r zero (b ∷ bs) lt = ap (λ n. cond (is_listed qs n) false b) (omega arith)
-mark_behind qs r (suc q) (b ∷ bs) lt = mark_behind qs (r + 1) q bs (omega arith) ∙ ap (λ n. cond (is_listed qs n) false (slice_index_or bs q true)) (omega arith)
-
 -- the greatest clock, by the roles' bits and by their list
-latest_is : (bits : ℕ) (qs : List ℕ) (r : ℕ) (xs : List Numbers) (clocks : List ℕ) → length xs ≡ length clocks → ((i : ℕ) → i < length xs → has_bit bits (r + i) ≡ is_listed qs (r + i)) → ((i : ℕ) → i < length xs → (numbers_at xs i).clock ≡ slice_index clocks i) → latest_from bits r xs ≡ greatest qs r clocks
+latest_is : (bits : ℕ) (qs : List ℕ) (r : ℕ) (xs : List Numbers) (ns : List counts.Numbers) → length xs ≡ length ns → ((i : ℕ) → i < length xs → has_bit bits (r + i) ≡ is_listed qs (r + i)) → ((i : ℕ) → i < length xs → (numbers_at xs i).clock ≡ (counted_at ns i).clock) → latest_from bits r xs ≡ greatest (is_listed qs) r ns
 latest_is bits qs r [] [] size has clock = refl
-latest_is bits qs r [] (c ∷ cs) size has clock = absurd (omega (arith, size))
+latest_is bits qs r [] (n ∷ ns) size has clock = absurd (omega (arith, size))
 latest_is bits qs r (x ∷ xs) [] size has clock = absurd (omega (arith, size))
-latest_is bits qs r (x ∷ xs) (c ∷ cs) size has clock =
+latest_is bits qs r (x ∷ xs) (n ∷ ns) size has clock =
     let here : has_bit bits r ≡ is_listed qs r = subst (λ n. has_bit bits n ≡ is_listed qs n) (omega arith) (has 0 (omega arith)) in
-    let now : x.clock ≡ c = clock 0 (omega arith) in
-    let ih : latest_from bits (r + 1) xs ≡ greatest qs (r + 1) cs = latest_is bits qs (r + 1) xs cs (omega (arith, size))
+    let now : x.clock ≡ n.clock = clock 0 (omega arith) in
+    let ih : latest_from bits (r + 1) xs ≡ greatest (is_listed qs) (r + 1) ns = latest_is bits qs (r + 1) xs ns (omega (arith, size))
     (λ i lt. subst (λ n. has_bit bits n ≡ is_listed qs n) (omega arith) (has (suc i) (omega (arith, lt))))
     (λ i lt. clock (suc i) (omega (arith, lt))) in
     ap (λ b. max (cond b x.clock 0) (latest_from bits (r + 1) xs)) here
     ∙ ap (λ v. max (cond (is_listed qs r) v 0) (latest_from bits (r + 1) xs)) now
-    ∙ ap (λ v. max (cond (is_listed qs r) c 0) v) ih
+    ∙ ap (λ v. max (cond (is_listed qs r) n.clock 0) v) ih
 
 -- it is one of the clocks at most, and each of the set's at least
 latest_most : (bits r n : ℕ) (xs : List Numbers) → ((i : ℕ) → i < length xs → (numbers_at xs i).clock ≤ n) → latest_from bits r xs ≤ n
@@ -171,60 +147,54 @@ module _ {g : GuideView} {table : TableView} {ledger : LedgerView} (kept : IsGui
     left_is = same_cut (net_for g) (bound_at m (group_of (terms_of g) p) (slice_index saved)) (bound_at m (roles_in back.concerned) (slice_index (listed_of back))) m.held bound_is
 
     module _ (logs : List (List Event)) (numbers : List Numbers) (log : (r : ℕ) → log_at logs r ≡ take (slice_index left r) (log_at g.logs r)) (numbers_are : AreBack g.numbers numbers group back.concerned.0 g.logs left) where
-      latest_told : latest_from back.concerned.0 0 g.numbers ≡ greatest (roles_in back.concerned) 0 m.clocks
-      latest_told = latest_is back.concerned.0 (roles_in back.concerned) 0 g.numbers m.clocks (let a = is.numbers_are.all in let b = is.numbers_are.have.clocks in omega (arith, a, b))
+      latest_told : latest_from back.concerned.0 0 g.numbers ≡ greatest (is_listed (roles_in back.concerned)) 0 m.roles
+      latest_told = latest_is back.concerned.0 (roles_in back.concerned) 0 g.numbers m.roles (let a = is.numbers_are.all in let b = is.numbers_are.have.roles in omega (arith, a, b))
           (λ i lt. subst (λ n. has_bit back.concerned.0 n ≡ is_listed (roles_in back.concerned) n) (omega arith) (sym (in_set back.concerned i (low kept i (let a = is.numbers_are.all in omega (arith, a, lt))))))
-          (λ i lt. sym (clock_at g m is i (let a = is.numbers_are.all in omega (arith, a, lt))))
+          (λ i lt. sym (is.numbers_are.each i (let a = is.numbers_are.all in omega (arith, a, lt))).clock)
+
+      -- what a recovery makes of a role's numbers in the memory
+      abbrev told_behind : ℕ → counts.Numbers → counts.Numbers
+      told_behind = numbers_behind (state_of m) (group_of (terms_of g) p) (roles_in back.concerned) (left_in g m p saved)
 
       module _ (r : ℕ) (lt : r < roles_of g) where
         abbrev x : Numbers
         x = numbers_at g.numbers r
 
-        attempt_now : slice_get (attempts_after 0 m.held (left_in g m p saved) m.attempts) r ≡ Some (cond (slice_index left r == length (log_at g.logs r)) x.attempt (x.attempt + 1))
+        abbrev old : counts.Numbers
+        old = counted_at m.roles r
+
+        told_now : counted_at (map_roles told_behind 0 m.roles) r ≡ told_behind r old
+        told_now = mapped_at told_behind r m.roles (let a = is.numbers_are.have.roles in omega (arith, a, lt))
+
+        attempt_now : (told_behind r old).attempt ≡ cond (slice_index left r == length (log_at g.logs r)) x.attempt (x.attempt + 1)
         attempt_now =
-            let size : r < length m.attempts = (let a = is.numbers_are.have.attempts in omega (arith, a, lt)) in
-            slice_get-get_or (attempts_after 0 m.held (left_in g m p saved) m.attempts) r 0 (let a = length_attempts 0 m.held (left_in g m p saved) m.attempts in omega (arith, a, size))
-            ∙ ap Some
-            (attempt_behind m.held (left_in g m p saved) 0 r m.attempts size
-            ∙ ap (λ n. cond (length (acts n (left_in g m p saved)) == length (acts n m.held)) (slice_index m.attempts r) (slice_index m.attempts r + 1)) (omega arith)
-            ∙ ap (λ n. cond (n == length (acts r m.held)) (slice_index m.attempts r) (slice_index m.attempts r + 1)) (sym (are m is r))
-            ∙ ap (λ n. cond (slice_index left r == n) (slice_index m.attempts r) (slice_index m.attempts r + 1)) (many_held g m is r)
-            ∙ ap (λ n. cond (slice_index left r == length (log_at g.logs r)) n (n + 1)) (attempt_at g m is r lt))
+            ap (λ n. cond (n == length (acts r m.held)) old.attempt (old.attempt + 1)) (sym (are m is r))
+            ∙ ap (λ n. cond (slice_index left r == n) old.attempt (old.attempt + 1)) (many_held g m is r)
+            ∙ ap (λ n. cond (slice_index left r == length (log_at g.logs r)) n (n + 1)) (is.numbers_are.each r lt).attempt
 
-        clock_now : slice_get (clocks_after (roles_in back.concerned) (greatest (roles_in back.concerned) 0 m.clocks + 1) 0 m.clocks) r ≡ Some (cond (has_bit back.concerned.0 r) (latest_from back.concerned.0 0 g.numbers + 1) x.clock)
+        clock_now : (told_behind r old).clock ≡ cond (has_bit back.concerned.0 r) (latest_from back.concerned.0 0 g.numbers + 1) x.clock
         clock_now =
-            let size : r < length m.clocks = (let a = is.numbers_are.have.clocks in omega (arith, a, lt)) in
-            let most = greatest (roles_in back.concerned) 0 m.clocks + 1 in
-            slice_get-get_or (clocks_after (roles_in back.concerned) most 0 m.clocks) r 0 (let a = length_clocks (roles_in back.concerned) most 0 m.clocks in omega (arith, a, size))
-            ∙ ap Some
-            (clock_behind (roles_in back.concerned) most 0 r m.clocks size
-            ∙ ap (λ n. cond (is_listed (roles_in back.concerned) n) most (slice_index m.clocks r)) (omega arith)
-            ∙ ap (λ b. cond b most (slice_index m.clocks r)) (in_set back.concerned r (low kept r lt))
-            ∙ ap (λ n. cond (has_bit back.concerned.0 r) (n + 1) (slice_index m.clocks r)) (sym latest_told)
-            ∙ ap (λ n. cond (has_bit back.concerned.0 r) (latest_from back.concerned.0 0 g.numbers + 1) n) (clock_at g m is r lt))
+            ap (λ b. cond b (greatest (is_listed (roles_in back.concerned)) 0 m.roles + 1) old.clock) (in_set back.concerned r (low kept r lt))
+            ∙ ap (λ n. cond (has_bit back.concerned.0 r) (n + 1) old.clock) (sym latest_told)
+            ∙ ap (λ n. cond (has_bit back.concerned.0 r) (latest_from back.concerned.0 0 g.numbers + 1) n) (is.numbers_are.each r lt).clock
 
-        down_now : slice_get (unmarked (group_of (terms_of g) p) 0 m.down) r ≡ Some (cond (has_bit group r) false x.down)
+        down_now : (told_behind r old).crashed ≡ cond (has_bit group r) false x.down
         down_now =
-            let size : r < length m.down = (let a = is.numbers_are.have.down in omega (arith, a, lt)) in
-            slice_get-get_or (unmarked (group_of (terms_of g) p) 0 m.down) r true (let a = length_unmarked (group_of (terms_of g) p) 0 m.down in omega (arith, a, size))
-            ∙ ap Some
-            (mark_behind (group_of (terms_of g) p) 0 r m.down size
-            ∙ ap (λ n. cond (is_listed (group_of (terms_of g) p) n) false (slice_index_or m.down r true)) (omega arith)
-            ∙ ap (λ b. cond b false (slice_index_or m.down r true)) (sym (is_group r (low kept r lt)))
-            ∙ ap (λ b. cond (has_bit group r) false b) (get_or_from_slice_get m.down r x.down true (is.numbers_are.each r lt).down))
+            ap (λ b. cond b false old.crashed) (sym (is_group r (low kept r lt)))
+            ∙ ap (λ b. cond (has_bit group r) false b) (is.numbers_are.each r lt).down
 
         numbers_now : AreNumbersOf (after_recovery m (group_of (terms_of g) p) (roles_in back.concerned) (left_in g m p saved)) r (numbers_at numbers r)
         numbers_now =
-            let old = is.numbers_are.each r lt in
+            let before = is.numbers_are.each r lt in
             subst (λ (y : Numbers). AreNumbersOf (after_recovery m (group_of (terms_of g) p) (roles_in back.concerned) (left_in g m p saved)) r y) (sym (numbers_are.each r (let a = is.numbers_are.all in omega (arith, a, lt))))
             (record {
-              seeds = old.seeds;
-              forgotten = old.forgotten;
-              point = old.point;
-              raw = old.raw;
-              attempt = attempt_now;
-              clock = clock_now;
-              down = down_now;
+              seeds = before.seeds;
+              forgotten = before.forgotten;
+              point = before.point;
+              raw = ap (λ (n : counts.Numbers). n.raw) told_now ∙ before.raw;
+              attempt = ap (λ (n : counts.Numbers). n.attempt) told_now ∙ attempt_now;
+              clock = ap (λ (n : counts.Numbers). n.clock) told_now ∙ clock_now;
+              down = ap (λ (n : counts.Numbers). n.crashed) told_now ∙ down_now;
             })
 
       memory_left : IsMemory (back_to g logs numbers) (after_recovery m (group_of (terms_of g) p) (roles_in back.concerned) (left_in g m p saved))
@@ -240,10 +210,7 @@ module _ {g : GuideView} {table : TableView} {ledger : LedgerView} (kept : IsGui
             seeds = is.numbers_are.have.seeds;
             forgotten = is.numbers_are.have.forgotten;
             points = is.numbers_are.have.points;
-            raw = is.numbers_are.have.raw;
-            attempts = length_attempts 0 m.held (left_in g m p saved) m.attempts ∙ is.numbers_are.have.attempts;
-            clocks = length_clocks (roles_in back.concerned) (greatest (roles_in back.concerned) 0 m.clocks + 1) 0 m.clocks ∙ is.numbers_are.have.clocks;
-            down = length_unmarked (group_of (terms_of g) p) 0 m.down ∙ is.numbers_are.have.down;
+            roles = length_mapped told_behind 0 m.roles ∙ is.numbers_are.have.roles;
           };
           all = numbers_are.all ∙ is.numbers_are.all;
           each = numbers_now;

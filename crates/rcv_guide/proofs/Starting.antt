@@ -1,17 +1,20 @@
 -- A guide before the first event.
 use Rattle.std.proofs.Common.{◌≡◌, ℕ, ℤ, zero, suc, ◌+◌, ◌<◌, ◌^◌, Some, List, [], ◌∷◌, ◌++◌, length, replicate, refl, sym, ◌∙◌, ap, subst, inl, take, arith}
-use Rattle.std.specs.Prelude.{pos, false, slice_get, slice_index_or}
+use Rattle.std.specs.Prelude.{pos, slice_get, slice_index_or}
 use Rattle.std.specs.List.{sum_by, range_with_len}
-use Rattle.std.proofs.lemmas.List.{length-replicate}
+use Rattle.std.proofs.lemmas.List.{length-replicate, get_or-replicate}
 use Rattle.std.proofs.lemmas.List.Sums.{sum_by-cons}
 use Rattle.std.proofs.lemmas.Option.{get_or_from_slice_get}
 use Rattle.rcv_tree.specs.declared.protocol.Protocol.{Protocol}
 use Rattle.rcv_tree.specs.declared.entry.Entry.{Entry}
+use Rattle.rcv_tree.specs.Numbers.{fresh as none_counted}
 use Rattle.rcv_tree.specs.declared.event.Event.{Event}
+use Rattle.rcv_tree.specs.declared.numbers.Numbers as counts
 use Rattle.rcv_model.specs.Plan.{PlanLine}
 use Rattle.rcv_model.specs.Text.{body_of}
 use Rattle.rcv_model.specs.Places.{net_of}
 use Rattle.rcv_model.specs.Run.{taken}
+use Rattle.rcv_model.specs.Journal.{nobody, numbers_at as counted_at}
 use Rattle.rcv_model.proofs.Keeping.{queued_nil}
 use Rattle.rcv_checkpoint.specs.Stack.{StackView}
 use Rattle.rcv_accept.specs.Accepted.{IsAcceptedProtocol}
@@ -69,6 +72,9 @@ module _ (protocol : Protocol) (plan : List PlanLine) (room : ℕ) where
   number_at : (r : ℕ) → numbers_at (replicate roles at_start) r ≡ at_start
   number_at r = at_replicate roles r at_start
 
+  counted_first : (r : ℕ) → r < roles → counted_at (replicate roles none_counted) r ≡ none_counted
+  counted_first r lt = get_or-replicate roles r none_counted nobody lt
+
   no_log : (r : ℕ) → log_at (replicate roles []) r ≡ []
   no_log r = at_replicate roles r []
 
@@ -87,20 +93,17 @@ module _ (protocol : Protocol) (plan : List PlanLine) (room : ℕ) where
         seeds = length-replicate _ _;
         forgotten = length-replicate _ _;
         points = length-replicate _ _;
-        raw = length-replicate _ _;
-        attempts = length-replicate _ _;
-        clocks = length-replicate _ _;
-        down = length-replicate _ _;
+        roles = length-replicate _ _;
       };
       all = length-replicate _ _;
       each = λ r lt. subst (λ (x : Numbers). AreNumbersOf (start roles) r x) (sym (number_at r)) (record {
         seeds = get_replicate roles r 0 lt;
         forgotten = get_replicate roles r 0 lt;
         point = get_replicate roles r 0 lt;
-        raw = get_replicate roles r 0 lt;
-        attempt = get_replicate roles r 0 lt;
-        clock = get_replicate roles r 0 lt;
-        down = get_replicate roles r false lt;
+        raw = ap (λ (x : counts.Numbers). x.raw) (counted_first r lt);
+        attempt = ap (λ (x : counts.Numbers). x.attempt) (counted_first r lt);
+        clock = ap (λ (x : counts.Numbers). x.clock) (counted_first r lt);
+        down = ap (λ (x : counts.Numbers). x.crashed) (counted_first r lt);
       });
     };
   }

@@ -58,10 +58,7 @@ module _ (net : Net) (m : Remembered) (many : (r : ℕ) → slice_index m.seeds 
     messages = lacks_no_message;
     old_queued = queued;
     new_queued = queued;
-    raw = refl;
-    attempts = refl;
-    clocks = refl;
-    down = refl;
+    roles = refl;
   }
 
   -- a failure that loses nothing forgotten leaves what is remembered of that

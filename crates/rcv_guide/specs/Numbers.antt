@@ -2,6 +2,7 @@
 use Rattle.std.specs.Prelude.{◌≡◌, ℕ, ◌+◌, ◌<◌, max, Bool, true, false, ◌==◌, if◌then◌else◌, Option, Some, None, List, [], ◌∷◌, length, slice_get, slice_index, slice_index_or, slice_set}
 use Rattle.rcv_tree.specs.Bits.{has_bit}
 use Rattle.rcv_tree.specs.declared.event.Event.{Event}
+use Rattle.rcv_model.specs.Journal.{numbers_at as counted_at}
 use Rattle.rcv_ledger.specs.Logs.{log_at}
 use Rattle.rcv_told.specs.Told.{Remembered}
 use Rattle.rcv_guide.specs.declared.numbers.Numbers.{Numbers}
@@ -19,25 +20,22 @@ abbrev pub down_of : Option Numbers → Option Bool
 down_of None = None
 down_of (Some x) = Some x.down
 
--- The numbers of role r in a memory.
+-- The numbers of role r in a memory. How often it has crashed doesn't matter.
 pub record AreNumbersOf (m : Remembered) (r : ℕ) (x : Numbers) : Type 0 where
   pub seeds : slice_get m.seeds r ≡ Some x.seeds
   pub forgotten : slice_get m.forgotten r ≡ Some x.forgotten
   pub point : slice_get m.points r ≡ Some x.point
-  pub raw : slice_get m.raw r ≡ Some x.raw
-  pub attempt : slice_get m.attempts r ≡ Some x.attempt
-  pub clock : slice_get m.clocks r ≡ Some x.clock
-  pub down : slice_get m.down r ≡ Some x.down
+  pub raw : (counted_at m.roles r).raw ≡ x.raw
+  pub attempt : (counted_at m.roles r).attempt ≡ x.attempt
+  pub clock : (counted_at m.roles r).clock ≡ x.clock
+  pub down : (counted_at m.roles r).crashed ≡ x.down
 
 -- Each list of a memory has an entry for each of so many roles.
 pub record HaveAll (roles : ℕ) (m : Remembered) : Type 0 where
   pub seeds : length m.seeds ≡ roles
   pub forgotten : length m.forgotten ≡ roles
   pub points : length m.points ≡ roles
-  pub raw : length m.raw ≡ roles
-  pub attempts : length m.attempts ≡ roles
-  pub clocks : length m.clocks ≡ roles
-  pub down : length m.down ≡ roles
+  pub roles : length m.roles ≡ roles
 
 -- The numbers of so many roles in a memory.
 pub record AreNumbers (roles : ℕ) (m : Remembered) (numbers : List Numbers) : Type 0 where

@@ -1,11 +1,11 @@
 -- Each state has the lines of its roles.
 use Rattle.std.proofs.Common.{◌≡◌, ℕ, zero, suc, ◌+◌, Some, List, [], ◌∷◌, length, refl, ◌∙◌, ap, subst, inl, inr, ⊎_elim, ◌⊎◌, arith}
-use Rattle.std.specs.Prelude.{slice_get, slice_index}
+use Rattle.std.specs.Prelude.{slice_get}
 use Rattle.std.proofs.lemmas.Bool.{cases_eq}
 use Rattle.rcv_model.specs.Next.{IsProper, AreNext}
 use Rattle.rcv_model.specs.Run.{acts, place_of}
 use Rattle.rcv_model.specs.Act.{IsDone}
-use Rattle.rcv_model.specs.Journal.{Rules, State}
+use Rattle.rcv_model.specs.Journal.{Rules, State, numbers_at}
 use Rattle.rcv_model.proofs.NextLists.{lists_exist}
 use Rattle.rcv_journal.specs.declared.line.RoleLine.{RoleLine}
 use Rattle.rcv_journal.specs.declared.line.RoleWord.{RoleWord}
@@ -23,12 +23,12 @@ is_done_or_not rules s r lawful = go (lists_exist rules.net rules.roles r (place
 
 pub role_word : (rules : Rules) (s : State) (r : ℕ) → IsProper rules.net rules.roles → (word : RoleWord) × IsWordOf rules s r word
 role_word rules s r lawful =
-    ⊎_elim (λ done. (Done, done)) (λ more. ⊎_elim (λ at. (Limit, (more, at))) (λ below. (Waits, (more, below))) (cases_eq (slice_index s.raw r) rules.limit)) (is_done_or_not rules s r lawful)
+    ⊎_elim (λ done. (Done, done)) (λ more. ⊎_elim (λ at. (Limit, (more, at))) (λ below. (Waits, (more, below))) (cases_eq (numbers_at s.roles r).raw rules.limit)) (is_done_or_not rules s r lawful)
 
 -- ---- the lines of the roles
 
 abbrev pub line_at : (rules : Rules) → State → IsProper rules.net rules.roles → ℕ → RoleLine
-line_at rules s lawful r = record { role = r; kept = length (acts r s.kept); raw = slice_index s.raw r; word = (role_word rules s r lawful).0 }
+line_at rules s lawful r = record { role = r; kept = length (acts r s.kept); raw = (numbers_at s.roles r).raw; word = (role_word rules s r lawful).0 }
 
 -- the lines of so many roles, from r on
 abbrev pub lines_from : (rules : Rules) → State → IsProper rules.net rules.roles → ℕ → ℕ → List RoleLine

@@ -1,13 +1,13 @@
 -- The lines of the roles, made one after another.
 use Rattle.std.proofs.Common.{◌≡◌, ℕ, ◌<◌, ◌≤◌, ◌↔◌, Bool, true, false, ◌==◌, cond, Some, List, [], ◌∷◌, ◌++◌, length, get_or, refl, sym, ◌∙◌, ap, subst, ⊎_elim, arith, length-append}
-use Rattle.std.specs.Prelude.{slice_get, slice_index, IsTrue}
+use Rattle.std.specs.Prelude.{slice_get, IsTrue}
 use Rattle.std.proofs.lemmas.Bool.{cases_lt}
 use Rattle.std.proofs.lemmas.Bool.Decides.{nat_tests}
 use Rattle.std.proofs.Math.ListN.{get_or-append}
 use Rattle.std.proofs.Math.Seq.{get_or-append_seam}
 use Rattle.std.proofs.lemmas.Option.{slice_get_within, slice_get-get_or, get_or_from_slice_get}
 use Rattle.rcv_model.specs.Act.{IsDone}
-use Rattle.rcv_model.specs.Journal.{Rules, State}
+use Rattle.rcv_model.specs.Journal.{Rules, State, numbers_at}
 use Rattle.rcv_session.specs.Session.{SessionView, roles_of, rules_of}
 use Rattle.rcv_journal.specs.declared.line.RoleLine.{RoleLine}
 use Rattle.rcv_journal.specs.declared.line.RoleWord.{RoleWord}
@@ -44,7 +44,7 @@ have_roles setup s lines are k d lt =
 abbrev pub word_from : Bool → ℕ → ℕ → RoleWord
 word_from done raw limit = cond done Done (cond (raw == limit) Limit Waits)
 
-pub is_word : (rules : Rules) (s : State) (r : ℕ) (done : Bool) (raw limit : ℕ) → limit ≡ rules.limit → raw ≡ slice_index s.raw r → IsTrue done ↔ IsDone rules.net r s.kept → IsWordOf rules s r (word_from done raw limit)
+pub is_word : (rules : Rules) (s : State) (r : ℕ) (done : Bool) (raw limit : ℕ) → limit ≡ rules.limit → raw ≡ (numbers_at s.roles r).raw → IsTrue done ↔ IsDone rules.net r s.kept → IsWordOf rules s r (word_from done raw limit)
 is_word rules s r true raw limit at count told = told.0 refl
 is_word rules s r false raw limit at count told = go (raw == limit) refl
   where

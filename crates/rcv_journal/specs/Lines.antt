@@ -1,9 +1,9 @@
 -- What the lines of the roles say of a journal, and which text is the journal's.
-use Rattle.std.specs.Prelude.{◌≡◌, ◌≢◌, ℕ, List, length, slice_get, slice_index, Some}
+use Rattle.std.specs.Prelude.{◌≡◌, ◌≢◌, ℕ, List, length, slice_get, Some}
 use Rattle.rcv_tree.specs.declared.entry.Entry.{Entry}
 use Rattle.rcv_model.specs.Run.{acts}
 use Rattle.rcv_model.specs.Act.{IsDone}
-use Rattle.rcv_model.specs.Journal.{Rules, State, reading}
+use Rattle.rcv_model.specs.Journal.{Rules, State, numbers_at, reading}
 use Rattle.rcv_session.specs.Session.{SessionView, rules_of}
 use Rattle.rcv_journal.specs.declared.line.RoleLine.{RoleLine}
 use Rattle.rcv_journal.specs.declared.line.RoleWord.{RoleWord}
@@ -13,14 +13,14 @@ use Rattle.rcv_journal.specs.JournalText.{journal_text}
 -- The word of role r: done if nothing is next; else limit if its raw count is the limit; else waits.
 abbrev pub IsWordOf : Rules → State → ℕ → RoleWord → Type 0
 IsWordOf rules s r Done = IsDone rules.net r s.kept
-IsWordOf rules s r Limit = (IsDone rules.net r s.kept → ⊥) × (slice_index s.raw r ≡ rules.limit)
-IsWordOf rules s r Waits = (IsDone rules.net r s.kept → ⊥) × (slice_index s.raw r ≢ rules.limit)
+IsWordOf rules s r Limit = (IsDone rules.net r s.kept → ⊥) × ((numbers_at s.roles r).raw ≡ rules.limit)
+IsWordOf rules s r Waits = (IsDone rules.net r s.kept → ⊥) × ((numbers_at s.roles r).raw ≢ rules.limit)
 
 -- The line of role r: how many of its events are kept, how many it made, and its word.
 pub record IsLineOf (rules : Rules) (s : State) (r : ℕ) (line : RoleLine) : Type 0 where
   pub role : line.role ≡ r
   pub kept : line.kept ≡ length (acts r s.kept)
-  pub raw : line.raw ≡ slice_index s.raw r
+  pub raw : line.raw ≡ (numbers_at s.roles r).raw
   pub word : IsWordOf rules s r line.word
 
 -- One line for each role, in order.

@@ -1,11 +1,11 @@
 -- The closing lines: one at most is the first wrong one, and how they are compared.
 use Rattle.std.proofs.Common.{◌≡◌, ℕ, ◌<◌, ◌↔◌, zero, suc, Bool, true, false, cond, Some, List, [], ◌∷◌, ◌++◌, take, map, refl, sym, ◌∙◌, ap, subst, ⊎_elim, arith}
-use Rattle.std.specs.Prelude.{slice_get, slice_index, length}
+use Rattle.std.specs.Prelude.{slice_get, length}
 use Rattle.std.specs.List.{filter}
 use Rattle.std.proofs.lemmas.Bool.{cases_lt}
 use Rattle.std.proofs.lemmas.Option.{none-some, same_Some, slice_get_within}
 use Rattle.rcv_model.specs.Act.{IsDone}
-use Rattle.rcv_model.specs.Journal.{Rules, State}
+use Rattle.rcv_model.specs.Journal.{Rules, State, numbers_at}
 use Rattle.rcv_model.specs.Final.{IsFinal, IsCompleted, IsLimited, AreDone, HasOneAtLimit}
 use Rattle.rcv_model.proofs.Located.{item}
 use Rattle.rcv_journal.specs.declared.line.RoleLine.{RoleLine}
@@ -103,7 +103,7 @@ done_word rules s r Done done is = refl
 done_word rules s r Limit done is = absurd (is.0 done)
 done_word rules s r Waits done is = absurd (is.0 done)
 
-limit_word : (rules : Rules) (s : State) (r : ℕ) (word : RoleWord) → (IsDone rules.net r s.kept → ⊥) → slice_index s.raw r ≡ rules.limit → IsWordOf rules s r word → is_limit word ≡ true
+limit_word : (rules : Rules) (s : State) (r : ℕ) (word : RoleWord) → (IsDone rules.net r s.kept → ⊥) → (numbers_at s.roles r).raw ≡ rules.limit → IsWordOf rules s r word → is_limit word ≡ true
 limit_word rules s r Done not_done at is = absurd (not_done is)
 limit_word rules s r Limit not_done at is = refl
 limit_word rules s r Waits not_done at is = absurd (is.1 at)

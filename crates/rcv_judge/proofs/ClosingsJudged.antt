@@ -55,7 +55,7 @@ same_roles (x ∷ xs) (y ∷ ys) = go (same_line x y) (same_roles xs ys)
 
 -- ---- part by part
 
-module _ (rules : Rules) (s : State) (proper : IsProper rules.net rules.roles) (ends : LanesEnd rules.net) (size : length s.crashed ≡ rules.roles) where
+module _ (rules : Rules) (s : State) (proper : IsProper rules.net rules.roles) (ends : LanesEnd rules.net) (size : length s.roles ≡ rules.roles) where
   is_final : OrNot (IsFinal rules s)
   is_final = ⊎_elim (λ step. inr (λ final. (one_step rules s step.0 step.0).none final step.1)) (λ final. inl final) (step_or_final rules proper ends s size)
 
@@ -91,4 +91,4 @@ module _ (rules : Rules) (s : State) (proper : IsProper rules.net rules.roles) (
       (both is_final (both (are_lines_or_not roles) (both (same_list limited (limited_in roles)) (says_completed limited))))
 
 pub closings_judged : ClosingsAreJudged
-closings_judged rules entries roles limited proper ends legal = closes rules (reading rules entries) proper ends (bounded rules entries legal).numbers.crashed roles limited
+closings_judged rules entries roles limited proper ends legal = closes rules (reading rules entries) proper ends (bounded rules entries legal).numbers roles limited

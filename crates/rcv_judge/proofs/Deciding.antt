@@ -88,17 +88,23 @@ roomy_send rules room s e may = record {
 }
 
 roomy_recv : (rules : Rules) (room : ℕ) (s : State) (e : Event) → MayRecv (roomy rules room) s e → MayRecv rules s e
-roomy_recv rules room s e may = record {
-  free = record { declared = may.free.declared; running = may.free.running; not_due = may.free.not_due; below_limit = may.free.below_limit };
-  offered = may.offered;
-  from = may.from;
-  next = may.next;
-  receives = may.receives;
-  is_recv = may.is_recv;
-  among = may.among;
-  front = may.front;
-  stamp = may.stamp;
-}
+roomy_recv rules room s e may =
+    let free = may.own.free in
+    record {
+      own = record {
+        free = record { declared = free.declared; running = free.running; not_due = free.not_due; below_limit = free.below_limit };
+        offered = may.own.offered;
+        some = may.own.some;
+        from = may.own.from;
+        next = may.own.next;
+        receives = may.own.receives;
+        is_recv = may.own.is_recv;
+        sender = may.own.sender;
+        stamp = may.own.stamp;
+      };
+      among = may.among;
+      front = may.front;
+    }
 
 one_more : (n : ℕ) → n < suc n
 one_more n = omega arith

@@ -1,6 +1,6 @@
 -- What a role can do next, from how it stands.
-use Rattle.std.proofs.Common.{◌≡◌, ◌≢◌, ℕ, ◌<◌, true, false, Some, List, [], ◌∷◌, refl, sym, ◌∙◌, subst, inl, ⊎_elim, arith}
-use Rattle.std.specs.Prelude.{◌+◌, max, slice_index}
+use Rattle.std.proofs.Common.{◌≡◌, ◌≢◌, ℕ, ◌<◌, true, false, List, [], ◌∷◌, refl, sym, ◌∙◌, subst, inl, ⊎_elim, arith}
+use Rattle.std.specs.Prelude.{◌+◌, max}
 use Rattle.std.proofs.lemmas.Bool.{cases_lt}
 use Rattle.rcv_tree.specs.declared.event.Event.{Event}
 use Rattle.rcv_tree.specs.declared.event.Message.{Message}
@@ -9,7 +9,7 @@ use Rattle.rcv_tree.specs.declared.entry.Entry.{Entry}
 use Rattle.rcv_tree.specs.declared.entry.Entry.TheVariants.{Send, Recv, Crash, Recover}
 use Rattle.rcv_model.specs.Net.{IsIn}
 use Rattle.rcv_model.specs.Next.{AreNext, IsNext}
-use Rattle.rcv_model.specs.Journal.{place, IsDue, IsFree, MaySend, May, IsLegal}
+use Rattle.rcv_model.specs.Journal.{place, numbers_at, IsDue, IsFree, MaySend, May, IsLegal}
 use Rattle.rcv_model.specs.Final.{IsCrashed, IsActOf, CanAct}
 use Rattle.rcv_model.proofs.Numbers.{bounded}
 use Rattle.rcv_model.proofs.Same.{one_next}
@@ -21,7 +21,7 @@ use Rattle.rcv_core.specs.Book as books
 use Rattle.rcv_core.proofs.Acting.{can_recv}
 use Rattle.rcv_judge.specs.declared.could.Could.TheVariants.{Make, Awaits, Done, AtLimit}
 use Rattle.rcv_judge.specs.Could.{NoneMay, IsDoneIn, IsCould, HasSender, IsSendOf}
-use Rattle.rcv_judge.proofs.Sends.{form, run, running}
+use Rattle.rcv_judge.proofs.Sends.{form, run, running, done_here}
 use Rattle.rcv_judge.proofs.Unique.{one_of_role, two_ends}
 
 module _ (book : BookView) (plain : IsAcceptedProtocol book.setup.protocol) (r : ℕ) where
@@ -53,7 +53,7 @@ not_done book r from has done = go has.zs has.next has.some
   where
     go : (zs : List ℕ) → AreNext (net_for book.setup) r (place (state_of book) r) zs → zs ≢ [] → ⊥
     go [] next some = some refl
-    go (z ∷ zs) next some = done z (next.sound z (inl refl))
+    go (z ∷ zs) next some = done_here book r z done (next.sound z (inl refl))
 
 -- a role that is neither crashed nor due makes a step or nothing
 module _ (book : BookView) (r : ℕ) (calm : IsCrashed (state_of book) r → ⊥) (idle : IsDue (rules_of book.setup) (state_of book) r → ⊥) where
@@ -66,30 +66,30 @@ module _ (book : BookView) (r : ℕ) (calm : IsCrashed (state_of book) r → ⊥
   pub is_done : IsDoneIn book r → IsCould book r Done
   is_done done = (
     none_but_steps
-        (λ e own may. done e.point (subst (λ q. IsNext (net_for book.setup) q (place (state_of book) q) e.point) own (may.next.sound e.point may.among)))
-        (λ e own may. done e.point (subst (λ q. IsNext (net_for book.setup) q (place (state_of book) q) e.point) own (may.next.sound e.point may.among))),
+        (λ e own may. done_here book r e.point done (subst (λ q. IsNext (net_for book.setup) q (place (state_of book) q) e.point) own (may.next.sound e.point may.among)))
+        (λ e own may. done_here book r e.point done (subst (λ q. IsNext (net_for book.setup) q (place (state_of book) q) e.point) own (may.own.next.sound e.point may.among))),
     done,
   )
 
-  pub is_at_limit : (from : ℕ) → HasSender book r from → slice_index (state_of book).raw r ≡ (rules_of book.setup).limit → IsCould book r AtLimit
+  pub is_at_limit : (from : ℕ) → HasSender book r from → (numbers_at (state_of book).roles r).raw ≡ (rules_of book.setup).limit → IsCould book r AtLimit
   is_at_limit from has at = (
-    none_but_steps (λ e own may. below e.role own may.free.below_limit) (λ e own may. below e.role own may.free.below_limit),
+    none_but_steps (λ e own may. below e.role own may.free.below_limit) (λ e own may. below e.role own may.own.free.below_limit),
     not_done book r from has,
     at,
   )
     where
-      below : (q : ℕ) → q ≡ r → slice_index (state_of book).raw q < (rules_of book.setup).limit → ⊥
-      below q own lt = let here = subst (λ t. slice_index (state_of book).raw t < (rules_of book.setup).limit) own lt in omega (arith, here, at)
+      below : (q : ℕ) → q ≡ r → (numbers_at (state_of book).roles q).raw < (rules_of book.setup).limit → ⊥
+      below q own lt = let here = subst (λ t. (numbers_at (state_of book).roles t).raw < (rules_of book.setup).limit) own lt in omega (arith, here, at)
 
 -- below the limit it may make one
-pub is_free : (book : BookView) → IsAcceptedProtocol book.setup.protocol → IsLegal (rules_of book.setup) book.entries → (r : ℕ) → r < roles_of book.setup → (IsCrashed (state_of book) r → ⊥) → (IsDue (rules_of book.setup) (state_of book) r → ⊥) → slice_index (state_of book).raw r ≢ (rules_of book.setup).limit → IsFree (rules_of book.setup) (state_of book) r
+pub is_free : (book : BookView) → IsAcceptedProtocol book.setup.protocol → IsLegal (rules_of book.setup) book.entries → (r : ℕ) → r < roles_of book.setup → (IsCrashed (state_of book) r → ⊥) → (IsDue (rules_of book.setup) (state_of book) r → ⊥) → (numbers_at (state_of book).roles r).raw ≢ (rules_of book.setup).limit → IsFree (rules_of book.setup) (state_of book) r
 is_free book plain legal r lt calm idle below =
     let most = (bounded (rules_of book.setup) book.entries legal).raw r in
     record {
       declared = lt;
       running = running book plain legal r lt calm;
       not_due = idle;
-      below_limit = ⊎_elim (λ less. less) (λ more. absurd (below (omega (arith, most, more)))) (cases_lt (slice_index (state_of book).raw r) (rules_of book.setup).limit);
+      below_limit = ⊎_elim (λ less. less) (λ more. absurd (below (omega (arith, most, more)))) (cases_lt (numbers_at (state_of book).roles r).raw (rules_of book.setup).limit);
     }
 
 -- a role that may make a step, receives next and can't, awaits a message
@@ -105,7 +105,7 @@ module _ (book : BookView) (plain : IsAcceptedProtocol book.setup.protocol) (leg
     where
       go : (messages : List Message) → in_channel book from r ≡ messages → in_channel book from r ≡ []
       go [] is = is
-      go (m ∷ rest) is = absurd (stuck (Recv (record { role = r; dir = Got; point = m.point; value = m.value; stamp = max (slice_index (state_of book).clocks r) m.stamp + 1; sent = m.stamp }), can_recv book.setup (state_of book) r from (max (slice_index (state_of book).clocks r) m.stamp + 1) m rest has.zs free (form book plain legal) (run book plain legal) has.next has.some (λ z i. (has.receives other z i, has.sends z i)) is refl))
+      go (m ∷ rest) is = absurd (stuck (Recv (record { role = r; dir = Got; point = m.point; value = m.value; stamp = max (numbers_at (state_of book).roles r).clock m.stamp + 1; sent = m.stamp }), can_recv book.setup (state_of book) r from (max (numbers_at (state_of book).roles r).clock m.stamp + 1) m rest has.zs free (form book plain legal) (run book plain legal) has.next has.some (λ z i. (has.receives other z i, has.sends z i)) is refl))
 
   some_next : (zs : List ℕ) → AreNext (net_for book.setup) r (place (state_of book) r) zs → zs ≢ [] → (z : ℕ) × books.IsNextOf book r z
   some_next [] next some = absurd (some refl)
@@ -114,7 +114,7 @@ module _ (book : BookView) (plain : IsAcceptedProtocol book.setup.protocol) (leg
   pub awaits : IsCould book r (Awaits from)
   awaits = (
     none_but_steps book r
-        (λ yes. let there : Some true ≡ Some false = sym yes ∙ free.running in cc)
+        (λ yes. let there : true ≡ false = sym yes.1 ∙ free.running in cc)
         free.not_due
         no_send
         (λ e own may. stuck (Recv e, (own, may))),

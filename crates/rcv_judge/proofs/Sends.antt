@@ -1,6 +1,6 @@
 -- What a role did, where that leaves it, and what it sends next, whether or not its channel has room.
 use Rattle.std.proofs.Common.{◌≡◌, ℕ, zero, suc, ◌+◌, ◌<◌, ◌≤◌, Bool, true, false, ◌==◌, cond, None, Some, List, [], ◌∷◌, ◌++◌, length, get_or, refl, sym, ◌∙◌, ap, subst, ⊎_elim, arith}
-use Rattle.std.specs.Prelude.{slice_get, slice_index, ℤ}
+use Rattle.std.specs.Prelude.{slice_get, ℤ}
 use Rattle.std.specs.List.{cons_option}
 use Rattle.std.proofs.lemmas.Bool.{cases_eq}
 use Rattle.std.proofs.lemmas.Option.{none-some, same_Some}
@@ -9,18 +9,18 @@ use Rattle.rcv_tree.specs.declared.event.Dir.TheVariants.{Sent}
 use Rattle.rcv_tree.specs.declared.entry.Entry.{Entry}
 use Rattle.rcv_model.specs.Net.{IsIn, IsWalk}
 use Rattle.rcv_model.specs.Run.{Act, acts, place_of, IsRun}
-use Rattle.rcv_model.specs.Next.{AreNext, IsPlaceOf, IsProper}
+use Rattle.rcv_model.specs.Next.{IsNext, AreNext, IsPlaceOf, IsProper}
 use Rattle.rcv_model.specs.Script.{pick, number_for}
-use Rattle.rcv_model.specs.Journal.{State, place, events_of, IsFree, MaySend, IsLegal}
+use Rattle.rcv_model.specs.Journal.{State, numbers_at, place, events_of, IsFree, MaySend, IsLegal}
 use Rattle.rcv_model.specs.Final.{IsCrashed}
 use Rattle.rcv_model.proofs.Choosing.{chosen_in}
 use Rattle.rcv_model.proofs.Forms.{proper}
 use Rattle.rcv_model.proofs.Legal.{accepted_runs}
-use Rattle.rcv_model.proofs.Located.{item}
 use Rattle.rcv_model.proofs.Numbers.{bounded}
 use Rattle.rcv_model.proofs.Parts.{cut}
 use Rattle.rcv_model.proofs.Same.{one_next}
 use Rattle.rcv_model.proofs.Ways.{stands}
+use Rattle.rcv_model.proofs.Roles.{place_is, runs}
 use Rattle.rcv_accept.specs.Accepted.{IsAcceptedProtocol}
 use Rattle.rcv_session.specs.Session.{SessionView, text_of, roles_of, net_for, lines_of, rules_of}
 use Rattle.rcv_core.specs.Setup.{vars_by}
@@ -51,10 +51,10 @@ last_place k (x ∷ []) (suc n) a size at = absurd (none-some a at)
 last_place k (x ∷ y ∷ done) (suc n) a size at = last_place x.point (y ∷ done) n a (omega (arith, size)) at
 
 pub place_there : (s : State) (r n : ℕ) (e : Event) → n + 1 ≡ length (acts r s.kept) → slice_get (events_of r s.kept) n ≡ Some e → place s r ≡ e.point
-place_there s r n e size at = last_place 0 (acts r s.kept) n (act e) (omega (arith, size)) (act_there r s.kept n e at)
+place_there s r n e size at = place_is s r ∙ last_place 0 (acts r s.kept) n (act e) (omega (arith, size)) (act_there r s.kept n e at)
 
 pub place_at_first : (s : State) (r : ℕ) → 0 ≡ length (acts r s.kept) → place s r ≡ 0
-place_at_first s r none = go (acts r s.kept) none
+place_at_first s r none = place_is s r ∙ go (acts r s.kept) none
   where
     go : (done : List Act) → 0 ≡ length done → place_of 0 done ≡ 0
     go [] none = refl
@@ -76,22 +76,21 @@ module _ (book : BookView) (plain : IsAcceptedProtocol book.setup.protocol) (leg
   pub stands_there : (r : ℕ) → IsPlaceOf (net_for book.setup) r (place (state_of book) r)
   stands_there r =
       let c = cut (net_for book.setup) r 0 run.0 (acts r (state_of book).kept) (run.1.parts r) in
-      subst (λ l. IsPlaceOf (net_for book.setup) r (place_of 0 l)) c.did (stands (net_for book.setup) (roles_of book.setup) r c.front c.back form (subst (IsWalk (net_for book.setup) 0) (sym c.whole) run.1.walk))
+      subst (IsPlaceOf (net_for book.setup) r) (sym (place_is (state_of book) r))
+      (subst (λ l. IsPlaceOf (net_for book.setup) r (place_of 0 l)) c.did (stands (net_for book.setup) (roles_of book.setup) r c.front c.back form (subst (IsWalk (net_for book.setup) 0) (sym c.whole) run.1.walk)))
 
-  pub running : (r : ℕ) → r < roles_of book.setup → (IsCrashed (state_of book) r → ⊥) → slice_get (state_of book).crashed r ≡ Some false
-  running r lt calm =
-      let mark = item (state_of book).crashed r (subst (λ n. r < n) (sym (bounded (rules_of book.setup) book.entries legal).numbers.crashed) lt) in
-      go mark.0 mark.1
-    where
-      go : (b : Bool) → slice_get (state_of book).crashed r ≡ Some b → slice_get (state_of book).crashed r ≡ Some false
-      go true e = absurd (calm e)
-      go false e = e
+  pub running : (r : ℕ) → r < roles_of book.setup → (IsCrashed (state_of book) r → ⊥) → (numbers_at (state_of book).roles r).crashed ≡ false
+  running r lt calm = runs (state_of book) r (subst (λ n. r < n) (sym (bounded (rules_of book.setup) book.entries legal).numbers) lt) calm
 
 -- ---- who sends at a role's next points
 
+-- where a role that is done stands, nothing is next
+pub done_here : (book : BookView) (r z : ℕ) → IsDoneIn book r → IsNext (net_for book.setup) r (place (state_of book) r) z → ⊥
+done_here book r z done n = done z (subst (λ k. IsNext (net_for book.setup) r k z) (place_is (state_of book) r) n)
+
 module _ (book : BookView) (plain : IsAcceptedProtocol book.setup.protocol) (legal : IsLegal (rules_of book.setup) book.entries) (r : ℕ) (lt : r < roles_of book.setup) (zs : List ℕ) (next : AreNext (net_for book.setup) r (place (state_of book) r) zs) where
   pub done_there : length zs < 1 → IsDoneIn book r
-  done_there few z n = subst (IsIn z) (nothing zs few) (next.complete z n)
+  done_there few z n = subst (IsIn z) (nothing zs few) (next.complete z (subst (λ k. IsNext (net_for book.setup) r k z) (sym (place_is (state_of book) r)) n))
 
   -- where another role sends at the first of them, each is one to receive from it
   all_receive : (z y : ℕ) → IsIn z zs → IsIn y zs → ((net_for book.setup).sender z ≡ r → ⊥) → ((net_for book.setup).receiver y ≡ r) × ((net_for book.setup).sender y ≡ (net_for book.setup).sender z)
@@ -136,10 +135,10 @@ are_sent book r offered has next =
     }
 
 module _ (setup : SessionView) (s : State) (r : ℕ) (vars : List ℤ) (offered : List ℕ) (vars_is : vars ≡ vars_by setup r (events_of r s.kept)) (next : AreNext (net_for setup) r (place s r) offered) where
-  pub pick_in : (p : ℕ) → (offered ≡ [] → ⊥) → p ≡ pick (net_for setup) (lines_of setup r) vars (slice_index s.attempts r) offered → IsIn p offered
-  pick_in p some point = subst (λ z. IsIn z offered) (sym (point ∙ ap (λ vs. pick (net_for setup) (lines_of setup r) vs (slice_index s.attempts r) offered) vars_is)) (chosen_in (net_for setup) (lines_of setup) r (events_of r s.kept) (slice_index s.attempts r) offered some)
+  pub pick_in : (p : ℕ) → (offered ≡ [] → ⊥) → p ≡ pick (net_for setup) (lines_of setup r) vars (numbers_at s.roles r).attempt offered → IsIn p offered
+  pick_in p some point = subst (λ z. IsIn z offered) (sym (point ∙ ap (λ vs. pick (net_for setup) (lines_of setup r) vs (numbers_at s.roles r).attempt offered) vars_is)) (chosen_in (net_for setup) (lines_of setup) r (events_of r s.kept) (numbers_at s.roles r).attempt offered some)
 
-  pub sends : (point stamp : ℕ) (value : ℤ) → IsFree (rules_of setup) s r → AreSent (net_for setup) r offered → point ≡ pick (net_for setup) (lines_of setup r) vars (slice_index s.attempts r) offered → value ≡ number_for ((net_for setup).label point) (lines_of setup r) vars (slice_index s.attempts r) → stamp ≡ slice_index s.clocks r + 1
+  pub sends : (point stamp : ℕ) (value : ℤ) → IsFree (rules_of setup) s r → AreSent (net_for setup) r offered → point ≡ pick (net_for setup) (lines_of setup r) vars (numbers_at s.roles r).attempt offered → value ≡ number_for ((net_for setup).label point) (lines_of setup r) vars (numbers_at s.roles r).attempt → stamp ≡ (numbers_at s.roles r).clock + 1
       → MaySend (rules_of setup) s (record { role = r; dir = Sent; point = point; value = value; stamp = stamp; sent = stamp })
   sends point stamp value free sent chosen number clock = record {
     free = free;
@@ -148,8 +147,8 @@ module _ (setup : SessionView) (s : State) (r : ℕ) (vars : List ℤ) (offered 
     sends = sent.sends;
     is_send = refl;
     among = pick_in point sent.some chosen;
-    point = chosen ∙ ap (λ vs. pick (net_for setup) (lines_of setup r) vs (slice_index s.attempts r) offered) vars_is;
-    value = number ∙ ap (λ vs. number_for ((net_for setup).label point) (lines_of setup r) vs (slice_index s.attempts r)) vars_is;
+    point = chosen ∙ ap (λ vs. pick (net_for setup) (lines_of setup r) vs (numbers_at s.roles r).attempt offered) vars_is;
+    value = number ∙ ap (λ vs. number_for ((net_for setup).label point) (lines_of setup r) vs (numbers_at s.roles r).attempt) vars_is;
     stamp = clock;
     sent = refl;
   }
@@ -158,7 +157,7 @@ module _ (setup : SessionView) (s : State) (r : ℕ) (vars : List ℤ) (offered 
 
 module _ (book : BookView) (e : Event) where
   pub none_to_send : IsDoneIn book e.role → MaySend (rules_of book.setup) (state_of book) e → ⊥
-  none_to_send done may = done e.point (may.next.sound e.point may.among)
+  none_to_send done may = done_here book e.role e.point done (may.next.sound e.point may.among)
 
   pub not_to_send : (from : ℕ) → HasSender book e.role from → (from ≡ e.role → ⊥) → MaySend (rules_of book.setup) (state_of book) e → ⊥
   not_to_send from has other may =

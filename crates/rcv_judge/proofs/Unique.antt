@@ -1,12 +1,10 @@
 -- What comes next of a role is one entry.
-use Rattle.std.proofs.Common.{◌≡◌, ℕ, ◌<◌, true, false, Some, sym, ◌∙◌, ap, subst}
-use Rattle.std.specs.Prelude.{slice_get}
+use Rattle.std.proofs.Common.{◌≡◌, ℕ, ◌<◌, true, false, sym, ◌∙◌, ap, subst}
 use Rattle.rcv_tree.specs.declared.event.Event.{Event}
 use Rattle.rcv_tree.specs.declared.entry.Entry.{Entry}
 use Rattle.rcv_tree.specs.declared.entry.Entry.TheVariants.{Send, Recv, Crash, Recover}
 use Rattle.rcv_model.specs.Net.{HasTwoEnds}
-use Rattle.std.proofs.lemmas.Option.{slice_get_within}
-use Rattle.rcv_model.specs.Journal.{Rules, State, IsDue, MaySend, May, IsLegal}
+use Rattle.rcv_model.specs.Journal.{Rules, State, numbers_at, IsDue, MaySend, May, IsLegal}
 use Rattle.rcv_model.specs.Final.{IsCrashed, IsActOf}
 use Rattle.rcv_model.proofs.Numbers.{bounded}
 use Rattle.rcv_model.proofs.Forms.{proper}
@@ -44,7 +42,7 @@ step_may rules s d e x same = (subst (IsActOf rules s e.role) same x).1
 -- who acts is declared
 pub acts_declared : (rules : Rules) (s : State) (r : ℕ) (e : Entry) → IsActOf rules s r e → r < rules.roles
 acts_declared rules s r (Send e) x = subst (λ q. q < rules.roles) x.0 x.1.free.declared
-acts_declared rules s r (Recv e) x = subst (λ q. q < rules.roles) x.0 x.1.free.declared
+acts_declared rules s r (Recv e) x = subst (λ q. q < rules.roles) x.0 x.1.own.free.declared
 acts_declared rules s r (Crash p) x = absurd x
 acts_declared rules s r (Recover p c k u) x = absurd x
 
@@ -69,11 +67,11 @@ recovers_crashed book r (Crash p) x = absurd x
 
 pub recovers_declared : (book : BookView) (r : ℕ) (e : Entry) → IsLegal (rules_of book.setup) book.entries → IsRecoveryOf book r e → r < roles_of book.setup
 recovers_declared book r e legal x =
-    subst (λ n. r < n) (bounded (rules_of book.setup) book.entries legal).numbers.crashed (slice_get_within (state_of book).crashed r true (recovers_crashed book r e x))
+    subst (λ n. r < n) (bounded (rules_of book.setup) book.entries legal).numbers (recovers_crashed book r e x).0
 
 -- a crashed role doesn't run
-runs : (rules : Rules) (s : State) (p q : ℕ) → p ≡ q → slice_get s.crashed p ≡ Some true → slice_get s.crashed q ≡ Some false → ⊥
-runs rules s p q same crashed calm = let there : Some true ≡ Some false = sym crashed ∙ ap (slice_get s.crashed) same ∙ calm in cc
+runs : (s : State) (p q : ℕ) → p ≡ q → IsCrashed s p → (numbers_at s.roles q).crashed ≡ false → ⊥
+runs s p q same crashed calm = let there : true ≡ false = sym crashed.1 ∙ ap (λ r. (numbers_at s.roles r).crashed) same ∙ calm in cc
 
 -- of one role one entry may come
 pub one_of_role : EntriesOfARoleAreOne
@@ -83,15 +81,15 @@ one_of_role rules s (Send d) (Recv e) two same a b = absurd (not_both rules s d 
 one_of_role rules s (Recv d) (Send e) two same a b = absurd (not_both rules s e d (sym same) two b a)
 one_of_role rules s (Crash p) (Crash q) two same a b = ap Crash same
 one_of_role rules s (Send d) (Crash q) two same a b = absurd (a.free.not_due (subst (IsDue rules s) (sym same) b.1))
-one_of_role rules s (Recv d) (Crash q) two same a b = absurd (a.free.not_due (subst (IsDue rules s) (sym same) b.1))
+one_of_role rules s (Recv d) (Crash q) two same a b = absurd (a.own.free.not_due (subst (IsDue rules s) (sym same) b.1))
 one_of_role rules s (Crash p) (Send e) two same a b = absurd (b.free.not_due (subst (IsDue rules s) same a.1))
-one_of_role rules s (Crash p) (Recv e) two same a b = absurd (b.free.not_due (subst (IsDue rules s) same a.1))
+one_of_role rules s (Crash p) (Recv e) two same a b = absurd (b.own.free.not_due (subst (IsDue rules s) same a.1))
 one_of_role rules s (Recover p c k u) (Recover q d l n) two same a b =
     ap (λ t. Recover t c k u) same
     ∙ one_recovery rules s q c d k l u n (subst (λ t. May rules s (Recover t c k u)) same a) b
-one_of_role rules s (Recover p c k u) (Send e) two same a b = absurd (runs rules s p e.role same a.crashed b.free.running)
-one_of_role rules s (Recover p c k u) (Recv e) two same a b = absurd (runs rules s p e.role same a.crashed b.free.running)
-one_of_role rules s (Recover p c k u) (Crash q) two same a b = absurd (runs rules s p q same a.crashed b.1.0)
-one_of_role rules s (Send d) (Recover q e l n) two same a b = absurd (runs rules s q d.role (sym same) b.crashed a.free.running)
-one_of_role rules s (Recv d) (Recover q e l n) two same a b = absurd (runs rules s q d.role (sym same) b.crashed a.free.running)
-one_of_role rules s (Crash p) (Recover q e l n) two same a b = absurd (runs rules s q p (sym same) b.crashed a.1.0)
+one_of_role rules s (Recover p c k u) (Send e) two same a b = absurd (runs s p e.role same a.crashed b.free.running)
+one_of_role rules s (Recover p c k u) (Recv e) two same a b = absurd (runs s p e.role same a.crashed b.own.free.running)
+one_of_role rules s (Recover p c k u) (Crash q) two same a b = absurd (runs s p q same a.crashed b.1.0)
+one_of_role rules s (Send d) (Recover q e l n) two same a b = absurd (runs s q d.role (sym same) b.crashed a.free.running)
+one_of_role rules s (Recv d) (Recover q e l n) two same a b = absurd (runs s q d.role (sym same) b.crashed a.own.free.running)
+one_of_role rules s (Crash p) (Recover q e l n) two same a b = absurd (runs s q p (sym same) b.crashed a.1.0)

@@ -1,11 +1,11 @@
 -- What a role can do next after a journal, whether or not its channels have room.
-use Rattle.std.specs.Prelude.{◌≡◌, ◌≢◌, ℕ, List, [], Option, MatchOption, slice_index}
+use Rattle.std.specs.Prelude.{◌≡◌, ◌≢◌, ℕ, List, [], Option, MatchOption}
 use Rattle.rcv_tree.specs.declared.entry.Entry.{Entry}
 use Rattle.rcv_tree.specs.declared.event.Event.{Event}
 use Rattle.rcv_model.specs.Net.{IsIn}
 use Rattle.rcv_model.specs.Next.{AreNext}
 use Rattle.rcv_model.specs.Act.{IsDone}
-use Rattle.rcv_model.specs.Journal.{place, MaySend, May}
+use Rattle.rcv_model.specs.Journal.{numbers_at, place, MaySend, May}
 use Rattle.rcv_theory.specs.Round.{role_of}
 use Rattle.rcv_session.specs.Session.{net_for, rules_of}
 use Rattle.rcv_core.specs.Book.{BookView, state_of, in_channel}
@@ -33,9 +33,9 @@ abbrev pub IsCould : BookView → ℕ → Could → Type 0
 IsCould book r (Make e) = IsOneOf book r e
 IsCould book r Done = NoneMay book r × IsDoneIn book r
 IsCould book r AtLimit =
-    NoneMay book r × (IsDoneIn book r → ⊥) × (slice_index (state_of book).raw r ≡ (rules_of book.setup).limit)
+    NoneMay book r × (IsDoneIn book r → ⊥) × ((numbers_at (state_of book).roles r).raw ≡ (rules_of book.setup).limit)
 IsCould book r (Awaits from) =
-    NoneMay book r × (IsDoneIn book r → ⊥) × (slice_index (state_of book).raw r ≢ (rules_of book.setup).limit)
+    NoneMay book r × (IsDoneIn book r → ⊥) × ((numbers_at (state_of book).roles r).raw ≢ (rules_of book.setup).limit)
     × books.Awaits book r from × (in_channel book from r ≡ [])
 
 -- These are the role's next points, and there are some. The sender sends each; if it is another role, the role itself receives

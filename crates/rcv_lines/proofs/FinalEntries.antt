@@ -245,7 +245,7 @@ module _ (session : SessionView) (plain : IsAcceptedProtocol session.protocol) (
         let stamp = fits.0 in
         let sent = fits.1 in
         let named = (named_of (Recv e) may).0 in
-        record { named = record { role = named.role; first = named.first; last = named.last }; way = may.is_recv; value = value; stamp = omega (arith, stamp, short); sent = omega (arith, sent, short) }
+        record { named = record { role = named.role; first = named.first; last = named.last }; way = may.own.is_recv; value = value; stamp = omega (arith, stamp, short); sent = omega (arith, sent, short) }
     entry_formed (Crash p) value may = may.0
     entry_formed (Recover p concerned kept undone) value may =
         let b = bounds_of (Recover p concerned kept undone) may in

@@ -1,12 +1,12 @@
 -- The text of a session that came to its end is read as its entries, its lines of roles and those at the limit.
-use Rattle.std.proofs.Common.{◌≡◌, ◌∙◌, ◌<◌, ◌≤◌, ◌^◌, ℕ, zero, suc, Bool, true, false, cond, List, [], ◌∷◌, ◌++◌, All, Some, map, flat_map, slice_get, slice_index, get_or, refl, sym, ap, ap₂, subst, ⊎_elim, arith, append-nil, codes}
+use Rattle.std.proofs.Common.{◌≡◌, ◌∙◌, ◌<◌, ◌≤◌, ◌^◌, ℕ, zero, suc, Bool, true, false, cond, List, [], ◌∷◌, ◌++◌, All, Some, map, flat_map, slice_get, get_or, refl, sym, ap, ap₂, subst, ⊎_elim, arith, append-nil, codes}
 use Rattle.std.specs.List.{list_all}
 use Rattle.std.proofs.lemmas.Option.{none-some, same_Some, slice_get-get_or, slice_get_within}
 use Rattle.std.proofs.lemmas.Grind.{flat_map-append}
 use Rattle.std.proofs.lemmas.List.Elements.{All-cons, All-head, All-tail}
 use Rattle.rcv_model.proofs.Located.{item}
 use Rattle.rcv_model.specs.Act.{IsDone}
-use Rattle.rcv_model.specs.Journal.{Rules, State, reading}
+use Rattle.rcv_model.specs.Journal.{Rules, State, numbers_at, reading}
 use Rattle.rcv_model.specs.Final.{AreDone, HasOneAtLimit}
 use Rattle.rcv_model.specs.Numbers.{IsBounded}
 use Rattle.rcv_model.proofs.Choosing.{chosen_in}
@@ -104,7 +104,7 @@ done_word rules s r Done done is = refl
 done_word rules s r Limit done is = absurd (is.0 done)
 done_word rules s r Waits done is = absurd (is.0 done)
 
-limit_word : (rules : Rules) (s : State) (r : ℕ) (word : RoleWord) → (IsDone rules.net r s.kept → ⊥) → slice_index s.raw r ≡ rules.limit → IsWordOf rules s r word → is_limit word ≡ true
+limit_word : (rules : Rules) (s : State) (r : ℕ) (word : RoleWord) → (IsDone rules.net r s.kept → ⊥) → (numbers_at s.roles r).raw ≡ rules.limit → IsWordOf rules s r word → is_limit word ≡ true
 limit_word rules s r Done not_done at is = absurd (not_done is)
 limit_word rules s r Limit not_done at is = refl
 limit_word rules s r Waits not_done at is = absurd (is.1 at)

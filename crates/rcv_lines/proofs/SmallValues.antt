@@ -1,5 +1,5 @@
 -- What scripts with numbers of 64 bits send fits 64 bits.
-use Rattle.std.proofs.Common.{◌≡◌, ◌<◌, ◌^◌, ◌==◌, ℕ, zero, suc, Bool, true, false, cond, List, [], ◌∷◌, ◌++◌, All, Some, None, length, drop, slice_index, slice_index_or, slice_set, FitsSigned, sym, subst, arith, w64}
+use Rattle.std.proofs.Common.{◌≡◌, ◌<◌, ◌^◌, ◌==◌, ℕ, zero, suc, Bool, true, false, cond, List, [], ◌∷◌, ◌++◌, All, Some, None, length, drop, slice_index_or, slice_set, FitsSigned, sym, subst, arith, w64}
 use Rattle.std.specs.Prelude.{ℤ, pos, negsuc}
 use Rattle.std.specs.List.{cons_option}
 use Rattle.std.specs.Str.{bytes_eq}
@@ -12,7 +12,7 @@ use Rattle.rcv_model.specs.Net.{Net}
 use Rattle.rcv_model.specs.Run.{put, puts_on, taken}
 use Rattle.rcv_model.specs.Undo.{Kept, is_blocked, keep_from, keep_one, bound_of}
 use Rattle.rcv_model.specs.Script.{Expr, Line, Literal, TheValue, TheAttempt, Variable, Negated, Plus, Minus, Times, VarLine, SendLine, PickLine, OnLine, saturated, calculate, carry_out, first_vars, number_for, vars_from, vars_of, with_first_values, zeros}
-use Rattle.rcv_model.specs.Journal.{Rules, State, start, reading, after, durable, events_of, group_of, May, IsLegal, IsLegalFrom}
+use Rattle.rcv_model.specs.Journal.{Rules, State, numbers_at, start, reading, after, durable, events_of, group_of, May, IsLegal, IsLegalFrom}
 use Rattle.rcv_model.proofs.Legal.{legal_more}
 use Rattle.rcv_model.proofs.Numbers.{bounded}
 use Rattle.rcv_model.proofs.StableLines.{reading_join}
@@ -141,10 +141,10 @@ module _ (session : SessionView) (plain : IsAcceptedProtocol session.protocol) (
       let lines = few_crash_lines session plain.form.few_roles planned in
       let events = All-filter (λ (x : Event). x.role == e.role) Sent s.kept all in
       let vars = variables (net_for session) (lines_of session e.role) (first_vars (lines_of session e.role)) (events_of e.role s.kept) script events (firsts (zeros 16) 0 (lines_of session e.role) script (all_zeros 16)) in
-      subst Fits (sym may.value) (sent_number ((net_for session).label e.point) (lines_of session e.role) (vars_of (net_for session) (lines_of session e.role) (events_of e.role s.kept)) (slice_index s.attempts e.role) script vars (omega (arith, attempts, lines)))
+      subst Fits (sym may.value) (sent_number ((net_for session).label e.point) (lines_of session e.role) (vars_of (net_for session) (lines_of session e.role) (events_of e.role s.kept)) (numbers_at s.roles e.role).attempt script vars (omega (arith, attempts, lines)))
   value_fits front (Recv e) legal all may =
       let s = reading rules front in
-      front_fits (drop (length (taken (net_for session) may.from e.role s.kept)) (put (net_for session) may.from e.role s.kept)) may.front.0 (record { point = e.point; value = e.value; stamp = e.sent }) (All-drop (λ (m : Message). Fits m.value) (length (taken (net_for session) may.from e.role s.kept)) (put (net_for session) may.from e.role s.kept) (messages (net_for session) may.from e.role s.kept all)) may.front.1
+      front_fits (drop (length (taken (net_for session) may.own.from e.role s.kept)) (put (net_for session) may.own.from e.role s.kept)) may.front.0 (record { point = e.point; value = e.value; stamp = e.sent }) (All-drop (λ (m : Message). Fits m.value) (length (taken (net_for session) may.own.from e.role s.kept)) (put (net_for session) may.own.from e.role s.kept) (messages (net_for session) may.own.from e.role s.kept all)) may.front.1
   value_fits front (Crash p) legal all may = tt
   value_fits front (Recover p concerned kept undone) legal all may = tt
 

@@ -1,5 +1,5 @@
 -- Told texts: their lines, and the first at which a text is none.
-use Rattle.std.proofs.Common.{◌≡◌, ℕ, zero, suc, ◌+◌, ◌-◌, ◌<◌, ◌≤◌, Some, List, [], ◌∷◌, ◌++◌, All, length, map, take, drop, flat_map, get_or, refl, sym, ◌∙◌, ap, ap₂, subst, inl, inr, ⊎_elim, arith, append_assoc, append-nil, length-append, length-take-le}
+use Rattle.std.proofs.Common.{◌≡◌, ℕ, zero, suc, ◌+◌, ◌-◌, ◌<◌, ◌≤◌, Some, List, [], ◌∷◌, ◌++◌, All, length, map, take, drop, get_or, refl, sym, ◌∙◌, ap, ap₂, subst, inl, inr, ⊎_elim, arith, append_assoc, append-nil, length-append, length-take-le}
 use Rattle.std.specs.Prelude.{slice_get}
 use Rattle.std.proofs.Math.Seq.{take-append-add, take-append_seam}
 use Rattle.std.proofs.lemmas.List.{map-append, length-map, take-append-drop}
@@ -12,14 +12,13 @@ use Rattle.rcv_session.specs.Session.{SessionView, text_of, roles_of}
 use Rattle.rcv_dialogue.specs.declared.answer.RoleState.{RoleState}
 use Rattle.rcv_journal.specs.Recorded.{bare}
 use Rattle.rcv_journal.specs.Form.{IsFormedEntry, lines_of}
-use Rattle.rcv_lines.specs.Line.{LineView, EntryLine}
-use Rattle.rcv_lines.proofs.Splitting.{IsLine, line_then}
+use Rattle.rcv_lines.specs.Line.{EntryLine}
+use Rattle.rcv_lines.proofs.Splitting.{line_then}
 use Rattle.rcv_lines.proofs.Accepting.{all_end, says_one}
 use Rattle.rcv_told.specs.Told.{Terms, Remembered, start, told, told_from, told_after}
 use Rattle.rcv_retold.specs.Retold.{terms_for, MayBeRetold, IsRetoldFrom, IsRetold, IsFirstUntold}
 use Rattle.rcv_retold.specs.Closing.{states_text, IsClosing}
 use Rattle.rcv_retold.specs.Text.{AreFormed, line_of, entries_text, IsToldText, MayBegin, IsFirstWrong, IsFirstOther, BeginOtherwise}
-use Rattle.rcv_retold.proofs.Growing.{IsSized}
 use Rattle.rcv_retold.proofs.Sounding.{sized}
 use Rattle.rcv_retold.proofs.Ending.{one_closing, closing_exists}
 use Rattle.rcv_retold.proofs.Comparing.{joined, joined_lines, same_text}
@@ -142,7 +141,7 @@ module _ (setup : SessionView) (accepted : IsAcceptedProtocol setup.protocol) wh
   told_by entries = told (terms_for setup) entries
 
   closed : (entries : List Entry) → (text : List ℕ) × IsClosing setup.protocol (told_by entries) text
-  closed entries = closing_exists setup.protocol (told_by entries) (proper (text_of setup) (roles_of setup) accepted.form) (sized (terms_for setup) entries).down
+  closed entries = closing_exists setup.protocol (told_by entries) (proper (text_of setup) (roles_of setup) accepted.form) (sized (terms_for setup) entries)
 
   begins_by : (entries : List Entry) (closing : List ℕ) (lines more : List (List ℕ)) → AreFormed setup.protocol entries → IsRetold (terms_for setup) entries → IsClosing setup.protocol (told_by entries) closing
       → map (line_of setup.protocol) entries ++ lines_of closing ≡ lines ++ more → MayBegin setup lines

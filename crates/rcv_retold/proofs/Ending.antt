@@ -1,17 +1,19 @@
 -- Where roles are at the end: each memory has one such text.
 use Rattle.std.proofs.Common.{◌≡◌, ℕ, zero, suc, ◌+◌, ◌<◌, ◌≤◌, Bool, true, false, Some, List, [], ◌∷◌, ◌++◌, length, refl, sym, ◌∙◌, ap, ap₂, subst, ◌⊎◌, inl, inr, arith}
-use Rattle.std.specs.Prelude.{slice_get, slice_index, slice_index_or}
-use Rattle.std.proofs.lemmas.Option.{slice_get_within, slice_get-get_or}
+use Rattle.std.specs.Prelude.{slice_get, slice_index_or}
+use Rattle.std.proofs.lemmas.Option.{slice_get-get_or}
 use Rattle.rcv_tree.specs.declared.protocol.Protocol.{Protocol}
 use Rattle.rcv_model.specs.Net.{Net}
 use Rattle.rcv_model.specs.Next.{IsNext, AreNext, IsProper}
+use Rattle.rcv_model.specs.Journal.{numbers_at as counted_at}
 use Rattle.rcv_model.proofs.Lists.{some_same}
 use Rattle.rcv_model.proofs.NextLists.{lists_exist}
 use Rattle.rcv_accept.specs.Accepted.{net_for as accepted_net, roles_of as accepted_roles}
-use Rattle.rcv_told.specs.Told.{Remembered, made, place}
+use Rattle.rcv_told.specs.Told.{Remembered, down_at, made, place}
+use Rattle.rcv_told.proofs.Telling.{down_here}
 use Rattle.rcv_guide.specs.Guide.{GuideView, net_for, roles_of, stand, IsMemory, IsNextOf}
 use Rattle.rcv_guide.specs.Numbers.{numbers_at}
-use Rattle.rcv_guide.proofs.Memories.{down_held, place_at, raw_at}
+use Rattle.rcv_guide.proofs.Memories.{down_held, place_at}
 use Rattle.rcv_dialogue.specs.declared.answer.RoleState.{RoleState}
 use Rattle.rcv_dialogue.specs.declared.answer.State.{State}
 use Rattle.rcv_dialogue.specs.declared.answer.State.TheVariants.{Done, Waits, Down}
@@ -35,8 +37,8 @@ module _ (g : GuideView) (r : ℕ) (low : r < roles_of g) (m : Remembered) (mem 
   pub waits : (stand g r).down ≡ Some false → (((p : ℕ) → IsNextOf g r p → ⊥) → ⊥) → IsState (net_for g) m r Waits
   waits up more = (down_held g m mem r false up, λ over. more (over_seen over))
 
-  pub raw_held : (n : ℕ) → n ≡ (numbers_at g.numbers r).raw → n ≡ slice_index m.raw r
-  raw_held n is = is ∙ sym (raw_at g m mem r low)
+  pub raw_held : (n : ℕ) → n ≡ (numbers_at g.numbers r).raw → n ≡ (counted_at m.roles r).raw
+  raw_held n is = is ∙ sym (mem.numbers_are.each r low).raw
 
 -- one role more
 pub pushed : {A : Type 0} (P : ℕ → A → Type 0) (xs : List A) (x : A) → P (length xs) x → ((r : ℕ) (y : A) → slice_get xs r ≡ Some y → P r y) → (r : ℕ) (y : A) → slice_get (xs ++ x ∷ []) r ≡ Some y → P r y
@@ -57,7 +59,7 @@ few_states g are roles value few = let all = are.all in omega (arith, all, value
 
 -- ---- a role stands in one way
 
-not_both : (m : Remembered) (r : ℕ) → slice_get m.down r ≡ Some true → slice_get m.down r ≡ Some false → ⊥
+not_both : (m : Remembered) (r : ℕ) → down_at m r ≡ Some true → down_at m r ≡ Some false → ⊥
 not_both m r a b = let f : true ≡ false = some_same (sym a ∙ b) in absurd cc
 
 one_state : (net : Net) (m : Remembered) (r : ℕ) (v w : State) → IsState net m r v → IsState net m r w → v ≡ w
@@ -97,7 +99,7 @@ one_closing protocol m a b x y =
 
 -- ---- and it has one
 
-module _ (net : Net) (roles : ℕ) (proper : IsProper net roles) (m : Remembered) (sized : length m.down ≡ roles) where
+module _ (net : Net) (roles : ℕ) (proper : IsProper net roles) (m : Remembered) (sized : length m.roles ≡ roles) where
   over_or_not : (r : ℕ) → IsOver net m r ⊎ (IsOver net m r → ⊥)
   over_or_not r = go (lists_exist net roles r (place m r) proper)
     where
@@ -106,9 +108,9 @@ module _ (net : Net) (roles : ℕ) (proper : IsProper net roles) (m : Remembered
       go (z ∷ zs, next) = inr (λ over. over z (next.sound z (inl refl)))
 
   own_state : (r : ℕ) → r < roles → (word : State) × IsState net m r word
-  own_state r low = go _ (slice_get-get_or m.down r false (omega (arith, low, sized))) (over_or_not r)
+  own_state r low = go _ (down_here m.roles r (omega (arith, low, sized))) (over_or_not r)
     where
-      go : (b : Bool) → slice_get m.down r ≡ Some b → IsOver net m r ⊎ (IsOver net m r → ⊥) → (word : State) × IsState net m r word
+      go : (b : Bool) → down_at m r ≡ Some b → IsOver net m r ⊎ (IsOver net m r → ⊥) → (word : State) × IsState net m r word
       go true down either = (Down, down)
       go false up (inl over) = (Done, (up, over))
       go false up (inr more) = (Waits, (up, more))
@@ -125,12 +127,12 @@ module _ (net : Net) (roles : ℕ) (proper : IsProper net roles) (m : Remembered
     where
       go : (word : State) × IsState net m r word → HasStates (suc r) n → HasStates r (suc n)
       go word rest = record {
-        states = state_in r (made m r) (slice_index m.raw r) word.0 ∷ rest.states;
+        states = state_in r (made m r) (counted_at m.roles r).raw word.0 ∷ rest.states;
         all = ap suc rest.all;
         each = one;
       }
         where
-          one : (i : ℕ) (own : RoleState) → slice_get (state_in r (made m r) (slice_index m.raw r) word.0 ∷ rest.states) i ≡ Some own → IsStateOf net m (r + i) own
+          one : (i : ℕ) (own : RoleState) → slice_get (state_in r (made m r) (counted_at m.roles r).raw word.0 ∷ rest.states) i ≡ Some own → IsStateOf net m (r + i) own
           one zero own there =
               let here : r ≡ r + 0 = omega arith in
               subst (λ k. IsStateOf net m k own) here (subst (IsStateOf net m r) (some_same there) (record { role = refl; kept = refl; raw = refl; stands = word.1 }))
@@ -143,7 +145,7 @@ module _ (net : Net) (roles : ℕ) (proper : IsProper net roles) (m : Remembered
       let found = states_from 0 roles (omega arith) in
       (found.states, record { all = found.all; each = λ r own there. let from_0 : 0 + r ≡ r = omega arith in subst (λ k. IsStateOf net m k own) from_0 (found.each r own there) })
 
-pub closing_exists : (protocol : Protocol) (m : Remembered) → IsProper (accepted_net (accepted_in protocol)) (accepted_roles (accepted_in protocol)) → length m.down ≡ accepted_roles (accepted_in protocol) → (text : List ℕ) × IsClosing protocol m text
+pub closing_exists : (protocol : Protocol) (m : Remembered) → IsProper (accepted_net (accepted_in protocol)) (accepted_roles (accepted_in protocol)) → length m.roles ≡ accepted_roles (accepted_in protocol) → (text : List ℕ) × IsClosing protocol m text
 closing_exists protocol m proper sized =
     let found = all_states (accepted_net (accepted_in protocol)) (accepted_roles (accepted_in protocol)) proper m sized in
     (states_text protocol found.0, record { states = found.0; are = found.1; is = refl })

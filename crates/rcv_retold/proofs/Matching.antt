@@ -17,7 +17,7 @@ use Rattle.rcv_told.specs.Told.{Terms, Remembered, group_of, made_of, left_at, H
 use Rattle.rcv_guide.specs.declared.recovery.Recovery.{Recovery}
 use Rattle.rcv_guide.specs.Numbers.{with_crash}
 use Rattle.rcv_guide.specs.Guide.{GuideView, terms_of, IsAfter, with_event, with_numbers, sent, received, stamp_to_send, stamp_to_receive, listed_of, entry_of, IsFailureOf, HasRecovered, MayRecover}
-use Rattle.rcv_guide.proofs.Memories.{clock_at, down_held}
+use Rattle.rcv_guide.proofs.Memories.{down_held}
 use Rattle.rcv_retold.specs.Retold.{news_for, GoesOn, Follows, IsTellable, IsUntold}
 use Rattle.rcv_retold.proofs.Refusing.{known}
 
@@ -60,13 +60,13 @@ module _ (old new : GuideView) (e : Event) (stamp : ℕ) where
   -- another event may not come
   pub other_send : (e ≡ told_send e stamp → ⊥) → stamp ≡ stamp_to_send old e.role → IsUntold old (Send e)
   other_send other is m mem may =
-      let clock = clock_at old m mem e.role (known old m mem e.role false may.up) in
+      let clock = (mem.numbers_are.each e.role (known old m mem e.role false may.up)).clock in
       let own : e.stamp ≡ stamp = (let a = may.stamp in omega (arith, a, clock, is)) in
       other (same_event e (told_send e stamp) refl may.is_send refl refl own (may.sent ∙ own))
 
   pub other_recv : (e ≡ told_recv e stamp → ⊥) → stamp ≡ stamp_to_receive old e.role e.sent → IsUntold old (Recv e)
   other_recv other is m mem may =
-      let clock = clock_at old m mem e.role (known old m mem e.role false may.up) in
+      let clock = (mem.numbers_are.each e.role (known old m mem e.role false may.up)).clock in
       let own : e.stamp ≡ stamp = may.stamp ∙ ap (λ c. max c e.sent + 1) clock ∙ sym is in
       other (same_event e (told_recv e stamp) refl may.is_recv refl refl own refl)
 

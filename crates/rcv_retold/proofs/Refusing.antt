@@ -1,14 +1,14 @@
 -- What a guide refuses may not be told to any of its memories.
 use Rattle.std.proofs.Common.{◌≡◌, ℕ, ◌<◌, ◌≤◌, true, false, Some, List, [], ◌∷◌, refl, sym, ◌∙◌, ap, subst, ◌⊎◌, inl, inr, Bool, arith}
-use Rattle.std.specs.Prelude.{slice_get, slice_index}
+use Rattle.std.specs.Prelude.{slice_index}
 use Rattle.std.proofs.lemmas.Bool.{cases_lt}
-use Rattle.std.proofs.lemmas.Option.{slice_get_within}
 use Rattle.rcv_ledger.proofs.Lists.{none_there}
 use Rattle.rcv_tree.specs.declared.event.Event.{Event}
 use Rattle.rcv_tree.specs.declared.role.RoleSet.{RoleSet}
 use Rattle.rcv_model.specs.Next.{IsNext}
 use Rattle.rcv_model.proofs.Lists.{some_same}
-use Rattle.rcv_told.specs.Told.{Remembered, standpoint, IsSend, IsRecv, message_of, HasFailed}
+use Rattle.rcv_told.specs.Told.{Remembered, down_at, standpoint, IsSend, IsRecv, message_of, HasFailed}
+use Rattle.rcv_told.proofs.Telling.{down_there as down_told}
 use Rattle.rcv_guide.specs.declared.cause.Cause.{Cause}
 use Rattle.rcv_guide.specs.declared.cause.Cause.TheVariants.{Undeclared, Down, Up, Stale, Full, NotNext, Empty, NotFront, Forgotten}
 use Rattle.rcv_guide.specs.declared.numbers.Numbers.{Numbers}
@@ -20,15 +20,15 @@ use Rattle.rcv_retold.specs.Retold.{news_for}
 
 module _ (g : GuideView) (m : Remembered) (is : IsMemory g m) where
   -- a role that a memory knows is declared, and up or down as the guide says
-  pub known : (r : ℕ) (b : Bool) → slice_get m.down r ≡ Some b → r < roles_of g
-  known r b at = let w = slice_get_within m.down r b at in let d = is.numbers_are.have.down in omega (arith, w, d)
+  pub known : (r : ℕ) (b : Bool) → down_at m r ≡ Some b → r < roles_of g
+  known r b at = let w = (down_told m.roles r b at).0 in let d = is.numbers_are.have.roles in omega (arith, w, d)
 
-  pub stands : (r : ℕ) (b : Bool) → slice_get m.down r ≡ Some b → (stand g r).down ≡ Some b
+  pub stands : (r : ℕ) (b : Bool) → down_at m r ≡ Some b → (stand g r).down ≡ Some b
   stands r b at =
       let lt = known r b at in
-      down_here g.numbers r (let a = is.numbers_are.all in omega (arith, lt, a)) ∙ ap Some (some_same (sym (is.numbers_are.each r lt).down ∙ at))
+      down_here g.numbers r (let a = is.numbers_are.all in omega (arith, lt, a)) ∙ ap Some (sym (is.numbers_are.each r lt).down ∙ (down_told m.roles r b at).1)
 
-  able : (e : Event) → slice_get m.down e.role ≡ Some false → HasRoom g → IsAble g (news_for g e)
+  able : (e : Event) → down_at m e.role ≡ Some false → HasRoom g → IsAble g (news_for g e)
   able e up room = record { up = stands e.role false up; attempt = refl; room = room }
 
   turn_send : (e : Event) → IsSend (net_for g) (standpoint (net_for g) m e.role) e → IsTurnToSend g (news_for g e)
@@ -65,7 +65,7 @@ module _ (g : GuideView) (m : Remembered) (is : IsMemory g m) where
   no_recv e Up room why may = why
   no_recv e Forgotten room why may = why
 
-  pub no_crash : (p : ℕ) (cause : Cause) → HasRoom g → IsCauseNotToCrash g p cause → slice_get m.down p ≡ Some false → ⊥
+  pub no_crash : (p : ℕ) (cause : Cause) → HasRoom g → IsCauseNotToCrash g p cause → down_at m p ≡ Some false → ⊥
   no_crash p Undeclared room why up = let lt = known p false up in omega (arith, lt, why)
   no_crash p Down room why up = not_both p why (stands p false up)
   no_crash p Full room why up = let a = why.1 in let b = room.1 in omega (arith, a, b)
@@ -76,7 +76,7 @@ module _ (g : GuideView) (m : Remembered) (is : IsMemory g m) where
   no_crash p NotFront room why up = why
   no_crash p Forgotten room why up = why
 
-  pub no_recover : (p : ℕ) (saved : List ℕ) (concerned : RoleSet) (kept : List ℕ) (undone : ℕ) (cause : Cause) → HasRoom g → IsCauseNotToRecover g p saved cause → slice_get m.down p ≡ Some true → HasFailed (terms_of g) m p (slice_index saved) concerned kept undone → ⊥
+  pub no_recover : (p : ℕ) (saved : List ℕ) (concerned : RoleSet) (kept : List ℕ) (undone : ℕ) (cause : Cause) → HasRoom g → IsCauseNotToRecover g p saved cause → down_at m p ≡ Some true → HasFailed (terms_of g) m p (slice_index saved) concerned kept undone → ⊥
   no_recover p saved concerned kept undone Undeclared room why down failed = let lt = known p true down in omega (arith, lt, why)
   no_recover p saved concerned kept undone Up room why down failed = not_both p (stands p true down) why
   no_recover p saved concerned kept undone Full room why down failed = let a = why.1 in let b = room.1 in omega (arith, a, b)

@@ -7,7 +7,7 @@ use Rattle.std.proofs.lemmas.Option.{slice_get-get_or}
 use Rattle.rcv_tree.specs.declared.event.Event.{Event}
 use Rattle.rcv_tree.specs.declared.entry.Entry.{Entry}
 use Rattle.rcv_tree.specs.declared.entry.Entry.TheVariants.{Send, Recv, Crash, Recover}
-use Rattle.rcv_model.specs.Journal.{events_of}
+use Rattle.rcv_model.specs.Journal.{numbers_at, events_of}
 use Rattle.rcv_model.proofs.Lists.{some_same}
 use Rattle.rcv_session.specs.Session.{SessionView, roles_of}
 use Rattle.rcv_told.specs.Told.{Terms, Remembered, start, bound_at, roles_in, MayBeTold, told_after, told_from, told, IsToldFrom, IsTold}
@@ -34,11 +34,11 @@ rising_more (x ∷ xs) e r new = (λ d i same. ⊎_elim (λ a. r.0 d a same) (λ
 -- the held events rise, up to the clocks
 record IsSorted (m : Remembered) : Type 0 where
   rising : Rising m.held
-  low : AllAre (λ d. d.stamp ≤ slice_index m.clocks d.role) m.held
+  low : AllAre (λ d. d.stamp ≤ (numbers_at m.roles d.role).clock) m.held
 
 module _ (terms : Terms) where
-  new_event : (m : Remembered) (e : Event) → IsSorted m → slice_index m.clocks e.role < e.stamp → Rising (m.held ++ e ∷ [])
-  new_event m e sorted above = rising_more m.held e sorted.rising (λ d i same. let a = sorted.low d i in let b = subst (λ r. slice_index m.clocks r < e.stamp) (sym same) above in omega (arith, a, b))
+  new_event : (m : Remembered) (e : Event) → IsSorted m → (numbers_at m.roles e.role).clock < e.stamp → Rising (m.held ++ e ∷ [])
+  new_event m e sorted above = rising_more m.held e sorted.rising (λ d i same. let a = sorted.low d i in let b = subst (λ r. (numbers_at m.roles r).clock < e.stamp) (sym same) above in omega (arith, a, b))
 
   rising_after : (m : Remembered) (x : Entry) → IsSized terms m → MayBeTold terms m x → IsSorted m → Rising (told_after terms m x).held
   rising_after m (Send e) size may sorted = new_event m e sorted (stamps terms m (Send e) e size may (inl refl)).above
@@ -50,7 +50,7 @@ module _ (terms : Terms) where
   sorted_after : (m : Remembered) (x : Entry) → IsSized terms m → MayBeTold terms m x → IsSorted m → IsSorted (told_after terms m x)
   sorted_after m x size may sorted = record {
     rising = rising_after m x size may sorted;
-    low = all_after terms (λ d. d.stamp ≤ slice_index (told_after terms m x).clocks d.role) m x
+    low = all_after terms (λ d. d.stamp ≤ (numbers_at (told_after terms m x).roles d.role).clock) m x
         (λ e f. let a = (stamps terms m x e size may f).now in omega (arith, a))
         (λ d i. let a = sorted.low d i in let b = (ticks terms m x size may).low d.role in omega (arith, a, b));
   }

@@ -1,10 +1,11 @@
 -- What stands after the entries of a told journal: where each role is, and whether all are at their end.
-use Rattle.std.specs.Prelude.{◌≡◌, ℕ, ◌<◌, ◌++◌, true, false, List, length, flat_map, Some, slice_get, slice_index}
+use Rattle.std.specs.Prelude.{◌≡◌, ℕ, ◌++◌, true, false, List, length, flat_map, Some, slice_get}
 use Rattle.rcv_tree.specs.declared.protocol.Protocol.{Protocol}
 use Rattle.rcv_model.specs.Net.{Net}
 use Rattle.rcv_model.specs.Next.{IsNext}
+use Rattle.rcv_model.specs.Journal.{numbers_at}
 use Rattle.rcv_accept.specs.Accepted.{AcceptedView, net_for, roles_of}
-use Rattle.rcv_told.specs.Told.{Remembered, made, place}
+use Rattle.rcv_told.specs.Told.{Remembered, down_at, made, place}
 use Rattle.rcv_dialogue.specs.declared.answer.RoleState.{RoleState}
 use Rattle.rcv_dialogue.specs.declared.answer.State.{State}
 use Rattle.rcv_dialogue.specs.declared.answer.State.TheVariants as state
@@ -16,15 +17,15 @@ IsOver net m r = (p : ℕ) → IsNext net r (place m r) p → ⊥
 
 -- How a role stands: it is down; or it is up, and its part has ended; or it is up, and its part hasn't ended.
 abbrev pub IsState : Net → Remembered → ℕ → State → Type 0
-IsState net m r state.Down = slice_get m.down r ≡ Some true
-IsState net m r state.Done = (slice_get m.down r ≡ Some false) × IsOver net m r
-IsState net m r state.Waits = (slice_get m.down r ≡ Some false) × (IsOver net m r → ⊥)
+IsState net m r state.Down = down_at m r ≡ Some true
+IsState net m r state.Done = (down_at m r ≡ Some false) × IsOver net m r
+IsState net m r state.Waits = (down_at m r ≡ Some false) × (IsOver net m r → ⊥)
 
 -- How many events of a role are kept, how many it ever made, and how it stands.
 pub record IsStateOf (net : Net) (m : Remembered) (r : ℕ) (own : RoleState) : Type 0 where
   pub role : own.role ≡ r
   pub kept : own.kept ≡ made m r
-  pub raw : own.raw ≡ slice_index m.raw r
+  pub raw : own.raw ≡ (numbers_at m.roles r).raw
   pub stands : IsState net m r own.state
 
 -- There is one for each of so many roles, in order.

@@ -9,7 +9,7 @@ use Rattle.rcv_model.specs.Journal.{events_of}
 use Rattle.rcv_model.specs.Plan.{host_in}
 use Rattle.rcv_session.specs.Session.{SessionView, roles_of, net_for}
 use Rattle.rcv_ledger.specs.Logs.{log_at, with_event_of}
-use Rattle.rcv_told.specs.Told.{Terms, Remembered, start, told, told_after, HasFailed, MayBeTold}
+use Rattle.rcv_told.specs.Told.{Terms, Remembered, start, told, told_after, down_at, HasFailed, MayBeTold}
 use Rattle.rcv_guide.specs.declared.news.News.{News}
 use Rattle.rcv_guide.specs.Numbers.{numbers_at}
 use Rattle.rcv_guide.specs.Guide.{GuideView, terms_of, IsMemory, IsAfter}
@@ -35,7 +35,7 @@ MayBeRetold terms m (Send e) = MayBeTold terms m (Send e)
 MayBeRetold terms m (Recv e) = MayBeTold terms m (Recv e)
 MayBeRetold terms m (Crash p) = MayBeTold terms m (Crash p)
 MayBeRetold terms m (Recover p concerned kept undone) =
-    (slice_get m.down p ≡ Some true) × HasFailed terms m p (slice_index kept) concerned kept undone
+    (down_at m p ≡ Some true) × HasFailed terms m p (slice_index kept) concerned kept undone
 
 -- Each of these entries may be told as it stands, after those before it.
 abbrev pub IsRetoldFrom : Terms → Remembered → List Entry → Type 0

@@ -1,8 +1,11 @@
 -- A walk is told in turn: at each point its Send and its Recv may be told.
-use Rattle.std.proofs.Common.{◌≡◌, ℕ, zero, suc, ◌+◌, ◌<◌, max, true, false, cond, Some, None, List, [], ◌∷◌, ◌++◌, length, drop, replicate, refl, sym, ◌∙◌, ap, subst, inl, inr, append_assoc, append-nil, arith}
-use Rattle.std.specs.Prelude.{pos, slice_get, slice_index}
+use Rattle.std.proofs.Common.{◌≡◌, ℕ, ◌+◌, ◌<◌, max, true, false, cond, Some, None, List, [], ◌∷◌, ◌++◌, length, drop, replicate, refl, sym, ◌∙◌, ap, subst, inl, inr, append_assoc, append-nil, arith}
+use Rattle.std.specs.Prelude.{pos}
 use Rattle.std.proofs.Math.Seq.{drop-append_seam}
 use Rattle.std.proofs.lemmas.Bool.Decides.{nat_tests}
+use Rattle.std.proofs.lemmas.List.{get_or-replicate}
+use Rattle.rcv_tree.specs.Numbers.{fresh}
+use Rattle.rcv_tree.specs.declared.numbers.Numbers.{Numbers}
 use Rattle.rcv_tree.specs.declared.event.Event.{Event}
 use Rattle.rcv_tree.specs.declared.event.Dir.TheVariants.{Sent, Got}
 use Rattle.rcv_tree.specs.declared.entry.Entry.{Entry}
@@ -10,20 +13,20 @@ use Rattle.rcv_tree.specs.declared.entry.Entry.TheVariants.{Send, Recv}
 use Rattle.rcv_model.specs.Net.{IsWalk, HasTwoEnds}
 use Rattle.rcv_model.specs.Run.{acts, part, place_of, puts_on, put_by, put, taken, channel}
 use Rattle.rcv_model.specs.Next.{IsNext}
+use Rattle.rcv_model.specs.Journal.{nobody, numbers_at, advanced}
 use Rattle.rcv_model.proofs.Keeping.{taken_none}
 use Rattle.rcv_model.proofs.Parts.{acts_other}
+use Rattle.rcv_model.proofs.Roles.{set_keeps}
 use Rattle.rcv_model.proofs.Ways.{point_is_next, ends_declared}
 use Rattle.std.specs.List.{cons_option}
 use Rattle.std.proofs.lemmas.List.Elements.{filter_map-append}
-use Rattle.rcv_told.specs.Told.{Terms, Remembered, start, standpoint, IsSend, IsRecv, message_of, after_event, told_after, told_from, IsToldFrom}
+use Rattle.rcv_told.specs.Told.{Terms, Remembered, start, down_at, standpoint, IsSend, IsRecv, message_of, after_event, told_after, told_from, IsToldFrom}
 use Rattle.rcv_told.specs.Laws.{AreAccepted}
-use Rattle.rcv_told.proofs.Telling.{ForgotNothing, nothing_after, at_start, place_is}
+use Rattle.rcv_told.proofs.Telling.{ForgotNothing, down_here, nothing_after, at_start, place_is}
 use Rattle.rcv_tightness.proofs.Turns.{IsTurn, AreInTurn, acts_in_turn, all_taken, turns_join}
 
-get_replicate : {A : Type 0} (n r : ℕ) (x : A) → r < n → slice_get (replicate n x) r ≡ Some x
-get_replicate zero r x lt = absurd (omega arith)
-get_replicate (suc n) zero x lt = refl
-get_replicate (suc n) (suc r) x lt = get_replicate n r x (omega arith)
+starts_up : (n r : ℕ) → r < n → (numbers_at (replicate n fresh) r).crashed ≡ false
+starts_up n r lt = ap (λ (x : Numbers). x.crashed) (get_or-replicate n r fresh nobody lt)
 
 -- told one list after another
 pub told_join : (terms : Terms) (m : Remembered) (u v : List Entry) → told_from terms m (u ++ v) ≡ told_from terms (told_from terms m u) v
@@ -39,11 +42,14 @@ module _ (terms : Terms) (known : AreAccepted terms) where
   -- nothing is forgotten, no role is down, and the events are those of a walk in turn
   pub record IsUp (m : Remembered) (u : List ℕ) : Type 0 where
     pub nothing : ForgotNothing terms.roles m
-    pub up : (r : ℕ) → r < terms.roles → slice_get m.down r ≡ Some false
+    pub up : (r : ℕ) → r < terms.roles → (numbers_at m.roles r).crashed ≡ false
     pub turns : AreInTurn terms.net u m.held
 
   pub up_at_start : IsUp (start terms.roles) []
-  up_at_start = record { nothing = at_start terms.roles; up = λ r lt. get_replicate terms.roles r false lt; turns = tt }
+  up_at_start = record { nothing = at_start terms.roles; up = starts_up terms.roles; turns = tt }
+
+  pub is_up : (m : Remembered) (u : List ℕ) (r : ℕ) → IsUp m u → r < terms.roles → down_at m r ≡ Some false
+  is_up m u r is lt = down_here m.roles r (subst (λ n. r < n) (sym is.nothing.numbers) lt) ∙ ap Some (is.up r lt)
 
   two : HasTwoEnds terms.net
   two = known.proper.two_ends
@@ -57,7 +63,7 @@ module _ (terms : Terms) (known : AreAccepted terms) where
     r = terms.net.receiver x
 
     abbrev sending : Event
-    sending = record { role = s; dir = Sent; point = x; value = pos 0; stamp = slice_index m.clocks s + 1; sent = slice_index m.clocks s + 1 }
+    sending = record { role = s; dir = Sent; point = x; value = pos 0; stamp = (numbers_at m.roles s).clock + 1; sent = (numbers_at m.roles s).clock + 1 }
 
     abbrev after_send : Remembered
     after_send = after_event m sending
@@ -69,8 +75,8 @@ module _ (terms : Terms) (known : AreAccepted terms) where
           dir = Got;
           point = x;
           value = pos 0;
-          stamp = max (slice_index after_send.clocks r) (slice_index m.clocks s + 1) + 1;
-          sent = slice_index m.clocks s + 1;
+          stamp = max (numbers_at after_send.roles r).clock ((numbers_at m.roles s).clock + 1) + 1;
+          sent = (numbers_at m.roles s).clock + 1;
         }
 
     abbrev after_recv : Remembered
@@ -87,7 +93,7 @@ module _ (terms : Terms) (known : AreAccepted terms) where
 
     may_send : IsSend terms.net (standpoint terms.net m s) sending
     may_send = record {
-      up = is.up s declared.0;
+      up = is_up m u s is declared.0;
       next = subst (λ k. IsNext terms.net s k x) (sym (place_is terms.roles m s is.nothing ∙ stands s))
           (point_is_next terms.net terms.roles s x u [] v known.proper walk tt (inl refl));
       sends = refl;
@@ -113,9 +119,15 @@ module _ (terms : Terms) (known : AreAccepted terms) where
         puts = filter_map-append (put_by terms.net s r) m.held (sending ∷ [])
             ∙ ap (λ b. put terms.net s r m.held ++ cons_option (cond b (Some (message_of receiving)) None) []) on
 
+    -- an event leaves who is up
+    up_with : (l : Remembered) (e : Event) (q : ℕ) → (numbers_at l.roles q).crashed ≡ false → (numbers_at (after_event l e).roles q).crashed ≡ false
+    up_with l e q up = set_keeps (λ (x : Numbers). x.crashed) l.roles e.role q (advanced (numbers_at l.roles e.role) e.stamp) refl ∙ up
+
     may_receive : IsRecv terms.net (standpoint terms.net after_send r) receiving
     may_receive = record {
-      up = is.up r declared.1;
+      up =
+          down_here after_send.roles r (subst (λ n. r < n) (sym nothing_sent.numbers) declared.1)
+          ∙ ap Some (up_with m sending r (is.up r declared.1));
       next = subst (λ k. IsNext terms.net r k x)
           (sym (place_is terms.roles after_send r nothing_sent ∙ ap (place_of 0) (acts_other r m.held sending (two x)) ∙ stands r))
           (point_is_next terms.net terms.roles r x u [] v known.proper walk tt (inr refl));
@@ -128,7 +140,7 @@ module _ (terms : Terms) (known : AreAccepted terms) where
     up_after : IsUp after_recv (u ++ x ∷ [])
     up_after = record {
       nothing = nothing_after terms after_send (Recv receiving) nothing_sent;
-      up = is.up;
+      up = λ q lt. up_with after_send receiving q (up_with m sending q (is.up q lt));
       turns = subst (AreInTurn terms.net (u ++ x ∷ [])) (sym (append_assoc m.held (sending ∷ []) (receiving ∷ [])))
           (turns_join terms.net u (x ∷ []) m.held (sending ∷ (receiving ∷ [])) is.turns (turn, tt));
     }

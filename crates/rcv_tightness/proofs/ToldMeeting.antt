@@ -1,21 +1,24 @@
 -- In told sessions, too, each restart point of the table is met; and what is met is a restart point.
-use Rattle.std.proofs.Common.{◌≡◌, ℕ, zero, suc, ◌<◌, true, false, cond, ◌||◌, Some, List, [], ◌∷◌, ◌++◌, length, refl, sym, ◌∙◌, ap, subst, inl, ⊎_elim, append_assoc}
-use Rattle.std.specs.Prelude.{◌↔◌, nat_le, slice_get, slice_set}
+use Rattle.std.proofs.Common.{◌≡◌, ℕ, ◌<◌, true, cond, ◌||◌, Some, List, [], ◌∷◌, ◌++◌, length, refl, sym, ◌∙◌, ap, subst, inl, ⊎_elim, append_assoc}
+use Rattle.std.specs.Prelude.{◌↔◌, nat_le, slice_get}
 use Rattle.rcv_tree.specs.Bits.{is_listed}
 use Rattle.rcv_tree.specs.declared.event.Event.{Event}
+use Rattle.rcv_tree.specs.declared.numbers.Numbers.{Numbers}
 use Rattle.rcv_tree.specs.declared.entry.Entry.{Entry}
 use Rattle.rcv_tree.specs.declared.entry.Entry.TheVariants.{Crash, Recover}
 use Rattle.rcv_tree.specs.declared.role.RoleSet.{RoleSet}
 use Rattle.rcv_model.specs.Net.{Net, IsWalk}
 use Rattle.rcv_model.specs.Run.{acts, IsRunOf}
+use Rattle.rcv_model.specs.Journal.{numbers_at, failed as failed_once}
 use Rattle.rcv_model.specs.Table.{IsRestart}
 use Rattle.rcv_model.specs.TableLaws.{IsForeseen}
 use Rattle.rcv_model.specs.Undo.{Kept, is_stopped, is_starved, keep_one, keep_from, keep_within, bound_of}
+use Rattle.rcv_model.proofs.Roles.{set_here}
 use Rattle.rcv_model.proofs.Scanning.{lose, hold}
-use Rattle.rcv_told.specs.Told.{Terms, Remembered, start, told, told_from, told_after, made, made_of, group_of, bound_at, HasFailed, IsTold, IsToldFrom}
+use Rattle.rcv_told.specs.Told.{Terms, Remembered, start, down_at, told, told_from, told_after, made, made_of, group_of, bound_at, HasFailed, IsTold, IsToldFrom}
 use Rattle.rcv_told.specs.Laws.{AreAccepted}
 use Rattle.rcv_told.proofs.Failing.{left_is, held_is, made_is, losers_restart_by_the_table}
-use Rattle.rcv_told.proofs.Telling.{ForgotNothing, nothing_after, Holds}
+use Rattle.rcv_told.proofs.Telling.{ForgotNothing, down_here, nothing_after, Holds}
 use Rattle.rcv_tightness.specs.Met.{LosesFrom}
 use Rattle.rcv_tightness.specs.Laws.{MayFail, IsNextAfterKept}
 use Rattle.rcv_tightness.specs.Told.{with_failure, IsMetInTold, MayFailInTold}
@@ -23,13 +26,8 @@ use Rattle.rcv_tightness.proofs.Turns.{run_in_turn}
 use Rattle.rcv_tightness.proofs.Reaching.{reach}
 use Rattle.rcv_tightness.proofs.Firsts.{first_undone_is_next}
 use Rattle.rcv_tightness.proofs.Meeting.{GoesBack, rest_of, walk_of, goes_back, from_start}
-use Rattle.rcv_tightness.proofs.Telling.{told_join, are_told_join, up_at_start, Tells, tells}
+use Rattle.rcv_tightness.proofs.Telling.{told_join, are_told_join, up_at_start, is_up, Tells, tells}
 use Rattle.rcv_tightness.proofs.Failing.{concerned, kept, undone, left, has_failed}
-
-set_here : {A : Type 0} (xs : List A) (i : ℕ) (y x : A) → slice_get xs i ≡ Some x → slice_get (slice_set xs i y) i ≡ Some y
-set_here [] i y x e = absurd (cc)
-set_here (z ∷ xs) zero y x e = refl
-set_here (z ∷ xs) (suc i) y x e = set_here xs i y x e
 
 are_told_front : (terms : Terms) (m : Remembered) (u v : List Entry) → IsToldFrom terms m (u ++ v) → IsToldFrom terms m u
 are_told_front terms m [] v a = tt
@@ -98,19 +96,22 @@ module _ (terms : Terms) (p n q z : ℕ) (may : MayFailInTold terms p n) where
     failed : HasFailed terms down p g.has_saved set keeps takes
     failed = has_failed terms known down nothing p g.has_saved
 
-    is_up : slice_get before.down p ≡ Some false
-    is_up = t.up.up p declared
-      where
-        declared : p < terms.roles
-        declared = ⊎_elim
-            (λ e. subst (λ k. k < terms.roles) e (known.proper.senders n may.least may.most))
-            (λ e. subst (λ k. k < terms.roles) e (known.proper.receivers n may.least may.most))
-            may.own
+    declared : p < terms.roles
+    declared = ⊎_elim
+        (λ e. subst (λ k. k < terms.roles) e (known.proper.senders n may.least may.most))
+        (λ e. subst (λ k. k < terms.roles) e (known.proper.receivers n may.least may.most))
+        may.own
+
+    has_crashed : down_at down p ≡ Some true
+    has_crashed =
+        down_here down.roles p (subst (λ k. p < k) (sym nothing.numbers) declared)
+        ∙ ap (λ (x : Numbers). Some x.crashed)
+        (set_here before.roles p (failed_once (numbers_at before.roles p)) (subst (λ k. p < k) (sym t.up.nothing.numbers) declared))
 
     are_told : IsTold terms (with_failure t.entries p set keeps takes)
     are_told =
         are_told_join terms (start terms.roles) t.entries (Crash p ∷ (Recover p set keeps takes ∷ [])) t.are_told
-        (is_up, ((set_here before.down p true false is_up, (g.has_saved, failed)), tt))
+        (is_up terms known before way p t.up declared, ((has_crashed, (g.has_saved, failed)), tt))
 
     recovered : told terms (with_failure t.entries p set keeps takes) ≡ told_after terms down (Recover p set keeps takes)
     recovered = told_join terms (start terms.roles) t.entries (Crash p ∷ (Recover p set keeps takes ∷ []))

@@ -61,8 +61,5 @@ module _ (net : Net) (a b c : Remembered) (x : IsShorter net a b) (y : IsShorter
     messages = messages_both;
     old_queued = x.old_queued;
     new_queued = y.new_queued;
-    raw = y.raw ∙ x.raw;
-    attempts = y.attempts ∙ x.attempts;
-    clocks = y.clocks ∙ x.clocks;
-    down = y.down ∙ x.down;
+    roles = y.roles ∙ x.roles;
   }

@@ -1,7 +1,7 @@
 -- A session with a choice, its shorter memory that keeps a message in flight, and a failure behind it; and memories that forget
 -- too much.
 use Prim.Native.Nat.{zero, suc}
-use Rattle.std.proofs.Common.{◌≡◌, ℕ, ◌+◌, ◌<◌, ◌≤◌, true, false, cond, Option, Some, None, List, [], ◌∷◌, length, replicate, refl, sym, ◌∙◌, ap, inl, inr, arith, length-append, ne_eqb}
+use Rattle.std.proofs.Common.{◌≡◌, ℕ, ◌+◌, ◌<◌, ◌≤◌, true, cond, Option, Some, None, List, [], ◌∷◌, length, replicate, refl, sym, ◌∙◌, ap, inl, inr, arith, length-append, ne_eqb}
 use Rattle.std.specs.Prelude.{pos, if◌then◌else◌, slice_index}
 use Rattle.std.specs.List.{cons_option}
 use Rattle.rcv_tree.specs.Bits.{has_bit, is_listed}
@@ -22,6 +22,7 @@ use Rattle.rcv_model.proofs.Forms.{proper}
 use Rattle.rcv_model.proofs.Journals.{below_8}
 use Rattle.rcv_model.proofs.Keeping.{queued_nil}
 use Rattle.rcv_model.proofs.OneLane.{one_lane, one_ends}
+use Rattle.rcv_model.proofs.Roles.{up}
 use Rattle.rcv_model.proofs.Scanning.{among, is_member}
 use Rattle.rcv_model.proofs.Steps.{send_queued, recv_queued}
 use Rattle.rcv_told.specs.Told.{Terms, Remembered, held_of, made_of, left_at, HasFailed, told_after, told_from, told, IsToldFrom}
@@ -48,10 +49,7 @@ longer =
       seeds = 0 ∷ 0 ∷ [];
       forgotten = 0 ∷ 0 ∷ [];
       points = 0 ∷ 0 ∷ [];
-      raw = 2 ∷ 1 ∷ [];
-      attempts = 0 ∷ 0 ∷ [];
-      clocks = 2 ∷ 2 ∷ [];
-      down = false ∷ false ∷ [];
+      roles = up 2 0 0 2 ∷ up 1 0 0 2 ∷ [];
     }
 
 all_told : told terms first_entries ≡ longer
@@ -123,10 +121,7 @@ is_shorter = record {
   messages = lacks_messages;
   old_queued = longer_queued;
   new_queued = send_queued terms.net [] (sent 0 3 2) (queued_nil terms.net) refl;
-  raw = refl;
-  attempts = refl;
-  clocks = refl;
-  down = refl;
+  roles = refl;
 }
 
 -- Later B receives c and sends d, crashes, and has saved two of its three events.
@@ -135,11 +130,11 @@ later_entries = recv 1 3 3 2 ∷ send 1 4 4 ∷ Crash 1 ∷ recover 1 3 (2 ∷ 2
 
 -- Both memories are left with the message received, and have the same numbers.
 longer_after : told_from terms longer later_entries
-    ≡ record longer { held = sent 0 1 1 ∷ got 1 1 2 1 ∷ sent 0 3 2 ∷ got 1 3 3 2 ∷ []; raw = 2 ∷ 3 ∷ []; attempts = 0 ∷ 1 ∷ []; clocks = 5 ∷ 5 ∷ [] }
+    ≡ record longer { held = sent 0 1 1 ∷ got 1 1 2 1 ∷ sent 0 3 2 ∷ got 1 3 3 2 ∷ []; roles = up 2 0 0 5 ∷ up 3 1 1 5 ∷ [] }
 longer_after = refl
 
 shorter_after : told_from terms shorter later_entries
-    ≡ record shorter { held = sent 0 3 2 ∷ got 1 3 3 2 ∷ []; raw = 2 ∷ 3 ∷ []; attempts = 0 ∷ 1 ∷ []; clocks = 5 ∷ 5 ∷ [] }
+    ≡ record shorter { held = sent 0 3 2 ∷ got 1 3 3 2 ∷ []; roles = up 2 0 0 5 ∷ up 3 1 1 5 ∷ [] }
 shorter_after = refl
 
 -- These entries may be told to the shorter memory.

@@ -1,15 +1,17 @@
 -- A failure that loses nothing forgotten is the same for both memories, and leaves one that is the shorter of two.
-use Rattle.std.proofs.Common.{◌≡◌, ℕ, ◌+◌, ◌-◌, ◌≤◌, Bool, true, false, cond, Option, List, [], ◌∷◌, length, refl, sym, ◌∙◌, ap, ◌⊎◌, inl, inr, ⊎_elim, arith, eq-eqb, ne_eqb}
+use Rattle.std.proofs.Common.{◌≡◌, ℕ, ◌+◌, ◌-◌, ◌≤◌, Bool, true, false, cond, Option, List, length, refl, sym, ◌∙◌, ap, ◌⊎◌, inl, inr, ⊎_elim, arith, eq-eqb, ne_eqb}
 use Rattle.std.specs.Prelude.{◌==◌, slice_get, slice_index}
 use Rattle.std.proofs.lemmas.Bool.{cases_eq}
 use Rattle.rcv_tree.specs.Bits.{is_listed}
 use Rattle.rcv_tree.specs.declared.event.Event.{Event}
+use Rattle.rcv_tree.specs.declared.numbers.Numbers.{Numbers}
 use Rattle.rcv_model.specs.Net.{Net, IsIn}
 use Rattle.rcv_model.specs.Run.{acts}
 use Rattle.rcv_model.specs.Table.{point_of, start_of, IsConcernedByAny}
-use Rattle.rcv_model.specs.Journal.{attempts_after}
+use Rattle.rcv_model.specs.Journal.{numbers_at, clock_behind, map_roles, numbers_behind}
+use Rattle.rcv_model.proofs.Roles.{mapped_alike}
 use Rattle.rcv_theory.specs.Counts.{kept_counts}
-use Rattle.rcv_told.specs.Told.{Remembered, made_of, held_of, bound_at, left_at}
+use Rattle.rcv_told.specs.Told.{Remembered, state_of, made_of, held_of, bound_at, left_at}
 use Rattle.rcv_told.specs.Forgetting.{since, IsShorter}
 use Rattle.rcv_told.proofs.Memories.{many_old, many_new, old_act, new_act}
 use Rattle.rcv_told.proofs.Lengths.{same_losses}
@@ -87,11 +89,22 @@ module _ (net : Net) (old new : Remembered) (s : IsShorter net old new) (roles :
       same_test (length (acts r longer_left)) (length (acts r old.held)) (length (acts r shorter_left)) (length (acts r new.held))
       (λ e. omega (arith, a, b, m, n, e)) (λ e. omega (arith, a, b, m, n, e))
 
-  pub attempts_alike : (r : ℕ) (attempts : List ℕ) → attempts_after r new.held shorter_left attempts ≡ attempts_after r old.held longer_left attempts
-  attempts_alike r [] = refl
-  attempts_alike r (a ∷ rest) =
-      ap (λ b. cond b a (a + 1) ∷ attempts_after (r + 1) new.held shorter_left rest) (sym (lost_none r))
-      ∙ ap (λ l. cond (length (acts r longer_left) == length (acts r old.held)) a (a + 1) ∷ l) (attempts_alike (r + 1) rest)
+  -- And what it makes of the same numbers.
+  pub numbers_alike : (group : List ℕ) → map_roles (numbers_behind (state_of new) group roles shorter_left) 0 new.roles
+      ≡ map_roles (numbers_behind (state_of old) group roles longer_left) 0 old.roles
+  numbers_alike group =
+      mapped_alike (behind new.roles shorter_left new.held) (behind new.roles longer_left old.held) 0 new.roles (λ i lt. each (0 + i) (numbers_at new.roles i))
+      ∙ ap (λ l. map_roles (behind l longer_left old.held) 0 l) s.roles
+    where
+      behind : List Numbers → List Event → List Event → ℕ → Numbers → Numbers
+      behind all left held r n = numbers_behind (record { kept = held; roles = all }) group roles left r n
+
+      each : (r : ℕ) (n : Numbers) → behind new.roles shorter_left new.held r n ≡ behind new.roles longer_left old.held r n
+      each r n = ap (λ b. record n {
+        crashed = cond (is_listed group r) false n.crashed;
+        attempt = cond b n.attempt (n.attempt + 1);
+        clock = clock_behind new.roles (is_listed roles) r n;
+      }) (sym (lost_none r))
 
   -- A failed role starts from the same point.
   pub starts_alike : (q : ℕ) → is_listed roles q ≡ true → start_of (held_of new counts) new.held q ≡ start_of (held_of old counts) old.held q

@@ -5,6 +5,7 @@ use Rattle.std.specs.Prelude.{◌↔◌, slice_get, slice_index, slice_set}
 use Rattle.std.specs.List.{range_with_len}
 use Rattle.rcv_tree.specs.Bits.{has_bit, is_listed}
 use Rattle.rcv_tree.specs.declared.event.Event.{Event}
+use Rattle.rcv_tree.specs.declared.numbers.Numbers.{Numbers}
 use Rattle.rcv_tree.specs.declared.entry.Entry.{Entry}
 use Rattle.rcv_tree.specs.declared.entry.Entry.TheVariants.{Send, Recv, Crash, Recover}
 use Rattle.rcv_tree.specs.declared.role.RoleSet.{RoleSet}
@@ -12,16 +13,16 @@ use Rattle.rcv_model.specs.Net.{Net, IsIn}
 use Rattle.rcv_model.specs.Run.{IsQueued}
 use Rattle.rcv_model.specs.Next.{IsNext}
 use Rattle.rcv_model.specs.Table.{start_of, IsConcernedByAny}
-use Rattle.rcv_model.specs.Journal.{bump, unmarked, attempts_after, greatest, clocks_after}
+use Rattle.rcv_model.specs.Journal.{numbers_at, advanced, failed, map_roles, numbers_behind}
 use Rattle.rcv_model.proofs.NextLists.{of_filter}
 use Rattle.rcv_model.proofs.Scanning.{among, is_member}
 use Rattle.rcv_model.proofs.Steps.{send_queued, recv_queued}
-use Rattle.rcv_told.specs.Told.{Terms, Remembered, Standpoint, standpoint, IsSend, IsRecv, group_of, made_of, held_of, left_at, roles_in, HasFailed, MayBeTold, after_event, after_recovery, told_after, told_from, IsToldFrom}
+use Rattle.rcv_told.specs.Told.{Terms, Remembered, state_of, down_of, Standpoint, standpoint, IsSend, IsRecv, group_of, made_of, held_of, left_at, roles_in, HasFailed, MayBeTold, after_event, after_crash, after_recovery, told_after, told_from, IsToldFrom}
 use Rattle.rcv_told.specs.Forgetting.{IsShorter, LosesNothingForgotten, MayBeToldAbove, AreToldAbove}
 use Rattle.rcv_told.proofs.Memories.{same_place}
 use Rattle.rcv_told.proofs.Channels.{channel_same}
 use Rattle.rcv_told.proofs.Staying.{with_held, still_shorter, renumbered, event_more}
-use Rattle.rcv_told.proofs.Losing.{ReachForgotten, concerned_alike, failed_shorter, made_alike, lost_alike, attempts_alike, starts_alike}
+use Rattle.rcv_told.proofs.Losing.{ReachForgotten, concerned_alike, failed_shorter, made_alike, lost_alike, numbers_alike, starts_alike}
 
 -- Two standpoints that agree.
 record Agree (at to : Standpoint) : Type 0 where
@@ -65,9 +66,9 @@ in_set set q t = let i = of_filter (has_bit set.0) q (range_with_len 0 8) (is_me
 module _ (net : Net) (old new : Remembered) (s : IsShorter net old new) where
   agree : (r : ℕ) → Agree (standpoint net old r) (standpoint net new r)
   agree r = record {
-    down = ap (λ l. slice_get l r) s.down;
+    down = ap (λ l. down_of (slice_get l r)) s.roles;
     place = same_place old new r (s.gone r) (s.lacks r);
-    clock = ap (λ l. slice_index l r) s.clocks;
+    clock = ap (λ l. (numbers_at l r).clock) s.roles;
     lies = λ from. sym (channel_same net old new s from r);
   }
 
@@ -75,9 +76,10 @@ module _ (net : Net) (old new : Remembered) (s : IsShorter net old new) where
   event_told e old_queued new_queued =
       renumbered net (with_held old (old.held ++ e ∷ [])) (with_held new (new.held ++ e ∷ []))
       (still_shorter net old new s (old.held ++ e ∷ []) (new.held ++ e ∷ []) (λ r. event_more old new e r (s.gone r) (s.lacks r)) old_queued new_queued)
-      (bump old.raw e.role) (bump new.raw e.role) old.attempts new.attempts
-      (slice_set old.clocks e.role e.stamp) (slice_set new.clocks e.role e.stamp) old.down new.down
-      (ap (λ l. bump l e.role) s.raw) s.attempts (ap (λ l. slice_set l e.role e.stamp) s.clocks) s.down
+      (more old.roles) (more new.roles) (ap more s.roles)
+    where
+      more : List Numbers → List Numbers
+      more l = slice_set l e.role (advanced (numbers_at l e.role) e.stamp)
 
   send_told : (e : Event) → IsSend net (standpoint net new e.role) e → IsShorter net (after_event old e) (after_event new e)
   send_told e x = event_told e (send_queued net old.held e s.old_queued x.is_send) (send_queued net new.held e s.new_queued x.is_send)
@@ -87,24 +89,20 @@ module _ (net : Net) (old new : Remembered) (s : IsShorter net old new) where
       (recv_queued net old.held e (net.sender e.point) x.front.0 s.old_queued refl (channel_same net old new s (net.sender e.point) e.role ∙ x.front.1))
       (recv_queued net new.held e (net.sender e.point) x.front.0 s.new_queued refl x.front.1)
 
-  crash_told : (p : ℕ) → IsShorter net (record old { down = slice_set old.down p true }) (record new { down = slice_set new.down p true })
-  crash_told p =
-      renumbered net old new s old.raw new.raw old.attempts new.attempts old.clocks new.clocks (slice_set old.down p true) (slice_set new.down p true)
-      s.raw s.attempts s.clocks (ap (λ l. slice_set l p true) s.down)
+  crash_told : (p : ℕ) → IsShorter net (after_crash old p) (after_crash new p)
+  crash_told p = renumbered net old new s (fallen old.roles) (fallen new.roles) (ap fallen s.roles)
+    where
+      fallen : List Numbers → List Numbers
+      fallen l = slice_set l p (failed (numbers_at l p))
 
   recovery_told : (group roles : List ℕ) (counts : ℕ → ℕ) → ReachForgotten new roles counts
       → IsShorter net (after_recovery old group roles (left_at net old roles counts)) (after_recovery new group roles (left_at net new roles counts))
   recovery_told group roles counts above =
       renumbered net (with_held old (left_at net old roles counts)) (with_held new (left_at net new roles counts))
       (failed_shorter net old new s roles counts above)
-      old.raw new.raw
-      (attempts_after 0 old.held (left_at net old roles counts) old.attempts) (attempts_after 0 new.held (left_at net new roles counts) new.attempts)
-      (clocks_after roles (greatest roles 0 old.clocks + 1) 0 old.clocks) (clocks_after roles (greatest roles 0 new.clocks + 1) 0 new.clocks)
-      (unmarked group 0 old.down) (unmarked group 0 new.down)
-      s.raw
-      (attempts_alike net old new s roles counts above 0 new.attempts ∙ ap (attempts_after 0 old.held (left_at net old roles counts)) s.attempts)
-      (ap (λ l. clocks_after roles (greatest roles 0 l + 1) 0 l) s.clocks)
-      (ap (unmarked group 0) s.down)
+      (map_roles (numbers_behind (state_of old) group roles (left_at net old roles counts)) 0 old.roles)
+      (map_roles (numbers_behind (state_of new) group roles (left_at net new roles counts)) 0 new.roles)
+      (numbers_alike net old new s roles counts above group)
 
 -- What is said of a failure of p: whom it concerns, how many events each keeps, and how many are undone.
 record Said : Type 0 where
@@ -185,12 +183,12 @@ no_answer terms old new (Recv e) s =
     let k = agree terms.net old new s e.role in
     ((recv_agrees terms.net to at e (agree_back at to k), recv_agrees terms.net at to e k), recv_told terms.net old new s e)
 no_answer terms old new (Crash p) s =
-    ((λ x. ap (λ l. slice_get l p) (sym s.down) ∙ x, λ x. ap (λ l. slice_get l p) s.down ∙ x), λ x. crash_told terms.net old new s p)
+    ((λ x. ap (λ l. down_of (slice_get l p)) (sym s.roles) ∙ x, λ x. ap (λ l. down_of (slice_get l p)) s.roles ∙ x), λ x. crash_told terms.net old new s p)
 no_answer terms old new (Recover p concerned kept undone) s =
     let said : Said = record { concerned = concerned; kept = kept; undone = undone } in (
       (
-        λ x. (ap (λ l. slice_get l p) (sym s.down) ∙ x.0, (x.1.0, x.1.1.above, of_longer terms old new s p x.1.0 said x.1.1)),
-        λ x. (ap (λ l. slice_get l p) s.down ∙ x.0, (x.1.0, of_shorter terms old new s p x.1.0 said x.1.1 x.1.2)),
+        λ x. (ap (λ l. down_of (slice_get l p)) (sym s.roles) ∙ x.0, (x.1.0, x.1.1.above, of_longer terms old new s p x.1.0 said x.1.1)),
+        λ x. (ap (λ l. down_of (slice_get l p)) s.roles ∙ x.0, (x.1.0, of_shorter terms old new s p x.1.0 said x.1.1 x.1.2)),
       ),
       λ x. recovery_told terms.net old new s (group_of terms p) (roles_in concerned) (slice_index kept) (lists_enough terms old new s p x.1.0 said x.1.1),
     )

@@ -1,8 +1,9 @@
 -- What keeps a memory the shorter one of two: events at the end of both, or the same events lost behind what the shorter lacks.
-use Rattle.std.proofs.Common.{◌≡◌, ℕ, ◌+◌, ◌≤◌, Bool, List, [], ◌∷◌, ◌++◌, length, take, drop, sym, ◌∙◌, ap, arith, length-append}
+use Rattle.std.proofs.Common.{◌≡◌, ℕ, ◌+◌, ◌≤◌, List, [], ◌∷◌, ◌++◌, length, take, drop, sym, ◌∙◌, ap, arith, length-append}
 use Rattle.std.specs.Prelude.{slice_index}
 use Rattle.std.proofs.lemmas.List.{take-append-le, drop-append-le}
 use Rattle.rcv_tree.specs.declared.event.Event.{Event}
+use Rattle.rcv_tree.specs.declared.numbers.Numbers.{Numbers}
 use Rattle.rcv_model.specs.Net.{Net}
 use Rattle.rcv_model.specs.Run.{acts, place_of, put, taken, IsQueued}
 use Rattle.rcv_model.specs.Journal.{events_of}
@@ -10,12 +11,12 @@ use Rattle.rcv_model.proofs.Keeping.{by_role, by_role_more}
 use Rattle.rcv_told.specs.Told.{Remembered}
 use Rattle.rcv_told.specs.Forgetting.{since, seeds_of, Lacks, lacked, IsShorter}
 
--- A memory with other events, and one with other numbers.
+-- A memory with other events, and one with other numbers of its roles.
 abbrev pub with_held : Remembered → List Event → Remembered
 with_held m h = record m { held = h }
 
-abbrev pub with_numbers : Remembered → List ℕ → List ℕ → List ℕ → List Bool → Remembered
-with_numbers m raw attempts clocks down = record m { raw = raw; attempts = attempts; clocks = clocks; down = down }
+abbrev pub with_roles : Remembered → List Numbers → Remembered
+with_roles m roles = record m { roles = roles }
 
 -- With these events instead the shorter memory still lacks of the role just what it lacked.
 pub record StillLacks (old new : Remembered) (g h : List Event) (r gone : ℕ) : Type 0 where
@@ -58,16 +59,12 @@ module _ (net : Net) (old new : Remembered) (s : IsShorter net old new) where
     };
     old_queued = old_queued;
     new_queued = new_queued;
-    raw = s.raw;
-    attempts = s.attempts;
-    clocks = s.clocks;
-    down = s.down;
+    roles = s.roles;
   }
 
   -- The same with other numbers, the same in both.
-  pub renumbered : (raw raw' attempts attempts' clocks clocks' : List ℕ) (down down' : List Bool) → raw' ≡ raw → attempts' ≡ attempts → clocks' ≡ clocks
-      → down' ≡ down → IsShorter net (with_numbers old raw attempts clocks down) (with_numbers new raw' attempts' clocks' down')
-  renumbered raw raw' attempts attempts' clocks clocks' down down' a b c d = record {
+  pub renumbered : (roles roles' : List Numbers) → roles' ≡ roles → IsShorter net (with_roles old roles) (with_roles new roles')
+  renumbered roles roles' same = record {
     gone = s.gone;
     lacks = λ r. record {
       enough = (s.lacks r).enough;
@@ -85,10 +82,7 @@ module _ (net : Net) (old new : Remembered) (s : IsShorter net old new) where
     };
     old_queued = s.old_queued;
     new_queued = s.new_queued;
-    raw = a;
-    attempts = b;
-    clocks = c;
-    down = d;
+    roles = same;
   }
 
 -- One event more.

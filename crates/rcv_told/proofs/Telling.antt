@@ -1,29 +1,41 @@
 -- What may be told keeps a run.
-use Rattle.std.proofs.Common.{◌≡◌, ℕ, ◌<◌, ◌≤◌, false, Some, List, [], ◌∷◌, ◌++◌, length, replicate, drop, refl, sym, ◌∙◌, ap, subst, append-nil, ⊎_elim}
-use Rattle.std.specs.Prelude.{slice_index}
+use Rattle.std.proofs.Common.{◌≡◌, ℕ, ◌<◌, ◌≤◌, zero, suc, Bool, false, Some, List, [], ◌∷◌, ◌++◌, length, replicate, drop, refl, sym, ◌∙◌, ap, subst, append-nil, ⊎_elim, arith}
+use Rattle.std.specs.Prelude.{slice_get, slice_index}
 use Rattle.std.proofs.lemmas.Bool.{cases_lt}
 use Rattle.std.proofs.lemmas.List.{length-set, length-replicate, get_or-replicate, get_or_past}
-use Rattle.std.proofs.lemmas.Option.{slice_get_within}
+use Rattle.std.proofs.lemmas.Option.{slice_get-get_or}
 use Rattle.rcv_tree.specs.declared.event.Event.{Event}
+use Rattle.rcv_tree.specs.declared.numbers.Numbers.{Numbers}
 use Rattle.rcv_tree.specs.declared.entry.Entry.{Entry}
 use Rattle.rcv_tree.specs.declared.entry.Entry.TheVariants.{Send, Recv, Crash, Recover}
 use Rattle.rcv_model.specs.Net.{IsWalk}
 use Rattle.rcv_model.specs.Run.{acts, place_of, IsRun}
 use Rattle.rcv_model.specs.Next.{IsNext, IsPlaceOf}
+use Rattle.rcv_model.specs.Journal.{nobody, numbers_at, numbers_behind}
 use Rattle.rcv_model.proofs.Keeping.{keep_is_run, queued_nil}
-use Rattle.rcv_model.proofs.Numbers.{length_unmarked}
+use Rattle.rcv_model.proofs.Lists.{some_same}
 use Rattle.rcv_model.proofs.Parts.{cut}
+use Rattle.rcv_model.proofs.Roles.{length_mapped}
 use Rattle.rcv_model.proofs.Steps.{recv_keeps, send_keeps}
 use Rattle.rcv_model.proofs.Ways.{stands}
-use Rattle.rcv_told.specs.Told.{Terms, Remembered, start, place, standpoint, IsSend, IsRecv, MayBeTold, roles_in, bound_at, group_of, told_after, told_from, told, IsToldFrom, IsTold}
+use Rattle.rcv_told.specs.Told.{Terms, Remembered, start, state_of, down_of, place, standpoint, IsSend, IsRecv, MayBeTold, roles_in, bound_at, left_at, group_of, told_after, told_from, told, IsToldFrom, IsTold}
 use Rattle.rcv_told.specs.Laws.{AreAccepted, ToldEventsKeepRuns}
 
--- nothing is forgotten, and whether it is down is known of each role
+-- whether a role is down is known of those that have numbers
+pub down_there : (roles : List Numbers) (r : ℕ) (b : Bool) → down_of (slice_get roles r) ≡ Some b → (r < length roles) × ((numbers_at roles r).crashed ≡ b)
+down_there [] r b e = absurd (cc)
+down_there (n ∷ roles) zero b e = (omega arith, some_same e)
+down_there (n ∷ roles) (suc r) b e = let d = down_there roles r b e in (let lt = d.0 in omega (arith, lt), d.1)
+
+pub down_here : (roles : List Numbers) (r : ℕ) → r < length roles → down_of (slice_get roles r) ≡ Some (numbers_at roles r).crashed
+down_here roles r lt = ap down_of (slice_get-get_or roles r nobody lt)
+
+-- nothing is forgotten, and each role has numbers
 pub record ForgotNothing (roles : ℕ) (m : Remembered) : Type 0 where
   pub seeds : (r : ℕ) → slice_index m.seeds r ≡ 0
   pub forgotten : (r : ℕ) → slice_index m.forgotten r ≡ 0
   pub points : (r : ℕ) → slice_index m.points r ≡ 0
-  pub down : length m.down ≡ roles
+  pub numbers : length m.roles ≡ roles
 
 pub none_at : (n r : ℕ) → slice_index (replicate n 0) r ≡ 0
 none_at n r = ⊎_elim
@@ -32,15 +44,20 @@ none_at n r = ⊎_elim
     (cases_lt r n)
 
 pub at_start : (roles : ℕ) → ForgotNothing roles (start roles)
-at_start roles = record { seeds = none_at roles; forgotten = none_at roles; points = none_at roles; down = length-replicate _ _ }
+at_start roles = record { seeds = none_at roles; forgotten = none_at roles; points = none_at roles; numbers = length-replicate _ _ }
 
 module _ (terms : Terms) where
   pub nothing_after : (m : Remembered) (e : Entry) → ForgotNothing terms.roles m → ForgotNothing terms.roles (told_after terms m e)
-  nothing_after m (Send e) n = record { seeds = n.seeds; forgotten = n.forgotten; points = n.points; down = n.down }
-  nothing_after m (Recv e) n = record { seeds = n.seeds; forgotten = n.forgotten; points = n.points; down = n.down }
-  nothing_after m (Crash p) n = record { seeds = n.seeds; forgotten = n.forgotten; points = n.points; down = length-set m.down p _ ∙ n.down }
+  nothing_after m (Send e) n = record { seeds = n.seeds; forgotten = n.forgotten; points = n.points; numbers = length-set m.roles e.role _ ∙ n.numbers }
+  nothing_after m (Recv e) n = record { seeds = n.seeds; forgotten = n.forgotten; points = n.points; numbers = length-set m.roles e.role _ ∙ n.numbers }
+  nothing_after m (Crash p) n = record { seeds = n.seeds; forgotten = n.forgotten; points = n.points; numbers = length-set m.roles p _ ∙ n.numbers }
   nothing_after m (Recover p concerned kept undone) n =
-      record { seeds = n.seeds; forgotten = n.forgotten; points = n.points; down = length_unmarked (group_of terms p) 0 m.down ∙ n.down }
+      let left = left_at terms.net m (roles_in concerned) (slice_index kept) in record {
+        seeds = n.seeds;
+        forgotten = n.forgotten;
+        points = n.points;
+        numbers = length_mapped (numbers_behind (state_of m) (group_of terms p) (roles_in concerned) left) 0 m.roles ∙ n.numbers;
+      }
 
 -- a role's place is that behind all that it did
 pub place_is : (roles : ℕ) (m : Remembered) (r : ℕ) → ForgotNothing roles m → place m r ≡ place_of 0 (acts r m.held)
@@ -74,7 +91,7 @@ module _ (terms : Terms) (known : AreAccepted terms) where
 
   -- a role of which it is known that it isn't down is declared
   pub declared : (m : Remembered) (r : ℕ) → ForgotNothing terms.roles m → (standpoint terms.net m r).down ≡ Some false → r < terms.roles
-  declared m r n up = subst (λ l. r < l) n.down (slice_get_within m.down r false up)
+  declared m r n up = subst (λ l. r < l) n.numbers (down_there m.roles r false up).0
 
   pub next_at : (m : Remembered) (r x : ℕ) → ForgotNothing terms.roles m → IsNext terms.net r (place m r) x
       → IsNext terms.net r (place_of 0 (acts r m.held)) x

@@ -1,10 +1,11 @@
 -- A told session of ping, computed: role 1 fails with its first event saved, and with none.
-use Rattle.std.proofs.Common.{◌≡◌, ℕ, zero, suc, ◌+◌, ◌*◌, ◌/◌, ◌<◌, ◌≤◌, true, false, List, [], ◌∷◌, ◌++◌, length, replicate, refl, sym, ◌∙◌, subst, inl, inr, arith}
+use Rattle.std.proofs.Common.{◌≡◌, ℕ, zero, suc, ◌+◌, ◌*◌, ◌/◌, ◌<◌, ◌≤◌, true, List, [], ◌∷◌, ◌++◌, length, replicate, refl, sym, ◌∙◌, subst, inl, inr, arith}
 use Rattle.std.specs.Prelude.{◌↔◌, if◌then◌else◌, slice_index}
 use Rattle.rcv_tree.specs.Bits.{has_bit, is_listed}
 use Rattle.rcv_tree.specs.declared.entry.Entry.{Entry}
 use Rattle.rcv_tree.specs.declared.entry.Entry.TheVariants.{Crash}
 use Rattle.rcv_model.specs.Net.{IsIn}
+use Rattle.rcv_model.specs.Journal.{numbers_at}
 use Rattle.rcv_model.specs.Next.{IsNext}
 use Rattle.rcv_model.specs.Table.{start_of, concerned_by_any}
 use Rattle.rcv_model.specs.Places.{net_of}
@@ -12,6 +13,7 @@ use Rattle.rcv_model.proofs.Cases.{ping, sent, got, send, recv, recover}
 use Rattle.rcv_model.proofs.Concerned.{listed_concerned}
 use Rattle.rcv_model.proofs.Journals.{below_8}
 use Rattle.rcv_model.proofs.Ping.{ping_proper, ping_accepted, begin, middle, next_at}
+use Rattle.rcv_model.proofs.Roles.{up, down}
 use Rattle.rcv_model.proofs.Scanning.{among, is_member}
 use Rattle.rcv_told.specs.Told.{Terms, Remembered, start, told, held_of, made, made_of, left_at, IsConcernedWhere, HasFailed, MayBeTold, IsTold}
 use Rattle.rcv_told.specs.Hindsight.{FailBySteps, IsLegalInHindsight}
@@ -37,10 +39,7 @@ before_is : before ≡ record {
   seeds = 0 ∷ 0 ∷ [];
   forgotten = 0 ∷ 0 ∷ [];
   points = 0 ∷ 0 ∷ [];
-  raw = 1 ∷ 2 ∷ [];
-  attempts = 0 ∷ 0 ∷ [];
-  clocks = 1 ∷ 3 ∷ [];
-  down = false ∷ true ∷ [];
+  roles = up 1 0 0 1 ∷ down 2 1 0 3 ∷ [];
 }
 before_is = refl
 
@@ -98,10 +97,7 @@ left_with_none : told terms with_none ≡ record {
   seeds = 0 ∷ 0 ∷ [];
   forgotten = 0 ∷ 0 ∷ [];
   points = 0 ∷ 0 ∷ [];
-  raw = 1 ∷ 3 ∷ [];
-  attempts = 0 ∷ 1 ∷ [];
-  clocks = 4 ∷ 5 ∷ [];
-  down = false ∷ false ∷ [];
+  roles = up 1 0 0 4 ∷ up 3 1 1 5 ∷ [];
 }
 left_with_none = refl
 
@@ -142,7 +138,7 @@ by_hundred = (tt, (tt, (tt, (tt, (record { byte = omega arith; saved = λ q. 0; 
         own (inl e) = sym e
         own (inr i) = absurd i
 
-few_told : (r : ℕ) → slice_index (told terms with_none).raw r ≤ 3
+few_told : (r : ℕ) → (numbers_at (told terms with_none).roles r).raw ≤ 3
 few_told zero = omega arith
 few_told (suc zero) = omega arith
 few_told (suc (suc r)) = omega arith

@@ -1,5 +1,5 @@
 -- Forgetting: what a shorter memory of the same session has in common with a longer one.
-use Rattle.std.specs.Prelude.{◌≡◌, ℕ, ◌+◌, ◌≤◌, ◌↔◌, true, List, [], ◌∷◌, ◌++◌, length, drop, take, Some, slice_get, slice_index}
+use Rattle.std.specs.Prelude.{◌≡◌, ℕ, ◌+◌, ◌≤◌, true, List, [], ◌∷◌, ◌++◌, length, drop, take, Some, slice_index}
 use Rattle.rcv_tree.specs.Bits.{is_listed}
 use Rattle.rcv_tree.specs.declared.event.Event.{Event}
 use Rattle.rcv_tree.specs.declared.event.Message.{Message}
@@ -8,7 +8,7 @@ use Rattle.rcv_tree.specs.declared.entry.Entry.TheVariants.{Send, Recv, Crash, R
 use Rattle.rcv_model.specs.Net.{Net}
 use Rattle.rcv_model.specs.Run.{acts, place_of, put, taken, IsQueued}
 use Rattle.rcv_model.specs.Journal.{events_of}
-use Rattle.rcv_told.specs.Told.{Terms, Remembered, HasFailed, MayBeTold, IsToldFrom, group_of, told_after}
+use Rattle.rcv_told.specs.Told.{Terms, Remembered, down_at, HasFailed, MayBeTold, group_of, told_after}
 
 -- The remembered events of a role that aren't forgotten; and those before them, which are forgotten except for their messages.
 abbrev pub since : Remembered → ℕ → List Event
@@ -45,10 +45,7 @@ pub record IsShorter (net : Net) (old new : Remembered) : Type 0 where
   pub messages : (a b : ℕ) → LacksMessages net old new gone a b
   pub old_queued : IsQueued net old.held
   pub new_queued : IsQueued net new.held
-  pub raw : new.raw ≡ old.raw
-  pub attempts : new.attempts ≡ old.attempts
-  pub clocks : new.clocks ≡ old.clocks
-  pub down : new.down ≡ old.down
+  pub roles : new.roles ≡ old.roles
 
 -- What is told loses none of the events that this memory has forgotten: each failed role has saved at least these.
 abbrev pub LosesNothingForgotten : Terms → Remembered → ℕ → (ℕ → ℕ) → Type 0
@@ -61,7 +58,7 @@ MayBeToldAbove terms old new (Send e) = MayBeTold terms old (Send e)
 MayBeToldAbove terms old new (Recv e) = MayBeTold terms old (Recv e)
 MayBeToldAbove terms old new (Crash p) = MayBeTold terms old (Crash p)
 MayBeToldAbove terms old new (Recover p concerned kept undone) =
-    (slice_get old.down p ≡ Some true)
+    (down_at old p ≡ Some true)
     × ((saved : ℕ → ℕ) × LosesNothingForgotten terms new p saved × HasFailed terms old p saved concerned kept undone)
 
 -- And all of these, one after another.

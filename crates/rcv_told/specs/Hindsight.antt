@@ -5,7 +5,7 @@ use Rattle.rcv_tree.specs.declared.entry.Entry.{Entry}
 use Rattle.rcv_tree.specs.declared.entry.Entry.TheVariants.{Send, Recv, Crash, Recover}
 use Rattle.rcv_tree.specs.declared.role.RoleSet.{RoleSet}
 use Rattle.rcv_model.specs.Journal.{Rules, reading, IsLegal}
-use Rattle.rcv_told.specs.Told.{Terms, Remembered, told, told_after, made, group_of, HasFailed}
+use Rattle.rcv_told.specs.Told.{Terms, Remembered, state_of, told, told_after, made, group_of, HasFailed}
 
 -- A failure is by steps: its line names roles below 8 by a byte, and each failed role has saved the greatest multiple of its
 -- step.
@@ -27,7 +27,7 @@ FailBySteps terms every m [] = Unit {0}
 FailBySteps terms every m (e ∷ entries) = FailsBySteps terms every m e × FailBySteps terms every (told_after terms m e) entries
 
 -- By some scripts and crash lines it is a legal journal of the same protocol, hosts and steps, with this limit; and after each
--- of its entries the same events are kept.
+-- of its entries the same events are kept, and the roles have the same numbers.
 pub record IsLegalInHindsight (terms : Terms) (every : ℕ → ℕ) (limit : ℕ) (entries : List Entry) : Type 0 where
   pub rules : Rules
   pub net_is : rules.net ≡ terms.net
@@ -36,4 +36,4 @@ pub record IsLegalInHindsight (terms : Terms) (every : ℕ → ℕ) (limit : ℕ
   pub every_is : rules.every ≡ every
   pub limit_is : rules.limit ≡ limit
   pub legal : IsLegal rules entries
-  pub same : (front back : List Entry) → front ++ back ≡ entries → (reading rules front).kept ≡ (told terms front).held
+  pub same : (front back : List Entry) → front ++ back ≡ entries → reading rules front ≡ state_of (told terms front)

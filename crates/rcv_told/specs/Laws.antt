@@ -1,17 +1,17 @@
 -- Laws: told sessions keep runs, a failure leaves the latest cut, the table foresees it, forgetting changes no answer, and what
 -- was told is a legal journal in hindsight.
-use Rattle.std.specs.Prelude.{◌≡◌, ℕ, ◌+◌, ◌-◌, ◌<◌, ◌≤◌, ◌↔◌, Bool, true, List, [], ◌∷◌, ◌++◌, length, Some, slice_get, slice_index}
+use Rattle.std.specs.Prelude.{◌≡◌, ℕ, ◌+◌, ◌-◌, ◌≤◌, ◌↔◌, Bool, true, List, ◌++◌, Some, slice_get}
 use Rattle.rcv_tree.specs.Bits.{has_bit}
 use Rattle.rcv_tree.specs.declared.entry.Entry.{Entry}
-use Rattle.rcv_tree.specs.declared.entry.Entry.TheVariants.{Send, Recv, Crash, Recover}
-use Rattle.rcv_tree.specs.declared.event.Event.{Event}
+use Rattle.rcv_tree.specs.declared.entry.Entry.TheVariants.{Recover}
 use Rattle.rcv_tree.specs.declared.role.RoleSet.{RoleSet}
 use Rattle.rcv_model.specs.Net.{Net}
-use Rattle.rcv_model.specs.Run.{Act, acts, IsRun, IsQueued}
+use Rattle.rcv_model.specs.Run.{Act, acts, IsRun}
+use Rattle.rcv_model.specs.Journal.{numbers_at}
 use Rattle.rcv_model.specs.Next.{IsAccepted, IsProper}
 use Rattle.rcv_model.specs.TableLaws.{IsForeseen}
 use Rattle.rcv_model.specs.Undo.{IsLatestCut, IsUndoing, picked}
-use Rattle.rcv_told.specs.Told.{Terms, Remembered, start, told, told_after, told_from, made, group_of, bound_at, left_at, HasFailed, MayBeTold, IsTold, IsToldFrom}
+use Rattle.rcv_told.specs.Told.{Terms, Remembered, start, told, told_after, told_from, made, group_of, bound_at, HasFailed, MayBeTold, IsTold, IsToldFrom}
 use Rattle.rcv_told.specs.Hindsight.{FailBySteps, IsLegalInHindsight}
 use Rattle.rcv_told.specs.Forgetting.{IsShorter, MayBeToldAbove, AreToldAbove}
 
@@ -82,5 +82,5 @@ ForgettingAddsUp =
 abbrev pub ToldJournalsAreLegal : Type 0
 ToldJournalsAreLegal =
     (terms : Terms) (every : ℕ → ℕ) (limit : ℕ) (entries : List Entry) → AreAccepted terms → IsTold terms entries
-    → FailBySteps terms every (start terms.roles) entries → ((r : ℕ) → slice_index (told terms entries).raw r ≤ limit)
+    → FailBySteps terms every (start terms.roles) entries → ((r : ℕ) → (numbers_at (told terms entries).roles r).raw ≤ limit)
     → IsLegalInHindsight terms every limit entries

@@ -1,10 +1,12 @@
 -- Told sessions: what is remembered of roles that run elsewhere, what may be told of them, and what it leaves.
-use Rattle.std.specs.Prelude.{◌≡◌, ℕ, ◌+◌, ◌-◌, ◌<◌, ◌≤◌, ◌↔◌, max, Bool, true, false, if◌then◌else◌, List, [], ◌∷◌, ◌++◌, length, drop, replicate, Option, Some, slice_get, slice_index, slice_set}
+use Rattle.std.specs.Prelude.{◌≡◌, ℕ, ◌+◌, ◌-◌, ◌<◌, ◌≤◌, ◌↔◌, max, Bool, true, false, if◌then◌else◌, List, [], ◌∷◌, length, drop, replicate, Option, Some, None, slice_get, slice_index}
 use Rattle.std.specs.List.{filter, range_with_len}
 use Rattle.rcv_tree.specs.Bits.{has_bit, is_listed}
+use Rattle.rcv_tree.specs.Numbers.{fresh}
 use Rattle.rcv_tree.specs.declared.event.Event.{Event}
 use Rattle.rcv_tree.specs.declared.event.Message.{Message}
 use Rattle.rcv_tree.specs.declared.event.Dir.TheVariants.{Sent, Got}
+use Rattle.rcv_tree.specs.declared.numbers.Numbers.{Numbers}
 use Rattle.rcv_tree.specs.declared.entry.Entry.{Entry}
 use Rattle.rcv_tree.specs.declared.entry.Entry.TheVariants.{Send, Recv, Crash, Recover}
 use Rattle.rcv_tree.specs.declared.role.RoleSet.{RoleSet}
@@ -13,7 +15,8 @@ use Rattle.rcv_model.specs.Run.{acts, channel, place_of}
 use Rattle.rcv_model.specs.Next.{IsNext}
 use Rattle.rcv_model.specs.Table.{start_of, IsConcernedByAny}
 use Rattle.rcv_model.specs.Undo.{keep_within}
-use Rattle.rcv_model.specs.Journal.{bump, unmarked, attempts_after, greatest, clocks_after}
+use Rattle.rcv_model.specs.Journal.{State, numbers_at, failed, with_numbers}
+use Rattle.rcv_model.specs.Journal.{after_event as state_after_event, after_recovery as state_after_recovery}
 
 -- What a session is told by: the protocol's places, how many roles it has, and with which others each role fails.
 pub record Terms : Type 0 where
@@ -31,11 +34,8 @@ pub record Remembered : Type 0 where
   -- how many of its events are forgotten, and the point of the last of them (0: none)
   pub forgotten : List ℕ
   pub points : List ℕ
-  -- how many events it ever made, how often some of them were taken back, its clock, and whether it is down
-  pub raw : List ℕ
-  pub attempts : List ℕ
-  pub clocks : List ℕ
-  pub down : List Bool
+  -- its numbers, forgotten events counted
+  pub roles : List Numbers
 
 -- Before the first event.
 abbrev pub start : ℕ → Remembered
@@ -45,11 +45,15 @@ start roles =
       seeds = replicate roles 0;
       forgotten = replicate roles 0;
       points = replicate roles 0;
-      raw = replicate roles 0;
-      attempts = replicate roles 0;
-      clocks = replicate roles 0;
-      down = replicate roles false;
+      roles = replicate roles fresh;
     }
+
+-- The remembered events and the numbers, as the state of a journal; and the memory with those of a state.
+abbrev pub state_of : Remembered → State
+state_of m = record { kept = m.held; roles = m.roles }
+
+abbrev pub with_state : Remembered → State → Remembered
+with_state m s = record m { held = s.kept; roles = s.roles }
 
 -- How many of a role's events are kept, forgotten ones too; and how many are if these of the remembered ones are left.
 abbrev pub made_of : Remembered → List Event → ℕ → ℕ
@@ -62,6 +66,14 @@ made m r = made_of m m.held r
 abbrev pub place : Remembered → ℕ → ℕ
 place m r = place_of (slice_index m.points r) (drop (slice_index m.seeds r) (acts r m.held))
 
+-- Whether a role with these numbers is down; none if there are no numbers.
+abbrev pub down_of : Option Numbers → Option Bool
+down_of None = None
+down_of (Some n) = Some n.crashed
+
+abbrev pub down_at : Remembered → ℕ → Option Bool
+down_at m r = down_of (slice_get m.roles r)
+
 -- What an event of a role is judged by: whether it is down (none: it isn't declared), its place, its clock, and what lies in
 -- the channel to it from each role.
 pub record Standpoint : Type 0 where
@@ -73,9 +85,9 @@ pub record Standpoint : Type 0 where
 abbrev pub standpoint : Net → Remembered → ℕ → Standpoint
 standpoint net m r =
     record {
-      down = slice_get m.down r;
+      down = down_at m r;
       place = place m r;
-      clock = slice_index m.clocks r;
+      clock = (numbers_at m.roles r).clock;
       lies = λ from. channel net from r m.held;
     }
 
@@ -145,35 +157,25 @@ pub record HasFailed (terms : Terms) (m : Remembered) (p : ℕ) (saved : ℕ →
 abbrev pub MayBeTold : Terms → Remembered → Entry → Type 0
 MayBeTold terms m (Send e) = IsSend terms.net (standpoint terms.net m e.role) e
 MayBeTold terms m (Recv e) = IsRecv terms.net (standpoint terms.net m e.role) e
-MayBeTold terms m (Crash p) = slice_get m.down p ≡ Some false
+MayBeTold terms m (Crash p) = down_at m p ≡ Some false
 MayBeTold terms m (Recover p concerned kept undone) =
-    (slice_get m.down p ≡ Some true) × ((saved : ℕ → ℕ) × HasFailed terms m p saved concerned kept undone)
+    (down_at m p ≡ Some true) × ((saved : ℕ → ℕ) × HasFailed terms m p saved concerned kept undone)
 
--- One event more.
+-- One event more; one crash more; and a recovery of a group, with these events left. The numbers change as in a journal.
 abbrev pub after_event : Remembered → Event → Remembered
-after_event m e =
-    record m {
-      held = m.held ++ e ∷ [];
-      raw = bump m.raw e.role;
-      clocks = slice_set m.clocks e.role e.stamp;
-    }
+after_event m e = with_state m (state_after_event (state_of m) e)
 
--- A recovery of a group, with these events left: no role of it is down, each role with an undone event has an attempt more,
--- and the clocks of the concerned roles are one more than their greatest.
+abbrev pub after_crash : Remembered → ℕ → Remembered
+after_crash m p = with_state m (with_numbers (state_of m) p (failed (numbers_at m.roles p)))
+
 abbrev pub after_recovery : Remembered → List ℕ → List ℕ → List Event → Remembered
-after_recovery m group concerned left =
-    record m {
-      held = left;
-      down = unmarked group 0 m.down;
-      attempts = attempts_after 0 m.held left m.attempts;
-      clocks = clocks_after concerned (greatest concerned 0 m.clocks + 1) 0 m.clocks;
-    }
+after_recovery m group concerned left = with_state m (state_after_recovery (state_of m) group concerned left)
 
 -- What is remembered after one more thing that was told. A recovery leaves of each concerned role as many events as it lists.
 abbrev pub told_after : Terms → Remembered → Entry → Remembered
 told_after terms m (Send e) = after_event m e
 told_after terms m (Recv e) = after_event m e
-told_after terms m (Crash p) = record m { down = slice_set m.down p true }
+told_after terms m (Crash p) = after_crash m p
 told_after terms m (Recover p concerned kept undone) =
     after_recovery m (group_of terms p) (roles_in concerned) (left_at terms.net m (roles_in concerned) (slice_index kept))
 

@@ -76,7 +76,7 @@ abbrev s4 : State
 s4 = after rules s3 (Recv (hears 1 1 0 3 1))
 
 goes_back : May rules s2 back
-goes_back = may_recover rules s2 0 lawful (one_ends net net_one) 3 (1 ∷ replicate 7 0) 0 refl (omega arith) (below_8 (λ q. has_bit 3 q ≡ is_listed (concerned_in rules s2 0) q) refl refl refl refl refl refl refl refl) refl (below_8 (λ q. slice_index (1 ∷ replicate 7 0) q ≡ (if has_bit 3 q then length (acts q (kept_by rules s2 0)) else 0)) refl refl refl refl refl refl refl refl) refl
+goes_back = may_recover rules s2 0 lawful (one_ends net net_one) 3 (1 ∷ replicate 7 0) 0 (omega arith, refl) (omega arith) (below_8 (λ q. has_bit 3 q ≡ is_listed (concerned_in rules s2 0) q) refl refl refl refl refl refl refl refl) refl (below_8 (λ q. slice_index (1 ∷ replicate 7 0) q ≡ (if has_bit 3 q then length (acts q (kept_by rules s2 0)) else 0)) refl refl refl refl refl refl refl refl) refl
 
 legal : IsLegal rules journal
 legal = (send_by rules net_one s0 (says 0 1 0 1) refl refl refl refl refl refl refl, ((omega arith, (refl, omega arith)), (goes_back, (recv_by rules net_one s3 (hears 1 1 0 3 1) [] refl refl refl refl refl, tt))))

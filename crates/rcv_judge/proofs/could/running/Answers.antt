@@ -1,6 +1,5 @@
 -- At the limit or below it; there it sends or receives.
 use Rattle.std.proofs.Common.{◌≡◌, ◌≢◌, sym, ◌∙◌, ap, subst, arith}
-use Rattle.std.specs.Prelude.{slice_index}
 use Rattle.std.proofs.lemmas.Bool.Decides.{nat_tests}
 use Rattle.rcv_accept.specs.Accepted.{IsAcceptedProtocol}
 use Rattle.rcv_session.specs.Session.{SessionView, rules_of}
@@ -8,6 +7,7 @@ use Rattle.rcv_core.specs.Book.{state_of}
 use Rattle.rcv_judge.specs.Could.{HasSender}
 use Rattle.rcv_judge.proofs.Doing.{is_at_limit, is_free, sends}
 use Rattle.rcv_judge.proofs.could.running.Goals as goal
+use Rattle.rcv_model.specs.Journal.{numbers_at}
 
 pub returns-then-raw-limit : goal.returns-then-raw-limit
 returns-then-raw-limit c =
@@ -18,7 +18,7 @@ returns-then-raw-limit c =
 pub chosen-requires-clause-free : goal.chosen-requires-clause-free
 chosen-requires-clause-free c =
     let plain : IsAcceptedProtocol c.args.book.now.setup.protocol = subst (λ (s : SessionView). IsAcceptedProtocol s.protocol) c.setup-setup.ensures c.protocol-protocol.ensures.accepted in
-    let below : slice_index (state_of c.args.book.now).raw c.args.role ≢ (rules_of c.args.book.now.setup).limit =
+    let below : (numbers_at (state_of c.args.book.now).roles c.args.role).raw ≢ (rules_of c.args.book.now.setup).limit =
     λ at. let same = c.raw.ensures ∙ at ∙ sym (c.limit.ensures.value ∙ ap (λ (s : SessionView). (rules_of s).limit) c.setup-setup.ensures) in let f = c.if-raw-limit.false in omega (arith, same, f) in
     is_free c.args.book.now plain c.entries-entries.ensures.legal c.args.role c.requires.declared c.requires.calm c.requires.idle below
 
@@ -32,7 +32,7 @@ chosen-requires-clause-next c =
 pub receiving-requires-clause-free : goal.receiving-requires-clause-free
 receiving-requires-clause-free c =
     let plain : IsAcceptedProtocol c.args.book.now.setup.protocol = subst (λ (s : SessionView). IsAcceptedProtocol s.protocol) c.setup-setup.ensures c.protocol-protocol.ensures.accepted in
-    let below : slice_index (state_of c.args.book.now).raw c.args.role ≢ (rules_of c.args.book.now.setup).limit =
+    let below : (numbers_at (state_of c.args.book.now).roles c.args.role).raw ≢ (rules_of c.args.book.now.setup).limit =
     λ at. let same = c.raw.ensures ∙ at ∙ sym (c.limit.ensures.value ∙ ap (λ (s : SessionView). (rules_of s).limit) c.setup-setup.ensures) in let f = c.if-raw-limit.false in omega (arith, same, f) in
     is_free c.args.book.now plain c.entries-entries.ensures.legal c.args.role c.requires.declared c.requires.calm c.requires.idle below
 
