@@ -3,8 +3,7 @@
 use Rattle.std.specs.Prelude.{◌≡◌, ℕ, ◌<◌, ◌≤◌, List, [], length, map, slice_index, slice_index_or}
 use Rattle.rcv_tree.specs.declared.entry.Entry.{Entry}
 use Rattle.rcv_tree.specs.declared.entry.Timed.{Timed}
-use Rattle.rcv_model.specs.Journal.{State, reading_from}
-use Rattle.rcv_theory.specs.Own.{own_of}
+use Rattle.rcv_model.specs.Journal.{State, own_of, reading_from}
 use Rattle.rcv_theory.specs.Round.{entries, IsLog}
 use Rattle.rcv_ring.specs.Lists.{Begins}
 use Rattle.rcv_mailbox.specs.Ends.{End, IsChannel}
@@ -31,7 +30,7 @@ AreBegun roles cells =
     → Begins (end_at (cell_at cells r d).inboxes r s e).list (end_at (cell_at cells s d).posts s r e).list
 
 -- The cell of role r: its log is one of the role at this state. After the log, the state has of the role what the cell has: its kept
--- events, raw count, crashes, whether it is crashed, attempt and clock. The cell's ends hold what its events say.
+-- events and its numbers. The cell's ends hold what its events say.
 pub record IsOutAt (setup : SessionView) (s : State) (r : ℕ) (c : CellView) : Type 0 where
   pub setup_is : c.part.setup ≡ setup
   pub role_is : c.part.role ≡ r
