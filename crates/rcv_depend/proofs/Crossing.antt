@@ -4,7 +4,6 @@ use Rattle.std.specs.List.{filter_map, cons_option}
 use Rattle.std.proofs.lemmas.Bool.Decides.{nat_tests}
 use Rattle.std.proofs.lemmas.List.Elements.{filter_map-append}
 use Rattle.rcv_tree.specs.declared.event.Event.{Event}
-use Rattle.rcv_tree.specs.declared.event.Message.{Message}
 use Rattle.rcv_tree.specs.declared.event.Dir.TheVariants.{Sent, Got}
 use Rattle.rcv_model.specs.Net.{Net}
 use Rattle.rcv_model.specs.Run.{is_sent, puts_on, takes_on}
@@ -13,12 +12,6 @@ use Rattle.rcv_depend.specs.Logs.{between}
 -- one more element that a map takes, or leaves out
 pub mapped : {A B : Type 0} (f : A → Option B) (xs : List A) (x : A) (y : B) → f x ≡ Some y → filter_map f (xs ++ x ∷ []) ≡ filter_map f xs ++ y ∷ []
 mapped f xs x y e = filter_map-append f xs (x ∷ []) ∙ ap (λ o. filter_map f xs ++ cons_option o []) e
-
-abbrev pub message_of : Event → Message
-message_of e = record { point = e.point; value = e.value; stamp = e.stamp }
-
-abbrev pub answer_of : Event → Message
-answer_of e = record { point = e.point; value = e.value; stamp = e.sent }
 
 -- a Send on its own channel and on the others
 pub sent_here : (net : Net) (a b : ℕ) (e : Event) → e.dir ≡ Sent → e.role ≡ a → net.receiver e.point ≡ b → puts_on net a b e ≡ true

@@ -9,12 +9,13 @@ use Rattle.rcv_tree.specs.declared.event.Event.{Event}
 use Rattle.rcv_tree.specs.declared.event.Dir.TheVariants.{Sent, Got}
 use Rattle.rcv_model.specs.Net.{Net}
 use Rattle.rcv_model.specs.Run.{puts_on, takes_on, put_by, taken_by, put, taken}
-use Rattle.rcv_model.proofs.Keeping.{put_none, taken_none}
+use Rattle.rcv_model.proofs.Queues.{put_message}
+use Rattle.rcv_model.proofs.Keeping.{message_of, put_none, taken_none}
 use Rattle.rcv_model.proofs.Steps.{not_taken}
 use Rattle.rcv_depend.specs.declared.mark.Mark.{Mark}
 use Rattle.rcv_depend.specs.Logs.{between, log_at, HasMark, IsSound, AreSound}
 use Rattle.rcv_depend.specs.Cuts.{put_within, taken_within, AreCounted}
-use Rattle.rcv_depend.proofs.Crossing.{message_of, answer_of, mapped, sent_here, sent_else, got_here, got_else, no_put, apart}
+use Rattle.rcv_depend.proofs.Crossing.{mapped, sent_here, sent_else, got_here, got_else, no_put, apart}
 
 -- Of each mark the point is one of the net, with its ends among eight roles.
 pub record IsInNet (net : Net) (point : ℕ) : Type 0 where
@@ -32,8 +33,8 @@ mark_in_net net logs r n m sound has =
 pub one_put : (net : Net) (a b : ℕ) (l : List Event) (e : Event) → length (put net a b (l ++ e ∷ [])) ≡ length (put net a b l) + cond {A = ℕ} (puts_on net a b e) 1 0
 one_put net a b l e = ⊎_elim
     (λ t.
-    let more = ap length (mapped (put_by net a b) l e (message_of e) (ap (λ v. cond v (Some (message_of e)) None) t)) in
-    let n = length-append (put net a b l) (message_of e ∷ []) in
+    let more = ap length (mapped (put_by net a b) l e (put_message e) (ap (λ v. cond v (Some (put_message e)) None) t)) in
+    let n = length-append (put net a b l) (put_message e ∷ []) in
     let w = ap {B = ℕ} (λ v. cond v 1 0) t in
     omega (arith, more, n, w))
     (λ f. let same = ap length (put_none net a b l e f) in let w = ap {B = ℕ} (λ v. cond v 1 0) f in omega (arith, same, w))
@@ -42,8 +43,8 @@ one_put net a b l e = ⊎_elim
 pub one_taken : (net : Net) (a b : ℕ) (l : List Event) (e : Event) → length (taken net a b (l ++ e ∷ [])) ≡ length (taken net a b l) + cond {A = ℕ} (takes_on net a b e) 1 0
 one_taken net a b l e = ⊎_elim
     (λ t.
-    let more = ap length (mapped (taken_by net a b) l e (answer_of e) (ap (λ v. cond v (Some (answer_of e)) None) t)) in
-    let n = length-append (taken net a b l) (answer_of e ∷ []) in
+    let more = ap length (mapped (taken_by net a b) l e (message_of e) (ap (λ v. cond v (Some (message_of e)) None) t)) in
+    let n = length-append (taken net a b l) (message_of e ∷ []) in
     let w = ap {B = ℕ} (λ v. cond v 1 0) t in
     omega (arith, more, n, w))
     (λ f. let same = ap length (taken_none net a b l e f) in let w = ap {B = ℕ} (λ v. cond v 1 0) f in omega (arith, same, w))
