@@ -51,7 +51,7 @@ one_taken net a b l e = ⊎_elim
     (cases_Bool (takes_on net a b e))
 
 -- The first events with the next one.
-take_next : (n : ℕ) (l : List Event) (e : Event) → slice_get l n ≡ Some e → take (n + 1) l ≡ take n l ++ e ∷ []
+pub take_next : (n : ℕ) (l : List Event) (e : Event) → slice_get l n ≡ Some e → take (n + 1) l ≡ take n l ++ e ∷ []
 take_next n l e at = take_more l n e (slice_get_within l n e at) ∙ ap (λ x. take n l ++ x ∷ []) (get_or_from_slice_get l n e e at)
 
 pub next_put : (net : Net) (a b n : ℕ) (l : List Event) (e : Event) → slice_get l n ≡ Some e → length (put net a b (take (n + 1) l)) ≡ length (put net a b (take n l)) + cond {A = ℕ} (puts_on net a b e) 1 0

@@ -1,9 +1,10 @@
 -- Rounds of ping: their text has a form, and their events are those of logs whose channels are queues.
 use Prim.Native.Nat.{zero, suc}
-use Rattle.std.proofs.Common.{◌≡◌, ℕ, ◌<◌, ◌≤◌, ◌^◌, Bool, true, false, cond, Some, List, [], ◌∷◌, ◌++◌, length, take, refl, sym, ◌∙◌, ap, subst, inl, ⊎_elim, arith}
+use Rattle.std.proofs.Common.{◌≡◌, ℕ, ◌+◌, ◌<◌, ◌≤◌, ◌^◌, Bool, true, false, cond, Some, List, [], ◌∷◌, ◌++◌, length, take, refl, sym, ◌∙◌, ap, subst, inl, ⊎_elim, arith}
 use Rattle.std.specs.Prelude.{◌==◌, not, ◌&&◌, slice_get}
 use Rattle.std.proofs.lemmas.Bool.{cases_Bool}
 use Rattle.std.proofs.lemmas.List.Sums.{length-filter, count_by-le-length}
+use Rattle.std.proofs.lemmas.List.Elements.{filter-append}
 use Rattle.rcv_tree.specs.declared.event.Event.{Event}
 use Rattle.rcv_tree.specs.declared.event.Dir.TheVariants.{Sent, Got}
 use Rattle.rcv_model.specs.Net.{Net, IsPrefix}
@@ -16,8 +17,9 @@ use Rattle.rcv_model.proofs.Lists.{some_same}
 use Rattle.rcv_model.proofs.Forms.{proper}
 use Rattle.rcv_model.proofs.Keeping.{is_by, queued_nil, queued_more, fits_else, is_recv}
 use Rattle.rcv_depend.specs.Logs.{log_at, IsSound, AreSound, AreLogsOf}
-use Rattle.rcv_depend.specs.Rounds.{rounds, at, one_round, two_rounds, both_logs, AreOfRounds}
+use Rattle.rcv_depend.specs.Rounds.{rounds, at, both_logs, AreOfRounds}
 use Rattle.rcv_depend.proofs.Scans.{is_same}
+use Rattle.rcv_depend.proofs.Lowering.{take_next}
 
 -- The text.
 pub has_form : HasForm rounds 2
@@ -45,6 +47,12 @@ got h e fits q = queued_more net h e q (λ s r. ⊎_elim
     (λ t. let is = is_recv net s r e t in subst (λ x. IsPrefix (taken net x r (h ++ e ∷ [])) (put net x r (h ++ e ∷ []))) is.2 (subst (λ x. IsPrefix (taken net (net.sender e.point) x (h ++ e ∷ [])) (put net (net.sender e.point) x (h ++ e ∷ []))) is.1 fits))
     (λ f. fits_else net e h s r q f)
     (cases_Bool (takes_on net s r e)))
+
+abbrev pub one_round : List Event
+one_round = at 0 Sent 1 ∷ at 1 Got 1 ∷ at 1 Sent 2 ∷ at 0 Got 2 ∷ []
+
+abbrev pub two_rounds : List Event
+two_rounds = at 0 Sent 1 ∷ at 1 Got 1 ∷ at 1 Sent 2 ∷ at 0 Got 2 ∷ one_round
 
 one_queued : IsQueued net one_round
 one_queued =
@@ -138,6 +146,22 @@ one_round_is = of_rounds one_round (round_of [] tt) one_queued (omega arith)
 
 pub two_rounds_are : AreOfRounds two_rounds
 two_rounds_are = of_rounds two_rounds (round_of one_round (round_of [] tt)) two_queued (omega arith)
+
+-- The four events of a round by other names.
+pub told : (f : Event → Event → Event → Event → List Event) (a b c d : Event) → a ≡ at 0 Sent 1 → b ≡ at 1 Got 1 → c ≡ at 1 Sent 2 → d ≡ at 0 Got 2 → AreOfRounds (f (at 0 Sent 1) (at 1 Got 1) (at 1 Sent 2) (at 0 Got 2)) → AreOfRounds (f a b c d)
+told f a b c d w x y z =
+    subst AreOfRounds (sym (ap (λ e. f e b c d) w ∙ ap (λ e. f (at 0 Sent 1) e c d) x ∙ ap (λ e. f (at 0 Sent 1) (at 1 Got 1) e d) y ∙ ap (f (at 0 Sent 1) (at 1 Got 1) (at 1 Sent 2)) z))
+
+-- What a role did of the first events, with the next one.
+pub next_own : (r n : ℕ) (h : List Event) (e : Event) → slice_get h n ≡ Some e → events_of r (take (n + 1) h) ≡ events_of r (take n h) ++ events_of r (e ∷ [])
+next_own r n h e there = ap (events_of r) (take_next n h e there) ∙ filter-append (λ (x : Event). x.role == r) (take n h) (e ∷ [])
+
+-- An event is its role's, and no other one's.
+pub own_event : (r : ℕ) (e : Event) → (e.role == r) ≡ true → events_of r (e ∷ []) ≡ e ∷ []
+own_event r e t = ap (λ b. cond b (e ∷ []) []) t
+
+pub other_event : (r : ℕ) (e : Event) → (e.role == r) ≡ false → events_of r (e ∷ []) ≡ []
+other_event r e f = ap (λ b. cond b (e ∷ []) []) f
 
 -- A Recv with no Send isn't of a queue, and a Send by its receiver isn't by an end of its point.
 pub from_nowhere : AreOfRounds (at 1 Got 1 ∷ []) → ⊥

@@ -1,9 +1,7 @@
--- Ping in a loop, with some of its events: what tests and examples are of.
+-- Ping in a loop, and its events: what tests and examples are of.
 use Rattle.std.specs.Prelude.{ℕ, pos, List, [], ◌∷◌}
 use Rattle.rcv_tree.specs.declared.event.Event.{Event}
 use Rattle.rcv_tree.specs.declared.event.Dir.{Dir}
-use Rattle.rcv_tree.specs.declared.event.Dir.TheVariants.{Sent, Got}
-use Rattle.rcv_model.specs.Net.{Net}
 use Rattle.rcv_model.specs.Text.{Body, End, Single, Loop, Again}
 use Rattle.rcv_model.specs.Places.{net_of}
 use Rattle.rcv_model.specs.Journal.{events_of}
@@ -15,12 +13,6 @@ rounds = Loop [] (Single [] [] 0 1 1 (Single [] [] 1 0 2 (Again [] End))) End
 
 abbrev pub at : ℕ → Dir → ℕ → Event
 at role dir point = record { role = role; dir = dir; point = point; value = pos 0; stamp = 0; sent = 0 }
-
-abbrev pub one_round : List Event
-one_round = at 0 Sent 1 ∷ at 1 Got 1 ∷ at 1 Sent 2 ∷ at 0 Got 2 ∷ []
-
-abbrev pub two_rounds : List Event
-two_rounds = at 0 Sent 1 ∷ at 1 Got 1 ∷ at 1 Sent 2 ∷ at 0 Got 2 ∷ one_round
 
 -- What the two roles did of some events.
 abbrev pub both_logs : List Event → List (List Event)
