@@ -24,8 +24,8 @@ use Rattle.rcv_depend.proofs.Lowering.{take_next}
 -- The text.
 pub has_form : HasForm rounds 2
 has_form = record {
-  numbered = (refl, refl, tt);
-  ends = (omega arith, omega arith, (λ e. absurd (omega (arith, e))), omega arith, omega arith, (λ e. absurd (omega (arith, e))), tt);
+  numbered = (refl, (refl, tt));
+  ends = (omega arith, omega arith, (λ e. absurd (omega (arith, e))), (omega arith, omega arith, (λ e. absurd (omega (arith, e))), tt));
   subjects = (tt, tt);
   apart = tt;
   few_roles = omega arith;
@@ -95,13 +95,12 @@ receives : (e : Event) → e.role < 2 → 1 ≤ e.point → e.point ≤ 2 → is
 receives e low first last is by = record { declared = low; sound = sound_at e first last; end = record { sends = λ t. absurd (let g = sym is ∙ t in cc); recvs = λ f. by } }
 
 round_of : (h : List Event) → AreSteps h → AreSteps (one_round ++ h)
-round_of h steps = (
-  sends (at 0 Sent 1) (omega arith) (omega arith) (omega arith) refl refl,
-  receives (at 1 Got 1) (omega arith) (omega arith) (omega arith) refl refl,
-  sends (at 1 Sent 2) (omega arith) (omega arith) (omega arith) refl refl,
-  receives (at 0 Got 2) (omega arith) (omega arith) (omega arith) refl refl,
-  steps,
-)
+round_of h steps =
+    let sent = sends (at 0 Sent 1) (omega arith) (omega arith) (omega arith) refl refl in
+    let received = receives (at 1 Got 1) (omega arith) (omega arith) (omega arith) refl refl in
+    let answer = sends (at 1 Sent 2) (omega arith) (omega arith) (omega arith) refl refl in
+    let end = receives (at 0 Got 2) (omega arith) (omega arith) (omega arith) refl refl in
+    (sent, (received, (answer, (end, steps))))
 
 -- What such events put into the logs.
 sound_in : (r : ℕ) (h : List Event) → AreSteps h → (n : ℕ) (f : Event) → slice_get (events_of r h) n ≡ Some f → IsSound net r f
@@ -115,11 +114,11 @@ sound_in r (e ∷ h) steps n f is = go (e.role == r) refl n is (sound_in r h ste
 
 none_behind : (r : ℕ) (h : List Event) → AreSteps h → 2 ≤ r → events_of r h ≡ []
 none_behind r [] steps le = refl
-none_behind r (e ∷ h) steps le = go (e.role == r) refl
+none_behind r (e ∷ h) steps le = go (e.role == r) refl (none_behind r h steps.1 le)
   where
-    go : (b : Bool) → (e.role == r) ≡ b → cond b (e ∷ events_of r h) (events_of r h) ≡ []
-    go false t = none_behind r h steps.1 le
-    go true t = let same = is_same e.role r true (sym t) refl in let low = steps.0.declared in absurd (omega (arith, same, low, le))
+    go : (b : Bool) → (e.role == r) ≡ b → events_of r h ≡ [] → cond b (e ∷ events_of r h) (events_of r h) ≡ []
+    go false t ih = ih
+    go true t ih = let same = is_same e.role r true (sym t) refl in let low = steps.0.declared in absurd (omega (arith, same, low, le))
 
 ends_in : (h : List Event) → AreSteps h → AreByEnds net h
 ends_in [] steps = tt
@@ -165,7 +164,7 @@ other_event r e f = ap (λ b. cond b (e ∷ []) []) f
 
 -- A Recv with no Send isn't of a queue, and a Send by its receiver isn't by an end of its point.
 pub from_nowhere : AreOfRounds (at 1 Got 1 ∷ []) → ⊥
-from_nowhere are = let p = are.logs.queued (at 1 Got 1 ∷ []) [] refl 0 1 in let n = ap length p.1 in absurd (cc)
+from_nowhere are = let p = are.logs.queued (at 1 Got 1 ∷ []) [] refl 0 1 in absurd (let n = ap length p.1 in omega (arith, n))
 
 pub by_the_other : AreOfRounds (at 1 Sent 1 ∷ []) → ⊥
-by_the_other are = let e = are.logs.ends.0.sends refl in absurd (omega (arith, e))
+by_the_other are = let e : 1 ≡ 0 = are.logs.ends.0.sends refl in absurd (omega (arith, e))

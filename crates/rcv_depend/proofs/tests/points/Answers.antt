@@ -11,7 +11,7 @@ use Rattle.rcv_depend.proofs.tests.points.Goals as goal
 
 pub points_of-requires-clause-form : goal.points_of-requires-clause-form
 points_of-requires-clause-form c =
-    let roles = c.in_ok-push-2.ensures.ok ∙ ap (λ (l : List (List ℕ)). l ++ c.new-3.result ∷ []) (c.in_ok-push.ensures.ok ∙ ap (λ (l : List (List ℕ)). l ++ c.new-2.result ∷ []) c.new-roles.ensures) in
+    let roles = c.in_ok-push-2.ensures.ok ∙ ap (λ (l : List (List ℕ)). l ++ c.new-2.result ∷ []) (c.in_ok-push.ensures.ok ∙ ap (λ (l : List (List ℕ)). l ++ c.new.result ∷ []) c.new-roles.ensures) in
     subst (λ (b : Body). HasForm b (length c.push-2.new.self)) (sym c.in_ok-body.ensures) (subst (HasForm rounds) (sym (ap length roles)) has_form)
 
 pub points_of-requires-clause-full : goal.points_of-requires-clause-full
