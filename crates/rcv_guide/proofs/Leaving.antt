@@ -23,7 +23,7 @@ use Rattle.rcv_theory.specs.Counts.{kept_counts}
 use Rattle.rcv_theory.proofs.Counting.{begins}
 use Rattle.rcv_depend.specs.declared.keeps.Keeps.{Keeps}
 use Rattle.rcv_depend.specs.Keeps as keeping
-use Rattle.rcv_depend.specs.Cuts.{AreLogsOf}
+use Rattle.rcv_depend.specs.Logs.{AreLogsOf, AreFew}
 use Rattle.rcv_plan.specs.Plans.{IsGroup}
 use Rattle.rcv_tables.specs.Laws.{number_of}
 use Rattle.rcv_tables.specs.Rows.{TableView, rows_at}
@@ -31,7 +31,7 @@ use Rattle.rcv_tables.specs.Starts.{IsOwnPoint}
 use Rattle.rcv_tables.specs.Told.{start_at, HaveRows, AreStarts, TellsFailure}
 use Rattle.rcv_ledger.specs.Logs.{log_at}
 use Rattle.rcv_ledger.specs.Ledger.{LedgerView}
-use Rattle.rcv_ledger.specs.Cut.{AreFew, IsKeptOf}
+use Rattle.rcv_depend.specs.Cuts.{IsKeptOf}
 use Rattle.rcv_ledger.proofs.Lists.{none_there}
 use Rattle.rcv_told.specs.Told.{Remembered, made_of, group_of, held_of, bound_at, IsConcernedWhere, HasFailed}
 use Rattle.rcv_guide.specs.declared.numbers.Numbers.{Numbers}

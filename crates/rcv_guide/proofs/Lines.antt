@@ -15,10 +15,10 @@ use Rattle.rcv_model.proofs.Lists.{prefix_map, prefix_length}
 use Rattle.rcv_model.proofs.Lines.{Counts, closed_of_counts}
 use Rattle.rcv_theory.specs.Counts.{IsClosed}
 use Rattle.rcv_theory.proofs.Counting.{greatest_kept}
-use Rattle.rcv_depend.specs.Cuts.{AreLogsOf}
-use Rattle.rcv_ledger.specs.declared.cut.Counted.{Counted}
+use Rattle.rcv_depend.specs.Logs.{AreLogsOf}
+use Rattle.rcv_depend.specs.declared.cut.Counted.{Counted}
 use Rattle.rcv_ledger.specs.Logs.{log_at}
-use Rattle.rcv_ledger.specs.Cut.{IsCounted, AllEven, StaysAbove}
+use Rattle.rcv_depend.specs.Cuts.{IsCounted, AllEven, StaysAbove}
 use Rattle.rcv_ledger.proofs.Lists.{none_there}
 use Rattle.rcv_saves.specs.Saves.{SavesView, IsSaved, IsLastSaved}
 use Rattle.rcv_tables.specs.Rows.{TableView}

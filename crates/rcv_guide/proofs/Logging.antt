@@ -19,7 +19,8 @@ use Rattle.rcv_checkpoint.specs.declared.state.State as checkpoints
 use Rattle.rcv_tables.specs.Rows.{TableView}
 use Rattle.rcv_ledger.specs.Channels.{ChannelView, channel_at, HasFront}
 use Rattle.rcv_ledger.specs.Logs.{log_at, with_event_of}
-use Rattle.rcv_ledger.specs.Ledger.{LedgerView, stack_at, behind_event, with_send, with_recv, IsSound, Holds}
+use Rattle.rcv_depend.specs.Logs.{IsSound}
+use Rattle.rcv_ledger.specs.Ledger.{LedgerView, stack_at, behind_event, with_send, with_recv, Holds}
 use Rattle.rcv_ledger.specs.Laws.{IsMore}
 use Rattle.rcv_ledger.proofs.Holding.{sends_hold, recvs_hold}
 use Rattle.rcv_ledger.proofs.Lists.{get_left, get_more}

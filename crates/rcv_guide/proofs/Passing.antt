@@ -13,11 +13,10 @@ use Rattle.rcv_model.proofs.Keeping.{message_of}
 use Rattle.rcv_model.proofs.Lists.{some_same, prefix_shorter, prefix_trans, prefix_map}
 use Rattle.rcv_model.proofs.Located.{item, get_below}
 use Rattle.rcv_model.proofs.Queues.{prefix_at, from_of, at_number, get_here, take_here, around, put_by_true, taken_by_some}
-use Rattle.rcv_ledger.specs.Channels.{between}
+use Rattle.rcv_depend.specs.Logs.{between, IsSound}
 use Rattle.rcv_ledger.specs.Logs.{log_at}
-use Rattle.rcv_ledger.specs.Ledger.{IsSound}
-use Rattle.rcv_ledger.specs.Cut.{put_within, taken_within}
-use Rattle.rcv_ledger.proofs.Following.{sent_here, sent_else, got_here, no_put, apart}
+use Rattle.rcv_depend.specs.Cuts.{put_within, taken_within}
+use Rattle.rcv_depend.proofs.Crossing.{sent_here, sent_else, got_here, no_put, apart}
 use Rattle.rcv_ledger.proofs.Lists.{none_there}
 use Rattle.rcv_guide.specs.declared.renewal.Front.{Front}
 use Rattle.rcv_guide.specs.Renewal.{AreOrdered, ArePassed, IsLeast, IsNextEvent, left_in}

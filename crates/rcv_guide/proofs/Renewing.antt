@@ -21,12 +21,13 @@ use Rattle.rcv_model.proofs.Located.{get_below}
 use Rattle.rcv_checkpoint.specs.declared.state.State as checkpoints
 use Rattle.rcv_checkpoint.specs.Rows.{nowhere}
 use Rattle.rcv_checkpoint.specs.Stack.{StackView, held, last_vars}
-use Rattle.rcv_ledger.specs.Channels.{ChannelView, between, channel_at, HasFront}
+use Rattle.rcv_depend.specs.Logs.{between}
+use Rattle.rcv_ledger.specs.Channels.{ChannelView, channel_at, HasFront}
 use Rattle.rcv_ledger.specs.Logs.{log_at}
 use Rattle.rcv_ledger.specs.Ledger as ledgers
 use Rattle.rcv_ledger.specs.Ledger.{LedgerView, stack_at, with_state, with_send, with_recv, behind_event, state_behind, IsStart, Holds}
 use Rattle.rcv_ledger.specs.Laws.{IsMore}
-use Rattle.rcv_ledger.specs.Cut.{put_within, taken_within}
+use Rattle.rcv_depend.specs.Cuts.{put_within, taken_within}
 use Rattle.rcv_ledger.proofs.Holding.{sends_hold, recvs_hold, starts_hold_nothing}
 use Rattle.rcv_ledger.proofs.Lists.{none_there}
 use Rattle.rcv_guide.specs.Failing.{all_events}

@@ -9,7 +9,7 @@ use Rattle.rcv_model.specs.Net.{Net, IsPrefix}
 use Rattle.rcv_model.specs.Run.{is_sent, put, taken}
 use Rattle.rcv_model.proofs.Lists.{prefix_length}
 use Rattle.rcv_ledger.specs.Logs.{log_at}
-use Rattle.rcv_ledger.specs.Cut.{put_within, taken_within}
+use Rattle.rcv_depend.specs.Cuts.{put_within, taken_within}
 use Rattle.rcv_ledger.proofs.Lists.{none_there}
 use Rattle.rcv_guide.specs.Renewal.{AreOrdered, MayEnd, stays_at, one_staying, staying}
 use Rattle.rcv_guide.proofs.Staying.{take_more, take_end, put_up, taken_up, send_stays, recv_stays}

@@ -14,7 +14,7 @@ use Rattle.rcv_model.proofs.Keeping.{message_of}
 use Rattle.rcv_model.proofs.Lists.{some_same, prefix_nil, prefix_refl, prefix_map, prefix_length, prefix_cons}
 use Rattle.rcv_model.proofs.Queues.{put_message}
 use Rattle.rcv_ledger.specs.Logs.{log_at}
-use Rattle.rcv_ledger.specs.Cut.{taken_within}
+use Rattle.rcv_depend.specs.Cuts.{taken_within}
 use Rattle.rcv_guide.specs.Renewal.{stays_at, one_staying, staying}
 
 -- the first items of a list, one more, and more

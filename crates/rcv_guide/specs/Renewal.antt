@@ -7,10 +7,10 @@ use Rattle.rcv_tree.specs.declared.event.Dir.TheVariants.{Sent, Got}
 use Rattle.rcv_model.specs.Net.{Net, IsPrefix}
 use Rattle.rcv_model.specs.Run.{is_sent, put, taken, IsQueued}
 use Rattle.rcv_model.specs.Journal.{events_of}
-use Rattle.rcv_ledger.specs.Channels.{between}
+use Rattle.rcv_depend.specs.Logs.{between, AreSound}
 use Rattle.rcv_ledger.specs.Logs.{log_at}
-use Rattle.rcv_ledger.specs.Ledger.{LedgerView, stack_at, behind_event, with_send, with_recv, HasRoom, HasRoomToSend, AreSound, Holds}
-use Rattle.rcv_ledger.specs.Cut.{put_within, taken_within}
+use Rattle.rcv_ledger.specs.Ledger.{LedgerView, stack_at, behind_event, with_send, with_recv, HasRoom, HasRoomToSend, Holds}
+use Rattle.rcv_depend.specs.Cuts.{put_within, taken_within}
 use Rattle.rcv_guide.specs.declared.numbers.Numbers.{Numbers}
 use Rattle.rcv_guide.specs.declared.renewal.Front.{Front}
 use Rattle.rcv_guide.specs.Numbers.{numbers_at}

@@ -4,7 +4,7 @@ ghost use Rattle.std.specs.Prelude.{◌≡◌, ◌<◌, length, drop, IfOk};
 ghost use Rattle.rcv_model.specs.Run.{put, puts_on};
 ghost use Rattle.rcv_points.specs.Follow.{net_in};
 ghost use Rattle.rcv_ledger.specs.Logs.{log_at};
-ghost use Rattle.rcv_ledger.specs.Ledger.{AreSound, IsSound};
+ghost use Rattle.rcv_depend.specs.Logs.{AreSound, IsSound};
 
 use rcv_ledger::ledger::Ledger;
 use rcv_points::points::Points;

@@ -29,7 +29,7 @@ use crate::recovery::Recovery;
 use crate::{failing, renewal};
 use rcv_accept::accepted::Accepted;
 use rcv_checkpoint::changed::Changed;
-use rcv_ledger::cut::cut;
+use rcv_depend::cut::cut;
 use rcv_ledger::ledger::Ledger;
 use rcv_plan::plan::Plan;
 use rcv_saves::saves::Saves;

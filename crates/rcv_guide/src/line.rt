@@ -2,12 +2,13 @@
 
 ghost use Rattle.std.specs.Prelude.{◌≡◌, ◌+◌, ◌<◌, ◌≤◌, ◌^◌, ℕ, MatchOption, length, slice_index};
 ghost use Rattle.rcv_points.specs.Follow.{net_in};
-ghost use Rattle.rcv_ledger.specs.Ledger.{AreSound, AreCarried};
-ghost use Rattle.rcv_ledger.specs.Cut.{AreFew, AreOfEvents, IsCounted};
+ghost use Rattle.rcv_depend.specs.Logs.{AreSound, AreFew, AreOfEvents};
+ghost use Rattle.rcv_ledger.specs.Ledger.{AreCarried};
+ghost use Rattle.rcv_depend.specs.Cuts.{IsCounted};
 ghost use Rattle.rcv_guide.specs.Line.{AreNumbered, AreSavedCounts, AreBehindSeeds, GoesBackTo, IsLastCount, IsLineIn, ReachSeeds};
 
 use crate::numbers::Numbers;
-use rcv_ledger::cut::Counted;
+use rcv_depend::cut::Counted;
 use rcv_ledger::ledger::Ledger;
 use rcv_points::points::Points;
 use rcv_saves::saves::Saves;
@@ -27,7 +28,7 @@ pub fn line(numbers: &[Numbers], ledger: &Ledger, points: &Points, saves: &Saves
     requires steps { length ledger.now.logs ≤ length saves.now.steps }
     ensures { IsLineIn (net_in points.now) ledger.now.logs numbers.now saves.now result }
 {
-    let mut counted = Counted::all(ledger);
+    let mut counted = Counted::all(ledger, points);
     counted.settle(ledger, points);
     while let Some(back) = unsaved(&counted.counts, numbers, saves) {
         lower_to(&mut counted, ledger, points, back.role, back.count);

@@ -14,13 +14,10 @@ use Rattle.rcv_model.specs.StableLine.{IsStable, IsStableLine}
 use Rattle.rcv_model.proofs.Bystanders.{as_many}
 use Rattle.rcv_theory.specs.Counts.{IsGreatestClosed, kept_counts}
 use Rattle.rcv_theory.proofs.Counting.{greatest_kept}
-use Rattle.rcv_depend.specs.Cuts.{AreLogsOf}
-use Rattle.rcv_ledger.specs.Logs.{log_at}
-use Rattle.rcv_ledger.specs.Channels.{between}
-use Rattle.rcv_ledger.specs.declared.cut.Counted.{Counted}
-use Rattle.rcv_ledger.specs.Cut.{put_within, taken_within, IsCounted, AllEven, StaysAbove}
-use Rattle.rcv_ledger.proofs.Keeping.{reached}
-use Rattle.rcv_ledger.proofs.Lists.{none_there}
+use Rattle.rcv_depend.specs.Logs.{log_at, AreLogsOf}
+use Rattle.rcv_depend.specs.declared.cut.Counted.{Counted}
+use Rattle.rcv_depend.specs.Cuts.{put_within, taken_within, IsCounted, AllEven, StaysAbove}
+use Rattle.rcv_depend.proofs.Keeping.{reached}
 use Rattle.rcv_line.specs.Line.{AreSaved, IsLineOf, IsAboveLines}
 
 -- All events are at least each stable line.
@@ -80,7 +77,7 @@ has_log net logs cut every role a unsaved = (some, ⊎_elim (λ lt. lt) (λ le. 
 
     never : length logs ≤ role → ⊥
     never le =
-        let z = ap length (none_there logs role [] le) in
+        let z = ap length (get_or_past logs role [] le) in
         let m = a.made role in
         omega (arith, z, m, some)
 

@@ -1,7 +1,7 @@
 use Rattle.std.specs.Prelude.{length}
 use Rattle.std.specs.List.{sum}
 use Rattle.rcv_points.specs.Follow.{net_in}
-use Rattle.rcv_ledger.specs.Cut.{IsCounted, AllEven}
+use Rattle.rcv_depend.specs.Cuts.{IsCounted, AllEven}
 use Rattle.rcv_guide.specs.Line.{AreAboveLines}
 use Rattle.rcv_guide.proofs.line.line.Given as goal
 

@@ -1,7 +1,7 @@
 use Rattle.std.proofs.Common.{◌≡◌, ◌≤◌, ℕ}
 use Rattle.std.specs.Prelude.{slice_index}
 use Rattle.rcv_points.specs.Follow.{net_in}
-use Rattle.rcv_ledger.specs.Cut.{IsCounted}
+use Rattle.rcv_depend.specs.Cuts.{IsCounted}
 use Rattle.rcv_guide.proofs.line.lower_to.Given as goal
 
 abbrev pub invariant-loop-counted : goal.invariant-loop-counted

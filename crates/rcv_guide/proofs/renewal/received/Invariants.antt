@@ -1,8 +1,8 @@
 use Rattle.std.proofs.Common.{◌≡◌, ◌<◌, ◌≤◌, ℕ, length}
 use Rattle.std.specs.Prelude.{slice_index}
 use Rattle.rcv_points.specs.Follow.{net_in}
-use Rattle.rcv_ledger.specs.Channels.{between}
-use Rattle.rcv_ledger.specs.Cut.{taken_within}
+use Rattle.rcv_depend.specs.Logs.{between}
+use Rattle.rcv_depend.specs.Cuts.{taken_within}
 use Rattle.rcv_guide.proofs.renewal.received.Given as goal
 
 abbrev pub invariant-loop-place : goal.invariant-loop-place

@@ -1,7 +1,7 @@
 use Rattle.std.proofs.Common.{◌<◌, ◌≤◌, ◌%◌, ℕ}
 use Rattle.std.specs.Prelude.{slice_index}
 use Rattle.rcv_points.specs.Follow.{net_in}
-use Rattle.rcv_ledger.specs.Cut.{IsCounted}
+use Rattle.rcv_depend.specs.Cuts.{IsCounted}
 use Rattle.rcv_line.specs.Line.{IsAboveLines}
 use Rattle.rcv_line.proofs.line.lower_to_saved.Given as goal
 

@@ -2,7 +2,6 @@
 use Rattle.std.proofs.Common.{sym, subst, arith}
 use Rattle.std.specs.Prelude.{slice_index}
 use Rattle.rcv_points.specs.Follow.{net_in}
-use Rattle.rcv_ledger.proofs.Keeping.{all_counted}
 use Rattle.rcv_line.proofs.Lines.{all_above, lines_stay, line_found, sum_less}
 use Rattle.rcv_line.proofs.line.stable_line.Goals as goal
 

@@ -6,7 +6,7 @@ use Rattle.rcv_model.specs.Places.{net_of}
 use Rattle.rcv_points.specs.Follow.{net_in}
 use Rattle.rcv_points.proofs.Whole.{same_net}
 use Rattle.rcv_ledger.specs.Ledger.{AreCarried}
-use Rattle.rcv_ledger.specs.Cut.{AreOfEvents}
+use Rattle.rcv_depend.specs.Logs.{AreOfEvents}
 use Rattle.rcv_guide.specs.declared.numbers.Numbers.{Numbers}
 use Rattle.rcv_guide.specs.Guide.{GuideView}
 use Rattle.rcv_guide.specs.Line.{IsLine, IsLineIn, AreNumbered}

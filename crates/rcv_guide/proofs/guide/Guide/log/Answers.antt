@@ -6,7 +6,7 @@ use Rattle.rcv_model.specs.Text.{body_of}
 use Rattle.rcv_model.specs.Places.{net_of}
 use Rattle.rcv_points.proofs.Whole.{same_net}
 use Rattle.rcv_ledger.specs.Channels.{channel_at, HasFront}
-use Rattle.rcv_ledger.specs.Ledger.{IsSound}
+use Rattle.rcv_depend.specs.Logs.{IsSound}
 use Rattle.rcv_ledger.proofs.Lists.{of_ok}
 use Rattle.rcv_guide.specs.Guide.{GuideView, IsGuide}
 use Rattle.rcv_guide.specs.Renewal.{HasRoomToAdd, with_one}

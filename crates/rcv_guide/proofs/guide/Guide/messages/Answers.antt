@@ -7,7 +7,7 @@ use Rattle.rcv_model.specs.Run.{put}
 use Rattle.rcv_model.specs.Text.{body_of}
 use Rattle.rcv_points.proofs.Whole.{same_net}
 use Rattle.rcv_ledger.specs.Logs.{log_at}
-use Rattle.rcv_ledger.specs.Ledger.{AreSound}
+use Rattle.rcv_depend.specs.Logs.{AreSound}
 use Rattle.rcv_guide.specs.Guide.{GuideView, guide_of, roles_of, in_channel, IsOfText}
 use Rattle.rcv_guide.proofs.Guides.{low, carried}
 use Rattle.rcv_guide.proofs.Lying.{behind_taken, of_text}

@@ -5,7 +5,8 @@ use Rattle.rcv_model.specs.Text.{body_of}
 use Rattle.rcv_points.proofs.Whole.{same_net}
 use Rattle.rcv_depend.specs.Keeps as keeping
 use Rattle.rcv_ledger.specs.Ledger.{AreCarried}
-use Rattle.rcv_ledger.specs.Cut.{IsKeptOf, AreOfEvents}
+use Rattle.rcv_depend.specs.Cuts.{IsKeptOf}
+use Rattle.rcv_depend.specs.Logs.{AreOfEvents}
 use Rattle.rcv_guide.specs.declared.numbers.Numbers.{Numbers}
 use Rattle.rcv_guide.specs.Failing.{HaveLogs, AreKeeps, AreMade}
 use Rattle.rcv_guide.specs.Guide.{GuideView, guide_of, MayRecover, AreLeft, IsFailureOf}
@@ -27,8 +28,8 @@ keeps-keeps-requires-clause-same c =
     let d = c.self.invariant.logs in
     omega (arith, a, b, d)
 
-pub cut-left-requires-clause-carried : goal.cut-left-requires-clause-carried
-cut-left-requires-clause-carried c = subst (λ (net : Net). AreCarried net c.self.inside.ledger.logs c.self.inside.ledger.channels) (sym (same_net (body_of c.self.inside.accepted.protocol.body) _ c.points.result.now c.self.invariant.protocol.form c.points.ensures)) (carried c.self.invariant)
+pub cut-left-requires-clause-protocol : goal.cut-left-requires-clause-protocol
+cut-left-requires-clause-protocol c = subst (λ (net : Net). AreCarried net c.self.inside.ledger.logs c.self.inside.ledger.channels) (sym (same_net (body_of c.self.inside.accepted.protocol.body) _ c.points.result.now c.self.invariant.protocol.form c.points.ensures)) (carried c.self.invariant)
 
 pub cut-left-requires-clause-few : goal.cut-left-requires-clause-few
 cut-left-requires-clause-few c = few_to_cut c.self.invariant
