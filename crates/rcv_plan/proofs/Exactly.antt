@@ -18,8 +18,7 @@ use Rattle.rcv_plan.specs.Codes.{is_between}
 use Rattle.rcv_plan.specs.Refusing.{code_of, backward, HoldsAt, IsFree, IsFirst, IsRead, Ends}
 use Rattle.rcv_plan.specs.Items.{KnownView, Step, Takes, Stops, Goes, next_item}
 use Rattle.rcv_plan.proofs.Fresh.{Fresh, fresh}
-use Rattle.rcv_plan.proofs.Telling.{has, NoneAt, AllFree, Speaks, Knows, Tells, TakesItem, StopsAt, Completes, Allowed}
-use Rattle.rcv_plan.proofs.Hosting.{backward_append, free_append}
+use Rattle.rcv_plan.proofs.Telling.{has, NoneAt, AllFree, Speaks, Knows, Tells, TakesItem, StopsAt, Completes, Allowed, backward_append, free_append}
 use Rattle.rcv_plan.proofs.Items.{item_tells}
 use Rattle.rcv_plan.proofs.Crashes.{none_once, once_more}
 

@@ -14,8 +14,8 @@ use Rattle.rcv_plan.specs.Grammar.{Written, WrittenEvery, WrittenCrash, WrittenL
 use Rattle.rcv_plan.specs.Codes.{is_between, with_role, lines_before, is_unknown, is_repeated, is_out_of_range, within}
 use Rattle.rcv_plan.specs.Refusing.{backward, IsFree, IsRead}
 use Rattle.rcv_plan.proofs.Fresh.{Fresh, fresh}
-use Rattle.rcv_plan.proofs.Telling.{declared, in_range}
-use Rattle.rcv_plan.proofs.Hosting.{backward_append, last_grows, Behind, grown}
+use Rattle.rcv_plan.proofs.Telling.{declared, in_range, backward_append}
+use Rattle.rcv_plan.proofs.Hosting.{last_grows, Behind, grown}
 
 -- ---- where no code holds
 

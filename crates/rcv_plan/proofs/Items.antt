@@ -14,8 +14,8 @@ use Rattle.rcv_plan.specs.Grammar.{WrittenEvery, WrittenCrash, WrittenLimit, Wri
 use Rattle.rcv_plan.specs.Codes.{is_among, with_role, lines_before, hosts_before, is_second}
 use Rattle.rcv_plan.specs.Items.{KnownView, Step, Takes, Stops, goes_on, with_host, next_sign, next_member, next_members, host_roles, every_line, crash_line, limit_line, room_line, host_line, line_by, next_item, is_first_word}
 use Rattle.rcv_plan.proofs.Fresh.{Fresh}
-use Rattle.rcv_plan.proofs.Telling.{has, NoneAt, AllFree, Speaks, Knows, Tells, StopsAt, Completes, Allowed, fits_more, every_tells, crash_tells, limit_tells, room_tells}
-use Rattle.rcv_plan.proofs.Hosting.{backward_append, free_append, same_bytes, IsWordAt, TellsRole, role_tells, TellsRoles, Behind, free_comma, roles_tell, last_grows, hosted_so_far}
+use Rattle.rcv_plan.proofs.Telling.{has, NoneAt, AllFree, Speaks, Knows, Tells, StopsAt, Completes, Allowed, fits_more, backward_append, free_append, stops, first_free, every_tells, crash_tells, limit_tells, room_tells}
+use Rattle.rcv_plan.proofs.Hosting.{same_bytes, IsWordAt, TellsRole, role_tells, TellsRoles, Behind, free_comma, roles_tell, last_grows, hosted_so_far}
 use Rattle.std.proofs.lemmas.List.Elements.{All-push}
 
 more_roles_append : (xs ys : List (List ℕ)) → more_roles (xs ++ ys) ≡ more_roles xs ++ more_roles ys
@@ -23,12 +23,7 @@ more_roles_append [] ys = refl
 more_roles_append (x ∷ xs) ys = ap (λ (z : List Symbol). Is Comma ∷ Word x ∷ z) (more_roles_append xs ys)
 
 host_free : (roles : List (List ℕ)) (back : List Symbol) (ts : List Symbol) → Fresh back → NoneAt roles back (Word (codes "host")) ts
-host_free roles back ts f = record {
-  had = rw (f.behind (codes "every"), f.behind (codes "crash"), f.behind (codes "host"), f.in_list, f.between) refl;
-  known = rw (f.behind (codes "every"), f.behind (codes "crash"), f.in_list) refl;
-  single = rw (f.between, f.behind (codes "host"), f.in_list) refl;
-  ranged = refl;
-}
+host_free roles back ts f = first_free roles back (codes "host") ts f refl refl
 
 names_before : (roles : List (List ℕ)) (back : List Symbol) (k : KnownView) → Fresh back → Knows roles back k → hosts_before (Word (codes "host") ∷ back) ≡ k.names
 names_before roles back k f kn = rw (f.behind (codes "host")) (sym kn.names)
@@ -154,56 +149,26 @@ second_role roles back k h a qs ts (Takes two left) f kn e one within first line
 -- ---- the whole item of a host
 
 host_stops : (roles : List (List ℕ)) (back : List Symbol) (fault : Fault) (ts : List Symbol) → Fresh back → Speaks roles fault (Word (codes "host") ∷ back) ts → Allowed fault (Word (codes "host") ∷ []) ts → StopsAt roles back (Word (codes "host") ∷ ts) fault ts
-host_stops roles back fault ts f speaks allowed = record {
-  allowed = allowed;
-  front = Word (codes "host") ∷ [];
-  cut = refl;
-  free = (host_free roles back ts f, tt);
-  speaks = speaks;
-  item = WrittenHost [] [] [] [];
-  rest = Word [] ∷ Is Equals ∷ Word [] ∷ Is Comma ∷ Word [] ∷ [];
-  begins = refl;
-}
+host_stops roles back fault ts f speaks allowed =
+    stops roles back (Word (codes "host") ∷ []) fault ts (WrittenHost [] [] [] [], Word [] ∷ Is Equals ∷ Word [] ∷ Is Comma ∷ Word [] ∷ [], refl) (host_free roles back ts f, tt) speaks allowed
 
 name_stops : (roles : List (List ℕ)) (back : List Symbol) (k : KnownView) (h : List ℕ) (fault : Fault) (ts : List Symbol) → Fresh back → Knows roles back k → is_among h k.names ≡ false
     → Speaks roles fault (Word h ∷ Word (codes "host") ∷ back) ts → Allowed fault (Word (codes "host") ∷ Word h ∷ []) ts → StopsAt roles back (Word (codes "host") ∷ Word h ∷ ts) fault ts
-name_stops roles back k h fault ts f kn e speaks allowed = record {
-  allowed = allowed;
-  front = Word (codes "host") ∷ Word h ∷ [];
-  cut = refl;
-  free = (host_free roles back (Word h ∷ ts) f, (name_free roles back k h ts f kn e, tt));
-  speaks = speaks;
-  item = WrittenHost h [] [] [];
-  rest = Is Equals ∷ Word [] ∷ Is Comma ∷ Word [] ∷ [];
-  begins = refl;
-}
+name_stops roles back k h fault ts f kn e speaks allowed =
+    stops roles back (Word (codes "host") ∷ Word h ∷ []) fault ts (WrittenHost h [] [] [], Is Equals ∷ Word [] ∷ Is Comma ∷ Word [] ∷ [], refl)
+    (host_free roles back (Word h ∷ ts) f, (name_free roles back k h ts f kn e, tt)) speaks allowed
 
 open_stops : (roles : List (List ℕ)) (back : List Symbol) (k : KnownView) (h : List ℕ) (fault : Fault) (ts : List Symbol) → Fresh back → Knows roles back k → is_among h k.names ≡ false
     → Speaks roles fault (Is Equals ∷ Word h ∷ Word (codes "host") ∷ back) ts → Allowed fault (opening h) ts → StopsAt roles back (Word (codes "host") ∷ Word h ∷ Is Equals ∷ ts) fault ts
-open_stops roles back k h fault ts f kn e speaks allowed = record {
-  allowed = allowed;
-  front = opening h;
-  cut = refl;
-  free = opening_free roles back k h ts f kn e;
-  speaks = speaks;
-  item = WrittenHost h [] [] [];
-  rest = Word [] ∷ Is Comma ∷ Word [] ∷ [];
-  begins = refl;
-}
+open_stops roles back k h fault ts f kn e speaks allowed =
+    stops roles back (opening h) fault ts (WrittenHost h [] [] [], Word [] ∷ Is Comma ∷ Word [] ∷ [], refl) (opening_free roles back k h ts f kn e) speaks allowed
 
 first_stops : (roles : List (List ℕ)) (back : List Symbol) (k : KnownView) (h a : List ℕ) (fault : Fault) (ts : List Symbol) → Fresh back → Knows roles back k → is_among h k.names ≡ false
     → NoneAt roles (Is Equals ∷ Word h ∷ Word (codes "host") ∷ back) (Word a) ts
     → Speaks roles fault (Word a ∷ Is Equals ∷ Word h ∷ Word (codes "host") ∷ back) ts → Allowed fault (Word (codes "host") ∷ Word h ∷ Is Equals ∷ Word a ∷ []) ts → StopsAt roles back (Word (codes "host") ∷ Word h ∷ Is Equals ∷ Word a ∷ ts) fault ts
-first_stops roles back k h a fault ts f kn e first speaks allowed = record {
-  allowed = allowed;
-  front = Word (codes "host") ∷ Word h ∷ Is Equals ∷ Word a ∷ [];
-  cut = refl;
-  free = (host_free roles back (Word h ∷ Is Equals ∷ Word a ∷ ts) f, (name_free roles back k h (Is Equals ∷ Word a ∷ ts) f kn e, (equals_free roles back h (Word a ∷ ts) f, (first, tt))));
-  speaks = speaks;
-  item = WrittenHost h a [] [];
-  rest = Is Comma ∷ Word [] ∷ [];
-  begins = refl;
-}
+first_stops roles back k h a fault ts f kn e first speaks allowed =
+    stops roles back (Word (codes "host") ∷ Word h ∷ Is Equals ∷ Word a ∷ []) fault ts (WrittenHost h a [] [], Is Comma ∷ Word [] ∷ [], refl)
+    (host_free roles back (Word h ∷ Is Equals ∷ Word a ∷ ts) f, (name_free roles back k h (Is Equals ∷ Word a ∷ ts) f kn e, (equals_free roles back h (Word a ∷ ts) f, (first, tt)))) speaks allowed
 
 -- what stands behind the first role
 behind_first : (roles : List (List ℕ)) (back : List Symbol) (k : KnownView) (h a : List ℕ) (qs : List ℕ) (ts : List Symbol) → Fresh back → Knows roles back k → is_among h k.names ≡ false
@@ -268,7 +233,7 @@ host_tells roles back k (Word h ∷ ts) f kn = go (is_among h k.names) refl
 -- ---- any item
 
 empty_stops : (roles : List (List ℕ)) (back : List Symbol) (fault : Fault) (ts : List Symbol) → Speaks roles fault back ts → Allowed fault [] ts → StopsAt roles back ts fault ts
-empty_stops roles back fault ts speaks allowed = record { allowed = allowed; front = []; cut = refl; free = tt; speaks = speaks; item = WrittenLimit 1; rest = item_text (WrittenLimit 1); begins = refl }
+empty_stops roles back fault ts speaks allowed = stops roles back [] fault ts (WrittenLimit 1, item_text (WrittenLimit 1), refl) tt speaks allowed
 
 -- a second line of a kind
 second_speaks : (roles : List (List ℕ)) (back : List Symbol) (w : List ℕ) (ts : List Symbol) → Fresh back → is_first_word w ≡ true → is_second roles (lines_before roles back) w ts ≡ true → Speaks roles Twice back (Word w ∷ ts)
@@ -313,10 +278,10 @@ line_tells roles back k w ts f kn first e = go (bytes_eq w (codes "every")) (byt
 
     go : (a b c d h : Bool) → bytes_eq w (codes "every") ≡ a → bytes_eq w (codes "crash") ≡ b → bytes_eq w (codes "limit") ≡ c → bytes_eq w (codes "room") ≡ d → bytes_eq w (codes "host") ≡ h → ((((a || b) || c) || d) || h) ≡ true
         → Tells roles back k (Word w ∷ ts) (cond a (every_line roles k ts) (cond b (crash_line roles k ts) (cond c (limit_line k ts) (cond d (room_line k ts) (host_line roles k ts)))))
-    go true b c d h p q r s t any = turn (codes "every") (every_line roles k ts) p (every_tells roles back k ts f kn)
-    go false true c d h p q r s t any = turn (codes "crash") (crash_line roles k ts) q (crash_tells roles back k ts f kn)
-    go false false true d h p q r s t any = turn (codes "limit") (limit_line k ts) r (limit_tells roles back k ts f kn)
-    go false false false true h p q r s t any = turn (codes "room") (room_line k ts) s (room_tells roles back k ts f kn)
+    go true b c d h p q r s t any = turn (codes "every") (every_line roles k ts) p (every_tells roles back k f kn ts)
+    go false true c d h p q r s t any = turn (codes "crash") (crash_line roles k ts) q (crash_tells roles back k f kn ts)
+    go false false true d h p q r s t any = turn (codes "limit") (limit_line k ts) r (limit_tells roles back k f kn ts)
+    go false false false true h p q r s t any = turn (codes "room") (room_line k ts) s (room_tells roles back k f kn ts)
     go false false false false true p q r s t any = turn (codes "host") (host_line roles k ts) t (λ n. host_tells roles back k ts f kn)
     go false false false false false p q r s t any = absurd cc
 

@@ -1,7 +1,7 @@
 -- What the steps of a reader say in the words of the table: no code holds at what is taken, and where it stops the first
 -- and least one holds.
-use Rattle.std.proofs.Common.{◌≡◌, ℕ, Bool, true, false, List, [], ◌∷◌, ◌++◌, ◌<◌, ◌≤◌, length, arith, refl, ap, subst}
-use Rattle.std.specs.Prelude.{◌&&◌, ◌||◌, ◌==◌, codes, cond, Option, Some, None}
+use Rattle.std.proofs.Common.{◌≡◌, ℕ, Bool, true, false, List, [], ◌∷◌, ◌++◌, ◌<◌, ◌≤◌, length, arith, refl, sym, ◌∙◌, ap, subst, append_assoc, append-nil}
+use Rattle.std.specs.Prelude.{◌&&◌, ◌||◌, ◌==◌, not, codes, cond, Option, Some, None}
 use Rattle.std.specs.Str.{bytes_eq}
 use Rattle.rcv_model.specs.Plan.{PlanLine, EveryLine, CrashLine, LimitLine, RoomLine, HostLine}
 use Rattle.rcv_plan.specs.declared.sign.Sign.{Sign}
@@ -12,10 +12,10 @@ use Rattle.std.proofs.lemmas.Bool.Decides.{nat_tests}
 use Rattle.std.proofs.lemmas.List.Quantifiers.{position-Some}
 use Rattle.std.proofs.lemmas.List.Elements.{All-head, All-tail, All-cons}
 use Rattle.rcv_plan.specs.Lines.{IsReadLine, IsReadPlan, has_crash}
-use Rattle.rcv_plan.specs.Grammar.{Written, WrittenEvery, WrittenCrash, WrittenLimit, WrittenRoom, item_text, place_of, place, said}
+use Rattle.rcv_plan.specs.Grammar.{Written, WrittenEvery, WrittenCrash, WrittenLimit, WrittenRoom, item_text, place_of, is_role, place, said}
 use Rattle.rcv_plan.specs.Codes.{is_between, is_behind, is_behind_role, is_in_list, lines_before, hosts_before, is_unknown, is_repeated, is_second, is_out_of_range, within}
 use Rattle.rcv_plan.specs.Refusing.{backward}
-use Rattle.rcv_plan.specs.Items.{KnownView, Step, Takes, Stops, goes_on, with_line, found, next_number, next_count, every_line, crash_line, limit_line, room_line, is_first_word}
+use Rattle.rcv_plan.specs.Items.{KnownView, Step, Takes, Stops, goes_on, with_line, found, next_role, next_number, next_count, every_line, crash_line, limit_line, room_line, is_first_word}
 use Rattle.rcv_plan.proofs.Fresh.{Fresh}
 use Rattle.rcv_plan.proofs.Crashes.{same_crash}
 
@@ -118,377 +118,254 @@ no_crash m p n (LimitLine c ∷ lines) f w = no_crash m p n lines (All-tail (IsR
 no_crash m p n (RoomLine c ∷ lines) f w = no_crash m p n lines (All-tail (IsReadLine m) (RoomLine c) lines f) w
 no_crash m p n (HostLine qs ∷ lines) f w = no_crash m p n lines (All-tail (IsReadLine m) (HostLine qs) lines f) w
 
--- ---- limit
+-- ---- where an item stops, and its first word
 
-limit_free : (roles : List (List ℕ)) (back : List Symbol) (ts : List Symbol) → Fresh back → is_second roles (lines_before roles back) (codes "limit") ts ≡ false → NoneAt roles back (Word (codes "limit")) ts
-limit_free roles back ts f e = record {
-  had = rw (f.behind (codes "every"), f.behind (codes "crash"), f.behind (codes "host"), f.in_list, f.between) refl;
+pub backward_append : (xs ys back : List Symbol) → backward (xs ++ ys) back ≡ backward ys (backward xs back)
+backward_append [] ys back = refl
+backward_append (x ∷ xs) ys back = backward_append xs ys (x ∷ back)
+
+pub free_append : (roles : List (List ℕ)) (back xs ys left : List Symbol) → AllFree roles back xs (ys ++ left) → AllFree roles (backward xs back) ys left → AllFree roles back (xs ++ ys) left
+free_append roles back [] ys left a b = b
+free_append roles back (x ∷ xs) ys left a b = (subst (λ (z : List Symbol). NoneAt roles back x z) (sym (append_assoc xs ys left)) a.0, free_append roles (x ∷ back) xs ys left a.1 b)
+
+-- behind symbols that begin an item, and at which no code holds
+pub stops : (roles : List (List ℕ)) (back front : List Symbol) (fault : Fault) (left : List Symbol) → Completes front → AllFree roles back front left
+    → Speaks roles fault (backward front back) left → Allowed fault front left → StopsAt roles back (front ++ left) fault left
+stops roles back front fault left begun free speaks allowed = record {
+  front = front;
+  cut = refl;
+  free = free;
+  speaks = speaks;
+  item = begun.0;
+  rest = begun.1;
+  begins = begun.2;
+  allowed = allowed;
+}
+
+pub first_free : (roles : List (List ℕ)) (back : List Symbol) (w : List ℕ) (ts : List Symbol) → Fresh back → is_first_word w ≡ true → is_second roles (lines_before roles back) w ts ≡ false → NoneAt roles back (Word w) ts
+first_free roles back w ts f first e = record {
+  had = rw (f.behind (codes "every"), f.behind (codes "crash"), f.behind (codes "host"), f.in_list, f.between, first) refl;
   known = rw (f.behind (codes "every"), f.behind (codes "crash"), f.in_list) refl;
   single = rw (f.between, f.behind (codes "host"), f.in_list, e) refl;
   ranged = refl;
 }
 
-limit_number : (roles : List (List ℕ)) (back : List Symbol) (n : ℕ) (ts : List Symbol) → Fresh back → within 1 100000 n ≡ true → NoneAt roles (Word (codes "limit") ∷ back) (Number n) ts
-limit_number roles back n ts f e = record {
-  had = rw (f.behind (codes "every"), f.behind (codes "crash"), f.between) refl;
-  known = refl;
-  single = rw (f.behind (codes "crash")) refl;
-  ranged = rw (f.behind (codes "every"), f.behind (codes "crash"), f.between, e) refl;
-}
+-- ---- the number at the end of an item
 
-pub limit_tells : (roles : List (List ℕ)) (back : List Symbol) (k : KnownView) (ts : List Symbol) → Fresh back → Knows roles back k → is_second roles (lines_before roles back) (codes "limit") ts ≡ false
-    → Tells roles back k (Word (codes "limit") ∷ ts) (limit_line k ts)
-limit_tells roles back k [] f kn e = record {
-  front = Word (codes "limit") ∷ [];
-  cut = refl;
-  free = (limit_free roles back [] f e, tt);
-  speaks = f.word (codes "limit");
-  item = WrittenLimit 1;
-  rest = Number 1 ∷ [];
-  begins = refl;
-  allowed = tt;
-}
-limit_tells roles back k (Word w ∷ ts) f kn e = record {
-  front = Word (codes "limit") ∷ [];
-  cut = refl;
-  free = (limit_free roles back (Word w ∷ ts) f e, tt);
-  speaks = rw (f.between, f.word (codes "limit")) refl;
-  item = WrittenLimit 1;
-  rest = Number 1 ∷ [];
-  begins = refl;
-  allowed = tt;
-}
-limit_tells roles back k (Is m ∷ ts) f kn e = record {
-  front = Word (codes "limit") ∷ [];
-  cut = refl;
-  free = (limit_free roles back (Is m ∷ ts) f e, tt);
-  speaks = rw (f.behind (codes "host"), f.in_list) refl;
-  item = WrittenLimit 1;
-  rest = Number 1 ∷ [];
-  begins = refl;
-  allowed = tt;
-}
-limit_tells roles back k (Text m ∷ ts) f kn e = record {
-  front = Word (codes "limit") ∷ [];
-  cut = refl;
-  free = (limit_free roles back (Text m ∷ ts) f e, tt);
-  speaks = refl;
-  item = WrittenLimit 1;
-  rest = Number 1 ∷ [];
-  begins = refl;
-  allowed = tt;
-}
-limit_tells roles back k (Number n ∷ ts) f kn e = go (within 1 100000 n) refl
-  where
-    go : (b : Bool) → within 1 100000 n ≡ b → Tells roles back k (Word (codes "limit") ∷ Number n ∷ ts) (goes_on (cond b (Takes n ts) (Stops Range (Number n ∷ ts))) (λ m us. Takes (with_line k (LimitLine m)) us))
-    go true w = record {
-      item = WrittenLimit n;
-      cut = refl;
-      free = (limit_free roles back (Number n ∷ ts) f e, (limit_number roles back n ts f w, tt));
-      knows = record {
-        lines = rw (f.hosted (lines_before roles back) (place roles (codes "limit")), f.between) (ap (λ (l : List PlanLine). l ++ LimitLine n ∷ []) kn.lines);
-        names = rw (f.behind (codes "host")) kn.names;
-        fits = fits_more (length roles) k.lines (LimitLine n) kn.fits (in_range 1 100000 n w);
-      };
-      over = refl;
-      settled = λ m vs x. refl;
-      more = refl;
-      alone = λ r c x. absurd cc;
-    }
-    go false w = record {
-      front = Word (codes "limit") ∷ [];
-      cut = refl;
-      free = (limit_free roles back (Number n ∷ ts) f e, tt);
-      speaks = (
-        rw (f.behind (codes "every"), f.behind (codes "crash"), f.between) refl,
-        refl,
-        rw (f.behind (codes "crash")) refl,
-        rw (f.behind (codes "every"), f.behind (codes "crash"), f.between, w) refl,
-      );
-      item = WrittenLimit 1;
-      rest = Number 1 ∷ [];
-      begins = refl;
-      allowed = (WrittenLimit n, [], refl);
-    }
+-- a number in a range, and not one that stands before
+abbrev next_new : ℕ → ℕ → (ℕ → Bool) → List Symbol → Step ℕ
+next_new low high stands (Number n ∷ ts) = cond (within low high n) (cond (stands n) (Stops Twice (Number n ∷ ts)) (Takes n ts)) (Stops Range (Number n ∷ ts))
+next_new low high stands ts = Stops Token ts
 
--- ---- room
+any_is_new : (low high : ℕ) (ts : List Symbol) → next_number low high ts ≡ next_new low high (λ n. false) ts
+any_is_new low high [] = refl
+any_is_new low high (Word w ∷ ts) = refl
+any_is_new low high (Number n ∷ ts) = refl
+any_is_new low high (Is m ∷ ts) = refl
+any_is_new low high (Text x ∷ ts) = refl
 
-room_free : (roles : List (List ℕ)) (back : List Symbol) (ts : List Symbol) → Fresh back → is_second roles (lines_before roles back) (codes "room") ts ≡ false → NoneAt roles back (Word (codes "room")) ts
-room_free roles back ts f e = record {
-  had = rw (f.behind (codes "every"), f.behind (codes "crash"), f.behind (codes "host"), f.in_list, f.between) refl;
-  known = rw (f.behind (codes "every"), f.behind (codes "crash"), f.in_list) refl;
-  single = rw (f.between, f.behind (codes "host"), f.in_list, e) refl;
-  ranged = refl;
-}
+count_is_new : (k : KnownView) (p : ℕ) (ts : List Symbol) → next_count k p ts ≡ next_new 0 100000 (λ n. has_crash p n k.lines) ts
+count_is_new k p [] = refl
+count_is_new k p (Word w ∷ ts) = refl
+count_is_new k p (Number n ∷ ts) = refl
+count_is_new k p (Is m ∷ ts) = refl
+count_is_new k p (Text x ∷ ts) = refl
 
-room_number : (roles : List (List ℕ)) (back : List Symbol) (n : ℕ) (ts : List Symbol) → Fresh back → within 1 1024 n ≡ true → NoneAt roles (Word (codes "room") ∷ back) (Number n) ts
-room_number roles back n ts f e = record {
-  had = rw (f.behind (codes "every"), f.behind (codes "crash"), f.between) refl;
-  known = refl;
-  single = rw (f.behind (codes "crash")) refl;
-  ranged = rw (f.behind (codes "every"), f.behind (codes "crash"), f.between, e) refl;
-}
+module _ (roles : List (List ℕ)) (back : List Symbol) (k : KnownView) (f : Fresh back) (kn : Knows roles back k) where
+  -- Behind this front of an item a number is next, and ends the item: one in this range that doesn't stand before.
+  record AsksNumber (front : List Symbol) (low high : ℕ) (stands : ℕ → Bool) (written : ℕ → Written) : Type 0 where
+    whole : (n : ℕ) → item_text (written n) ≡ front ++ Number n ∷ []
+    over : is_between (backward front back) ≡ false
+    word : (w : List ℕ) → has (backward front back) (Word w) ≡ false
+    sign : (m : Sign) → has (backward front back) (Is m) ≡ false
+    number : (n : ℕ) → has (backward front back) (Number n) ≡ true
+    single : (n : ℕ) (ts : List Symbol) → is_repeated roles (backward front back) (Number n) ts ≡ stands n
+    ranged : (n : ℕ) → within low high n ≡ true → is_out_of_range (backward front back) (Number n) ≡ false
+    beyond : (n : ℕ) → within low high n ≡ false → (stands n ≡ false) × (is_out_of_range (backward front back) (Number n) ≡ true)
+    lines : (n : ℕ) → lines_before roles (Number n ∷ backward front back) ≡ lines_before roles back ++ said roles (written n) ∷ []
+    names : hosts_before (backward front back) ≡ hosts_before back
+    fits : (n : ℕ) → within low high n ≡ true → IsReadLine (length roles) (said roles (written n))
+    alone : (n r c : ℕ) → stands n ≡ false → said roles (written n) ≡ CrashLine r c → has_crash r c k.lines ≡ false
 
-pub room_tells : (roles : List (List ℕ)) (back : List Symbol) (k : KnownView) (ts : List Symbol) → Fresh back → Knows roles back k → is_second roles (lines_before roles back) (codes "room") ts ≡ false
-    → Tells roles back k (Word (codes "room") ∷ ts) (room_line k ts)
-room_tells roles back k [] f kn e = record {
-  front = Word (codes "room") ∷ [];
-  cut = refl;
-  free = (room_free roles back [] f e, tt);
-  speaks = f.word (codes "room");
-  item = WrittenRoom 1;
-  rest = Number 1 ∷ [];
-  begins = refl;
-  allowed = tt;
-}
-room_tells roles back k (Word w ∷ ts) f kn e = record {
-  front = Word (codes "room") ∷ [];
-  cut = refl;
-  free = (room_free roles back (Word w ∷ ts) f e, tt);
-  speaks = rw (f.between, f.word (codes "room")) refl;
-  item = WrittenRoom 1;
-  rest = Number 1 ∷ [];
-  begins = refl;
-  allowed = tt;
-}
-room_tells roles back k (Is m ∷ ts) f kn e = record {
-  front = Word (codes "room") ∷ [];
-  cut = refl;
-  free = (room_free roles back (Is m ∷ ts) f e, tt);
-  speaks = rw (f.behind (codes "host"), f.in_list) refl;
-  item = WrittenRoom 1;
-  rest = Number 1 ∷ [];
-  begins = refl;
-  allowed = tt;
-}
-room_tells roles back k (Text m ∷ ts) f kn e = record {
-  front = Word (codes "room") ∷ [];
-  cut = refl;
-  free = (room_free roles back (Text m ∷ ts) f e, tt);
-  speaks = refl;
-  item = WrittenRoom 1;
-  rest = Number 1 ∷ [];
-  begins = refl;
-  allowed = tt;
-}
-room_tells roles back k (Number n ∷ ts) f kn e = go (within 1 1024 n) refl
-  where
-    go : (b : Bool) → within 1 1024 n ≡ b → Tells roles back k (Word (codes "room") ∷ Number n ∷ ts) (goes_on (cond b (Takes n ts) (Stops Range (Number n ∷ ts))) (λ m us. Takes (with_line k (RoomLine m)) us))
-    go true w = record {
-      item = WrittenRoom n;
-      cut = refl;
-      free = (room_free roles back (Number n ∷ ts) f e, (room_number roles back n ts f w, tt));
-      knows = record {
-        lines = rw (f.hosted (lines_before roles back) (place roles (codes "room")), f.between) (ap (λ (l : List PlanLine). l ++ RoomLine n ∷ []) kn.lines);
-        names = rw (f.behind (codes "host")) kn.names;
-        fits = fits_more (length roles) k.lines (RoomLine n) kn.fits (in_range 1 1024 n w);
-      };
-      over = refl;
-      settled = λ m vs x. refl;
-      more = refl;
-      alone = λ r c x. absurd cc;
-    }
-    go false w = record {
-      front = Word (codes "room") ∷ [];
-      cut = refl;
-      free = (room_free roles back (Number n ∷ ts) f e, tt);
-      speaks = (
-        rw (f.behind (codes "every"), f.behind (codes "crash"), f.between) refl,
-        refl,
-        rw (f.behind (codes "crash")) refl,
-        rw (f.behind (codes "every"), f.behind (codes "crash"), f.between, w) refl,
-      );
-      item = WrittenRoom 1;
-      rest = Number 1 ∷ [];
-      begins = refl;
-      allowed = (WrittenRoom n, [], refl);
-    }
+  -- the step with the number's line
+  abbrev ended : (ℕ → Written) → Step ℕ → Step KnownView
+  ended written step = goes_on step (λ n ts. Takes (with_line k (said roles (written n))) ts)
 
--- ---- every
+  number_tells : (front : List Symbol) {low high : ℕ} {stands : ℕ → Bool} {written : ℕ → Written} → AsksNumber front low high stands written
+      → (next : List Symbol → Step ℕ) → ((ts : List Symbol) → next ts ≡ next_new low high stands ts)
+      → (ts : List Symbol) → AllFree roles back front ts → Tells roles back k (front ++ ts) (ended written (next ts))
+  number_tells front {low} {high} {stands} {written} asks next is_new ts free = subst (λ (s : Step ℕ). Tells roles back k (front ++ ts) (ended written s)) (sym (is_new ts)) (go ts free)
+    where
+      begun : Completes front
+      begun = (written 0, Number 0 ∷ [], sym (asks.whole 0))
 
-every_free : (roles : List (List ℕ)) (back : List Symbol) (ts : List Symbol) → Fresh back → is_second roles (lines_before roles back) (codes "every") ts ≡ false → NoneAt roles back (Word (codes "every")) ts
-every_free roles back ts f e = record {
-  had = rw (f.behind (codes "every"), f.behind (codes "crash"), f.behind (codes "host"), f.in_list, f.between) refl;
-  known = rw (f.behind (codes "every"), f.behind (codes "crash"), f.in_list) refl;
-  single = rw (f.between, f.behind (codes "host"), f.in_list, e) refl;
-  ranged = refl;
-}
+      go : (ts : List Symbol) → AllFree roles back front ts → Tells roles back k (front ++ ts) (ended written (next_new low high stands ts))
+      go [] free = stops roles back front Token [] begun free asks.over tt
+      go (Word w ∷ ts) free = stops roles back front Token (Word w ∷ ts) begun free (asks.word w) tt
+      go (Is m ∷ ts) free = stops roles back front Token (Is m ∷ ts) begun free (asks.sign m) tt
+      go (Text x ∷ ts) free = stops roles back front Token (Text x ∷ ts) begun free refl tt
+      go (Number n ∷ ts) free = test (within low high n) (stands n) refl refl
+        where
+          allowed : Completes (front ++ Number n ∷ [])
+          allowed = (written n, [], append-nil (front ++ Number n ∷ []) ∙ sym (asks.whole n))
 
-every_role : (roles : List (List ℕ)) (back : List Symbol) (r : List ℕ) (p : ℕ) (ts : List Symbol) → Fresh back → place_of roles r ≡ Some p → NoneAt roles (Word (codes "every") ∷ back) (Word r) ts
-every_role roles back r p ts f e = record {
-  had = rw f.between refl;
-  known = rw (f.between, e) refl;
-  single = rw (f.word (codes "every"), f.between) refl;
-  ranged = refl;
-}
+          behind : Number n ∷ backward front back ≡ backward (item_text (written n)) back
+          behind = sym (ap (λ (xs : List Symbol). backward xs back) (asks.whole n) ∙ backward_append front (Number n ∷ []) back)
 
-every_stops : (roles : List (List ℕ)) (back : List Symbol) (fault : Fault) (ts : List Symbol) → Fresh back → is_second roles (lines_before roles back) (codes "every") ts ≡ false → Speaks roles fault (Word (codes "every") ∷ back) ts
-    → Allowed fault (Word (codes "every") ∷ []) ts → StopsAt roles back (Word (codes "every") ∷ ts) fault ts
-every_stops roles back fault ts f e speaks allowed = record {
-  allowed = allowed;
-  front = Word (codes "every") ∷ [];
-  cut = refl;
-  free = (every_free roles back ts f e, tt);
-  speaks = speaks;
-  item = WrittenEvery [] 1;
-  rest = Word [] ∷ Number 1 ∷ [];
-  begins = refl;
-}
+          test : (in_range twice : Bool) → within low high n ≡ in_range → stands n ≡ twice
+              → Tells roles back k (front ++ Number n ∷ ts) (ended written (cond in_range (cond twice (Stops Twice (Number n ∷ ts)) (Takes n ts)) (Stops Range (Number n ∷ ts))))
+          test false twice w t = stops roles back front Range (Number n ∷ ts) begun free (asks.number n, refl, asks.single n ts ∙ (asks.beyond n w).0, (asks.beyond n w).1) allowed
+          test true true w t = stops roles back front Twice (Number n ∷ ts) begun free (asks.number n, refl, asks.single n ts ∙ t) allowed
+          test true false w t = record {
+            item = written n;
+            cut = sym (append_assoc front (Number n ∷ []) ts) ∙ ap (λ (xs : List Symbol). xs ++ ts) (sym (asks.whole n));
+            free = subst (λ (xs : List Symbol). AllFree roles back xs ts) (sym (asks.whole n))
+                (free_append roles back front (Number n ∷ []) ts free (record { had = asks.number n; known = refl; single = asks.single n ts ∙ t; ranged = asks.ranged n w }, tt));
+            knows = subst (λ (b : List Symbol). Knows roles b (with_line k (said roles (written n)))) behind (record {
+              lines = ap (λ (l : List PlanLine). l ++ said roles (written n) ∷ []) kn.lines ∙ sym (asks.lines n);
+              names = kn.names ∙ sym asks.names;
+              fits = fits_more (length roles) k.lines (said roles (written n)) kn.fits (asks.fits n w);
+            });
+            over = subst (λ (b : List Symbol). is_between b ≡ true) behind refl;
+            settled = λ m us x. subst (λ (b : List Symbol). has b (Is m) ≡ false) behind refl;
+            more = refl;
+            alone = λ r c x. asks.alone n r c t x;
+          }
 
-every_stops_behind : (roles : List (List ℕ)) (back : List Symbol) (fault : Fault) (r : List ℕ) (p : ℕ) (ts : List Symbol) → Fresh back → is_second roles (lines_before roles back) (codes "every") (Word r ∷ ts) ≡ false → place_of roles r ≡ Some p
-    → Speaks roles fault (Word r ∷ Word (codes "every") ∷ back) ts → Allowed fault (Word (codes "every") ∷ Word r ∷ []) ts → StopsAt roles back (Word (codes "every") ∷ Word r ∷ ts) fault ts
-every_stops_behind roles back fault r p ts f e is speaks allowed = record {
-  allowed = allowed;
-  front = Word (codes "every") ∷ Word r ∷ [];
-  cut = refl;
-  free = (every_free roles back (Word r ∷ ts) f e, (every_role roles back r p ts f is, tt));
-  speaks = speaks;
-  item = WrittenEvery r 1;
-  rest = Number 1 ∷ [];
-  begins = refl;
-}
+  -- ---- the role before it
 
--- ---- crash
+  -- Behind this first word a declared role is next, and then a number.
+  record AsksRole (w : List ℕ) (written : List ℕ → ℕ → Written) : Type 0 where
+    whole : (r : List ℕ) (n : ℕ) → item_text (written r n) ≡ Word w ∷ Word r ∷ Number n ∷ []
+    number : (n : ℕ) → has (Word w ∷ back) (Number n) ≡ false
+    role : (r : List ℕ) → has (Word w ∷ back) (Word r) ≡ true
+    known : (r : List ℕ) → is_unknown roles (Word w ∷ back) (Word r) ≡ not (is_role roles r)
+    single : (r : List ℕ) (ts : List Symbol) → is_repeated roles (Word w ∷ back) (Word r) ts ≡ false
 
-crash_free : (roles : List (List ℕ)) (back : List Symbol) (ts : List Symbol) → Fresh back → is_second roles (lines_before roles back) (codes "crash") ts ≡ false → NoneAt roles back (Word (codes "crash")) ts
-crash_free roles back ts f e = record {
-  had = rw (f.behind (codes "every"), f.behind (codes "crash"), f.behind (codes "host"), f.in_list, f.between) refl;
-  known = rw (f.behind (codes "every"), f.behind (codes "crash"), f.in_list) refl;
-  single = rw (f.between, f.behind (codes "host"), f.in_list, e) refl;
-  ranged = refl;
-}
+  word_tells : (w : List ℕ) {written : List ℕ → ℕ → Written} → AsksRole w written → (line : ℕ → List Symbol → Step KnownView) (ts : List Symbol) → NoneAt roles back (Word w) ts
+      → ((r : List ℕ) (us : List Symbol) → place roles r < length roles → AllFree roles back (Word w ∷ Word r ∷ []) us → Tells roles back k (Word w ∷ Word r ∷ us) (line (place roles r) us))
+      → Tells roles back k (Word w ∷ ts) (goes_on (next_role roles ts) line)
+  word_tells w {written} asks line ts free tells = go ts free
+    where
+      begun : Completes (Word w ∷ [])
+      begun = (written [] 0, Word [] ∷ Number 0 ∷ [], sym (asks.whole [] 0))
 
-crash_role : (roles : List (List ℕ)) (back : List Symbol) (r : List ℕ) (p : ℕ) (ts : List Symbol) → Fresh back → place_of roles r ≡ Some p → NoneAt roles (Word (codes "crash") ∷ back) (Word r) ts
-crash_role roles back r p ts f e = record {
-  had = rw f.between refl;
-  known = rw (f.between, e) refl;
-  single = rw (f.word (codes "crash"), f.between) refl;
-  ranged = refl;
-}
+      go : (ts : List Symbol) → NoneAt roles back (Word w) ts → Tells roles back k (Word w ∷ ts) (goes_on (next_role roles ts) line)
+      go [] free = stops roles back (Word w ∷ []) Token [] begun (free, tt) (f.word w) tt
+      go (Number n ∷ ts) free = stops roles back (Word w ∷ []) Token (Number n ∷ ts) begun (free, tt) (asks.number n) tt
+      go (Is m ∷ ts) free = stops roles back (Word w ∷ []) Token (Is m ∷ ts) begun (free, tt) (rw (f.behind (codes "host"), f.in_list) refl) tt
+      go (Text x ∷ ts) free = stops roles back (Word w ∷ []) Token (Text x ∷ ts) begun (free, tt) refl tt
+      go (Word r ∷ ts) free = found_so (place_of roles r) refl
+        where
+          found_so : (o : Option ℕ) → place_of roles r ≡ o → Tells roles back k (Word w ∷ Word r ∷ ts) (goes_on (found o (Word r ∷ ts) ts) line)
+          found_so None is =
+              let none : not (is_role roles r) ≡ true = rw is refl in
+              stops roles back (Word w ∷ []) Role (Word r ∷ ts) begun (free, tt) (asks.role r, asks.known r ∙ none) (written r 0, Number 0 ∷ [], sym (asks.whole r 0))
+          found_so (Some p) is =
+              let there : place roles r ≡ p = rw is refl in
+              let below : place roles r < length roles = rw is (declared roles r p is) in
+              let one : not (is_role roles r) ≡ false = rw is refl in
+              let role : NoneAt roles (Word w ∷ back) (Word r) ts = record { had = asks.role r; known = asks.known r ∙ one; single = asks.single r ts; ranged = refl } in
+              subst (λ (q : ℕ). Tells roles back k (Word w ∷ Word r ∷ ts) (line q ts)) there (tells r ts below (free, (role, tt)))
 
-crash_stops : (roles : List (List ℕ)) (back : List Symbol) (fault : Fault) (ts : List Symbol) → Fresh back → is_second roles (lines_before roles back) (codes "crash") ts ≡ false → Speaks roles fault (Word (codes "crash") ∷ back) ts
-    → Allowed fault (Word (codes "crash") ∷ []) ts → StopsAt roles back (Word (codes "crash") ∷ ts) fault ts
-crash_stops roles back fault ts f e speaks allowed = record {
-  allowed = allowed;
-  front = Word (codes "crash") ∷ [];
-  cut = refl;
-  free = (crash_free roles back ts f e, tt);
-  speaks = speaks;
-  item = WrittenCrash [] 1;
-  rest = Word [] ∷ Number 1 ∷ [];
-  begins = refl;
-}
+  -- ---- limit and room
 
-crash_stops_behind : (roles : List (List ℕ)) (back : List Symbol) (fault : Fault) (r : List ℕ) (p : ℕ) (ts : List Symbol) → Fresh back → is_second roles (lines_before roles back) (codes "crash") (Word r ∷ ts) ≡ false → place_of roles r ≡ Some p
-    → Speaks roles fault (Word r ∷ Word (codes "crash") ∷ back) ts → Allowed fault (Word (codes "crash") ∷ Word r ∷ []) ts → StopsAt roles back (Word (codes "crash") ∷ Word r ∷ ts) fault ts
-crash_stops_behind roles back fault r p ts f e is speaks allowed = record {
-  allowed = allowed;
-  front = Word (codes "crash") ∷ Word r ∷ [];
-  cut = refl;
-  free = (crash_free roles back (Word r ∷ ts) f e, (crash_role roles back r p ts f is, tt));
-  speaks = speaks;
-  item = WrittenCrash r 1;
-  rest = Number 1 ∷ [];
-  begins = refl;
-}
+  limit_asks : AsksNumber (Word (codes "limit") ∷ []) 1 100000 (λ n. false) WrittenLimit
+  limit_asks = record {
+    whole = λ n. refl;
+    over = f.word (codes "limit");
+    word = λ w. rw (f.between, f.word (codes "limit")) refl;
+    sign = λ m. rw (f.behind (codes "host"), f.in_list) refl;
+    number = λ n. rw (f.behind (codes "every"), f.behind (codes "crash"), f.between) refl;
+    single = λ n ts. rw (f.behind (codes "crash")) refl;
+    ranged = λ n w. rw (f.behind (codes "every"), f.behind (codes "crash"), f.between, w) refl;
+    beyond = λ n w. (refl, rw (f.behind (codes "every"), f.behind (codes "crash"), f.between, w) refl);
+    lines = λ n. rw (f.hosted (lines_before roles back) (place roles (codes "limit")), f.between) refl;
+    names = rw (f.behind (codes "host")) refl;
+    fits = λ n w. in_range 1 100000 n w;
+    alone = λ n r c t x. absurd cc;
+  }
 
-pub every_tells : (roles : List (List ℕ)) (back : List Symbol) (k : KnownView) (ts : List Symbol) → Fresh back → Knows roles back k → is_second roles (lines_before roles back) (codes "every") ts ≡ false
-    → Tells roles back k (Word (codes "every") ∷ ts) (every_line roles k ts)
-every_tells roles back k [] f kn e = every_stops roles back Token [] f e (f.word (codes "every")) tt
-every_tells roles back k (Number n ∷ ts) f kn e = every_stops roles back Token (Number n ∷ ts) f e (rw (f.behind (codes "every"), f.behind (codes "crash"), f.between) refl) tt
-every_tells roles back k (Is m ∷ ts) f kn e = every_stops roles back Token (Is m ∷ ts) f e (rw (f.behind (codes "host"), f.in_list) refl) tt
-every_tells roles back k (Text m ∷ ts) f kn e = every_stops roles back Token (Text m ∷ ts) f e refl tt
-every_tells roles back k (Word r ∷ ts) f kn e = go (place_of roles r) refl
-  where
-    here : List Symbol
-    here = Word (codes "every") ∷ Word r ∷ ts
+  pub limit_tells : (ts : List Symbol) → is_second roles (lines_before roles back) (codes "limit") ts ≡ false → Tells roles back k (Word (codes "limit") ∷ ts) (limit_line k ts)
+  limit_tells ts e = number_tells (Word (codes "limit") ∷ []) limit_asks (next_number 1 100000) (any_is_new 1 100000) ts (first_free roles back (codes "limit") ts f refl e, tt)
 
-    number : (p : ℕ) → place_of roles r ≡ Some p → (us : List Symbol) → is_second roles (lines_before roles back) (codes "every") (Word r ∷ us) ≡ false
-        → Tells roles back k (Word (codes "every") ∷ Word r ∷ us) (goes_on (next_number 1 100000 us) (λ n vs. Takes (with_line k (EveryLine p n)) vs))
-    number p is [] e' = every_stops_behind roles back Token r p [] f e' is refl tt
-    number p is (Word w ∷ us) e' = every_stops_behind roles back Token r p (Word w ∷ us) f e' is (rw (f.word (codes "every")) refl) tt
-    number p is (Is m ∷ us) e' = every_stops_behind roles back Token r p (Is m ∷ us) f e' is (rw f.between refl) tt
-    number p is (Text m ∷ us) e' = every_stops_behind roles back Token r p (Text m ∷ us) f e' is refl tt
-    number p is (Number n ∷ us) e' = test (within 1 100000 n) refl
-      where
-        test : (b : Bool) → within 1 100000 n ≡ b → Tells roles back k (Word (codes "every") ∷ Word r ∷ Number n ∷ us) (goes_on (cond b (Takes n us) (Stops Range (Number n ∷ us))) (λ m vs. Takes (with_line k (EveryLine p m)) vs))
-        test true w = record {
-          item = WrittenEvery r n;
-          cut = refl;
-          free = (
-            every_free roles back (Word r ∷ Number n ∷ us) f e',
-            (
-              every_role roles back r p (Number n ∷ us) f is,
-              (record { had = rw f.between refl; known = refl; single = rw f.between refl; ranged = rw (f.between, f.word (codes "every"), w) refl }, tt),
-            ),
-          );
-          knows = record {
-            lines = rw (f.word (codes "every"), f.hosted (lines_before roles back) (place roles (codes "every")), f.between, is) (ap (λ (l : List PlanLine). l ++ EveryLine p n ∷ []) kn.lines);
-            names = rw (f.behind (codes "host"), f.between) kn.names;
-            fits = fits_more (length roles) k.lines (EveryLine p n) kn.fits (declared roles r p is, (in_range 1 100000 n w).0, (in_range 1 100000 n w).1);
-          };
-          over = refl;
-          settled = λ m vs x. refl;
-          more = rw is refl;
-          alone = λ q c x. absurd cc;
-        }
-        test false w = every_stops_behind roles back Range r p (Number n ∷ us) f e' is (rw f.between refl, refl, rw f.between refl, rw (f.between, f.word (codes "every"), w) refl) (WrittenEvery r n, [], refl)
+  room_asks : AsksNumber (Word (codes "room") ∷ []) 1 1024 (λ n. false) WrittenRoom
+  room_asks = record {
+    whole = λ n. refl;
+    over = f.word (codes "room");
+    word = λ w. rw (f.between, f.word (codes "room")) refl;
+    sign = λ m. rw (f.behind (codes "host"), f.in_list) refl;
+    number = λ n. rw (f.behind (codes "every"), f.behind (codes "crash"), f.between) refl;
+    single = λ n ts. rw (f.behind (codes "crash")) refl;
+    ranged = λ n w. rw (f.behind (codes "every"), f.behind (codes "crash"), f.between, w) refl;
+    beyond = λ n w. (refl, rw (f.behind (codes "every"), f.behind (codes "crash"), f.between, w) refl);
+    lines = λ n. rw (f.hosted (lines_before roles back) (place roles (codes "room")), f.between) refl;
+    names = rw (f.behind (codes "host")) refl;
+    fits = λ n w. in_range 1 1024 n w;
+    alone = λ n r c t x. absurd cc;
+  }
 
-    go : (o : Option ℕ) → place_of roles r ≡ o → Tells roles back k here (goes_on (found o (Word r ∷ ts) ts) (λ p us. goes_on (next_number 1 100000 us) (λ n vs. Takes (with_line k (EveryLine p n)) vs)))
-    go None is = every_stops roles back Role (Word r ∷ ts) f e (rw f.between refl, rw (f.between, is) refl) (WrittenEvery r 1, Number 1 ∷ [], refl)
-    go (Some p) is = number p is ts e
+  pub room_tells : (ts : List Symbol) → is_second roles (lines_before roles back) (codes "room") ts ≡ false → Tells roles back k (Word (codes "room") ∷ ts) (room_line k ts)
+  room_tells ts e = number_tells (Word (codes "room") ∷ []) room_asks (next_number 1 1024) (any_is_new 1 1024) ts (first_free roles back (codes "room") ts f refl e, tt)
 
-pub crash_tells : (roles : List (List ℕ)) (back : List Symbol) (k : KnownView) (ts : List Symbol) → Fresh back → Knows roles back k → is_second roles (lines_before roles back) (codes "crash") ts ≡ false
-    → Tells roles back k (Word (codes "crash") ∷ ts) (crash_line roles k ts)
-crash_tells roles back k [] f kn e = crash_stops roles back Token [] f e (f.word (codes "crash")) tt
-crash_tells roles back k (Number n ∷ ts) f kn e = crash_stops roles back Token (Number n ∷ ts) f e (rw (f.behind (codes "every"), f.behind (codes "crash"), f.between) refl) tt
-crash_tells roles back k (Is m ∷ ts) f kn e = crash_stops roles back Token (Is m ∷ ts) f e (rw (f.behind (codes "host"), f.in_list) refl) tt
-crash_tells roles back k (Text m ∷ ts) f kn e = crash_stops roles back Token (Text m ∷ ts) f e refl tt
-crash_tells roles back k (Word r ∷ ts) f kn e = go (place_of roles r) refl
-  where
-    here : List Symbol
-    here = Word (codes "crash") ∷ Word r ∷ ts
+  -- ---- every and crash
 
-    number : (p : ℕ) → place_of roles r ≡ Some p → (us : List Symbol) → is_second roles (lines_before roles back) (codes "crash") (Word r ∷ us) ≡ false
-        → Tells roles back k (Word (codes "crash") ∷ Word r ∷ us) (goes_on (next_count k p us) (λ n vs. Takes (with_line k (CrashLine p n)) vs))
-    number p is [] e' = crash_stops_behind roles back Token r p [] f e' is refl tt
-    number p is (Word w ∷ us) e' = crash_stops_behind roles back Token r p (Word w ∷ us) f e' is (rw (f.word (codes "crash")) refl) tt
-    number p is (Is m ∷ us) e' = crash_stops_behind roles back Token r p (Is m ∷ us) f e' is (rw f.between refl) tt
-    number p is (Text m ∷ us) e' = crash_stops_behind roles back Token r p (Text m ∷ us) f e' is refl tt
-    number p is (Number n ∷ us) e' = test (within 0 100000 n) (has_crash p n k.lines) refl refl
-      where
-        before : (b : Bool) → has_crash p n k.lines ≡ b → has_crash p n (lines_before roles back) ≡ b
-        before b h = subst (λ (l : List PlanLine). has_crash p n l ≡ b) kn.lines h
+  every_role : AsksRole (codes "every") WrittenEvery
+  every_role = record {
+    whole = λ r n. refl;
+    number = λ n. rw (f.behind (codes "every"), f.behind (codes "crash"), f.between) refl;
+    role = λ r. rw f.between refl;
+    known = λ r. rw f.between refl;
+    single = λ r ts. rw (f.word (codes "every"), f.between) refl;
+  }
 
-        single : (b : Bool) → has_crash p n k.lines ≡ b → is_repeated roles (Word r ∷ Word (codes "crash") ∷ back) (Number n) us ≡ b
-        single b h = rw (f.between, f.hosted (lines_before roles back) (place roles (codes "crash")), is) (before b h)
+  every_number : (r : List ℕ) → place roles r < length roles → AsksNumber (Word (codes "every") ∷ Word r ∷ []) 1 100000 (λ n. false) (WrittenEvery r)
+  every_number r below = record {
+    whole = λ n. refl;
+    over = refl;
+    word = λ w. rw (f.word (codes "every")) refl;
+    sign = λ m. rw f.between refl;
+    number = λ n. rw f.between refl;
+    single = λ n ts. rw f.between refl;
+    ranged = λ n w. rw (f.between, f.word (codes "every"), w) refl;
+    beyond = λ n w. (refl, rw (f.between, f.word (codes "every"), w) refl);
+    lines = λ n. rw (f.word (codes "every"), f.hosted (lines_before roles back) (place roles (codes "every")), f.between) refl;
+    names = rw (f.behind (codes "host"), f.between) refl;
+    fits = λ n w. (below, (in_range 1 100000 n w).0, (in_range 1 100000 n w).1);
+    alone = λ n q c t x. absurd cc;
+  }
 
-        test : (b c : Bool) → within 0 100000 n ≡ b → has_crash p n k.lines ≡ c
-            → Tells roles back k (Word (codes "crash") ∷ Word r ∷ Number n ∷ us)
-            (goes_on (cond b (cond c (Stops Twice (Number n ∷ us)) (Takes n us)) (Stops Range (Number n ∷ us))) (λ m vs. Takes (with_line k (CrashLine p m)) vs))
-        test true false w h = record {
-          item = WrittenCrash r n;
-          cut = refl;
-          free = (
-            crash_free roles back (Word r ∷ Number n ∷ us) f e',
-            (
-              crash_role roles back r p (Number n ∷ us) f is,
-              (record { had = rw f.between refl; known = refl; single = single false h; ranged = rw (f.between, f.word (codes "crash"), w) refl }, tt),
-            ),
-          );
-          knows = record {
-            lines = rw (f.word (codes "crash"), f.hosted (lines_before roles back) (place roles (codes "crash")), f.between, is) (ap (λ (l : List PlanLine). l ++ CrashLine p n ∷ []) kn.lines);
-            names = rw (f.behind (codes "host"), f.between) kn.names;
-            fits = fits_more (length roles) k.lines (CrashLine p n) kn.fits (declared roles r p is, (in_range 0 100000 n w).1);
-          };
-          over = refl;
-          settled = λ m vs x. refl;
-          more = rw is refl;
-          alone = rw is (λ q c x. same_crash p n q c k.lines x h);
-        }
-        test true true w h = crash_stops_behind roles back Twice r p (Number n ∷ us) f e' is (rw f.between refl, refl, single true h) (WrittenCrash r n, [], refl)
-        test false c w h = crash_stops_behind roles back Range r p (Number n ∷ us) f e' is (rw f.between refl, refl, single false (no_crash (length roles) p n k.lines kn.fits w), rw (f.between, f.word (codes "crash"), w) refl) (WrittenCrash r n, [], refl)
+  pub every_tells : (ts : List Symbol) → is_second roles (lines_before roles back) (codes "every") ts ≡ false → Tells roles back k (Word (codes "every") ∷ ts) (every_line roles k ts)
+  every_tells ts e =
+      word_tells (codes "every") every_role (λ p us. goes_on (next_number 1 100000 us) (λ n vs. Takes (with_line k (EveryLine p n)) vs)) ts (first_free roles back (codes "every") ts f refl e)
+      (λ r us below free. number_tells (Word (codes "every") ∷ Word r ∷ []) (every_number r below) (next_number 1 100000) (any_is_new 1 100000) us free)
 
-    go : (o : Option ℕ) → place_of roles r ≡ o → Tells roles back k here (goes_on (found o (Word r ∷ ts) ts) (λ p us. goes_on (next_count k p us) (λ n vs. Takes (with_line k (CrashLine p n)) vs)))
-    go None is = crash_stops roles back Role (Word r ∷ ts) f e (rw f.between refl, rw (f.between, is) refl) (WrittenCrash r 1, Number 1 ∷ [], refl)
-    go (Some p) is = number p is ts e
+  crash_role : AsksRole (codes "crash") WrittenCrash
+  crash_role = record {
+    whole = λ r n. refl;
+    number = λ n. rw (f.behind (codes "every"), f.behind (codes "crash"), f.between) refl;
+    role = λ r. rw f.between refl;
+    known = λ r. rw f.between refl;
+    single = λ r ts. rw (f.word (codes "crash"), f.between) refl;
+  }
+
+  crash_number : (r : List ℕ) → place roles r < length roles → AsksNumber (Word (codes "crash") ∷ Word r ∷ []) 0 100000 (λ n. has_crash (place roles r) n k.lines) (WrittenCrash r)
+  crash_number r below = record {
+    whole = λ n. refl;
+    over = refl;
+    word = λ w. rw (f.word (codes "crash")) refl;
+    sign = λ m. rw f.between refl;
+    number = λ n. rw f.between refl;
+    single = λ n ts. rw (f.between, f.hosted (lines_before roles back) (place roles (codes "crash"))) (ap (λ (l : List PlanLine). has_crash (place roles r) n l) (sym kn.lines));
+    ranged = λ n w. rw (f.between, f.word (codes "crash"), w) refl;
+    beyond = λ n w. (no_crash (length roles) (place roles r) n k.lines kn.fits w, rw (f.between, f.word (codes "crash"), w) refl);
+    lines = λ n. rw (f.word (codes "crash"), f.hosted (lines_before roles back) (place roles (codes "crash")), f.between) refl;
+    names = rw (f.behind (codes "host"), f.between) refl;
+    fits = λ n w. (below, (in_range 0 100000 n w).1);
+    alone = λ n q c t x. same_crash (place roles r) n q c k.lines x t;
+  }
+
+  pub crash_tells : (ts : List Symbol) → is_second roles (lines_before roles back) (codes "crash") ts ≡ false → Tells roles back k (Word (codes "crash") ∷ ts) (crash_line roles k ts)
+  crash_tells ts e =
+      word_tells (codes "crash") crash_role (λ p us. goes_on (next_count k p us) (λ n vs. Takes (with_line k (CrashLine p n)) vs)) ts (first_free roles back (codes "crash") ts f refl e)
+      (λ r us below free. number_tells (Word (codes "crash") ∷ Word r ∷ []) (crash_number r below) (next_count k (place roles r)) (count_is_new k (place roles r)) us free)
