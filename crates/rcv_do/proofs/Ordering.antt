@@ -2,7 +2,7 @@
 use Rattle.std.proofs.Common.{◌≡◌, ℕ, zero, suc, ◌+◌, ◌<◌, ◌≤◌, ◌^◌, Bool, true, false, cond, ◌==◌, ◌||◌, max, bit_or, Option, Some, None, List, [], ◌∷◌, ◌++◌, length, get_or, set, refl, sym, ap, subst, ◌∙◌, ◌⊎◌, inl, inr, ⊎_elim, eq-eqb, append-nil, append_assoc, arith}
 use Rattle.std.specs.Int.{bit_at}
 use Rattle.std.specs.Prelude.{not}
-use Rattle.std.proofs.lemmas.Bool.{cases_Bool, cases_eq, cases_lt}
+use Rattle.std.proofs.lemmas.Bool.{cases_Bool, cases_eq, cases_lt, or_cases, or_left, or_right}
 use Rattle.std.proofs.lemmas.Nat.{le_or_l}
 use Rattle.std.proofs.lemmas.Nat.Bits.{bit_at_or, bit_at-lt, bit_at_above, same_from_bits}
 use Rattle.std.proofs.lemmas.List.{get_or-set_same, get_or-set_other}
@@ -10,7 +10,7 @@ use Rattle.rcv_tree.specs.Bits.{has_bit}
 use Rattle.rcv_model.specs.Net.{IsIn}
 use Rattle.rcv_do.specs.declared.set.Set.{Set}
 use Rattle.rcv_do.specs.Rows.{word, has, AreAcyclic, StandBehind, IsOrder, IsListed, IsLeast}
-use Rattle.rcv_do.proofs.Reaching.{test_eq, or_cases, or_first, or_second}
+use Rattle.rcv_do.proofs.Reaching.{test_eq}
 
 -- ---- words
 
@@ -113,12 +113,12 @@ ordered_at_first rows order listed n none all a = record {
   long = a.long ∙ all;
   inside = λ i k. absurd (subst (IsIn i) none k);
   listed_in = λ i lt h. inr (⊎_elim (λ e. inl (test_eq i 0 e)) (λ f. inr (not_true (has rows 0 i) f)) (or_cases (i == 0) (not (has rows 0 i)) (sym (a.skips i (omega (arith, lt, all))) ∙ h)));
-  open_in = λ i lt h. (reached i lt h, λ e. h (a.skips i (omega (arith, lt, all)) ∙ or_first (i == 0) (not (has rows 0 i)) (eq-eqb i 0 e)));
+  open_in = λ i lt h. (reached i lt h, λ e. h (a.skips i (omega (arith, lt, all)) ∙ or_left (i == 0) (not (has rows 0 i)) (eq-eqb i 0 e)));
   behind = subst (StandBehind rows []) (sym none) tt;
 }
   where
     reached : (i : ℕ) → i < length rows → (IsListed listed i → ⊥) → has rows 0 i ≡ true
-    reached i lt h = ⊎_elim (λ t. t) (λ f. absurd (h (a.skips i (omega (arith, lt, all)) ∙ or_second (i == 0) (not (has rows 0 i)) (ap not f)))) (cases_Bool (has rows 0 i))
+    reached i lt h = ⊎_elim (λ t. t) (λ f. absurd (h (a.skips i (omega (arith, lt, all)) ∙ or_right (i == 0) (not (has rows 0 i)) (ap not f)))) (cases_Bool (has rows 0 i))
 
 pub ordered_next : (rows : List Set) (order new : List ℕ) (listed now : List Bool) (p : ℕ) → length rows ≤ 64 → AreAcyclic rows → IsLeast rows listed (length rows) (Some p)
     → new ≡ order ++ p ∷ [] → now ≡ set listed p true → length now ≡ length listed → IsOrdered rows order listed → IsOrdered rows new now

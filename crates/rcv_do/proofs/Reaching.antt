@@ -1,7 +1,7 @@
 -- Rows that are joined place by place have all that is reached.
 use Rattle.std.proofs.Common.{◌≡◌, ℕ, zero, suc, ◌+◌, ◌<◌, ◌≤◌, Bool, true, false, cond, ◌==◌, ◌||◌, ◌&&◌, Option, Some, None, List, [], ◌∷◌, ◌++◌, length, take, drop, get_or, set, append-nil, refl, sym, ap, subst, ◌∙◌, ◌⊎◌, inl, inr, ⊎_elim, eq-eqb, ne_eqb, arith}
 use Rattle.std.specs.Prelude.{slice_get, All}
-use Rattle.std.proofs.lemmas.Bool.{cases_eq, cases_lt}
+use Rattle.std.proofs.lemmas.Bool.{cases_eq, cases_lt, or_cases, or_left, or_right}
 use Rattle.std.proofs.lemmas.Bool.Decides.{nat_tests}
 use Rattle.std.proofs.lemmas.List.{get_or-set_same, get_or-set_other}
 use Rattle.rcv_tree.specs.Bits.{has_bit}
@@ -10,18 +10,6 @@ use Rattle.rcv_do.specs.declared.set.Set.{Set}
 use Rattle.rcv_do.specs.Rows.{has, IsInside, is_target, is_call, Comes, itself, by_call, AreRows}
 
 -- ---- tests
-
-pub or_cases : (a b : Bool) → (a || b) ≡ true → (a ≡ true) ⊎ (b ≡ true)
-or_cases true b e = inl refl
-or_cases false b e = inr e
-
-pub or_first : (a b : Bool) → a ≡ true → (a || b) ≡ true
-or_first true b e = refl
-or_first false b e = absurd (cc)
-
-pub or_second : (a b : Bool) → b ≡ true → (a || b) ≡ true
-or_second true b e = refl
-or_second false b e = e
 
 pub and_cases : (a b : Bool) → (a && b) ≡ true → (a ≡ true) × (b ≡ true)
 and_cases true b e = (refl, e)
@@ -116,16 +104,16 @@ call_added calls count k c old new few all at long added a = record {
   sound = λ i j lt lj h. ⊎_elim (λ x. a.sound i j lt lj x)
       (λ y. let l = is_leading c i j y in by_call i j j (record { number = k; call = c; is = at; holds = l.0; calls_it = l.1 }) (itself j))
       (or_cases (has old i j) (is_call c i j) (sym (added i j lj) ∙ h));
-  own = λ i lt. added i i (omega (arith, lt, few)) ∙ or_first (has old i i) (is_call c i i) (a.own i lt);
+  own = λ i lt. added i i (omega (arith, lt, few)) ∙ or_left (has old i i) (is_call c i i) (a.own i lt);
   leads = λ m d j lt is to.
       let lj = (inside_at calls count m d all is).target j to in
       added d.holder j (omega (arith, lj, few)) ∙ ⊎_elim
-      (λ before. or_first (has old d.holder j) (is_call c d.holder j) (a.leads m d j before is to))
+      (λ before. or_left (has old d.holder j) (is_call c d.holder j) (a.leads m d j before is to))
       (λ last.
       let e : m ≡ k = omega (arith, last, lt) in
       let some : Some d ≡ Some c = sym is ∙ ap (slice_get calls) e ∙ at in
       let same : d ≡ c = cc in
-      or_second (has old d.holder j) (is_call c d.holder j) (leading_is c d.holder j (ap (λ (x : Call). x.holder) (sym same)) (ap (λ (x : Call). x.target) (sym same) ∙ to)))
+      or_right (has old d.holder j) (is_call c d.holder j) (leading_is c d.holder j (ap (λ (x : Call). x.holder) (sym same)) (ap (λ (x : Call). x.target) (sym same) ∙ to)))
       (cases_lt m k);
   joined = λ i j m li lj lm lt. absurd (omega (arith, lt));
 }
@@ -166,10 +154,10 @@ place_joined calls count first k old new few all lk long joins a = record {
     from i j lt lj h = ⊎_elim (λ x. inl x) (λ y. inr (and_cases (has old i k) (has old k j) y)) (or_cases (has old i j) (has old i k && has old k j) (sym (joins i j lt lj) ∙ h))
 
     still : (i j : ℕ) → i < count → j < 64 → has old i j ≡ true → has new i j ≡ true
-    still i j lt lj h = joins i j lt lj ∙ or_first (has old i j) (has old i k && has old k j) h
+    still i j lt lj h = joins i j lt lj ∙ or_left (has old i j) (has old i k && has old k j) h
 
     through : (i j : ℕ) → i < count → j < 64 → has old i k ≡ true → has old k j ≡ true → has new i j ≡ true
-    through i j lt lj h g = joins i j lt lj ∙ or_second (has old i j) (has old i k && has old k j) (and_both (has old i k) (has old k j) h g)
+    through i j lt lj h g = joins i j lt lj ∙ or_right (has old i j) (has old i k && has old k j) (and_both (has old i k) (has old k j) h g)
 
 pub all_joined : (calls : List Call) (count first k : ℕ) (rows : List Set) → count ≤ 64 → All (IsInside count) calls → length calls ≤ first → count ≤ k → AreJoined calls count first k rows → AreRows calls count rows
 all_joined calls count first k rows few all past end a = record {
