@@ -1,7 +1,7 @@
 -- What the table of a protocol says of its starts.
 use Rattle.std.proofs.Common.{◌≡◌, ℕ, zero, suc, ◌+◌, ◌<◌, ◌≤◌, ◌||◌, Bool, true, false, List, [], ◌∷◌, length, get_or, refl, sym, ◌∙◌, subst, ◌⊎◌, inl, inr, ⊎_elim, arith}
 use Rattle.std.specs.Prelude.{◌↔◌, Some, slice_get}
-use Rattle.std.proofs.lemmas.Bool.{cases_eq}
+use Rattle.std.proofs.lemmas.Bool.{cases_eq, or_cases, or_left, or_right}
 use Rattle.rcv_tree.specs.Bits.{has_bit}
 use Rattle.rcv_model.specs.Net.{Net}
 use Rattle.rcv_model.specs.Table.{IsConcerned, AreRestarts}
@@ -71,24 +71,12 @@ more_concerned net failed starts n start bits more all is before one both q low 
   λ t. ⊎_elim
       (λ b. ⊎_elim (λ f. inl f) (λ a. inr (a.0, (let lt = a.1 in omega (arith, lt)), a.2, a.3)) ((before q low).0 b))
       (λ m. let a = (one q low).0 m in inr (n, omega arith, subst (λ s. s ≡ 0 → ⊥) is a.0, subst (λ s. IsConcerned net n s q) is a.1))
-      (either (has_bit bits q) (has_bit more q) (sym (both q low) ∙ t)),
+      (or_cases (has_bit bits q) (has_bit more q) (sym (both q low) ∙ t)),
   λ a. both q low ∙ ⊎_elim
-      (λ f. left (has_bit bits q) (has_bit more q) ((before q low).1 (inl f)))
+      (λ f. or_left (has_bit bits q) (has_bit more q) ((before q low).1 (inl f)))
       (λ b. ⊎_elim
-      (λ e. right (has_bit bits q) (has_bit more q) ((one q low).1 (subst (λ s. s ≡ 0 → ⊥) (sym is) (subst (λ p. get_or starts p 0 ≡ 0 → ⊥) e b.2), subst (λ s. IsConcerned net n s q) (sym is) (subst (λ p. IsConcerned net p (get_or starts p 0) q) e b.3))))
-      (λ m. left (has_bit bits q) (has_bit more q) ((before q low).1 (inr (b.0, (let lt = b.1 in omega (arith, lt, m)), b.2, b.3))))
+      (λ e. or_right (has_bit bits q) (has_bit more q) ((one q low).1 (subst (λ s. s ≡ 0 → ⊥) (sym is) (subst (λ p. get_or starts p 0 ≡ 0 → ⊥) e b.2), subst (λ s. IsConcerned net n s q) (sym is) (subst (λ p. IsConcerned net p (get_or starts p 0) q) e b.3))))
+      (λ m. or_left (has_bit bits q) (has_bit more q) ((before q low).1 (inr (b.0, (let lt = b.1 in omega (arith, lt, m)), b.2, b.3))))
       (cases_eq b.0 n))
       a,
 )
-  where
-    either : (a b : Bool) → (a || b) ≡ true → (a ≡ true) ⊎ (b ≡ true)
-    either true b e = inl refl
-    either false b e = inr e
-
-    left : (a b : Bool) → a ≡ true → (a || b) ≡ true
-    left true b e = refl
-    left false b e = absurd (cc)
-
-    right : (a b : Bool) → b ≡ true → (a || b) ≡ true
-    right true b e = refl
-    right false b e = e

@@ -1,7 +1,7 @@
 -- Where each role restarts, and which roles are concerned.
 use Rattle.std.proofs.Common.{◌≡◌, ℕ, zero, suc, ◌+◌, ◌<◌, ◌≤◌, Bool, true, false, ◌&&◌, ◌||◌, List, [], ◌∷◌, ◌++◌, length, get_or, take, refl, sym, ◌∙◌, ap, subst, ◌⊎◌, inl, inr, ⊎_elim, arith}
 use Rattle.std.specs.Prelude.{◌==◌, ◌↔◌, Some, slice_get}
-use Rattle.std.proofs.lemmas.Bool.{cases_eq}
+use Rattle.std.proofs.lemmas.Bool.{cases_eq, or_cases, or_left, or_right}
 use Rattle.std.proofs.lemmas.Bool.Decides.{nat_tests}
 use Rattle.rcv_tree.specs.Bits.{has_bit, has_point}
 use Rattle.rcv_model.specs.Net.{Net, IsIn}
@@ -15,6 +15,7 @@ use Rattle.rcv_tables.specs.Ahead.{IsAhead, offered_here, behind_one}
 use Rattle.rcv_tables.specs.Starts.{has_any, AreFirstMarks, AreListed, AreReceived, IsOwnPoint}
 use Rattle.std.specs.List.Sorted.{IsStrictlyIncreasing}
 use Rattle.std.proofs.lemmas.List.{take_all}
+use Rattle.rcv_model.proofs.Checked.{both_true}
 use Rattle.rcv_model.proofs.Same.{tail_rises, above_each}
 use Rattle.rcv_points.proofs.Adding.{in_at, in_more, last_in}
 use Rattle.rcv_tables.proofs.LineFacts.{line_proper}
@@ -117,36 +118,19 @@ module _ (net : Net) (p n : ℕ) where
   row_more roles bits more lists new zs so are pushed set = record {
     all = long_pushed lists new zs roles pushed so.all;
     each = each_pushed (λ q (l : List ℕ). AreRestarts net p n q l) lists new zs roles pushed so.all so.each are;
-    bits_are = λ q low. (λ t. to q low (either (has_bit bits q) (roles == q && has_any zs) (sym (set q low) ∙ t)), λ a. set q low ∙ from q low a (cases_eq q roles));
+    bits_are = λ q low. (λ t. to q low (or_cases (has_bit bits q) (roles == q && has_any zs) (sym (set q low) ∙ t)), λ a. set q low ∙ from q low a (cases_eq q roles));
   }
     where
-      either : (a b : Bool) → (a || b) ≡ true → (a ≡ true) ⊎ (b ≡ true)
-      either true b e = inl refl
-      either false b e = inr e
-
-      both : (a b : Bool) → (a && b) ≡ true → (a ≡ true) × (b ≡ true)
-      both true b e = (refl, e)
-      both false b e = absurd (cc)
-
       to : (q : ℕ) → q < 8 → (has_bit bits q ≡ true) ⊎ ((roles == q && has_any zs) ≡ true) → (q < roles + 1) × IsConcerned net p n q
       to q low (inl t) = let a = (so.bits_are q low).0 t in let lt = a.0 in (omega (arith, lt), a.1)
       to q low (inr t) =
-          let a = both (roles == q) (has_any zs) t in
+          let a = both_true (roles == q) (has_any zs) t in
           let e : roles ≡ q = (let f = a.0 in grind (arith, nat_tests)) in
           (omega (arith, e), subst (λ r. IsConcerned net p n r) e ((concerned_by net p n roles zs are).0 a.1))
-
-      left : (a b : Bool) → a ≡ true → (a || b) ≡ true
-      left true b e = refl
-      left false b e = absurd (cc)
-
-      right : (a b c : Bool) → b ≡ true → c ≡ true → (a || (b && c)) ≡ true
-      right true b c e f = refl
-      right false true true e f = refl
-      right false true false e f = absurd (cc)
-      right false false c e f = absurd (cc)
 
       from : (q : ℕ) → q < 8 → (q < roles + 1) × IsConcerned net p n q → (q ≡ roles) ⊎ (q ≡ roles → ⊥) → (has_bit bits q || (roles == q && has_any zs)) ≡ true
       from q low a (inl e) =
           let f : (roles == q) ≡ true = grind (arith, nat_tests) in
-          right (has_bit bits q) (roles == q) (has_any zs) f ((concerned_by net p n roles zs are).1 (subst (λ r. IsConcerned net p n r) e a.1))
-      from q low a (inr m) = let lt = a.0 in left (has_bit bits q) (roles == q && has_any zs) ((so.bits_are q low).1 (omega (arith, lt, m), a.1))
+          let g : has_any zs ≡ true = (concerned_by net p n roles zs are).1 (subst (λ r. IsConcerned net p n r) e a.1) in
+          or_right (has_bit bits q) (roles == q && has_any zs) (rw (f, g) refl)
+      from q low a (inr m) = let lt = a.0 in or_left (has_bit bits q) (roles == q && has_any zs) ((so.bits_are q low).1 (omega (arith, lt, m), a.1))
