@@ -4,25 +4,26 @@ use Rattle.std.proofs.lemmas.List.FromFn.{length-map-range_with_len, get_or-map-
 use Rattle.std.specs.Fmt.{signed_decimal}
 use Rattle.rcv_tree.specs.declared.event.Event.{Event}
 use Rattle.rcv_session.specs.Session.{SessionView, net_for}
-use Rattle.rcv_journal.specs.Heads.{HeadView, head_text, head_of, heads_to, AreHeads, rest_text}
+use Rattle.rcv_journal.specs.Heads.{HeadView, Begins, head_text, head_of, heads_to, AreHeads, rest_text}
 use Rattle.rcv_journal.specs.JournalText.{name_of, event_text}
 
--- there is one for each point
-pub count_of : (setup : SessionView) (heads : List HeadView) → AreHeads setup heads → length heads ≡ (net_for setup).count
-count_of setup heads are = ap length are ∙ length-map-range_with_len (head_of setup) 1 (net_for setup).count
+module _ (begins : Begins) (setup : SessionView) where
+  -- there is one for each point
+  pub count_of : (heads : List HeadView) → AreHeads begins setup heads → length heads ≡ (net_for setup).count
+  count_of heads are = ap length are ∙ length-map-range_with_len (head_of begins setup) 1 (net_for setup).count
 
--- and that of a point stands at its place
-pub head_at : (setup : SessionView) (heads : List HeadView) (p : ℕ) (d : HeadView) → AreHeads setup heads → 1 ≤ p → p ≤ (net_for setup).count → get_or heads (p - 1) d ≡ head_of setup p
-head_at setup heads p d are first last =
-    ap (λ l. get_or l (p - 1) d) are ∙ get_or-map-range_with_len (head_of setup) 1 (net_for setup).count (p - 1) p d (omega (arith, first, last)) (omega (arith, first))
+  -- and that of a point stands at its place
+  pub head_at : (heads : List HeadView) (p : ℕ) (d : HeadView) → AreHeads begins setup heads → 1 ≤ p → p ≤ (net_for setup).count → get_or heads (p - 1) d ≡ head_of begins setup p
+  head_at heads p d are first last =
+      ap (λ l. get_or l (p - 1) d) are ∙ get_or-map-range_with_len (head_of begins setup) 1 (net_for setup).count (p - 1) p d (omega (arith, first, last)) (omega (arith, first))
 
--- one more is that of the next point
-pub one_more : (setup : SessionView) (heads more : List HeadView) (head : HeadView) (n : ℕ) → more ≡ heads ++ head ∷ [] → head ≡ head_of setup (n + 1) → heads ≡ heads_to setup n → more ≡ heads_to setup (n + 1)
-one_more setup heads more head n added is are =
-    added
-    ∙ ap (λ h. heads ++ h ∷ []) is
-    ∙ ap (λ l. l ++ head_of setup (n + 1) ∷ []) are
-    ∙ sym (map-range_with_len_more (head_of setup) 1 n (n + 1) (omega arith))
+  -- one more is that of the next point
+  pub one_more : (heads more : List HeadView) (head : HeadView) (n : ℕ) → more ≡ heads ++ head ∷ [] → head ≡ head_of begins setup (n + 1) → heads ≡ heads_to begins setup n → more ≡ heads_to begins setup (n + 1)
+  one_more heads more head n added is are =
+      added
+      ∙ ap (λ h. heads ++ h ∷ []) is
+      ∙ ap (λ l. l ++ head_of begins setup (n + 1) ∷ []) are
+      ∙ sym (map-range_with_len_more (head_of begins setup) 1 n (n + 1) (omega arith))
 
 -- how a line begins is one piece, and what stands behind it another: the same text as the parts one behind the other
 pub joined : (t k n a p b l c v m d : List ℕ) → (t ++ (k ++ n ++ a ++ p ++ b ++ l ++ c)) ++ (v ++ m ++ d) ≡ (t ++ k) ++ (n ++ a ++ p ++ b ++ l ++ c ++ v ++ m ++ d)

@@ -5,7 +5,7 @@ ghost use Rattle.std.specs.List.{range_with_len};
 ghost use Rattle.rcv_tree.specs.declared.entry.Entry.TheVariants.{Send, Recv, Crash, Recover};
 ghost use Rattle.rcv_page.specs.Page.{Adds, at};
 ghost use Rattle.rcv_session.specs.Session.{roles_of, net_for};
-ghost use Rattle.rcv_journal.specs.Heads.{rest_text, head_text, AreHeads};
+ghost use Rattle.rcv_journal.specs.Heads.{rest_text, head_text, line_begun, AreHeads};
 ghost use Rattle.rcv_journal.specs.JournalText.{IsNamed, IsNamedEvent, IsDeclared, AreNamed, event_text};
 ghost use Rattle.rcv_journal.specs.JournalText.{kept_text, entry_line};
 
@@ -33,7 +33,7 @@ fn write_rest<K: Sink>(page: &mut Page, sink: &mut K, event: &Event)
 // The line of a Send. The setup only tells the proof which text the event belongs to.
 #[inline(always)]
 fn write_send<K: Sink>(page: &mut Page, sink: &mut K, setup: &Setup, heads: &[Head], event: &Event)
-    requires heads { AreHeads setup.now heads.now }
+    requires heads { AreHeads line_begun setup.now heads.now }
     requires named { IsNamed setup.now (Send event.now) }
     ensures { Adds (at K.written K.faults sink.old page.old) (at K.written K.faults sink.new page.new)
         (entry_line setup.now (Send event.now)) }
@@ -47,7 +47,7 @@ fn write_send<K: Sink>(page: &mut Page, sink: &mut K, setup: &Setup, heads: &[He
 // The line of a Recv.
 #[inline(always)]
 fn write_recv<K: Sink>(page: &mut Page, sink: &mut K, setup: &Setup, heads: &[Head], event: &Event)
-    requires heads { AreHeads setup.now heads.now }
+    requires heads { AreHeads line_begun setup.now heads.now }
     requires named { IsNamed setup.now (Recv event.now) }
     ensures { Adds (at K.written K.faults sink.old page.old) (at K.written K.faults sink.new page.new)
         (entry_line setup.now (Recv event.now)) }
@@ -136,7 +136,7 @@ fn write_recover<K: Sink>(
 // The line of an entry.
 #[inline(always)]
 fn write_entry<K: Sink>(page: &mut Page, sink: &mut K, setup: &Setup, heads: &[Head], entry: &Entry)
-    requires heads { AreHeads setup.now heads.now }
+    requires heads { AreHeads line_begun setup.now heads.now }
     requires named { IsNamed setup.now entry.now }
     ensures { Adds (at K.written K.faults sink.old page.old) (at K.written K.faults sink.new page.new)
         (entry_line setup.now entry.now) }
@@ -162,7 +162,7 @@ pub fn write_entries<K: Sink>(
     heads: &[Head],
     entries: &[Entry],
 )
-    requires heads { AreHeads setup.now heads.now }
+    requires heads { AreHeads line_begun setup.now heads.now }
     requires named { AreNamed setup.now entries.now }
     ensures { Adds (at K.written K.faults sink.old page.old) (at K.written K.faults sink.new page.new)
         (flat_map (entry_line setup.now) entries.now) }

@@ -2,7 +2,7 @@
 
 ghost use Rattle.std.specs.Prelude.{[], true, false, OnOk, OnErr};
 ghost use Rattle.rcv_page.specs.Page.{Adds, at, state};
-ghost use Rattle.rcv_journal.specs.Heads.{AreHeads};
+ghost use Rattle.rcv_journal.specs.Heads.{line_begun, AreHeads};
 ghost use Rattle.rcv_journal.specs.JournalText.{AreNamed, HaveRoles, journal_text};
 
 use crate::entries::write_entries;
@@ -25,7 +25,7 @@ pub fn write_journal<K: Sink>(
     entries: &[Entry],
     lines: &[RoleLine],
 ) -> Result<(), WriteFault>
-    requires heads { AreHeads setup.now heads.now }
+    requires heads { AreHeads line_begun setup.now heads.now }
     requires entries { AreNamed setup.now entries.now }
     requires lines { HaveRoles setup.now lines.now }
     ensures done { OnOk result

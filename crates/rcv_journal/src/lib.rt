@@ -5,7 +5,7 @@ ghost use Rattle.rcv_journal.specs.Laws.{LegalJournalsAreNamed, JournalsHaveOneT
 
 mod entries;
 mod fault;
-mod head;
+pub mod head;
 mod journal;
 pub mod line;
 pub mod name;

@@ -10,7 +10,7 @@ ghost use Rattle.rcv_journal.specs.Writing.{WroteText, BrokeText, IsUntouched};
 
 use crate::entries::write_alone;
 use crate::fault::WriteError;
-use crate::head::heads;
+use crate::head::{Line, heads};
 use crate::journal::write_journal;
 use crate::line::RoleLine;
 use crate::role_lines::lines_of;
@@ -48,7 +48,7 @@ pub fn write_text<K: Sink>(alloc: Global, book: &Book<'_>, sink: &mut K) -> Resu
     // Tells the proof that the protocol is accepted, and so what a legal journal names is declared.
     let _protocol = setup.protocol();
     let lines = lines_of(alloc, book)?;
-    let heads = heads(alloc, setup)?;
+    let heads = heads::<Line>(alloc, setup)?;
     let page = Page::new(alloc)?;
     write_journal(
         page,

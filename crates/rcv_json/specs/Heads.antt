@@ -1,11 +1,11 @@
 -- How the lists of events at one point begin, and how they end.
-use Rattle.std.specs.Prelude.{◌≡◌, ℕ, List, ◌++◌, map, codes, decimal}
+use Rattle.std.specs.Prelude.{ℕ, List, ◌++◌, codes, decimal}
 use Rattle.std.specs.Fmt.{signed_decimal}
-use Rattle.std.specs.List.{range_with_len}
 use Rattle.serde_json.specs.Data.{string}
 use Rattle.serde_json.specs.Written.{compact_text}
 use Rattle.rcv_tree.specs.declared.event.Event.{Event}
 use Rattle.rcv_session.specs.Session.{SessionView, net_for}
+use Rattle.rcv_journal.specs.Heads.{Begins}
 use Rattle.rcv_journal.specs.JournalText.{name_of}
 
 -- A string in quotes.
@@ -13,31 +13,10 @@ abbrev pub string_json : List ℕ → List ℕ
 string_json s = compact_text (string s)
 
 -- `["KIND","ROLE",POINT,"LABEL",`.
-abbrev pub head_json : SessionView → List ℕ → ℕ → ℕ → List ℕ
+abbrev pub head_json : Begins
 head_json setup kind r p =
     codes "[" ++ string_json kind ++ codes "," ++ string_json (name_of setup r) ++ codes "," ++ decimal p
     ++ codes "," ++ string_json ((net_for setup).label p) ++ codes ","
-
--- How the list of a Send begins, and that of a Recv.
-pub record HeadView : Type 0 where
-  pub send : List ℕ
-  pub recv : List ℕ
-
--- That of a point: its sender sends, its receiver receives.
-abbrev pub head_of : SessionView → ℕ → HeadView
-head_of setup p =
-    record {
-      send = head_json setup (codes "send") ((net_for setup).sender p) p;
-      recv = head_json setup (codes "recv") ((net_for setup).receiver p) p;
-    }
-
--- The heads of the points from 1 on.
-abbrev pub heads_to : SessionView → ℕ → List HeadView
-heads_to setup count = map (head_of setup) (range_with_len 1 count)
-
--- They are those of all points of the text.
-abbrev pub AreHeads : SessionView → List HeadView → Type 0
-AreHeads setup heads = heads ≡ heads_to setup (net_for setup).count
 
 -- What stands after it: `VALUE,STAMP`.
 abbrev pub rest_json : Event → List ℕ

@@ -2,14 +2,16 @@
 
 ghost use Rattle.std.specs.Prelude.{◌≡◌, ◌<◌, ◌++◌, OnOk, flat_map, codes};
 ghost use Rattle.rcv_tree.specs.declared.entry.Entry.TheVariants.{Send, Recv};
+ghost use Rattle.rcv_journal.specs.Heads.{AreHeads};
 ghost use Rattle.rcv_journal.specs.JournalText.{IsNamed, AreNamed};
-ghost use Rattle.rcv_json.specs.Heads.{rest_json, event_json, AreHeads};
+ghost use Rattle.rcv_json.specs.Heads.{head_json, rest_json, event_json};
 ghost use Rattle.rcv_json.specs.Pieces.{entry_json, next_json, entries_json};
 
-use crate::head::{Head, heads};
+use crate::head::Listed;
 use crate::recoveries::{crash_value, recovery_value};
 use crate::values::write_value;
 use rcv_core::setup::Setup;
+use rcv_journal::head::{Head, heads};
 use rcv_text::writer::Writer;
 use rcv_tree::entry::Entry;
 use rcv_tree::event::Event;
@@ -33,7 +35,7 @@ fn write_send(
     heads: &[Head],
     event: &Event,
 ) -> Result<(), AllocError>
-    requires heads { AreHeads setup.now heads.now }
+    requires heads { AreHeads head_json setup.now heads.now }
     requires named { IsNamed setup.now (Send event.now) }
     ensures { OnOk result (text.new ≡ text.old ++ event_json setup.now (codes "send") event.now) }
 {
@@ -50,7 +52,7 @@ fn write_recv(
     heads: &[Head],
     event: &Event,
 ) -> Result<(), AllocError>
-    requires heads { AreHeads setup.now heads.now }
+    requires heads { AreHeads head_json setup.now heads.now }
     requires named { IsNamed setup.now (Recv event.now) }
     ensures { OnOk result (text.new ≡ text.old ++ event_json setup.now (codes "recv") event.now) }
 {
@@ -68,7 +70,7 @@ fn write_entry(
     heads: &[Head],
     entry: &Entry,
 ) -> Result<(), AllocError>
-    requires heads { AreHeads setup.now heads.now }
+    requires heads { AreHeads head_json setup.now heads.now }
     requires named { IsNamed setup.now entry.now }
     ensures { OnOk result (text.new ≡ text.old ++ entry_json setup.now entry.now) }
 {
@@ -104,7 +106,7 @@ fn write_more(
     heads: &[Head],
     entries: &[Entry],
 ) -> Result<(), AllocError>
-    requires heads { AreHeads setup.now heads.now }
+    requires heads { AreHeads head_json setup.now heads.now }
     requires named { AreNamed setup.now entries.now }
     ensures { OnOk result (text.new ≡ text.old ++ flat_map (next_json setup.now) entries.now) }
 {
@@ -129,7 +131,7 @@ pub fn write_entries(
     let Some((first, more)) = entries.split_first() else {
         return Ok(());
     };
-    let heads = heads(alloc, setup)?;
+    let heads = heads::<Listed>(alloc, setup)?;
     write_entry(alloc, text, setup, heads.as_slice(), first)?;
     write_more(alloc, text, setup, heads.as_slice(), more)
 }

@@ -3,13 +3,13 @@ use Rattle.std.proofs.Common.{◌-◌, [], codes, ◌∙◌, ap, get_or, arith}
 use Rattle.rcv_page.proofs.Adding.{then, adds_same}
 use Rattle.rcv_tree.specs.declared.event.Event.{Event}
 use Rattle.rcv_session.specs.Session.{net_for}
-use Rattle.rcv_journal.specs.Heads.{HeadView}
+use Rattle.rcv_journal.specs.Heads.{HeadView, line_begun}
 use Rattle.rcv_journal.proofs.Heads.{count_of, head_at, begun}
 use Rattle.rcv_journal.proofs.entries.write_send.Goals as goal
 
 pub bounds-heads-event-inside : goal.bounds-heads-event-inside
 bounds-heads-event-inside g c =
-    let size = count_of c.args.setup.now c.args.heads.now c.requires.heads in
+    let size = count_of line_begun c.args.setup.now c.args.heads.now c.requires.heads in
     let first = c.requires.named.0.first in
     let last = c.requires.named.0.last in
     let point = ap (λ (e : Event). e.point) c.event.view_is in
@@ -20,7 +20,7 @@ returns g c =
     let setup = c.args.setup.now in
     let event = c.args.event.now in
     let named = c.requires.named in
-    let at = head_at setup c.args.heads.now event.point c.index-heads-event.result c.requires.heads named.0.first named.0.last in
+    let at = head_at line_begun setup c.args.heads.now event.point c.index-heads-event.result c.requires.heads named.0.first named.0.last in
     let place = ap (λ (e : Event). get_or c.args.heads.now (e.point - 1) c.index-heads-event.result) c.event.view_is in
     let head = c.as_slice.ensures.value ∙ ap (λ (h : HeadView). h.send) (c.head.view_is ∙ c.index-heads-event.is ∙ place ∙ at) in
     let start = adds_same _ _ _ _ head c.word.ensures in
