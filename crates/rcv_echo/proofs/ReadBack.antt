@@ -12,13 +12,13 @@ use Rattle.rcv_plan.proofs.Fitting.{read_is_planned}
 use Rattle.rcv_script.specs.Scripts.{messages_of}
 use Rattle.rcv_journal.specs.declared.line.RoleLine.{RoleLine}
 use Rattle.rcv_journal.specs.JournalText.{is_limit, journal_text}
-use Rattle.rcv_journal.specs.Lines.{AreLinesOf}
+use Rattle.rcv_journal.specs.Lines.{AreLinesOf, limited_in}
 use Rattle.rcv_journal.proofs.OneText.{same_lines}
 use Rattle.rcv_journal.specs.Recorded.{JournalView, bare}
 use Rattle.rcv_journal.specs.Form.{IsFormed}
 use Rattle.rcv_journal.specs.Json.{entry_data, formed_data, journal_data, limited_data, line_data, members_data, role_data}
 use Rattle.rcv_input.specs.Input.{IsTaken}
-use Rattle.rcv_lines.specs.FinalTexts.{IsEnded, limited_in}
+use Rattle.rcv_lines.specs.FinalTexts.{IsEnded}
 use Rattle.rcv_lines.specs.SmallScripts.{HasSmallScripts}
 use Rattle.rcv_lines.proofs.FinalTexts.{final_texts}
 use Rattle.rcv_lines.proofs.SmallValues.{values_fit}

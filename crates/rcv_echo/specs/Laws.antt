@@ -5,10 +5,10 @@ use Rattle.rcv_model.specs.Journal.{IsLegal, reading}
 use Rattle.rcv_model.specs.Final.{IsFinal}
 use Rattle.rcv_session.specs.Session.{SessionView, rules_of}
 use Rattle.rcv_journal.specs.declared.line.RoleLine.{RoleLine}
-use Rattle.rcv_journal.specs.Lines.{AreLinesOf, IsTextOf}
+use Rattle.rcv_journal.specs.Lines.{AreLinesOf, IsTextOf, limited_in}
 use Rattle.rcv_journal.specs.Json.{IsJsonOf}
 use Rattle.rcv_input.specs.Input.{IsTaken}
-use Rattle.rcv_lines.specs.FinalTexts.{IsReadAsJournal, limited_in}
+use Rattle.rcv_lines.specs.FinalTexts.{IsReadAsJournal}
 use Rattle.rcv_json_reader.specs.Reading as json
 
 -- If a journal of a session that an input is taken as is legal and final, its text is read as its entries, its roles' lines

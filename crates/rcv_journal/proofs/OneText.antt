@@ -27,7 +27,8 @@ same_word rules s r Waits Waits i j = refl
 abbrev line : ℕ → ℕ → ℕ → RoleWord → RoleLine
 line role kept raw word = record { role = role; kept = kept; raw = raw; word = word }
 
-same_line : (rules : Rules) (s : State) (r : ℕ) (x y : RoleLine) → IsLineOf rules s r x → IsLineOf rules s r y → x ≡ y
+-- a role has one line
+pub same_line : (rules : Rules) (s : State) (r : ℕ) (x y : RoleLine) → IsLineOf rules s r x → IsLineOf rules s r y → x ≡ y
 same_line rules s r x y i j =
     ap (λ a. line a x.kept x.raw x.word) (i.role ∙ sym j.role)
     ∙ ap (λ a. line y.role a x.raw x.word) (i.kept ∙ sym j.kept)

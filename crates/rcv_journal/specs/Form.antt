@@ -20,14 +20,17 @@ pub record IsFormedEvent (setup : SessionView) (dir : Dir) (e : Event) : Type 0 
   pub stamp : e.stamp < 2 ^ 64
   pub sent : e.sent < 2 ^ 64
 
--- A recovery that concerns at least one role; a role that isn't concerned keeps 0.
-pub record IsFormedRecovery (setup : SessionView) (p concerned : ℕ) (kept : List ℕ) (undone : ℕ) : Type 0 where
-  pub role : p < roles_of setup
+-- What a recovery says of so many roles: it concerns at least one of them; a role that isn't concerned keeps 0.
+pub record AreCuts (roles concerned : ℕ) (kept : List ℕ) : Type 0 where
   pub some : concerned ≢ 0
-  pub declared : concerned < 2 ^ roles_of setup
+  pub declared : concerned < 2 ^ roles
   pub eight : length kept ≡ 8
   pub fit : All (λ n. n < 2 ^ 32) kept
   pub others : (q : ℕ) → has_bit concerned q ≡ false → q < 8 → slice_index kept q ≡ 0
+
+pub record IsFormedRecovery (setup : SessionView) (p concerned : ℕ) (kept : List ℕ) (undone : ℕ) : Type 0 where
+  pub role : p < roles_of setup
+  pub cuts : AreCuts (roles_of setup) concerned kept
   pub undone_fits : undone < 2 ^ 32
 
 abbrev pub IsFormedEntry : SessionView → Entry → Type 0
@@ -36,14 +39,26 @@ IsFormedEntry setup (Recv e) = IsFormedEvent setup Got e
 IsFormedEntry setup (Crash p) = p < roles_of setup
 IsFormedEntry setup (Recover p concerned kept undone) = IsFormedRecovery setup p concerned.0 kept undone
 
--- One line for each role, in order; the last line names declared roles in order, each once.
+-- The numbers of a role's line fit their types.
+abbrev pub FitsLine : RoleLine → Type 0
+FitsLine line = (line.kept < 2 ^ 32) × (line.raw < 2 ^ 32)
+
+-- Each number is below the next one.
+abbrev pub IsAscending : List ℕ → Type 0
+IsAscending roles = (k a b : ℕ) → slice_get roles k ≡ Some a → slice_get roles (k + 1) ≡ Some b → a < b
+
+-- Declared roles in order, each once.
+pub record AreLimited (setup : SessionView) (limited : List ℕ) : Type 0 where
+  pub declared : All (λ r. r < roles_of setup) limited
+  pub ascending : IsAscending limited
+
+-- One line for each role, in order, and the roles that the last line names.
 pub record IsFormed (setup : SessionView) (j : JournalView) : Type 0 where
   pub entries : All (IsFormedEntry setup) j.entries
   pub all : length j.roles ≡ roles_of setup
   pub in_order : (r : ℕ) (line : RoleLine) → slice_get j.roles r ≡ Some line → line.role ≡ r
-  pub fit : All (λ line. (line.kept < 2 ^ 32) × (line.raw < 2 ^ 32)) j.roles
-  pub declared : All (λ r. r < roles_of setup) j.limited
-  pub ascending : (k a b : ℕ) → slice_get j.limited k ≡ Some a → slice_get j.limited (k + 1) ≡ Some b → a < b
+  pub fit : All FitsLine j.roles
+  pub limited : AreLimited setup j.limited
 
 -- The last line: `completed`, or `limited` and the roles.
 abbrev pub end_line : SessionView → List ℕ → List ℕ

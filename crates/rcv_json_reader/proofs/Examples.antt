@@ -14,10 +14,10 @@ use Rattle.rcv_tree.specs.declared.protocol.Protocol.{Protocol}
 use Rattle.rcv_session.specs.Session.{net_for, roles_of}
 use Rattle.rcv_journal.specs.declared.line.RoleLine.{RoleLine}
 use Rattle.rcv_journal.specs.declared.line.RoleWord.TheVariants.{Done}
-use Rattle.rcv_journal.specs.Form.{IsFormed, IsFormedEntry}
+use Rattle.rcv_journal.specs.Form.{IsFormed, IsFormedEntry, AreCuts, FitsLine}
 use Rattle.rcv_journal.specs.Recorded.{JournalView, bare}
 use Rattle.rcv_journal.specs.Json.{count, formed_data, list_of}
-use Rattle.rcv_json_reader.specs.Parts.{AreCuts, Rise, SaysEntry}
+use Rattle.rcv_json_reader.specs.Parts.{Rise, SaysEntry}
 use Rattle.rcv_json_reader.specs.Reading.{IsReadAs}
 
 -- ---- a protocol without roles
@@ -31,18 +31,14 @@ nothing = record { entries = []; roles = []; limited = [] }
 none : {X : Type 0} (P : X → Type 0) → All P []
 none P = All-nil P
 
-abbrev Fit : RoleLine → Type 0
-Fit line = (line.kept < 2 ^ 32) × (line.raw < 2 ^ 32)
-
 nothing_formed : (p : Protocol) → HasNoRoles p → IsFormed (bare p) nothing
 unfolding nothing
 nothing_formed p is = record {
   entries = none (IsFormedEntry (bare p));
   all = ap length (sym is.roles);
   in_order = λ r line here. absurd (cc);
-  fit = none Fit;
-  declared = none (λ r. r < roles_of (bare p));
-  ascending = λ k a b at_a at_b. absurd (cc);
+  fit = none FitsLine;
+  limited = record { declared = none (λ r. r < roles_of (bare p)); ascending = λ k a b at_a at_b. absurd (cc) };
 }
 
 -- in any spacing and any order of the keys
@@ -130,9 +126,8 @@ whole_formed p is = record {
       (All-cons Formed (got 0 2 4 3) [] (got_formed p 0 2 4 3 is (omega arith) (omega arith) (omega arith) (omega arith) (omega arith)) (none Formed))));
   all = ap length (sym is.roles);
   in_order = order;
-  fit = All-cons Fit (done 0) (done 1 ∷ []) (omega arith, omega arith) (All-cons Fit (done 1) [] (omega arith, omega arith) (none Fit));
-  declared = none (λ r. r < roles_of (bare p));
-  ascending = λ k a b at_a at_b. absurd (cc);
+  fit = All-cons FitsLine (done 0) (done 1 ∷ []) (omega arith, omega arith) (All-cons FitsLine (done 1) [] (omega arith, omega arith) (none FitsLine));
+  limited = record { declared = none (λ r. r < roles_of (bare p)); ascending = λ k a b at_a at_b. absurd (cc) };
 }
   where
     Formed : Entry → Type 0
@@ -179,7 +174,7 @@ zero_at zero q = refl
 zero_at (suc n) zero = refl
 zero_at (suc n) (suc q) = zero_at n q
 
-cut : (p : Protocol) → IsPing p → AreCuts (bare p) 2 (replicate 8 0)
+cut : (p : Protocol) → IsPing p → AreCuts (roles_of (bare p)) 2 (replicate 8 0)
 cut p is = record {
   some = λ e. absurd (omega (arith, e));
   declared = subst (λ n. 2 < 2 ^ n) (sym (ap length is.roles)) (omega arith);
@@ -188,5 +183,5 @@ cut p is = record {
   others = λ q clear inside. zero_at 8 q;
 }
 
-no_cut : (p : Protocol) (kept : List ℕ) → AreCuts (bare p) 0 kept → ⊥
+no_cut : (p : Protocol) (kept : List ℕ) → AreCuts (roles_of (bare p)) 0 kept → ⊥
 no_cut p kept are = are.some refl

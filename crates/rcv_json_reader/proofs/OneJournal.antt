@@ -158,23 +158,23 @@ same_recovery setup p c k u q e l v differ formed_a formed_b is = λ i. Recover
         (same_list (cuts_data setup c.0 k (roles_of setup)) (cuts_data setup e.0 l (roles_of setup)) (item_same 3 four_a four_b four)) r (omega arith) (omega arith)
 
     sets : c.0 ≡ e.0
-    sets = same_from_bits_below (roles_of setup) c.0 e.0 formed_a.declared formed_b.declared (λ r below. same_bits c.0 e.0 r (each r below).0)
+    sets = same_from_bits_below (roles_of setup) c.0 e.0 formed_a.cuts.declared formed_b.cuts.declared (λ r below. same_bits c.0 e.0 r (each r below).0)
 
     beyond : (n : ℕ) (r : ℕ) → n < 2 ^ roles_of setup → roles_of setup ≤ r → has_bit n r ≡ false
     beyond n r small past = ap (λ b. b == 1) (bit_at_above n (roles_of setup) r small past)
 
     clear_both : (r : ℕ) → r < 8 → has_bit c.0 r ≡ false → has_bit e.0 r ≡ false → slice_index k r ≡ slice_index l r
-    clear_both r below none_c none_e = formed_a.others r none_c below ∙ sym (formed_b.others r none_e below)
+    clear_both r below none_c none_e = formed_a.cuts.others r none_c below ∙ sym (formed_b.cuts.others r none_e below)
 
     lists : k ≡ l
-    lists = same_number_lists k l (formed_a.eight ∙ sym formed_b.eight) (λ r inside.
-        let below : r < 8 = omega (arith, inside, formed_a.eight) in
+    lists = same_number_lists k l (formed_a.cuts.eight ∙ sym formed_b.cuts.eight) (λ r inside.
+        let below : r < 8 = omega (arith, inside, formed_a.cuts.eight) in
         ⊎_elim
         (λ declared. ⊎_elim
         (λ set. (each r declared).1 set)
         (λ none. clear_both r below none (sym (each r declared).0 ∙ none))
         (cases_Bool (has_bit c.0 r)))
-        (λ past. clear_both r below (beyond c.0 r formed_a.declared past) (beyond e.0 r formed_b.declared past))
+        (λ past. clear_both r below (beyond c.0 r formed_a.cuts.declared past) (beyond e.0 r formed_b.cuts.declared past))
         (cases_lt r (roles_of setup)))
 
 same_entry : (setup : SessionView) (a b : Entry) → AreDifferent setup.protocol.roles → IsFormedEntry setup a → IsFormedEntry setup b → entry_data setup a ≡ entry_data setup b → a ≡ b
@@ -254,7 +254,7 @@ same_journal setup a b differ formed_a formed_b is = λ i. record {
       (same_list (map (entry_data setup) a.entries) (map (entry_data setup) b.entries) (ap (λ d. first (inside_of d)) is)) i;
   roles = map_same (λ line. line.role < roles_of setup) (line_data setup) (λ x y. same_line setup x y differ) a.roles b.roles (have_roles setup a formed_a) (have_roles setup b formed_b)
       (same_list (map (line_data setup) a.roles) (map (line_data setup) b.roles) (ap (λ d. first (behind (behind (inside_of d)))) is)) i;
-  limited = map_same (λ r. r < roles_of setup) (role_data setup) (λ x y. same_role setup x y differ) a.limited b.limited formed_a.declared formed_b.declared
+  limited = map_same (λ r. r < roles_of setup) (role_data setup) (λ x y. same_role setup x y differ) a.limited b.limited formed_a.limited.declared formed_b.limited.declared
       (same_list (map (role_data setup) a.limited) (map (role_data setup) b.limited) (ap (λ d. first (behind (inside_of d))) is)) i;
 }
 

@@ -36,7 +36,7 @@ use Rattle.rcv_journal.specs.declared.line.RoleLine.{RoleLine}
 use Rattle.rcv_journal.specs.declared.line.RoleWord.{RoleWord}
 use Rattle.rcv_journal.specs.declared.line.RoleWord.TheVariants.{Done, Limit, Waits}
 use Rattle.rcv_journal.specs.JournalText.{name_of, word_text}
-use Rattle.rcv_journal.specs.Form.{IsFormed, IsFormedEntry, IsFormedEvent}
+use Rattle.rcv_journal.specs.Form.{IsFormed, IsFormedEntry, IsFormedEvent, FitsLine}
 use Rattle.rcv_journal.specs.Recorded.{JournalView, bare}
 use Rattle.rcv_journal.specs.Json.{count, cut_data, entry_data, event_items, formed_data, line_data, list_of, role_data}
 use Rattle.rcv_json_reader.specs.Parts.{pair_data, three_data}
@@ -260,7 +260,7 @@ plain_entry setup (Recover p concerned kept undone) accepted formed = (
       name_is_text setup.protocol.roles p accepted.names.role_words,
       (
         omega (arith, formed.undone_fits),
-        ((1, omega arith, are_plain_cuts setup concerned.0 kept (λ r. name_is_text setup.protocol.roles r accepted.names.role_words) formed.fit 0 (roles_of setup)), tt),
+        ((1, omega arith, are_plain_cuts setup concerned.0 kept (λ r. name_is_text setup.protocol.roles r accepted.names.role_words) formed.cuts.fit 0 (roles_of setup)), tt),
       ),
     ),
   ),
@@ -271,7 +271,7 @@ word_is_ascii Done = IsUtf8-are_ascii (codes "done") refl
 word_is_ascii Limit = IsUtf8-are_ascii (codes "limit") refl
 word_is_ascii Waits = IsUtf8-are_ascii (codes "waits") refl
 
-plain_line : (setup : SessionView) (line : RoleLine) → IsAcceptedProtocol setup.protocol → (line.kept < 2 ^ 32) × (line.raw < 2 ^ 32) → IsPlain 8 (line_data setup line)
+plain_line : (setup : SessionView) (line : RoleLine) → IsAcceptedProtocol setup.protocol → FitsLine line → IsPlain 8 (line_data setup line)
 plain_line setup line accepted fit =
     (0, omega arith, (name_is_text setup.protocol.roles line.role accepted.names.role_words, (omega (arith, fit.0), (omega (arith, fit.1), (word_is_ascii line.word, tt)))))
 
@@ -299,8 +299,8 @@ lines_are_read_back p text j accepted formed is = record {
 
     plain_limited : IsPlain 9 limited
     plain_limited =
-        (8, omega arith, plain_map 8 (λ r. r < roles_of setup) (role_data setup) (λ r declared. name_is_text p.roles r accepted.names.role_words) j.limited formed.declared)
+        (8, omega arith, plain_map 8 (λ r. r < roles_of setup) (role_data setup) (λ r declared. name_is_text p.roles r accepted.names.role_words) j.limited formed.limited.declared)
 
     plain_lines : IsPlain 9 lines
     plain_lines =
-        (8, omega arith, plain_map 8 (λ line. (line.kept < 2 ^ 32) × (line.raw < 2 ^ 32)) (line_data setup) (λ line. plain_line setup line accepted) j.roles formed.fit)
+        (8, omega arith, plain_map 8 FitsLine (line_data setup) (λ line. plain_line setup line accepted) j.roles formed.fit)

@@ -42,7 +42,7 @@ entries_said setup d e l r j is says = record {
 
 pub limited_said : (setup : SessionView) (d e l r : Data) (j : JournalView) → d ≡ three_data e l r → SaysJournal setup d j → SaysLimited setup l j.limited
 limited_said setup d e l r j is says = record {
-  rise = rise_from 0 j.limited (roles_of setup) (omega arith) (λ x here. omega arith) says.formed.declared says.formed.ascending;
+  rise = rise_from 0 j.limited (roles_of setup) (omega arith) (λ x here. omega arith) says.formed.limited.declared says.formed.limited.ascending;
   is = ap (λ x. first (behind (inside_of x))) (sym is ∙ says.is);
 }
 
@@ -62,8 +62,7 @@ journal_said setup d e l r j is entries limited lines = record {
     all = lines.all;
     in_order = lines.in_order;
     fit = lines.fit;
-    declared = rise_declared 0 j.limited (roles_of setup) limited.rise;
-    ascending = rise_ascends 0 j.limited (roles_of setup) limited.rise;
+    limited = record { declared = rise_declared 0 j.limited (roles_of setup) limited.rise; ascending = rise_ascends 0 j.limited (roles_of setup) limited.rise };
   };
   is = is ∙ ap (λ x. three_data x l r) entries.is ∙ ap (λ x. three_data (list_of (map (entry_data setup) j.entries)) x r) limited.is
       ∙ ap (λ x. three_data (list_of (map (entry_data setup) j.entries)) (list_of (map (role_data setup) j.limited)) x) lines.is;

@@ -1,5 +1,5 @@
 -- What the parts of a journal's value say.
-use Rattle.std.specs.Prelude.{◌≡◌, ◌≢◌, ◌≤◌, ◌<◌, ◌^◌, ◌-◌, ◌+◌, ℕ, false, List, [], ◌∷◌, All, codes, length, map, take, drop, flat_map, slice_index, slice_get, Some}
+use Rattle.std.specs.Prelude.{◌≡◌, ◌≤◌, ◌<◌, ◌^◌, ◌-◌, ◌+◌, ℕ, false, List, [], ◌∷◌, All, codes, length, map, take, drop, flat_map, slice_index, slice_get, Some}
 use Rattle.std.specs.List.{range_with_len}
 use Rattle.serde_json.specs.Data.{Data, member, no_members, number, object, string}
 use Rattle.serde_json.specs.Find.{of_integer}
@@ -13,7 +13,7 @@ use Rattle.rcv_session.specs.Session.{SessionView, roles_of, net_for}
 use Rattle.rcv_journal.specs.declared.line.RoleLine.{RoleLine}
 use Rattle.rcv_journal.specs.JournalText.{word_text}
 use Rattle.rcv_journal.specs.Recorded.{JournalView}
-use Rattle.rcv_journal.specs.Form.{IsFormed, IsFormedEntry, IsFormedEvent}
+use Rattle.rcv_journal.specs.Form.{IsFormed, IsFormedEntry, IsFormedEvent, AreCuts, FitsLine}
 use Rattle.rcv_json_reader.specs.declared.entry.Recovery.{Recovery}
 use Rattle.rcv_json_reader.specs.declared.event.Said.{Said}
 use Rattle.rcv_journal.specs.Json.{count, cut_data, cuts_data, entry_data, formed_data, line_data, list_of, role_data}
@@ -32,16 +32,9 @@ pub record SaysEvent (setup : SessionView) (dir : Dir) (said : Said) (e : Event)
 abbrev pub pair_data : SessionView → ℕ → ℕ → Data
 pair_data setup q n = list_of (role_data setup q ∷ count n ∷ [])
 
--- What a recovery of the form says of the roles: at least one is concerned, and a role that isn't concerned keeps 0.
-pub record AreCuts (setup : SessionView) (concerned : ℕ) (kept : List ℕ) : Type 0 where
-  pub some : concerned ≢ 0
-  pub declared : concerned < 2 ^ roles_of setup
-  pub eight : length kept ≡ 8
-  pub fit : All (λ n. n < 2 ^ 32) kept
-  pub others : (q : ℕ) → has_bit concerned q ≡ false → q < 8 → slice_index kept q ≡ 0
-
+-- The value says these cuts.
 pub record SaysCuts (setup : SessionView) (value : Data) (concerned : ℕ) (kept : List ℕ) : Type 0 where
-  pub cuts : AreCuts setup concerned kept
+  pub cuts : AreCuts (roles_of setup) concerned kept
   pub is : value ≡ list_of (cuts_data setup concerned kept (roles_of setup))
 
 -- Three values say the recovery.
@@ -103,7 +96,7 @@ pub record SaysEntries (setup : SessionView) (value : Data) (entries : List Entr
 pub record SaysLines (setup : SessionView) (value : Data) (lines : List RoleLine) : Type 0 where
   pub all : length lines ≡ roles_of setup
   pub in_order : (r : ℕ) (line : RoleLine) → slice_get lines r ≡ Some line → line.role ≡ r
-  pub fit : All (λ line. (line.kept < 2 ^ 32) × (line.raw < 2 ^ 32)) lines
+  pub fit : All FitsLine lines
   pub is : value ≡ list_of (map (line_data setup) lines)
 
 -- Roles, ascending, from a on and below b.

@@ -12,10 +12,10 @@ use Rattle.rcv_model.proofs.Threads.{least, step_or_final}
 use Rattle.rcv_journal.specs.declared.line.RoleLine.{RoleLine}
 use Rattle.rcv_journal.specs.declared.line.RoleWord.{RoleWord}
 use Rattle.rcv_journal.specs.declared.line.RoleWord.TheVariants.{Done, Limit, Waits}
-use Rattle.rcv_journal.specs.Lines.{AreLinesOf}
+use Rattle.rcv_journal.specs.Lines.{AreLinesOf, limited_in}
 use Rattle.rcv_journal.proofs.OneText.{same_lines}
 use Rattle.rcv_journal.proofs.LinesExist.{is_done_or_not, lines_from, are_lines}
-use Rattle.rcv_judge.specs.Closing.{limited_in, Closes}
+use Rattle.rcv_judge.specs.Closing.{Closes}
 use Rattle.rcv_judge.specs.Laws.{ClosingsAreJudged}
 use Rattle.rcv_judge.proofs.Deciding.{OrNot, both}
 

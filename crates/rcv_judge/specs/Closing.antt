@@ -1,18 +1,12 @@
 -- What the lines after the entries of a journal must say, and the first of them that says something else.
-use Rattle.std.specs.Prelude.{◌≡◌, ◌⊎◌, ℕ, ◌<◌, ◌≤◌, ◌↔◌, Option, Some, MatchOption, List, [], length, map, slice_get}
-use Rattle.std.specs.List.{filter}
+use Rattle.std.specs.Prelude.{◌≡◌, ◌⊎◌, ℕ, ◌<◌, ◌≤◌, ◌↔◌, Option, Some, MatchOption, List, [], length, slice_get}
 use Rattle.rcv_tree.specs.declared.entry.Entry.{Entry}
 use Rattle.rcv_model.specs.Journal.{Rules, State, reading}
 use Rattle.rcv_model.specs.Final.{IsFinal, AreDone, IsCompleted, IsLimited, HasOneAtLimit}
 use Rattle.rcv_session.specs.Session.{SessionView, rules_of}
 use Rattle.rcv_core.specs.Book.{BookView, state_of}
 use Rattle.rcv_journal.specs.declared.line.RoleLine.{RoleLine}
-use Rattle.rcv_journal.specs.JournalText.{is_limit}
-use Rattle.rcv_journal.specs.Lines.{IsLineOf, AreLinesOf}
-
--- The roles whose lines say that they are at the limit, in order.
-abbrev pub limited_in : List RoleLine → List ℕ
-limited_in lines = map (λ line. line.role) (filter (λ line. is_limit line.word) lines)
+use Rattle.rcv_journal.specs.Lines.{IsLineOf, AreLinesOf, limited_in}
 
 -- The state after the entries is final. The lines of the roles are those of this state. The last line names those of them that
 -- are at the limit: none exactly if all roles are done.

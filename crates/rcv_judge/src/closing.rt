@@ -4,8 +4,8 @@ ghost use Rattle.std.specs.Prelude.{◌≡◌, ◌<◌, ◌^◌, ◌↔◌, ℕ,
 ghost use Rattle.std.specs.Prelude.{IfSome, IfNone};
 ghost use Rattle.rcv_session.specs.Session.{rules_of};
 ghost use Rattle.rcv_core.specs.Book.{state_of, HasMore};
-ghost use Rattle.rcv_journal.specs.Lines.{AreLinesOf};
-ghost use Rattle.rcv_judge.specs.Closing.{limited_in, Closes, ClosesRight, IsFirstWrongClosing, IsFound, HasEnded};
+ghost use Rattle.rcv_journal.specs.Lines.{AreLinesOf, limited_in};
+ghost use Rattle.rcv_judge.specs.Closing.{Closes, ClosesRight, IsFirstWrongClosing, IsFound, HasEnded};
 
 use crate::same::{are_same_roles, is_same_line};
 use rcv_core::book::Book;

@@ -16,9 +16,8 @@ use Rattle.rcv_journal.specs.declared.line.RoleLine.{RoleLine}
 use Rattle.rcv_journal.specs.declared.line.RoleWord.{RoleWord}
 use Rattle.rcv_journal.specs.declared.line.RoleWord.TheVariants.{Done, Limit, Waits}
 use Rattle.rcv_journal.specs.JournalText.{entry_line, role_line}
-use Rattle.rcv_journal.specs.Form.{end_line}
+use Rattle.rcv_journal.specs.Form.{end_line, IsAscending}
 use Rattle.rcv_lines.specs.Line.{LineView, EntryLine, RoleLineOf, EndLine, SaysLine}
-use Rattle.rcv_lines.specs.Named.{IsAscending}
 use Rattle.rcv_lines.proofs.Ascending.{ascend}
 
 abbrev pub OrNot : Type 0 → Type 0
@@ -240,7 +239,7 @@ module _ (setup : SessionView) (text : List ℕ) where
       none.recv (e.role, (is.named.role, (e.point, (omega (arith, is.named.last), (is.named.first, (e.value, (is.value, (e.stamp, (is.stamp, (e.sent, (is.sent, text_is)))))))))))
   none_of none (EntryLine (Crash p)) (is, text_is) = none.crash (p, (is, text_is))
   none_of none (EntryLine (Recover p concerned kept undone)) (is, text_is) =
-      none.recover (p, (is.role, (concerned.0, (is.declared, (is.some, (kept, (is.eight, (is.fit, (is.others, (undone, (is.undone_fits, text_is)))))))))))
+      none.recover (p, (is.role, (concerned.0, (is.cuts.declared, (is.cuts.some, (kept, (is.cuts.eight, (is.cuts.fit, (is.cuts.others, (undone, (is.undone_fits, text_is)))))))))))
   none_of none (RoleLineOf line) (is, text_is) = none.role (line.role, (is.role, (line.kept, (is.kept, (line.raw, (is.raw, (line.word, text_is)))))))
   none_of none (EndLine limited) (is, text_is) =
       none.last (length limited, (let few = few_ascend limited 0 (roles_of setup) (omega arith) (λ a at. omega arith) is.declared is.ascending in omega (arith, few), (limited, (refl, (is.declared, (is.ascending, text_is))))))
@@ -264,7 +263,7 @@ module _ (setup : SessionView) (text : List ℕ) where
   of_recover : ARecover → (v : LineView) × SaysLine setup text v
   of_recover (r, (role, (c, (declared, (some, (kept, (eight, (fit, (others, (undone, (small, is))))))))))) = (
     EntryLine (Recover r (record { 0 = c }) kept undone),
-    (record { role = role; some = some; declared = declared; eight = eight; fit = fit; others = others; undone_fits = small }, is),
+    (record { role = role; cuts = record { some = some; declared = declared; eight = eight; fit = fit; others = others }; undone_fits = small }, is),
   )
 
   of_role : ARole → (v : LineView) × SaysLine setup text v

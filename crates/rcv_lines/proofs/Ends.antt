@@ -4,9 +4,9 @@ use Rattle.std.specs.Prelude.{IfNone, IfOk, IfSome}
 use Rattle.std.proofs.lemmas.List.{length-map}
 use Rattle.rcv_session.specs.Session.{SessionView}
 use Rattle.rcv_journal.specs.JournalText.{name_of}
+use Rattle.rcv_journal.specs.Form.{AreLimited}
 use Rattle.rcv_lines.specs.Cutting.{texts}
 use Rattle.rcv_lines.specs.Fields.{end_fields, SaysLimited}
-use Rattle.rcv_lines.specs.Line.{AreLimited}
 use Rattle.rcv_lines.proofs.Parses.{ok_none_from, ok_some_from}
 
 pub completed_said : (setup : SessionView) (F : List (List ℕ)) (roles : List ℕ) → roles ≡ [] → F ≡ codes "completed" ∷ [] → F ≡ end_fields setup roles

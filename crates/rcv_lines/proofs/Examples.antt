@@ -6,11 +6,11 @@ use Rattle.rcv_tree.specs.declared.event.Dir.TheVariants.{Sent, Got}
 use Rattle.rcv_tree.specs.declared.entry.Entry.TheVariants.{Send, Recv, Crash, Recover}
 use Rattle.rcv_session.specs.Session.{SessionView, net_for}
 use Rattle.rcv_journal.specs.declared.line.RoleWord.TheVariants.{Limit}
+use Rattle.rcv_journal.specs.Form.{IsAscending, AreCuts}
 use Rattle.rcv_lines.specs.Cutting.{fields_of, joined}
 use Rattle.rcv_lines.specs.Fields.{line_fields}
 use Rattle.rcv_lines.specs.Laws.{EndsInFeed}
 use Rattle.rcv_lines.specs.Line.{EndLine, EntryLine, LineView, RoleLineOf, SaysLine, line_text}
-use Rattle.rcv_lines.specs.Named.{AreCuts, IsAscending}
 
 -- ping from A to B, pong from B to A
 record IsPing (setup : SessionView) : Type 0 where
@@ -87,7 +87,7 @@ twice_not : IsAscending (3 ∷ 3 ∷ []) → ⊥
 twice_not ascends = let below = ascends 0 3 3 refl refl in omega (arith, below)
 
 -- A recovery that concerns nobody is none.
-nobody : (names : List (List ℕ)) (kept : List ℕ) → AreCuts names 0 kept → ⊥
+nobody : (names : List (List ℕ)) (kept : List ℕ) → AreCuts (length names) 0 kept → ⊥
 nobody names kept are = are.some refl
 
 -- A line feed at the end, and no other.

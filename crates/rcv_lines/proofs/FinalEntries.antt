@@ -182,14 +182,16 @@ module _ (session : SessionView) (plain : IsAcceptedProtocol session.protocol) (
     recovery : (p concerned : ℕ) (kept : List ℕ) (undone : ℕ) → p < roles_of session → MayRecover rules now p concerned kept undone → ((q : ℕ) → length (acts q (kept_by rules now p)) ≤ rules.limit) → IsFormedRecovery (bare session.protocol) p concerned kept undone
     recovery p concerned kept undone lt may within = record {
       role = lt;
-      some = λ none.
-          let told = (may.concerned p in_byte).1 (inl (inl refl)) in
-          let no_bit : has_bit concerned p ≡ false = ap (λ n. has_bit n p) none ∙ ap (λ b. b == 1) (bit_at-zero p) in
-          true≢false (sym told ∙ no_bit);
-      declared = small concerned (roles_of session) (8 - roles_of session) (subst (λ n. concerned < 2 ^ n) eight_is may.byte) (λ q le less. no_bit_above q le (omega (arith, less, eight)));
-      eight = may.eight;
-      fit = λ k d less. let small_count = count k (omega (arith, less, may.eight)) in subst (λ n. n < 2 ^ 32) (get_or_same kept k d less) small_count;
-      others = λ q none less. may.counts q less ∙ ap (λ b. cond b (length (acts q (kept_by rules now p))) 0) none;
+      cuts = record {
+        some = λ none.
+            let told = (may.concerned p in_byte).1 (inl (inl refl)) in
+            let no_bit : has_bit concerned p ≡ false = ap (λ n. has_bit n p) none ∙ ap (λ b. b == 1) (bit_at-zero p) in
+            true≢false (sym told ∙ no_bit);
+        declared = small concerned (roles_of session) (8 - roles_of session) (subst (λ n. concerned < 2 ^ n) eight_is may.byte) (λ q le less. no_bit_above q le (omega (arith, less, eight)));
+        eight = may.eight;
+        fit = λ k d less. let small_count = count k (omega (arith, less, may.eight)) in subst (λ n. n < 2 ^ 32) (get_or_same kept k d less) small_count;
+        others = λ q none less. may.counts q less ∙ ap (λ b. cond b (length (acts q (kept_by rules now p))) 0) none;
+      };
       undone_fits =
           let all = (bounded rules front legal).events in
           let short = few front legal in

@@ -4,9 +4,8 @@ use Rattle.std.specs.List.{list_all}
 use Rattle.std.proofs.lemmas.Option.{none-some, same_Some, slice_get-get_or, slice_get_within}
 use Rattle.std.proofs.lemmas.Grind.{flat_map-append}
 use Rattle.std.proofs.lemmas.List.Elements.{All-cons, All-head, All-tail}
-use Rattle.rcv_model.proofs.Located.{item}
 use Rattle.rcv_model.specs.Act.{IsDone}
-use Rattle.rcv_model.specs.Journal.{Rules, State, numbers_at, reading}
+use Rattle.rcv_model.specs.Journal.{Rules, State, reading}
 use Rattle.rcv_model.specs.Final.{AreDone, HasOneAtLimit}
 use Rattle.rcv_model.specs.Numbers.{IsBounded}
 use Rattle.rcv_model.proofs.Choosing.{chosen_in}
@@ -19,11 +18,12 @@ use Rattle.rcv_journal.specs.declared.line.RoleLine.{RoleLine}
 use Rattle.rcv_journal.specs.declared.line.RoleWord.{RoleWord}
 use Rattle.rcv_journal.specs.declared.line.RoleWord.TheVariants.{Done, Limit, Waits}
 use Rattle.rcv_journal.specs.JournalText.{entry_line, role_line, is_done, is_limit, limit_text, last_line, name_of}
-use Rattle.rcv_journal.specs.Lines.{IsWordOf, AreLinesOf}
+use Rattle.rcv_journal.specs.Lines.{IsWordOf, AreLinesOf, limited_in}
+use Rattle.rcv_journal.proofs.Limited.{all_done, one_left}
 use Rattle.rcv_journal.proofs.OneText.{completed_is_written}
 use Rattle.rcv_journal.specs.Recorded.{JournalView, bare}
-use Rattle.rcv_journal.specs.Form.{IsFormed, Spells, end_line, journal_lines}
-use Rattle.rcv_lines.specs.FinalTexts.{limited_in, FinalTextsAreReadBack}
+use Rattle.rcv_journal.specs.Form.{IsFormed, Spells, end_line, journal_lines, FitsLine}
+use Rattle.rcv_lines.specs.FinalTexts.{FinalTextsAreReadBack}
 use Rattle.rcv_lines.proofs.FinalEntries.{formed}
 use Rattle.rcv_lines.proofs.OneJournal.{lines_spell}
 use Rattle.rcv_lines.proofs.Order.{Ordered, ordered}
@@ -69,24 +69,6 @@ limited_declared m (line ∷ lines) all =
 
 -- ---- the last line
 
-none_limited : (lines : List RoleLine) → ((q : ℕ) (line : RoleLine) → slice_get lines q ≡ Some line → is_limit line.word ≡ false) → limited_in lines ≡ []
-none_limited [] none = refl
-none_limited (line ∷ lines) none =
-    ap (λ b. cond b (line.role ∷ limited_in lines) (limited_in lines)) (none 0 line refl) ∙ none_limited lines (λ q x at. none (suc q) x at)
-
-some_limited : (lines : List RoleLine) (q : ℕ) (line : RoleLine) → slice_get lines q ≡ Some line → is_limit line.word ≡ true → limited_in lines ≡ [] → ⊥
-some_limited [] q line at limit empty = absurd (none-some line at)
-some_limited (x ∷ lines) zero line at limit empty =
-    let here : is_limit x.word ≡ true = ap (λ (y : RoleLine). is_limit y.word) (same_Some x line at) ∙ limit in
-    let some : x.role ∷ limited_in lines ≡ [] = sym (ap (λ b. cond b (x.role ∷ limited_in lines) (limited_in lines)) here) ∙ empty in
-    cc
-some_limited (x ∷ lines) (suc q) line at limit empty =
-    go (is_limit x.word) (λ none. some_limited lines q line at limit none) empty
-  where
-    go : (b : Bool) → (limited_in lines ≡ [] → ⊥) → cond b (x.role ∷ limited_in lines) (limited_in lines) ≡ [] → ⊥
-    go true some none = cc
-    go false some none = some none
-
 limit_texts : (setup : SessionView) (lines : List RoleLine) → flat_map (limit_text setup) lines ≡ flat_map (λ q. codes " " ++ name_of setup q) (limited_in lines)
 limit_texts setup [] = refl
 limit_texts setup (line ∷ lines) = go (is_limit line.word) (limit_texts setup lines)
@@ -99,33 +81,18 @@ limited_end : (setup : SessionView) (qs : List ℕ) → (qs ≡ [] → ⊥) → 
 limited_end setup [] some = absurd (some refl)
 limited_end setup (q ∷ qs) some = refl
 
-done_word : (rules : Rules) (s : State) (r : ℕ) (word : RoleWord) → IsDone rules.net r s.kept → IsWordOf rules s r word → is_limit word ≡ false
-done_word rules s r Done done is = refl
-done_word rules s r Limit done is = absurd (is.0 done)
-done_word rules s r Waits done is = absurd (is.0 done)
-
-limit_word : (rules : Rules) (s : State) (r : ℕ) (word : RoleWord) → (IsDone rules.net r s.kept → ⊥) → (numbers_at s.roles r).raw ≡ rules.limit → IsWordOf rules s r word → is_limit word ≡ true
-limit_word rules s r Done not_done at is = absurd (not_done is)
-limit_word rules s r Limit not_done at is = refl
-limit_word rules s r Waits not_done at is = absurd (is.1 at)
-
 module _ (session : SessionView) (s : State) (lines : List RoleLine) (are : AreLinesOf (rules_of session) s lines) where
   pub done_end : AreDone (rules_of session) s → end_line (bare session.protocol) (limited_in lines) ≡ last_line session lines
   done_end done =
-      ap (end_line (bare session.protocol)) (none_limited lines (λ q line at. done_word (rules_of session) s q line.word (done q (subst (λ n. q < n) are.all (slice_get_within lines q line at))) (are.each q line at).word)) ∙ sym ((completed_is_written session s lines are).1 done)
+      ap (end_line (bare session.protocol)) (all_done (rules_of session) s lines are done) ∙ sym ((completed_is_written session s lines are).1 done)
 
   pub limit_end : HasOneAtLimit (rules_of session) s → end_line (bare session.protocol) (limited_in lines) ≡ last_line session lines
   limit_end one = go (list_all (λ line. is_done line.word) lines) refl
     where
-      some : limited_in lines ≡ [] → ⊥
-      some empty =
-          let found = item lines one.0 (subst (λ n. one.0 < n) (sym are.all) one.1) in
-          some_limited lines one.0 found.0 found.1 (limit_word (rules_of session) s one.0 found.0.word one.2 one.3 (are.each one.0 found.0 found.1).word) empty
-
       go : (b : Bool) → list_all (λ (line : RoleLine). is_done line.word) lines ≡ b → end_line (bare session.protocol) (limited_in lines) ≡ last_line session lines
       go true all = absurd (one.2 ((completed_is_written session s lines are).0 (ap (λ b. cond b (codes "completed\n") (codes "limited" ++ flat_map (limit_text session) lines ++ codes "\n")) all) one.0 one.1))
       go false all =
-          limited_end (bare session.protocol) (limited_in lines) some
+          limited_end (bare session.protocol) (limited_in lines) (one_left (rules_of session) s lines are one)
           ∙ ap (λ xs. codes "limited" ++ xs ++ codes "\n") (sym (limit_texts session lines))
           ∙ sym (ap (λ b. cond b (codes "completed\n") (codes "limited" ++ flat_map (limit_text session) lines ++ codes "\n")) all)
 
@@ -161,7 +128,7 @@ final_texts session entries bytes ended text =
     last = ⊎_elim (λ done. done_end session s lines text.are_lines done) (λ one. limit_end session s lines text.are_lines one)
         (done_or_limited (rules_of session) entries (proper (text_of session) (roles_of session) ended.protocol.form) ended.protocol.accepted (λ r events attempt zs some. chosen_in (net_for session) (lines_of session) r events attempt zs some) (let room = (ranges session ended.planned).room_first in omega (arith, room)) ended.legal ended.final)
 
-    fit : All (λ (line : RoleLine). (line.kept < 2 ^ 32) × (line.raw < 2 ^ 32)) lines
+    fit : All FitsLine lines
     fit k d lt =
         let line = text.are_lines.each k (get_or lines k d) (slice_get-get_or lines k d lt) in
         let kept_is = line.kept in
@@ -183,8 +150,10 @@ final_texts session entries bytes ended text =
           all = text.are_lines.all;
           in_order = λ q line at. (text.are_lines.each q line at).role;
           fit = fit;
-          declared = limited_declared (roles_of session) lines declared;
-          ascending = λ k a b at next. steps_up 0 (limited_in lines) (limited_ascend 0 lines order) k a b at (subst (λ n. slice_get (limited_in lines) n ≡ Some b) (omega arith) next);
+          limited = record {
+            declared = limited_declared (roles_of session) lines declared;
+            ascending = λ k a b at next. steps_up 0 (limited_in lines) (limited_ascend 0 lines order) k a b at (subst (λ n. slice_get (limited_in lines) n ≡ Some b) (omega arith) next);
+          };
         }
 
     same : bytes ≡ flat_map (λ (line : List ℕ). line) (journal_lines plain_session journal)

@@ -18,12 +18,12 @@ use Rattle.rcv_accept.specs.Accepted.{IsAcceptedProtocol}
 use Rattle.rcv_journal.specs.declared.line.RoleWord.{RoleWord}
 use Rattle.rcv_journal.specs.declared.line.RoleWord.TheVariants.{Done, Limit, Waits}
 use Rattle.rcv_journal.specs.JournalText.{name_of, word_text}
-use Rattle.rcv_journal.specs.Form.{IsFormedEvent, IsFormedRecovery}
+use Rattle.rcv_journal.specs.Form.{IsFormedEvent, AreCuts}
 use Rattle.rcv_lines.specs.Cutting.{joined}
 use Rattle.rcv_lines.specs.Fields.{event_fields, line_fields}
 use Rattle.rcv_lines.specs.Laws.{LinesSayOneThing}
 use Rattle.rcv_lines.specs.Line.{EndLine, EntryLine, IsFormedLine, LineView, RoleLineOf}
-use Rattle.rcv_lines.specs.Named.{AreCuts, BeginOtherwise, FitsCut, cut_at, cut_fields, kept_fields, name_at}
+use Rattle.rcv_lines.specs.Named.{BeginOtherwise, FitsCut, cut_at, cut_fields, kept_fields, name_at}
 use Rattle.rcv_lines.proofs.Naming.{same_role, same_roles}
 use Rattle.rcv_lines.proofs.Parses.{within}
 use Rattle.rcv_lines.proofs.Texts.{last_byte, line_joins, text_said}
@@ -45,7 +45,7 @@ split_cut name (Some m) None R R' fits fits' other other' is = absurd (begins_no
 split_cut name (Some m) (Some n) R R' fits fits' other other' is =
     (ap Some (decimal_injective m n (omega (arith, fits)) (omega (arith, fits')) (ap (λ l. get_or l 1 []) is)), ap (drop 2) is)
 
-module _ (names : List (List ℕ)) (few : length names ≤ 8) (differ : AreDifferent names) (c c' : ℕ) (k k' : List ℕ) (are : AreCuts names c k) (are' : AreCuts names c' k') where
+module _ (names : List (List ℕ)) (few : length names ≤ 8) (differ : AreDifferent names) (c c' : ℕ) (k k' : List ℕ) (are : AreCuts (length names) c k) (are' : AreCuts (length names) c' k') where
   same_cuts : (a n : ℕ) → a + n ≤ length names → flat_map (kept_fields names c k) (range_with_len a n) ≡ flat_map (kept_fields names c' k') (range_with_len a n)
       → (q : ℕ) → a ≤ q → q < a + n → cut_at c k q ≡ cut_at c' k' q
   same_cuts a zero all is q from below = absurd (omega (arith, from, below))
@@ -89,7 +89,7 @@ same_lists [] (y ∷ ys) long same = absurd (omega (arith, long))
 same_lists (x ∷ xs) [] long same = absurd (omega (arith, long))
 same_lists (x ∷ xs) (y ∷ ys) long same = ap₂ (λ n ns. n ∷ ns) (same 0 (omega arith)) (same_lists xs ys (omega (arith, long)) (λ q lt. same (suc q) (omega (arith, lt))))
 
-one_recovery : (names : List (List ℕ)) → length names ≤ 8 → AreDifferent names → (c c' : ℕ) (k k' : List ℕ) → AreCuts names c k → AreCuts names c' k'
+one_recovery : (names : List (List ℕ)) → length names ≤ 8 → AreDifferent names → (c c' : ℕ) (k k' : List ℕ) → AreCuts (length names) c k → AreCuts (length names) c' k'
     → flat_map (kept_fields names c k) (range_with_len 0 (length names)) ≡ flat_map (kept_fields names c' k') (range_with_len 0 (length names)) → (c ≡ c') × (k ≡ k')
 one_recovery names few differ c c' k k' are are' is =
     let each : (q : ℕ) → q < length names → (has_bit c q ≡ has_bit c' q) × (has_bit c q ≡ true → slice_index k q ≡ slice_index k' q) =
@@ -102,9 +102,6 @@ one_recovery names few differ c c' k k' are are' is =
           ⊎_elim (λ on. ⊎_elim (λ inside. (each q inside).1 on) (λ past. absurd (true≢false (sym on ∙ high_bit c (length names) q are.declared past))) (cases_lt q (length names)))
           (λ none. off q (omega (arith, lt, are.eight)) none) (cases_Bool (has_bit c q))),
     )
-
-as_cuts : (setup : SessionView) (p c : ℕ) (k : List ℕ) (u : ℕ) → IsFormedRecovery setup p c k u → AreCuts setup.protocol.roles c k
-as_cuts setup p c k u formed = record { some = formed.some; declared = formed.declared; eight = formed.eight; fit = formed.fit; others = formed.others }
 
 same_word : (a b : RoleWord) → word_text a ≡ word_text b → a ≡ b
 same_word Done Done is = refl
@@ -171,7 +168,7 @@ module _ (setup : SessionView) (accepted : IsAcceptedProtocol setup.protocol) wh
       let fits' = formed'.undone_fits in
       let role = one_role p q formed.role formed'.role (ap (λ l. get_or l 1 []) is) in
       let undone = decimal_injective u w (omega (arith, fits)) (omega (arith, fits')) (last_byte (decimal u) (decimal w) 58 58 (ap (λ l. get_or l 3 []) is)).0 in
-      let cuts = one_recovery setup.protocol.roles accepted.form.few_roles accepted.names.differ c.0 d.0 k l (as_cuts setup p c.0 k u formed) (as_cuts setup q d.0 l w formed') (ap (drop 4) is) in
+      let cuts = one_recovery setup.protocol.roles accepted.form.few_roles accepted.names.differ c.0 d.0 k l formed.cuts formed'.cuts (ap (drop 4) is) in
       λ i. EntryLine (Recover (role i) (record { 0 = cuts.0 i }) (cuts.1 i) (undone i))
   same_line (EntryLine (Recover p c k u)) (RoleLineOf other) formed formed' is = absurd (omega (arith, ap key is))
   same_line (EntryLine (Recover p c k u)) (EndLine []) formed formed' is = absurd (omega (arith, ap key is))

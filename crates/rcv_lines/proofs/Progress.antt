@@ -9,8 +9,8 @@ use Rattle.rcv_journal.specs.declared.line.RoleLine.{RoleLine}
 use Rattle.rcv_journal.specs.declared.line.RoleWord.TheVariants.{Waits}
 use Rattle.rcv_journal.specs.JournalText.{entry_line, role_line}
 use Rattle.rcv_journal.specs.Recorded.{JournalView}
-use Rattle.rcv_journal.specs.Form.{IsFormed, IsFormedEntry, MayBegin, Spells, journal_lines, lines_of, end_line}
-use Rattle.rcv_lines.specs.Line.{LineView, EntryLine, RoleLineOf, EndLine, AreLimited, IsFormedLine, IsFormedRoleLine, SaysLine, line_text}
+use Rattle.rcv_journal.specs.Form.{IsFormed, IsFormedEntry, MayBegin, Spells, journal_lines, lines_of, end_line, AreLimited, FitsLine}
+use Rattle.rcv_lines.specs.Line.{LineView, EntryLine, RoleLineOf, EndLine, IsFormedLine, IsFormedRoleLine, SaysLine, line_text}
 use Rattle.rcv_lines.specs.Reading.{ReadingView, MayCome, Follows, IsRead, nothing_read, with_line, Takes, TakesText}
 use Rattle.rcv_lines.proofs.Order.{Ordered, ordered, at_places, ordered_more}
 use Rattle.rcv_lines.proofs.Views.{SaysOne, said, end_said, texts, aligned, same_said, entries_formed, roles_formed}
@@ -32,23 +32,20 @@ from_0 lines are = ordered 0 lines (λ q line at. are q line at ∙ omega arith)
 to_order : (lines : List RoleLine) → Ordered 0 lines → InOrder lines
 to_order lines are q line at = at_places 0 lines are q line at ∙ omega arith
 
-abbrev Fit : RoleLine → Type 0
-Fit line = (line.kept < 2 ^ 32) × (line.raw < 2 ^ 32)
-
 -- lines in order are those of declared roles
-lines_formed : (setup : SessionView) (n : ℕ) (lines : List RoleLine) → Ordered n lines → length lines + n ≤ roles_of setup → All Fit lines → All (IsFormedRoleLine setup) lines
+lines_formed : (setup : SessionView) (n : ℕ) (lines : List RoleLine) → Ordered n lines → length lines + n ≤ roles_of setup → All FitsLine lines → All (IsFormedRoleLine setup) lines
 lines_formed setup n [] are few fit = All-nil (IsFormedRoleLine setup)
 lines_formed setup n (line ∷ lines) are few fit =
     let own = fit 0 line (omega arith) in
     let here : line.role < roles_of setup = omega (arith, are.0, few) in
-    let rest : All Fit lines = λ k d lt. fit (suc k) d (omega (arith, lt)) in
+    let rest : All FitsLine lines = λ k d lt. fit (suc k) d (omega (arith, lt)) in
     All-cons (IsFormedRoleLine setup) line lines (record { role = here; kept = own.0; raw = own.1 }) (lines_formed setup (suc n) lines are.1 (omega (arith, few)) rest)
 
 end_formed : (setup : SessionView) (over : Bool) (limited : List ℕ) → AreLimited setup limited → All (IsFormedLine setup) (end_said over limited)
 end_formed setup true limited are = All-cons (IsFormedLine setup) (EndLine limited) [] are (All-nil (IsFormedLine setup))
 end_formed setup false limited are = All-nil (IsFormedLine setup)
 
-all_formed : (setup : SessionView) (entries : List Entry) (lines : List RoleLine) (over : Bool) (limited : List ℕ) → All (IsFormedEntry setup) entries → InOrder lines → length lines ≤ roles_of setup → All Fit lines → AreLimited setup limited → All (IsFormedLine setup) (said entries lines over limited)
+all_formed : (setup : SessionView) (entries : List Entry) (lines : List RoleLine) (over : Bool) (limited : List ℕ) → All (IsFormedEntry setup) entries → InOrder lines → length lines ≤ roles_of setup → All FitsLine lines → AreLimited setup limited → All (IsFormedLine setup) (said entries lines over limited)
 all_formed setup entries lines over limited formed order few fit are =
     All-append (IsFormedLine setup) (map EntryLine entries ++ map RoleLineOf lines) (end_said over limited) (All-append (IsFormedLine setup) (map EntryLine entries) (map RoleLineOf lines) (entries_formed setup entries formed) (roles_formed setup lines (lines_formed setup 0 lines (from_0 lines order) (omega (arith, few)) fit))) (end_formed setup over limited are)
 
@@ -60,7 +57,7 @@ whole_said j = said j.entries j.roles true j.limited
 
 pub whole_formed : (setup : SessionView) (j : JournalView) → IsFormed setup j → All (IsFormedLine setup) (whole_said j)
 whole_formed setup j is =
-    all_formed setup j.entries j.roles true j.limited is.entries is.in_order (omega (arith, is.all)) is.fit (record { declared = is.declared; ascending = is.ascending })
+    all_formed setup j.entries j.roles true j.limited is.entries is.in_order (omega (arith, is.all)) is.fit is.limited
 
 pub whole_texts : (setup : SessionView) (j : JournalView) → map (line_text setup) (whole_said j) ≡ journal_lines setup j
 whole_texts setup j = texts setup j.entries j.roles true j.limited
@@ -78,7 +75,7 @@ begun setup =
     record {
       entries = All-nil (IsFormedEntry setup);
       in_order = to_order [] tt;
-      fit = All-nil Fit;
+      fit = All-nil FitsLine;
       few = omega arith;
       limited = record { declared = All-nil (λ r. r < roles_of setup); ascending = λ k a b at next. absurd (none-some a at) };
       all = λ is. absurd (cc);
@@ -98,10 +95,10 @@ unfolding fill
 fill_ordered n zero = tt
 fill_ordered n (suc k) = (refl, fill_ordered (suc n) k)
 
-fill_fits : (n k : ℕ) → All Fit (fill n k)
+fill_fits : (n k : ℕ) → All FitsLine (fill n k)
 unfolding fill
-fill_fits n zero = All-nil Fit
-fill_fits n (suc k) = All-cons Fit (filler n) (fill (suc n) k) (omega arith, omega arith) (fill_fits (suc n) k)
+fill_fits n zero = All-nil FitsLine
+fill_fits n (suc k) = All-cons FitsLine (filler n) (fill (suc n) k) (omega arith, omega arith) (fill_fits (suc n) k)
 
 fill_length : (n k : ℕ) → length (fill n k) ≡ k
 unfolding fill
@@ -116,7 +113,7 @@ no_limited setup =
 pub completed : (setup : SessionView) (lines : List (List ℕ)) (entries : List Entry) (roles : List RoleLine) (limited : List ℕ) (over : Bool) → IsRead setup lines (reading entries roles limited over) → MayBegin setup lines
 completed setup lines entries roles limited true is = (
   journal entries roles limited,
-  record { entries = is.entries; all = is.all refl; in_order = is.in_order; fit = is.fit; declared = is.limited.declared; ascending = is.limited.ascending },
+  record { entries = is.entries; all = is.all refl; in_order = is.in_order; fit = is.fit; limited = is.limited },
   [],
   sym is.are_lines ∙ sym (append-nil lines),
 )
@@ -126,9 +123,8 @@ completed setup lines entries roles limited false is = (
     entries = is.entries;
     all = length-append roles more ∙ ap (λ n. length roles + n) (fill_length (length roles) left) ∙ omega (arith, is.few);
     in_order = to_order whole (ordered_more 0 roles more (from_0 roles is.in_order) (subst (λ n. Ordered n more) here (fill_ordered (length roles) left)));
-    fit = All-append Fit roles more is.fit (fill_fits (length roles) left);
-    declared = (no_limited setup).declared;
-    ascending = (no_limited setup).ascending;
+    fit = All-append FitsLine roles more is.fit (fill_fits (length roles) left);
+    limited = no_limited setup;
   },
   map (role_line setup) more ++ end_line setup [] ∷ [],
   ap (λ xs. map (entry_line setup) entries ++ xs ++ end_line setup [] ∷ []) (map-append (role_line setup) roles more)
@@ -175,7 +171,7 @@ more setup lines entries roles limited false text (RoleLineOf line) is says foll
     record {
       entries = is.entries;
       in_order = to_order (roles ++ line ∷ []) (ordered_more 0 roles (line ∷ []) (from_0 roles is.in_order) tail);
-      fit = All-push Fit roles line is.fit (says.0.kept, says.0.raw);
+      fit = All-push FitsLine roles line is.fit (says.0.kept, says.0.raw);
       few = subst (λ n. n ≤ roles_of setup) next (roles_small setup line (length roles) says.0.role follows.1);
       limited = is.limited;
       all = λ over. absurd (true≢false (sym over));
@@ -199,7 +195,7 @@ more setup lines entries roles limited false text (EndLine ends) is says follows
 -- the whole text was read
 pub spelled : (setup : SessionView) (text : List ℕ) (entries : List Entry) (roles : List RoleLine) (limited : List ℕ) → IsRead setup (lines_of text) (reading entries roles limited true) → Spells setup text (journal entries roles limited)
 spelled setup text entries roles limited is =
-    (record { entries = is.entries; all = is.all refl; in_order = is.in_order; fit = is.fit; declared = is.limited.declared; ascending = is.limited.ascending }, is.are_lines)
+    (record { entries = is.entries; all = is.all refl; in_order = is.in_order; fit = is.fit; limited = is.limited }, is.are_lines)
 
 module _ (setup : SessionView) (one : SaysOne setup) where
   -- what stands next in a journal may come next

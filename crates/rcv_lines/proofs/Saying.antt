@@ -8,9 +8,9 @@ use Rattle.rcv_tree.specs.declared.role.RoleSet.{RoleSet}
 use Rattle.rcv_session.specs.Session.{SessionView, roles_of}
 use Rattle.rcv_journal.specs.declared.line.RoleLine.{RoleLine}
 use Rattle.rcv_journal.specs.JournalText.{name_of}
-use Rattle.rcv_journal.specs.Form.{IsFormedEntry, IsFormedEvent}
+use Rattle.rcv_journal.specs.Form.{IsFormedEntry, IsFormedEvent, AreLimited}
 use Rattle.rcv_lines.specs.Fields.{end_fields, entry_fields, event_fields, line_fields, role_fields}
-use Rattle.rcv_lines.specs.Line.{AreLimited, EndLine, EntryLine, IsFormedLine, IsFormedRoleLine, LineView, RoleLineOf}
+use Rattle.rcv_lines.specs.Line.{EndLine, EntryLine, IsFormedLine, IsFormedRoleLine, LineView, RoleLineOf}
 
 pub no_entry : (setup : SessionView) (F : List (List ℕ))
     → ((e : Event) → IsFormedEvent setup Sent e → F ≡ event_fields setup (codes "send") e [] → ⊥)

@@ -13,7 +13,8 @@ use Rattle.rcv_session.specs.Session.{net_for, roles_of}
 use Rattle.rcv_journal.specs.declared.line.RoleLine.{RoleLine}
 use Rattle.rcv_journal.specs.declared.line.RoleWord.TheVariants.{Done, Limit, Waits}
 use Rattle.rcv_journal.specs.Recorded.{JournalView, bare}
-use Rattle.rcv_journal.specs.Form.{IsFormed, IsFormedEntry, Spells, IsFirstWrong, lines_of, journal_lines}
+use Rattle.rcv_journal.specs.Lines.{limited_in}
+use Rattle.rcv_journal.specs.Form.{IsFormed, IsFormedEntry, Spells, IsFirstWrong, lines_of, journal_lines, FitsLine}
 use Rattle.std.specs.Fmt.{signed_decimal}
 use Rattle.std.proofs.lemmas.List.Folds.{list_any-append}
 use Rattle.rcv_journal.specs.JournalText.{entry_line, role_line, event_text, name_of}
@@ -21,7 +22,6 @@ use Rattle.rcv_journal.specs.Form.{end_line}
 use Rattle.rcv_lines.specs.Line.{LineView, EntryLine, RoleLineOf, EndLine, line_text}
 use Rattle.rcv_lines.specs.Reading.{IsRead}
 use Rattle.rcv_model.specs.Script.{Literal, SendLine}
-use Rattle.rcv_lines.specs.FinalTexts.{limited_in}
 use Rattle.rcv_lines.specs.SmallScripts.{IsSmallLine}
 use Rattle.rcv_lines.proofs.FirstWrong.{one_first_wrong, spells_none}
 use Rattle.rcv_lines.proofs.Progress.{begun, completed}
@@ -78,9 +78,6 @@ entries_formed p is =
     let fourth = got_formed p 0 2 4 3 is (omega arith) (omega arith) (omega arith) (omega arith) (omega arith) in
     All-from_recursion (IsFormedEntry (bare p)) entries (first, (second, (third, (fourth, tt))))
 
-abbrev Fit : RoleLine → Type 0
-Fit line = (line.kept < 2 ^ 32) × (line.raw < 2 ^ 32)
-
 in_order : Ordered 0 (done_line 0 ∷ done_line 1 ∷ [])
 unfolding done_line
 in_order = (refl, (refl, tt))
@@ -92,9 +89,8 @@ is_formed p is =
       entries = entries_formed p is;
       all = sym (ap length is.roles);
       in_order = λ q line at. at_places 0 (done_line 0 ∷ done_line 1 ∷ []) in_order q line at ∙ omega arith;
-      fit = All-from_recursion Fit (done_line 0 ∷ done_line 1 ∷ []) ((omega arith, omega arith), ((omega arith, omega arith), tt));
-      declared = All-nil (λ r. r < roles_of (bare p));
-      ascending = λ k a b at next. absurd (none-some a at);
+      fit = All-from_recursion FitsLine (done_line 0 ∷ done_line 1 ∷ []) ((omega arith, omega arith), ((omega arith, omega arith), tt));
+      limited = record { declared = All-nil (λ r. r < roles_of (bare p)); ascending = λ k a b at next. absurd (none-some a at) };
     }
 
 ping_is_read : (p : Protocol) → IsPing p → Spells (bare p) text journal

@@ -106,7 +106,7 @@ module _ (byte : ℕ) (out : IsOutside byte) (setup : SessionView) (accepted : I
   line_lacks (EntryLine (Recover p concerned kept undone)) formed =
       let fits = formed.undone_fits in
       let number = both_lack byte (decimal undone) (58 ∷ []) (number_lacks byte out undone (omega (arith, fits))) (out.colon, tt) in
-      let cuts = cuts_lack concerned.0 kept (all_fit kept formed.fit) (range_with_len 0 (roles_of setup)) in
+      let cuts = cuts_lack concerned.0 kept (all_fit kept formed.cuts.fit) (range_with_len 0 (roles_of setup)) in
       (written_lacks byte out (codes "recover") refl, (name_lacks p, (written_lacks byte out (codes "undone") refl, (number, cuts))))
   line_lacks (RoleLineOf line) formed =
       let kept_fits = formed.kept in

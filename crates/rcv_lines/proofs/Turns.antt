@@ -13,7 +13,8 @@ use Rattle.std.proofs.Math.Pow.{pow-lt}
 use Rattle.rcv_tree.specs.Bits.{has_bit}
 use Rattle.rcv_model.specs.Names.{AreDifferent}
 use Rattle.rcv_lines.specs.Cutting.{texts}
-use Rattle.rcv_lines.specs.Named.{name_at, cut_at, cut_fields, cuts_fields, kept_fields, AreCuts, BeginOtherwise, FitsCut}
+use Rattle.rcv_journal.specs.Form.{AreCuts}
+use Rattle.rcv_lines.specs.Named.{name_at, cut_at, cut_fields, cuts_fields, kept_fields, BeginOtherwise, FitsCut}
 use Rattle.rcv_lines.proofs.Naming.{same_role}
 
 range_more : (a n : ℕ) → range_with_len a (suc n) ≡ range_with_len a n ++ (a + n) ∷ []
@@ -97,7 +98,7 @@ pub record Reading (names F : List (List ℕ)) (role place concerned : ℕ) (kep
   pub fit : All (λ n. n < 2 ^ 32) kept
   pub others : (q : ℕ) → has_bit concerned q ≡ false → q < 8 → slice_index kept q ≡ 0
   pub said : F ≡ cuts_fields names concerned kept role ++ drop place F
-  pub only : (c : ℕ) (k : List ℕ) → AreCuts names c k → F ≡ cuts_fields names c k (length names)
+  pub only : (c : ℕ) (k : List ℕ) → AreCuts (length names) c k → F ≡ cuts_fields names c k (length names)
       → drop place F ≡ flat_map (kept_fields names c k) (range_with_len role (length names - role))
 
 any_number : (xs : List ℕ) (i d e : ℕ) → i < length xs → get_or xs i d ≡ get_or xs i e
@@ -189,7 +190,7 @@ others_begin names c k role a (suc n) differ later all = go (has_bit c a) (other
     go true rest = λ e. let same = same_role names a role differ (omega (arith, all)) (omega (arith, later, all)) e in omega (arith, same, later)
     go false rest = rest
 
-pub fits_cut : (names : List (List ℕ)) (c : ℕ) (k : List ℕ) (q : ℕ) → AreCuts names c k → q < 8 → FitsCut (cut_at c k q)
+pub fits_cut : (names : List (List ℕ)) (c : ℕ) (k : List ℕ) (q : ℕ) → AreCuts (length names) c k → q < 8 → FitsCut (cut_at c k q)
 fits_cut names c k q are below = go (has_bit c q)
   where
     go : (b : Bool) → FitsCut (cond b (Some (slice_index k q)) None)
@@ -243,7 +244,7 @@ turn names F role place place' concerned concerned' kept kept' count M few insid
 pub no_turn : (names F : List (List ℕ)) (role place concerned : ℕ) (kept : List ℕ) → length names ≤ 8 → role < length names → AreDifferent names
     → Reading names F role place concerned kept
     → ((k : Option ℕ) (rest : List (List ℕ)) → FitsCut k → BeginOtherwise (name_at names role) rest → drop place F ≡ cut_fields (name_at names role) k ++ rest → ⊥)
-    → (c : ℕ) (k : List ℕ) → AreCuts names c k → F ≡ cuts_fields names c k (length names) → ⊥
+    → (c : ℕ) (k : List ℕ) → AreCuts (length names) c k → F ≡ cuts_fields names c k (length names) → ⊥
 no_turn names F role place concerned kept few inside differ r none c k are is =
     none (cut_at c k role) (flat_map (kept_fields names c k) (range_with_len (role + 1) (length names - (role + 1))))
     (fits_cut names c k role are (omega (arith, inside, few)))
@@ -253,7 +254,7 @@ no_turn names F role place concerned kept few inside differ r none c k are is =
 -- Behind the last role.
 pub at_end : (names F : List (List ℕ)) (role place concerned : ℕ) (kept : List ℕ) → length names ≤ role → role ≤ length names
     → Reading names F role place concerned kept → (length F ≡ 0 → ⊥) → place ≡ length F → length names ≤ 8 → concerned < 2 ^ 8
-    → AreCuts names concerned kept × (F ≡ cuts_fields names concerned kept (length names))
+    → AreCuts (length names) concerned kept × (F ≡ cuts_fields names concerned kept (length names))
 at_end names F role place concerned kept le ge r some all few fits =
     let end : role ≡ length names = omega (arith, le, ge) in
     let nothing : drop place F ≡ [] = ap (λ n. drop n F) all ∙ none_left F in
@@ -276,7 +277,7 @@ at_end names F role place concerned kept le ge r some all few fits =
 -- More fields behind what is said of the roles.
 pub more_left : (names F : List (List ℕ)) (role place concerned : ℕ) (kept : List ℕ) → length names ≤ role
     → Reading names F role place concerned kept → (place ≡ length F → ⊥)
-    → (c : ℕ) (k : List ℕ) → AreCuts names c k → F ≡ cuts_fields names c k (length names) → ⊥
+    → (c : ℕ) (k : List ℕ) → AreCuts (length names) c k → F ≡ cuts_fields names c k (length names) → ⊥
 more_left names F role place concerned kept le r more c k are is =
     let count : length names - role ≡ 0 = omega (arith, le) in
     let nothing = r.only c k are is ∙ ap (λ n. flat_map (kept_fields names c k) (range_with_len role n)) count in
@@ -284,7 +285,7 @@ more_left names F role place concerned kept le r more c k are is =
     omega (arith, ap length nothing, length-drop place F, inside, more)
 
 -- No fields say no recovery.
-pub none_said : (names : List (List ℕ)) (c : ℕ) (k : List ℕ) → length names ≤ 8 → AreCuts names c k → [] ≡ cuts_fields names c k (length names) → ⊥
+pub none_said : (names : List (List ℕ)) (c : ℕ) (k : List ℕ) → length names ≤ 8 → AreCuts (length names) c k → [] ≡ cuts_fields names c k (length names) → ⊥
 none_said names c k few are is =
     are.some (same_from_bits_below (length names) c 0 are.declared (pow_pos (length names)) (λ i lt. no_bit c i (off i lt) ∙ sym (bit_at-zero i)))
   where

@@ -9,9 +9,9 @@ use Rattle.rcv_tree.specs.declared.entry.Entry.TheVariants.{Send, Recv, Crash, R
 use Rattle.rcv_session.specs.Session.{SessionView, roles_of, net_for}
 use Rattle.rcv_journal.specs.declared.line.RoleLine.{RoleLine}
 use Rattle.rcv_journal.specs.JournalText.{name_of, word_text}
-use Rattle.rcv_journal.specs.Form.{IsFormedEvent}
+use Rattle.rcv_journal.specs.Form.{IsFormedEvent, AreLimited}
 use Rattle.rcv_lines.specs.Named.{cuts_fields}
-use Rattle.rcv_lines.specs.Line.{AreLimited, IsFormedLine, IsFormedRoleLine, LineView, EntryLine, RoleLineOf, EndLine}
+use Rattle.rcv_lines.specs.Line.{IsFormedLine, IsFormedRoleLine, LineView, EntryLine, RoleLineOf, EndLine}
 
 -- The fields of an event: its kind, and what an event of each kind has; a Recv has one more.
 abbrev pub event_fields : SessionView → List ℕ → Event → List (List ℕ) → List (List ℕ)

@@ -1,5 +1,5 @@
 -- The text of a session that came to its end is read as its entries and its lines of roles.
-use Rattle.std.specs.Prelude.{ℕ, if◌then◌else◌, List, [], ◌∷◌, All, FitsSigned}
+use Rattle.std.specs.Prelude.{ℕ, List, All, FitsSigned}
 use mir.Syntax.{w64}
 use Rattle.rcv_tree.specs.declared.entry.Entry.{Entry}
 use Rattle.rcv_tree.specs.declared.entry.Entry.TheVariants.{Send, Recv, Crash, Recover}
@@ -9,8 +9,7 @@ use Rattle.rcv_accept.specs.Accepted.{IsAcceptedProtocol}
 use Rattle.rcv_plan.specs.Lines.{IsPlanned}
 use Rattle.rcv_session.specs.Session.{SessionView, roles_of, rules_of}
 use Rattle.rcv_journal.specs.declared.line.RoleLine.{RoleLine}
-use Rattle.rcv_journal.specs.JournalText.{is_limit}
-use Rattle.rcv_journal.specs.Lines.{AreLinesOf, IsTextOf}
+use Rattle.rcv_journal.specs.Lines.{AreLinesOf, IsTextOf, limited_in}
 use Rattle.rcv_journal.specs.Recorded.{bare}
 use Rattle.rcv_journal.specs.Form.{Spells}
 
@@ -28,11 +27,6 @@ pub record IsEnded (session : SessionView) (entries : List Entry) : Type 0 where
   pub legal : IsLegal (rules_of session) entries
   pub final : IsFinal (rules_of session) (reading (rules_of session) entries)
   pub values : All HasFittingValue entries
-
--- The roles whose lines say that they are at the limit, in order.
-abbrev pub limited_in : List RoleLine → List ℕ
-limited_in [] = []
-limited_in (line ∷ lines) = if is_limit line.word then line.role ∷ limited_in lines else limited_in lines
 
 -- The bytes are read as the journal's entries, its lines of roles, and those of them that are at the limit.
 pub record IsReadAsJournal (session : SessionView) (entries : List Entry) (bytes : List ℕ) : Type 0 where

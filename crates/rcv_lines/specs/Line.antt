@@ -1,10 +1,10 @@
 -- What one line of a journal says, and the fields that its text has between its spaces.
-use Rattle.std.specs.Prelude.{◌≡◌, ◌<◌, ◌^◌, ◌+◌, ℕ, List, All, slice_get, Some}
+use Rattle.std.specs.Prelude.{◌≡◌, ◌<◌, ◌^◌, ℕ, List}
 use Rattle.rcv_tree.specs.declared.entry.Entry.{Entry}
 use Rattle.rcv_session.specs.Session.{SessionView, roles_of}
 use Rattle.rcv_journal.specs.declared.line.RoleLine.{RoleLine}
 use Rattle.rcv_journal.specs.JournalText.{entry_line, role_line}
-use Rattle.rcv_journal.specs.Form.{IsFormedEntry, end_line}
+use Rattle.rcv_journal.specs.Form.{IsFormedEntry, AreLimited, end_line}
 
 -- An entry, how a role ended, or how the session ended: the roles at the limit, or none if it is completed.
 pub data LineView : Type 0 where
@@ -17,11 +17,6 @@ pub record IsFormedRoleLine (setup : SessionView) (line : RoleLine) : Type 0 whe
   pub role : line.role < roles_of setup
   pub kept : line.kept < 2 ^ 32
   pub raw : line.raw < 2 ^ 32
-
--- Declared roles in order, each once.
-pub record AreLimited (setup : SessionView) (limited : List ℕ) : Type 0 where
-  pub declared : All (λ r. r < roles_of setup) limited
-  pub ascending : (k a b : ℕ) → slice_get limited k ≡ Some a → slice_get limited (k + 1) ≡ Some b → a < b
 
 abbrev pub IsFormedLine : SessionView → LineView → Type 0
 IsFormedLine setup (EntryLine entry) = IsFormedEntry setup entry

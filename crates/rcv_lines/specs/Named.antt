@@ -1,7 +1,8 @@
 -- What fields say of roles, which they name.
-use Rattle.std.specs.Prelude.{◌≡◌, ◌≢◌, ◌<◌, ◌^◌, ◌+◌, ℕ, false, if◌then◌else◌, List, [], ◌∷◌, ◌++◌, flat_map, length, slice_get, slice_index, slice_index_or, decimal, Option, Some, None}
+use Rattle.std.specs.Prelude.{◌≡◌, ◌<◌, ◌^◌, ℕ, if◌then◌else◌, List, [], ◌∷◌, ◌++◌, flat_map, length, slice_index, slice_index_or, decimal, Option, Some, None}
 use Rattle.std.specs.List.{All, range_with_len}
 use Rattle.rcv_tree.specs.Bits.{has_bit}
+use Rattle.rcv_journal.specs.Form.{AreCuts}
 
 -- The name of a role.
 abbrev pub name_at : List (List ℕ) → ℕ → List ℕ
@@ -10,10 +11,6 @@ name_at names r = slice_index_or names r []
 -- Roles that have names.
 abbrev pub HaveNames : List (List ℕ) → List ℕ → Type 0
 HaveNames names roles = All (λ r. r < length names) roles
-
--- Each number is below the next one.
-abbrev pub IsAscending : List ℕ → Type 0
-IsAscending roles = (k a b : ℕ) → slice_get roles k ≡ Some a → slice_get roles (k + 1) ≡ Some b → a < b
 
 -- What a recovery says of one role: its name and its kept count, or nothing.
 abbrev pub cut_fields : List ℕ → Option ℕ → List (List ℕ)
@@ -49,15 +46,7 @@ kept_fields names concerned kept q = cut_fields (name_at names q) (cut_at concer
 abbrev pub cuts_fields : List (List ℕ) → ℕ → List ℕ → ℕ → List (List ℕ)
 cuts_fields names concerned kept count = flat_map (kept_fields names concerned kept) (range_with_len 0 count)
 
--- At least one role is concerned, and all that are have names; the others keep 0.
-pub record AreCuts (names : List (List ℕ)) (concerned : ℕ) (kept : List ℕ) : Type 0 where
-  pub some : concerned ≢ 0
-  pub declared : concerned < 2 ^ length names
-  pub eight : length kept ≡ 8
-  pub fit : All (λ n. n < 2 ^ 32) kept
-  pub others : (q : ℕ) → has_bit concerned q ≡ false → q < 8 → slice_index kept q ≡ 0
-
 -- The fields say no cuts of these roles.
 abbrev pub SayNoCuts : List (List ℕ) → List (List ℕ) → Type 0
 SayNoCuts names fields =
-    (concerned : ℕ) (kept : List ℕ) → AreCuts names concerned kept → fields ≡ cuts_fields names concerned kept (length names) → ⊥
+    (concerned : ℕ) (kept : List ℕ) → AreCuts (length names) concerned kept → fields ≡ cuts_fields names concerned kept (length names) → ⊥

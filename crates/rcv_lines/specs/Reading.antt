@@ -4,8 +4,8 @@ use Rattle.rcv_session.specs.Session.{SessionView, roles_of}
 use Rattle.rcv_journal.specs.declared.line.RoleLine.{RoleLine}
 use Rattle.rcv_journal.specs.JournalText.{entry_line, role_line}
 use Rattle.rcv_journal.specs.Recorded.{JournalView}
-use Rattle.rcv_journal.specs.Form.{IsFormedEntry, end_line}
-use Rattle.rcv_lines.specs.Line.{LineView, EntryLine, RoleLineOf, EndLine, AreLimited, SaysLine}
+use Rattle.rcv_journal.specs.Form.{IsFormedEntry, end_line, FitsLine, AreLimited}
+use Rattle.rcv_lines.specs.Line.{LineView, EntryLine, RoleLineOf, EndLine, SaysLine}
 
 -- What was read so far: the entries and the lines of roles, and whether the last line was read too.
 pub record ReadingView : Type 0 where
@@ -53,7 +53,7 @@ lines_read setup r =
 pub record IsRead (setup : SessionView) (lines : List (List ℕ)) (r : ReadingView) : Type 0 where
   pub entries : All (IsFormedEntry setup) r.journal.entries
   pub in_order : (q : ℕ) (line : RoleLine) → slice_get r.journal.roles q ≡ Some line → line.role ≡ q
-  pub fit : All (λ line. (line.kept < 2 ^ 32) × (line.raw < 2 ^ 32)) r.journal.roles
+  pub fit : All FitsLine r.journal.roles
   pub few : length r.journal.roles ≤ roles_of setup
   pub limited : AreLimited setup r.journal.limited
   pub all : r.over ≡ true → length r.journal.roles ≡ roles_of setup

@@ -2,8 +2,9 @@
 
 ghost use Rattle.std.specs.Prelude.{◌≡◌, ◌≤◌, ◌<◌, ℕ, List, length, map, true, false, IfOk, IfSome, IfNone};
 ghost use Rattle.rcv_model.specs.Names.{AreDifferent};
+ghost use Rattle.rcv_journal.specs.Form.{IsAscending};
 ghost use Rattle.rcv_lines.specs.Cutting.{texts};
-ghost use Rattle.rcv_lines.specs.Named.{name_at, HaveNames, IsAscending};
+ghost use Rattle.rcv_lines.specs.Named.{name_at, HaveNames};
 
 use crate::numbers::is_same;
 use rcv_tree::name::Name;

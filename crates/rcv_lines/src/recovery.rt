@@ -4,8 +4,9 @@ ghost use Rattle.std.specs.Prelude.{◌≡◌, ◌≤◌, ◌<◌, ◌^◌, ◌=
 ghost use Rattle.std.specs.Prelude.{Option, Some, None, IfSome, IfNone};
 ghost use Rattle.rcv_tree.specs.Bits.{has_bit};
 ghost use Rattle.rcv_model.specs.Names.{AreDifferent};
+ghost use Rattle.rcv_journal.specs.Form.{AreCuts};
 ghost use Rattle.rcv_lines.specs.Cutting.{texts};
-ghost use Rattle.rcv_lines.specs.Named.{cut_fields, cuts_fields, AreCuts, FitsCut, OnlyLeaves, SayNoCut, SayNoCuts};
+ghost use Rattle.rcv_lines.specs.Named.{cut_fields, cuts_fields, FitsCut, OnlyLeaves, SayNoCut, SayNoCuts};
 
 use crate::numbers::{is_same, short_number};
 use rcv_tree::name::Name;
@@ -81,7 +82,7 @@ fn cut<'a, 'b>(name: &[u8], fields: &'a [&'b [u8]]) -> Option<(Option<u32>, &'a 
 pub fn read_cuts(names: &[Name], fields: &[&[u8]]) -> Option<Cuts>
     requires few { length names.now ≤ 8 }
     requires differ { AreDifferent names.now }
-    ensures cuts { IfSome result (λ read. AreCuts names.now read.concerned.0 read.kept) }
+    ensures cuts { IfSome result (λ read. AreCuts (length names.now) read.concerned.0 read.kept) }
     ensures some { IfSome result (λ read. texts fields.now
         ≡ cuts_fields names.now read.concerned.0 read.kept (length names.now)) }
     ensures none { IfNone result (SayNoCuts names.now (texts fields.now)) }

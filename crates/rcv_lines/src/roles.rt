@@ -4,11 +4,12 @@ ghost use Rattle.std.specs.Prelude.{◌≡◌, ◌∷◌, ℕ, List, [], codes, 
 ghost use Rattle.rcv_journal.specs.Recorded.{bare};
 ghost use Rattle.rcv_journal.specs.declared.line.RoleLine.{RoleLine};
 ghost use Rattle.rcv_journal.specs.declared.line.RoleWord.{RoleWord};
+ghost use Rattle.rcv_journal.specs.Form.{AreLimited};
 ghost use Rattle.rcv_journal.specs.JournalText.{word_text};
 ghost use Rattle.rcv_lines.specs.Cutting.{texts};
 ghost use Rattle.rcv_lines.specs.Events.{SaysRole};
 ghost use Rattle.rcv_lines.specs.Fields.{role_fields, end_fields, SaysLimited, SayNoEnd, SayNoLimited, SayNoRole};
-ghost use Rattle.rcv_lines.specs.Line.{AreLimited, IsFormedRoleLine};
+ghost use Rattle.rcv_lines.specs.Line.{IsFormedRoleLine};
 
 use crate::names::{role, roles_in_order};
 use crate::numbers::{is_same, short_number};

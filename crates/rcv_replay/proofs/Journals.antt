@@ -20,14 +20,12 @@ use Rattle.rcv_input.specs.Input.{IsTaken}
 use Rattle.rcv_input.proofs.Once.{one_answer}
 use Rattle.rcv_journal.specs.declared.line.RoleLine.{RoleLine}
 use Rattle.rcv_journal.specs.JournalText.{entry_line, role_line, is_limit, last_line}
-use Rattle.rcv_journal.specs.Lines.{AreLinesOf}
+use Rattle.rcv_journal.specs.Lines.{AreLinesOf, limited_in}
 use Rattle.rcv_journal.specs.Recorded.{JournalView, bare}
 use Rattle.rcv_journal.specs.Form as form
 use Rattle.rcv_journal.specs.Form.{Spells, end_line, journal_lines}
 use Rattle.rcv_judge.specs.Closing.{Closes, ClosesRight}
-use Rattle.rcv_judge.specs.Closing as closing
 use Rattle.rcv_judge.proofs.Closings.{closed_completed, closed_limited}
-use Rattle.rcv_lines.specs.FinalTexts.{limited_in}
 use Rattle.rcv_lines.proofs.Splitting.{goes_on}
 use Rattle.rcv_lines.proofs.FinalTexts.{done_end, limit_end, joined}
 use Rattle.rcv_echo.proofs.ReadBack.{taken_texts}
@@ -37,15 +35,6 @@ use Rattle.rcv_replay.specs.Cutting.{bundle_of, journal_of, feeds_before}
 use Rattle.rcv_replay.specs.Replaying.{IsVerdict, IsOfText, IsOfBundle}
 use Rattle.rcv_replay.specs.Laws.{IsWholeText, LegalReplaysAreJournals}
 use Rattle.rcv_replay.proofs.Moving.{text_moves}
-
--- both definitions of the roles at the limit
-limited_same : (lines : List RoleLine) → limited_in lines ≡ closing.limited_in lines
-limited_same [] = refl
-limited_same (line ∷ lines) = go (is_limit line.word) (limited_same lines)
-  where
-    go : (b : Bool) → limited_in lines ≡ closing.limited_in lines → cond b (line.role ∷ limited_in lines) (limited_in lines) ≡ map (λ (x : RoleLine). x.role) (cond b (line ∷ filter (λ (x : RoleLine). is_limit x.word) lines) (filter (λ (x : RoleLine). is_limit x.word) lines))
-    go true e = ap (λ rs. line.role ∷ rs) e
-    go false e = e
 
 -- the lines of a text, one behind another, are the text
 abbrev whole : List (List ℕ) → List ℕ
@@ -83,8 +72,8 @@ module _ (input : List ℕ) (session : SessionView) (taken : IsTaken input sessi
   -- its lines close right
   closes : (lines : List RoleLine) → AreLinesOf (rules_of session) (reading (rules_of session) entries) lines → ClosesRight session entries lines (limited_in lines)
   closes lines are = ⊎_elim
-      (λ done. closed_completed (rules_of session) (reading (rules_of session) entries) lines lines (limited_in lines) are refl (λ r lt. refl) (limited_same lines) (final, done))
-      (λ one. closed_limited (rules_of session) (reading (rules_of session) entries) lines lines (limited_in lines) are refl (λ r lt. refl) (limited_same lines) one)
+      (λ done. closed_completed (rules_of session) (reading (rules_of session) entries) lines lines (limited_in lines) are refl (λ r lt. refl) refl (final, done))
+      (λ one. closed_limited (rules_of session) (reading (rules_of session) entries) lines lines (limited_in lines) are refl (λ r lt. refl) refl one)
       ends
 
   -- the last line of the journal is that of its text
@@ -101,7 +90,7 @@ whole_of input session text feeds count limited taken is = ⊎_elim (λ wrong. a
     go : (j : JournalView) → Spells (bare session.protocol) text j → IsVerdict session j (said.Legal count limited) → IsWholeText session text count limited
     go j spells verdict =
         let closes_so = verdict.1 in
-        let same : j.limited ≡ limited_in j.roles = closes_so.named ∙ sym (limited_same j.roles) in
+        let same : j.limited ≡ limited_in j.roles = closes_so.named in
         record {
           entries = j.entries;
           counted = verdict.2;

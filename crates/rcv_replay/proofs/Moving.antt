@@ -15,7 +15,7 @@ use Rattle.rcv_input.specs.Laws.{AreSame}
 use Rattle.rcv_journal.specs.JournalText.{entry_line, role_line}
 use Rattle.rcv_journal.proofs.SameText.{same_rules, same_entry, same_role}
 use Rattle.rcv_journal.specs.Recorded.{JournalView, bare}
-use Rattle.rcv_journal.specs.Form.{IsFormedEvent, IsFormedEntry, IsFormed, end_line, journal_lines, lines_of, Spells, MayBegin, IsFirstWrong}
+use Rattle.rcv_journal.specs.Form.{IsFormedEvent, IsFormedEntry, IsFormed, end_line, journal_lines, lines_of, Spells, MayBegin, IsFirstWrong, AreCuts}
 use Rattle.rcv_judge.specs.Closing.{Closes}
 use Rattle.rcv_judge.specs.Judged.{IsFirstWrong as IsFirstIllegal}
 use Rattle.rcv_replay.specs.declared.replayed.Replayed.{Replayed}
@@ -46,11 +46,7 @@ module _ (s t : SessionView) (names : s.protocol.roles ≡ t.protocol.roles) (bo
   entry_moves (Crash p) is = subst (λ n. p < n) (ap length names) is
   entry_moves (Recover p concerned kept undone) is = record {
     role = subst (λ n. p < n) (ap length names) is.role;
-    some = is.some;
-    declared = subst (λ n. concerned.0 < 2 ^ n) (ap length names) is.declared;
-    eight = is.eight;
-    fit = is.fit;
-    others = is.others;
+    cuts = subst (λ n. AreCuts n concerned.0 kept) (ap length names) is.cuts;
     undone_fits = is.undone_fits;
   }
 
@@ -60,8 +56,7 @@ module _ (s t : SessionView) (names : s.protocol.roles ≡ t.protocol.roles) (bo
     all = is.all ∙ ap length names;
     in_order = is.in_order;
     fit = is.fit;
-    declared = subst (λ n. All (λ r. r < n) j.limited) (ap length names) is.declared;
-    ascending = is.ascending;
+    limited = record { declared = subst (λ n. All (λ r. r < n) j.limited) (ap length names) is.limited.declared; ascending = is.limited.ascending };
   }
 
   end_same : (limited : List ℕ) → end_line s limited ≡ end_line t limited

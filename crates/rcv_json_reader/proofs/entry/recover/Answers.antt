@@ -22,7 +22,7 @@ returns-clause-none c =
       role = ap view c.index-parts-1.is ∙ item_at parts (four r.role r.cuts.concerned.0 r.cuts.kept r.undone) 1 c.index-parts-1.result (omega (arith, c.requires)) says.is;
       number = ap view c.index-parts-2.is ∙ item_at parts (four r.role r.cuts.concerned.0 r.cuts.kept r.undone) 2 c.index-parts-2.result (omega (arith, c.requires)) says.is;
       cuts = record {
-        cuts = record { some = says.formed.some; declared = says.formed.declared; eight = says.formed.eight; fit = says.formed.fit; others = says.formed.others };
+        cuts = says.formed.cuts;
         is = ap view c.index-parts-3.is ∙ item_at parts (four r.role r.cuts.concerned.0 r.cuts.kept r.undone) 3 c.index-parts-3.result (omega (arith, c.requires)) says.is;
       };
     }))) c.read_recovery.ensures.none

@@ -4,7 +4,7 @@ use Rattle.std.proofs.lemmas.Bool.{cases_Bool}
 use Rattle.rcv_session.specs.Session.{rules_of}
 use Rattle.rcv_core.specs.Book.{state_of}
 use Rattle.rcv_journal.specs.Recorded.{JournalView}
-use Rattle.rcv_judge.specs.Closing.{limited_in}
+use Rattle.rcv_journal.specs.Lines.{limited_in}
 use Rattle.rcv_judge.proofs.Closings.{other_names, closed_completed, closed_limited, not_ended}
 use Rattle.rcv_judge.proofs.closing.closes.Goals as goal
 

@@ -1,5 +1,5 @@
 use Rattle.std.proofs.Common.{◌≡◌, take}
-use Rattle.rcv_judge.specs.Closing.{limited_in}
+use Rattle.rcv_journal.specs.Lines.{limited_in}
 use Rattle.rcv_judge.proofs.closing.limited_of.Given as goal
 
 abbrev pub invariant-loop-line : goal.invariant-loop-line
