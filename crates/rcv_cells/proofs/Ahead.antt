@@ -7,14 +7,14 @@ use Rattle.rcv_tree.specs.declared.entry.Timed.{Timed}
 use Rattle.rcv_tree.specs.declared.event.Event.{Event}
 use Rattle.rcv_model.specs.Net.{IsPrefix}
 use Rattle.rcv_model.specs.Run.{acts}
-use Rattle.rcv_model.specs.Journal.{Rules, State, start, after, after_event, reading_from, events_of, May, IsLegalFrom, IsLegal}
+use Rattle.rcv_model.specs.Journal.{Rules, State, Own, own_of, own_after, start, after, after_event, reading_from, events_of, May, IsLegalFrom, IsLegal}
 use Rattle.rcv_model.proofs.Bystanders.{as_many}
 use Rattle.rcv_model.proofs.Keeping.{by_role_more}
 use Rattle.rcv_model.proofs.Lists.{prefix_refl, prefix_trans}
 use Rattle.rcv_model.proofs.Numbers.{bounded}
 use Rattle.rcv_model.proofs.StableLines.{reading_join}
-use Rattle.rcv_theory.specs.Own.{Own, IsOwnLog, own_of, own_after}
-use Rattle.rcv_theory.specs.Round.{entries, IsLog, Placed, in_order}
+use Rattle.rcv_theory.specs.Own.{IsOwnLog}
+use Rattle.rcv_theory.specs.Round.{entries, Placed, in_order}
 use Rattle.rcv_merge.specs.Merge.{log_at, IsMergeOf}
 use Rattle.rcv_accept.specs.Accepted.{IsAcceptedProtocol}
 use Rattle.rcv_session.specs.Session.{SessionView, roles_of, rules_of}
@@ -30,20 +30,9 @@ use Rattle.rcv_cells.proofs.Pushing.{drop_at, plus, pushed}
 use Rattle.rcv_cells.proofs.Rounds.{map_at, map_length, any_default, round', come_back}
 
 -- no entry of a log is a Recover
-pub no_recover_in_log : (rules : Rules) (r : ℕ) (s : State) (log : List Timed) → IsLog rules r s log → HaveNoRecover (entries log)
-no_recover_in_log rules r s [] l = tt
-no_recover_in_log rules r s (x ∷ log) l = (one x.step l, no_recover_in_log rules r (after rules s x.step) log l.2)
-  where
-    one : (y : Entry) → IsLog rules r s (record { stamp = x.stamp; step = y } ∷ log) → IsNoRecover y
-    one (Send e) l = tt
-    one (Recv e) l = tt
-    one (Crash p) l = tt
-    one (Recover p concerned kept undone) l = absurd l.1
-
--- nor of a log by the role's own numbers
-pub no_recover_in_own_log : (rules : Rules) (r : ℕ) (own : Own) (log : List Timed) → IsOwnLog rules r own log → HaveNoRecover (entries log)
-no_recover_in_own_log rules r own [] l = tt
-no_recover_in_own_log rules r own (x ∷ log) l = (one x.step l, no_recover_in_own_log rules r (own_after own x.step) log l.2)
+pub no_recover_in_log : (rules : Rules) (r : ℕ) (own : Own) (log : List Timed) → IsOwnLog rules r own log → HaveNoRecover (entries log)
+no_recover_in_log rules r own [] l = tt
+no_recover_in_log rules r own (x ∷ log) l = (one x.step l, no_recover_in_log rules r (own_after own x.step) log l.2)
   where
     one : (y : Entry) → IsOwnLog rules r own (record { stamp = x.stamp; step = y } ∷ log) → IsNoRecover y
     one (Send e) l = tt
@@ -110,7 +99,7 @@ event_next book x e more cells bring declared grown = record {
 
 pub next_of_cells : (book : BookView) (x : Entry) (more : List Entry) (cells : List CellView) → BringHome book (x ∷ more) cells → May (rules_of book.setup) (state_of book) x → IsNextOfCells book cells x
 next_of_cells book (Send e) more cells bring may = event_next book (Send e) e more cells bring may.free.declared refl
-next_of_cells book (Recv e) more cells bring may = event_next book (Recv e) e more cells bring may.free.declared refl
+next_of_cells book (Recv e) more cells bring may = event_next book (Recv e) e more cells bring may.own.free.declared refl
 next_of_cells book (Crash p) more cells bring may = tt
 next_of_cells book (Recover p concerned kept undone) more cells bring may = tt
 
@@ -192,6 +181,6 @@ one_pushed old now new more cells k x lt is so grown =
 -- a round's merged entries bring the cells home
 pub round_brings_home : (book : BookView) (old gone met : List CellView) → AreHome book old → AllGo old gone → AllMet gone met → AllBegun gone → IsAcceptedProtocol book.setup.protocol → IsLegal (rules_of book.setup) book.entries → (merged : List Entry) → IsMergeOf (logs_in met) merged → BringHome book merged met
 round_brings_home book old gone met home go meet known accepted legal merged is = record {
-  no_recover = no_recover_merged (logs_in met) merged is (λ r. no_recover_in_log (rules_of book.setup) r (state_of book) (log_at (logs_in met) r) ((round' book old gone met home go meet known accepted legal).local r));
+  no_recover = no_recover_merged (logs_in met) merged is (λ r. no_recover_in_log (rules_of book.setup) r (own_of (state_of book) r) (log_at (logs_in met) r) ((round' book old gone met home go meet known accepted legal).local r));
   home = come_back book old gone met home go meet known accepted legal merged is (with_more book merged) (map without_log met) refl (cleared_count met) (λ r d lt. cleared_at met r d lt);
 }

@@ -7,18 +7,15 @@ use Rattle.rcv_tree.specs.declared.entry.Entry.{Entry}
 use Rattle.rcv_tree.specs.declared.entry.Timed.{Timed}
 use Rattle.rcv_model.specs.Net.{IsPrefix}
 use Rattle.rcv_model.specs.Run.{put, taken, IsRun}
-use Rattle.rcv_model.specs.Journal.{reading_from, IsLegal, IsLegalFrom}
+use Rattle.rcv_model.specs.Journal.{Own, own_of, reading_from, IsLegal, IsLegalFrom}
 use Rattle.rcv_model.proofs.Forms.{proper}
 use Rattle.rcv_model.proofs.Keeping.{by_role, put_through, taken_through}
 use Rattle.rcv_model.proofs.Legal.{accepted_runs}
 use Rattle.rcv_model.proofs.Lists.{prefix_trans, prefix_map}
 use Rattle.rcv_model.proofs.Located.{item}
-use Rattle.rcv_model.proofs.Numbers.{bounded}
 use Rattle.rcv_model.specs.Run.{put_by}
 use Rattle.rcv_model.specs.Premises.{IsSession}
-use Rattle.rcv_model.specs.Numbers.{HasNumbers}
 use Rattle.rcv_theory.specs.Round.{entries, events_in, NeverFalls, IsLog, IsRound, IsMerge, in_order}
-use Rattle.rcv_theory.specs.Own.{Own, own_of}
 use Rattle.rcv_theory.proofs.Following.{follows_log}
 use Rattle.rcv_theory.proofs.Merging.{kept_log, legal_merge}
 use Rattle.rcv_theory.proofs.Stamps.{by_stamp_merges, never_falls}
@@ -60,13 +57,9 @@ any_default [] k d e lt = absurd (omega (arith, lt))
 any_default (x ∷ xs) zero d e lt = refl
 any_default (x ∷ xs) (suc k) d e lt = any_default xs k d e (omega (arith, lt))
 
--- a legal journal leaves one number of each kind for each role
-numbers_of : (book : BookView) → IsLegal (rules_of book.setup) book.entries → HasNumbers (roles_of book.setup) (state_of book)
-numbers_of book legal = (bounded (rules_of book.setup) book.entries legal).numbers
-
 -- the cells have gone out
-pub gone_out : (book : BookView) (old new : List CellView) → IsLegal (rules_of book.setup) book.entries → AreHome book old → AllGo old new → AreOut book new
-gone_out book old new legal home go = record {
+pub gone_out : (book : BookView) (old new : List CellView) → AreHome book old → AllGo old new → AreOut book new
+gone_out book old new home go = record {
   count = go.0 ∙ home.out.count;
   each = λ r d lt. out r d lt (home.out.each r d lt) (home.logs r d lt) (go.1 r d (within r lt));
   joined = λ s r d e ls lr n. joined s r d e ls lr n;
@@ -79,7 +72,7 @@ gone_out book old new legal home go = record {
     out r d lt o none g =
         let log : (cell_at new r d).part.log ≡ g.more = g.log ∙ ap (λ l. l ++ g.more) none in
         let here : own_of (state_of book) r ≡ (cell_at old r d).part.own = subst (λ l. own_of (reading_from (rules_of book.setup) (state_of book) (entries l)) r ≡ (cell_at old r d).part.own) none o.own in
-        let law = cells_follow_the_session (cell_at old r d) (cell_at new r d) (state_of book) g (subst (λ z. HasNumbers (roles_of z) (state_of book)) (sym o.setup_is) (numbers_of book legal)) (subst (λ q. own_of (state_of book) q ≡ (cell_at old r d).part.own) (sym o.role_is) here) in
+        let law = cells_follow_the_session (cell_at old r d) (cell_at new r d) (state_of book) g (subst (λ q. own_of (state_of book) q ≡ (cell_at old r d).part.own) (sym o.role_is) here) in
         let law' : IsLog (rules_of book.setup) r (state_of book) g.more × (own_of (reading_from (rules_of book.setup) (state_of book) (entries g.more)) r ≡ (cell_at new r d).part.own) = subst (λ (z : SessionView × ℕ). IsLog (rules_of z.0) z.1 (state_of book) g.more × (own_of (reading_from (rules_of z.0) (state_of book) (entries g.more)) z.1 ≡ (cell_at new r d).part.own)) (λ i. (o.setup_is i, o.role_is i)) law in
         record {
           setup_is = g.setup ∙ o.setup_is;
@@ -206,17 +199,14 @@ module _ (book : BookView) (cells : List CellView) (out : AreOut book cells) (be
         (cases_lt r (roles_of book.setup));
   }
 
-  clocks : length (state_of book).clocks ≡ roles_of book.setup
-  clocks = (bounded (rules_of book.setup) book.entries legal).numbers.clocks
-
   pub logs_rise : All NeverFalls (logs_in cells)
   logs_rise r d lt i j x y le f g =
       let c = any_default (logs_in cells) r d [] lt in
-      never_falls (rules_of book.setup) r (state_of book) (log_of r) clocks (log_lawful r) i j x y le (subst (λ l. slice_get l i ≡ Some x) c f) (subst (λ l. slice_get l j ≡ Some y) c g)
+      never_falls (rules_of book.setup) r (state_of book) (log_of r) (log_lawful r) i j x y le (subst (λ l. slice_get l i ≡ Some x) c f) (subst (λ l. slice_get l j ≡ Some y) c g)
 
   module _ (merged : List Entry) (is : IsMergeOf (logs_in cells) merged) (round : IsRound (rules_of book.setup) (state_of book) log_of) where
     merge : IsMerge (net_for book.setup) (state_of book).kept log_of (in_order is.placed)
-    merge = by_stamp_merges (rules_of book.setup) (state_of book) log_of is.placed clocks round is.by_stamp
+    merge = by_stamp_merges (rules_of book.setup) (state_of book) log_of is.placed round is.by_stamp
 
     pub merged_legal : IsLegalFrom (rules_of book.setup) (state_of book) merged
     merged_legal = subst (IsLegalFrom (rules_of book.setup) (state_of book)) (sym is.is) (legal_merge (rules_of book.setup) (state_of book) log_of (in_order is.placed) (proper (text_of book.setup) (roles_of book.setup) accepted.form) accepted.accepted round merge run)
@@ -255,7 +245,7 @@ module _ (book : BookView) (cells : List CellView) (out : AreOut book cells) (be
 -- a round: what was at home has gone, has met, and comes home
 module _ (book : BookView) (old gone met : List CellView) (home : AreHome book old) (go : AllGo old gone) (meet : AllMet gone met) (known : AllBegun gone) (accepted : IsAcceptedProtocol book.setup.protocol) (legal : IsLegal (rules_of book.setup) book.entries) where
   out : AreOut book gone
-  out = gone_out book old gone legal home go
+  out = gone_out book old gone home go
 
   out' : AreOut book met
   out' = met_out book gone met out meet
@@ -290,9 +280,9 @@ all_ready book cells home r d lt = let c = home.out.count in let l : r < roles_o
     few log none = let e = ap length none in omega (arith, e)
 
 -- and those that are out can meet
-pub gone_can_meet : (book : BookView) (old gone : List CellView) → IsLegal (rules_of book.setup) book.entries → AreHome book old → AllGo old gone → AllCanMeet gone
-gone_can_meet book old gone legal home go s r d ls lr n =
-    let out = gone_out book old gone legal home go in
+pub gone_can_meet : (book : BookView) (old gone : List CellView) → AreHome book old → AllGo old gone → AllCanMeet gone
+gone_can_meet book old gone home go s r d ls lr n =
+    let out = gone_out book old gone home go in
     let c = out.count in
     let a = out.each s d (omega (arith, c, ls)) in
     let b = out.each r d (omega (arith, c, lr)) in

@@ -1,13 +1,11 @@
 -- The cells of a new session are at home with its empty book.
 use Prim.Native.Nat.{zero, suc}
-use Rattle.std.proofs.Common.{◌≡◌, ℕ, ◌+◌, ◌<◌, true, false, List, [], ◌∷◌, ◌++◌, length, drop, refl, sym, ◌∙◌, ap, subst, ⊎_elim, arith}
-use Rattle.std.specs.Prelude.{slice_index, slice_index_or, replicate}
+use Rattle.std.proofs.Common.{◌≡◌, ℕ, ◌+◌, ◌<◌, List, [], ◌∷◌, ◌++◌, length, drop, refl, sym, ◌∙◌, ap, subst, ⊎_elim, arith}
+use Rattle.std.specs.Prelude.{slice_index_or}
 use Rattle.std.specs.List.{remove}
 use Rattle.std.proofs.lemmas.Bool.{cases_lt}
 use Rattle.std.proofs.lemmas.List.{get_or_past}
-use Rattle.rcv_model.specs.Journal.{start}
-use Rattle.rcv_theory.specs.Own.{own_of}
-use Rattle.rcv_theory.proofs.Owning.{own_same}
+use Rattle.rcv_model.specs.Journal.{own_of, start}
 use Rattle.rcv_tree.specs.declared.event.Message.{Message}
 use Rattle.rcv_ring.specs.Lists.{Begins}
 use Rattle.rcv_mailbox.specs.Ends.{IsChannel}
@@ -89,18 +87,10 @@ begins_none : (taken put : List Message) → taken ≡ [] → Begins taken put
 begins_none taken put none = subst (λ l. Begins l put) (sym none) (put, refl)
 
 -- what the start has of a role
-zeros_at : (n r : ℕ) → slice_index (replicate n 0) r ≡ 0
-zeros_at zero r = refl
-zeros_at (suc n) zero = refl
-zeros_at (suc n) (suc r) = zeros_at n r
-
-unmarked_at : (n r : ℕ) → r < n → slice_index_or (replicate n false) r true ≡ false
-unmarked_at zero r lt = absurd (omega (arith, lt))
-unmarked_at (suc n) zero lt = refl
-unmarked_at (suc n) (suc r) lt = unmarked_at n r (omega (arith, lt))
-
 own_start : (n r : ℕ) → r < n → own_of (start n) r ≡ first_own
-own_start n r lt = own_same (own_of (start n) r) first_own refl (zeros_at n r) (zeros_at n r) (unmarked_at n r lt) (zeros_at n r) (zeros_at n r)
+own_start zero r lt = absurd (omega (arith, lt))
+own_start (suc n) zero lt = refl
+own_start (suc n) (suc r) lt = own_start n r (omega (arith, lt))
 
 pub start_home : (setup : SessionView) (all : List EndsView) (cells : List CellView) → AreOpen (rules_of setup) (roles_of setup) all → AreFirst setup (roles_of setup) all cells → AreHome (record { setup = setup; entries = [] }) cells
 start_home setup all cells opened first = record {

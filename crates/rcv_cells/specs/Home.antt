@@ -3,8 +3,7 @@
 use Rattle.std.specs.Prelude.{◌≡◌, ℕ, ◌<◌, ◌≤◌, List, [], length, map, slice_index, slice_index_or}
 use Rattle.rcv_tree.specs.declared.entry.Entry.{Entry}
 use Rattle.rcv_tree.specs.declared.entry.Timed.{Timed}
-use Rattle.rcv_model.specs.Journal.{State, reading_from}
-use Rattle.rcv_theory.specs.Own.{own_of}
+use Rattle.rcv_model.specs.Journal.{State, own_of, reading_from}
 use Rattle.rcv_theory.specs.Round.{entries, IsLog}
 use Rattle.rcv_ring.specs.Lists.{Begins}
 use Rattle.rcv_mailbox.specs.Ends.{End, IsChannel}

@@ -39,7 +39,7 @@ pub record RanOnce (fence : FenceId) (old new : CellView) : Type 0 where
 -- What runs under watches of this fence make of a cell. A crashed one and one with a full log stay as they are; else it is one run, or runs
 -- after runs.
 pub data Runs (fence : FenceId) : CellView → CellView → Type 0 where
-  stays_crashed : {a b : CellView} → a.part.own.crashed ≡ true → Stays a b → Runs fence a b
+  stays_crashed : {a b : CellView} → a.part.own.numbers.crashed ≡ true → Stays a b → Runs fence a b
   stays_full : {a b : CellView} → round_steps ≤ length a.part.log → Stays a b → Runs fence a b
   one_run : {a b : CellView} → RanOnce fence a b → Runs fence a b
   more_runs : {a b c : CellView} → Runs fence a b → Runs fence b c → Runs fence a c

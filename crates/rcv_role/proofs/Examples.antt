@@ -1,6 +1,6 @@
 -- Examples: three events of a role that saves every second one; ends of a channel, alone and as they go back; and looks
 -- at a fence.
-use Rattle.std.proofs.Common.{◌≡◌, ℕ, true, false, Some, None, List, [], ◌∷◌, ◌++◌, length, length-append, get_or, ◌+◌, ◌-◌, refl, sym, ap, subst, inl, ⊎_elim, arith}
+use Rattle.std.proofs.Common.{◌≡◌, ℕ, Some, None, List, [], ◌∷◌, ◌++◌, length, length-append, get_or, ◌+◌, ◌-◌, refl, sym, ap, subst, inl, ⊎_elim, arith}
 use Rattle.std.specs.Prelude.{pos}
 use Rattle.std.specs.List.{All}
 use Rattle.std.proofs.lemmas.List.Elements.{All-nil}
@@ -14,6 +14,7 @@ use Rattle.rcv_model.specs.Places.{net_of}
 use Rattle.rcv_model.specs.Plan.{PlanLine, EveryLine, HostLine}
 use Rattle.rcv_model.specs.Table.{marks, IsConcerned}
 use Rattle.rcv_model.proofs.OneLane.{one_lane}
+use Rattle.rcv_model.proofs.Roles.{up, down}
 use Rattle.rcv_model.proofs.Walks.{to_lane_walk}
 use Rattle.rcv_session.specs.Session.{SessionView, net_for}
 use Rattle.rcv_ring.specs.Shown.{RingId}
@@ -50,7 +51,7 @@ three protocol =
     record {
       setup = record { protocol = protocol; scripts = []; plan = EveryLine 0 2 ∷ [] };
       role = 0;
-      own = record { events = event 1 ∷ event 2 ∷ event 3 ∷ []; raw = 3; crashes = 0; crashed = false; attempt = 0; clock = 3 };
+      own = record { events = event 1 ∷ event 2 ∷ event 3 ∷ []; numbers = up 3 0 0 3 };
       held = 3;
       base = 0;
       log = [];
@@ -74,11 +75,11 @@ raised : (protocol : Protocol) → signal_of (with_crash (three protocol)) ≡ 3
 raised protocol = refl
 
 -- its own recovery goes back to what is saved, in a new attempt, and it runs on
-back : (protocol : Protocol) → (gone_back (with_crash (three protocol)) 2 7).own ≡ record { events = event 1 ∷ event 2 ∷ []; raw = 3; crashes = 1; crashed = false; attempt = 1; clock = 7 }
+back : (protocol : Protocol) → (gone_back (with_crash (three protocol)) 2 7).own ≡ record { events = event 1 ∷ event 2 ∷ []; numbers = up 3 1 1 7 }
 back protocol = refl
 
 -- another role's leaves it crashed, and of the states those that are held
-cut : (protocol : Protocol) → (cut_back (with_crash (three protocol)) 3 7).own ≡ record { events = event 1 ∷ event 2 ∷ event 3 ∷ []; raw = 3; crashes = 1; crashed = true; attempt = 0; clock = 7 }
+cut : (protocol : Protocol) → (cut_back (with_crash (three protocol)) 3 7).own ≡ record { events = event 1 ∷ event 2 ∷ event 3 ∷ []; numbers = down 3 1 0 7 }
 cut protocol = refl
 
 still_held : (protocol : Protocol) → (cut_back (with_crash (three protocol)) 3 7).held ≡ 2

@@ -5,9 +5,9 @@ use Rattle.rcv_tree.specs.declared.entry.Entry.TheVariants.{Crash}
 use Rattle.rcv_tree.specs.declared.entry.Timed.{Timed}
 use Rattle.rcv_tree.specs.declared.event.Event.{Event}
 use Rattle.rcv_tree.specs.declared.event.Dir.TheVariants.{Sent, Got}
-use Rattle.rcv_model.specs.Journal.{Rules}
+use Rattle.rcv_model.specs.Journal.{Rules, Own, MayOwnSend, MayOwnRecv, own_place, own_event, own_after}
 use Rattle.rcv_model.proofs.Same.{one_next}
-use Rattle.rcv_theory.specs.Own.{Own, IsOwnLog, MayOwnSend, MayOwnRecv, own_place, own_event, own_after, own_through}
+use Rattle.rcv_theory.specs.Own.{IsOwnLog, own_through}
 use Rattle.rcv_session.specs.Session.{SessionView, roles_of, net_for, rules_of}
 use Rattle.rcv_mailbox.specs.Ends.{End, IsChannel}
 use Rattle.rcv_role.specs.declared.poll.Poll.TheVariants.{Crashed, Done, Tired}
@@ -83,7 +83,7 @@ module _ (p : PartView) (posts inboxes : List End) (q : CellView) (is : cell_of 
   module _ (crashed : PartView) (same : crashed ≡ with_crash p) (due : IsDue p) (declared : p.role < roles_of p.setup) where
     crash_goes : Goes (cell_of p posts inboxes) (cell_of (with_crash p) posts inboxes)
     crash_goes = record {
-      more = record { stamp = p.own.clock; step = Crash p.role } ∷ [];
+      more = record { stamp = p.own.numbers.clock; step = Crash p.role } ∷ [];
       setup = refl;
       role = refl;
       base = refl;
@@ -106,7 +106,7 @@ module _ (p : PartView) (posts inboxes : List End) (q : CellView) (is : cell_of 
     crash_ends ends = subst (λ (x : PartView). AreEnds (rules_of x.setup) x.role posts inboxes) (sym same) ends
 
     pub crash_few : length crashed.log ≤ length q.part.log + 1
-    crash_few = subst (λ (c : CellView). length crashed.log ≤ length c.part.log + 1) is (subst (λ (x : PartView). length x.log ≤ length p.log + 1) (sym same) (grow p.log (record { stamp = p.own.clock; step = Crash p.role })))
+    crash_few = subst (λ (c : CellView). length crashed.log ≤ length c.part.log + 1) is (subst (λ (x : PartView). length x.log ≤ length p.log + 1) (sym same) (grow p.log (record { stamp = p.own.numbers.clock; step = Crash p.role })))
       where
         grow : (xs : List Timed) (x : Timed) → length (xs ++ x ∷ []) ≤ length xs + 1
         grow [] x = omega arith

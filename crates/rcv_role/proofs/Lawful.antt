@@ -6,7 +6,7 @@ use Rattle.std.proofs.lemmas.List.{take-take}
 use Rattle.rcv_model.specs.Run.{put_by, taken_by, put, taken}
 use Rattle.rcv_theory.specs.Own.{own_through, IsOwnLog}
 use Rattle.rcv_theory.specs.Round.{IsLog}
-use Rattle.rcv_theory.proofs.Owning.{logs_by_own, through_log}
+use Rattle.rcv_theory.proofs.Owning.{through_log}
 use Rattle.rcv_ledger.proofs.Lists.{take_left}
 use Rattle.rcv_session.specs.Session.{rules_of}
 use Rattle.rcv_role.specs.declared.poll.Poll.TheVariants as polls
@@ -50,9 +50,9 @@ runs_are_fenced_exactly turns old new watch now stops.Spent r = ((λ e. absurd (
 runs_are_fenced_exactly turns old new watch now stops.Fenced r = ((λ e. r.fenced), λ f. refl)
 
 pub cells_follow_the_session : CellsFollowTheSession
-cells_follow_the_session old new s goes size own =
-    let log : IsLog (rules_of old.part.setup) old.part.role s goes.more = (logs_by_own (rules_of old.part.setup) old.part.role s goes.more size).1 (subst (λ o. IsOwnLog (rules_of old.part.setup) old.part.role o goes.more) (sym own) goes.lawful) in
-    (log, through_log (rules_of old.part.setup) old.part.role s goes.more size log ∙ ap (λ o. own_through o goes.more) own ∙ sym goes.own)
+cells_follow_the_session old new s goes own =
+    let log : IsLog (rules_of old.part.setup) old.part.role s goes.more = subst (λ o. IsOwnLog (rules_of old.part.setup) old.part.role o goes.more) (sym own) goes.lawful in
+    (log, through_log (rules_of old.part.setup) old.part.role s goes.more log ∙ ap (λ o. own_through o goes.more) own ∙ sym goes.own)
 
 -- what a filter leaves of the first items are the first of what it leaves
 first_left : {A B : Type 0} (f : A → Option B) (xs : List A) (k : ℕ) → take (length (filter_map f (take k xs))) (filter_map f xs) ≡ filter_map f (take k xs)

@@ -23,7 +23,8 @@ use Rattle.rcv_model.proofs.Forms.{proper}
 use Rattle.rcv_model.proofs.Keeping.{is_recv}
 use Rattle.rcv_model.proofs.Steps.{not_taken}
 use Rattle.rcv_model.proofs.Ways.{next_in_text}
-use Rattle.rcv_theory.specs.Own.{Own, own_place, own_event, own_after, own_back, IsOwnDue, MayOwnSend}
+use Rattle.rcv_model.specs.Journal.{Own, own_place, own_event, own_after, IsOwnDue, MayOwnSend}
+use Rattle.rcv_theory.specs.Own.{own_back}
 use Rattle.rcv_plan.proofs.Few.{plans_are_short}
 use Rattle.rcv_session.specs.Session.{SessionView, text_of, roles_of, net_for, lines_of, rules_of, IsPointOf}
 use Rattle.rcv_checkpoint.specs.declared.state.State.{State}
@@ -114,7 +115,7 @@ module _ (p : PartView) (tail : TailView) (part : IsPartOf p tail) where
   base_held = let e = part.base_is in let b = base_saved in let s = part.saved in omega (arith, e, b, s)
 
   -- where the role runs, the last state is the present one
-  module _ (running : p.own.crashed ≡ false) where
+  module _ (running : p.own.numbers.crashed ≡ false) where
     pub top_is : (x : State) → slice_get tail.states (length tail.states - 1) ≡ Some x → x ≡ state_behind (vars_by p.setup) p.role p.own.events
     top_is x at =
         top_from (state_at p.setup p.role p.own.events) tail.base p.held tail.states part.states base_held x at
@@ -218,11 +219,11 @@ module _ (p : PartView) (tail : TailView) (part : IsPartOf p tail) where
         kept = fewer_from (state_at p.setup p.role p.own.events) tail.base p.held tail.states part.states base_held count from (let s = saved_is count durable in let h = part.saved in omega (arith, s, h))
 
   -- a role that is due has fewer crashes than lines
-  pub few_crashes : IsOwnDue (rules_of p.setup) p.role p.own → p.own.crashes < 100064
+  pub few_crashes : IsOwnDue (rules_of p.setup) p.role p.own → p.own.numbers.crashes < 100064
   few_crashes due =
       let lines = crashes_in p.setup.plan p.role in
       let a = due.1 in
-      let b = count_by-le-length (λ n. nat_le n p.own.raw) lines in
+      let b = count_by-le-length (λ n. nat_le n p.own.numbers.raw) lines in
       let c = plans_are_short.role (roles_of p.setup) p.setup.plan p.role part.planned in
       omega (arith, a, b, c)
 
@@ -261,7 +262,7 @@ module _ (p : PartView) (tail : TailView) (part : IsPartOf p tail) where
           (fewer_from (state_at p.setup p.role p.own.events) tail.base p.held tail.states part.states base_held (keep) after (omega (arith, le)))
           after (state_at p.setup p.role (take keep p.own.events)) (λ n within. ap (state_behind (vars_by p.setup) p.role) (sym (take-take n keep p.own.events (omega (arith, within)))))
 
-  pub part_cut : (keep clock : ℕ) → p.own.crashed ≡ true → p.base ≤ keep → keep ≤ length p.own.events → IsPart p.setup p.role (own_back p.own keep false clock) p.base (min keep p.held) (with_held tail (take (place_in tail (min keep p.held) + 1) tail.states))
+  pub part_cut : (keep clock : ℕ) → p.own.numbers.crashed ≡ true → p.base ≤ keep → keep ≤ length p.own.events → IsPart p.setup p.role (own_back p.own keep false clock) p.base (min keep p.held) (with_held tail (take (place_in tail (min keep p.held) + 1) tail.states))
   part_cut keep clock crashed from le = record {
     protocol = part.protocol;
     planned = part.planned;
@@ -321,7 +322,7 @@ part_forgot p tail part line step above saved = record {
 
 -- the part's Send with this point and number
 abbrev pub sent_event : PartView → ℕ → ℤ → Event
-sent_event p point value = record { role = p.role; dir = Sent; point = point; value = value; stamp = p.own.clock + 1; sent = p.own.clock + 1 }
+sent_event p point value = record { role = p.role; dir = Sent; point = point; value = value; stamp = p.own.numbers.clock + 1; sent = p.own.numbers.clock + 1 }
 
 module _ (p : PartView) (tail : TailView) (zs : List ℕ) (part : IsPartOf p tail) (offers : Offers p zs) where
   known : IsProper (net_for p.setup) (roles_of p.setup)
@@ -354,11 +355,11 @@ module _ (p : PartView) (tail : TailView) (zs : List ℕ) (part : IsPartOf p tai
     declared = (text_point x i).2;
   }
 
-  module _ (x : State) (running : p.own.crashed ≡ false) (at : slice_get tail.states (length tail.states - 1) ≡ Some x) (point : ℕ) (value : ℤ) (some : zs ≢ []) (sends : AllSends p zs) (chosen : point ≡ pick (net_for p.setup) (lines_of p.setup p.role) x.vars p.own.attempt zs) where
+  module _ (x : State) (running : p.own.numbers.crashed ≡ false) (at : slice_get tail.states (length tail.states - 1) ≡ Some x) (point : ℕ) (value : ℤ) (some : zs ≢ []) (sends : AllSends p zs) (chosen : point ≡ pick (net_for p.setup) (lines_of p.setup p.role) x.vars p.own.numbers.attempt zs) where
     pub among : IsIn point zs
-    among = subst (λ z. IsIn z zs) (sym (chosen ∙ ap (λ v. pick (net_for p.setup) (lines_of p.setup p.role) v p.own.attempt zs) (top_vars p tail part running x at))) (chosen_in (net_for p.setup) (lines_of p.setup) p.role p.own.events p.own.attempt zs some)
+    among = subst (λ z. IsIn z zs) (sym (chosen ∙ ap (λ v. pick (net_for p.setup) (lines_of p.setup p.role) v p.own.numbers.attempt zs) (top_vars p tail part running x at))) (chosen_in (net_for p.setup) (lines_of p.setup) p.role p.own.events p.own.numbers.attempt zs some)
 
-    pub may_send : (IsOwnDue (rules_of p.setup) p.role p.own → ⊥) → IsBelow p → value ≡ number_for ((net_for p.setup).label point) (lines_of p.setup p.role) x.vars p.own.attempt → MayOwnSend (rules_of p.setup) p.own (sent_event p point value)
+    pub may_send : (IsOwnDue (rules_of p.setup) p.role p.own → ⊥) → IsBelow p → value ≡ number_for ((net_for p.setup).label point) (lines_of p.setup p.role) x.vars p.own.numbers.attempt → MayOwnSend (rules_of p.setup) p.own (sent_event p point value)
     may_send calm below number = record {
       free = record { declared = part.declared; running = running; not_due = calm; below_limit = below.raw };
       offered = zs;
@@ -366,8 +367,8 @@ module _ (p : PartView) (tail : TailView) (zs : List ℕ) (part : IsPartOf p tai
       sends = sends;
       is_send = refl;
       among = among;
-      point = chosen ∙ ap (λ v. pick (net_for p.setup) (lines_of p.setup p.role) v p.own.attempt zs) (top_vars p tail part running x at);
-      value = number ∙ ap (λ v. number_for ((net_for p.setup).label point) (lines_of p.setup p.role) v p.own.attempt) (top_vars p tail part running x at);
+      point = chosen ∙ ap (λ v. pick (net_for p.setup) (lines_of p.setup p.role) v p.own.numbers.attempt zs) (top_vars p tail part running x at);
+      value = number ∙ ap (λ v. number_for ((net_for p.setup).label point) (lines_of p.setup p.role) v p.own.numbers.attempt) (top_vars p tail part running x at);
       stamp = refl;
       sent = refl;
     }
@@ -392,20 +393,20 @@ module _ (v q : PartView) (tail : TailView) (is : v ≡ q) (part : IsPartOf v ta
   pub seen : IsPartOf q tail
   seen = subst (λ p. IsPartOf p tail) is part
 
-  pub seen_place : (x : State) → q.own.crashed ≡ false → slice_get tail.states (length tail.states - 1) ≡ Some x → IsPlaceOf (net_for v.setup) v.role x.k
+  pub seen_place : (x : State) → q.own.numbers.crashed ≡ false → slice_get tail.states (length tail.states - 1) ≡ Some x → IsPlaceOf (net_for v.setup) v.role x.k
   seen_place x running at = subst (λ (p : PartView). IsPlaceOf (net_for p.setup) p.role x.k) (sym is) (top_place q tail seen running x at)
 
-  pub seen_offers : (x : State) (zs : List ℕ) → q.own.crashed ≡ false → slice_get tail.states (length tail.states - 1) ≡ Some x → AreNext (net_for v.setup) v.role x.k zs → Offers q zs
+  pub seen_offers : (x : State) (zs : List ℕ) → q.own.numbers.crashed ≡ false → slice_get tail.states (length tail.states - 1) ≡ Some x → AreNext (net_for v.setup) v.role x.k zs → Offers q zs
   seen_offers x zs running at next = top_offers q tail seen running x zs at (subst (λ (p : PartView). AreNext (net_for p.setup) p.role x.k zs) is next)
 
-  pub seen_state : (e : Event) (x state : State) → q.own.crashed ≡ false → IsOwn q.setup q.role e → slice_get tail.states (length tail.states - 1) ≡ Some x → state.k ≡ e.point → state.vars ≡ vars_behind v.setup e x.vars → state ≡ state_behind (vars_by q.setup) q.role (q.own.events ++ e ∷ [])
+  pub seen_state : (e : Event) (x state : State) → q.own.numbers.crashed ≡ false → IsOwn q.setup q.role e → slice_get tail.states (length tail.states - 1) ≡ Some x → state.k ≡ e.point → state.vars ≡ vars_behind v.setup e x.vars → state ≡ state_behind (vars_by q.setup) q.role (q.own.events ++ e ∷ [])
   seen_state e x state running own at point vars = next_state q tail seen running e x state own at point (subst (λ (p : PartView). state.vars ≡ vars_behind p.setup e x.vars) is vars)
 
   -- what an event changed of the variables
-  pub seen_change : (x : State) (change : Changed) (vars : List ℤ) → q.own.crashed ≡ false → slice_get tail.states (length tail.states - 1) ≡ Some x → IsChange change x.vars vars → IsChange change (vars_by q.setup q.role q.own.events) vars
+  pub seen_change : (x : State) (change : Changed) (vars : List ℤ) → q.own.numbers.crashed ≡ false → slice_get tail.states (length tail.states - 1) ≡ Some x → IsChange change x.vars vars → IsChange change (vars_by q.setup q.role q.own.events) vars
   seen_change x change vars running at is = subst (λ l. IsChange change l vars) (top_vars q tail seen running x at) is
 
-  pub seen_final : (change : Changed) (vars : List ℤ) → q.own.crashed ≡ false → IsChange change (vars_by q.setup q.role q.own.events) vars → IsChange change (final_vars tail) vars
+  pub seen_final : (change : Changed) (vars : List ℤ) → q.own.numbers.crashed ≡ false → IsChange change (vars_by q.setup q.role q.own.events) vars → IsChange change (final_vars tail) vars
   seen_final change vars running is = subst (λ l. IsChange change l vars) (sym (final_is q tail seen running)) is
 
   -- the states that are held
@@ -426,11 +427,11 @@ module _ (v q : PartView) (tail : TailView) (is : v ≡ q) (part : IsPartOf v ta
   remember e next = subst (λ (p : PartView). IsNextSend p.setup p.role p.own e) (sym is) next
 
   -- a crashed role has chosen nothing
-  pub none_chosen : (own : Own) (o : Option Event) → q.own.crashed ≡ true → IfSome o (IsNextSend v.setup v.role v.own) → IfSome o (IsNextSend v.setup v.role own)
+  pub none_chosen : (own : Own) (o : Option Event) → q.own.numbers.crashed ≡ true → IfSome o (IsNextSend v.setup v.role v.own) → IfSome o (IsNextSend v.setup v.role own)
   none_chosen own None crashed next = tt
   none_chosen own (Some e) crashed next =
       let running = next.may.free.running in
-      let same : v.own.crashed ≡ true = subst (λ (p : PartView). p.own.crashed ≡ true) (sym is) crashed in
+      let same : v.own.numbers.crashed ≡ true = subst (λ (p : PartView). p.own.numbers.crashed ≡ true) (sym is) crashed in
       absurd (cc)
 
   module _ (zs : List ℕ) (offers : Offers q zs) where
@@ -440,22 +441,22 @@ module _ (v q : PartView) (tail : TailView) (is : v ≡ q) (part : IsPartOf v ta
     pub offered_points : All (IsPointOf v.setup) zs
     offered_points k d lt = offered_point (slice_index_or zs k d) (in_at zs k d lt)
 
-    module _ (x : State) (running : q.own.crashed ≡ false) (at : slice_get tail.states (length tail.states - 1) ≡ Some x) (point : ℕ) (some : zs ≢ []) (sends : AllSends q zs) (chosen : point ≡ pick (net_for v.setup) (lines_of v.setup v.role) x.vars v.own.attempt zs) where
-      chosen_now : point ≡ pick (net_for q.setup) (lines_of q.setup q.role) x.vars q.own.attempt zs
-      chosen_now = subst (λ (p : PartView). point ≡ pick (net_for p.setup) (lines_of p.setup p.role) x.vars p.own.attempt zs) is chosen
+    module _ (x : State) (running : q.own.numbers.crashed ≡ false) (at : slice_get tail.states (length tail.states - 1) ≡ Some x) (point : ℕ) (some : zs ≢ []) (sends : AllSends q zs) (chosen : point ≡ pick (net_for v.setup) (lines_of v.setup v.role) x.vars v.own.numbers.attempt zs) where
+      chosen_now : point ≡ pick (net_for q.setup) (lines_of q.setup q.role) x.vars q.own.numbers.attempt zs
+      chosen_now = subst (λ (p : PartView). point ≡ pick (net_for p.setup) (lines_of p.setup p.role) x.vars p.own.numbers.attempt zs) is chosen
 
       pub chosen_point : IsPointOf v.setup point
       chosen_point = offered_point point (among q tail zs seen offers x running at point (pos 0) some sends chosen_now)
 
-      sent_may : (value : ℤ) → (IsOwnDue (rules_of q.setup) q.role q.own → ⊥) → IsBelow q → value ≡ number_for ((net_for v.setup).label point) (lines_of v.setup v.role) x.vars v.own.attempt → MayOwnSend (rules_of q.setup) q.own (sent_event v point value)
+      sent_may : (value : ℤ) → (IsOwnDue (rules_of q.setup) q.role q.own → ⊥) → IsBelow q → value ≡ number_for ((net_for v.setup).label point) (lines_of v.setup v.role) x.vars v.own.numbers.attempt → MayOwnSend (rules_of q.setup) q.own (sent_event v point value)
       sent_may value calm below number =
           subst (λ (p : PartView). MayOwnSend (rules_of q.setup) q.own (sent_event p point value)) (sym is)
-          (may_send q tail zs seen offers x running at point value some sends chosen_now calm below (subst (λ (p : PartView). value ≡ number_for ((net_for p.setup).label point) (lines_of p.setup p.role) x.vars p.own.attempt) is number))
+          (may_send q tail zs seen offers x running at point value some sends chosen_now calm below (subst (λ (p : PartView). value ≡ number_for ((net_for p.setup).label point) (lines_of p.setup p.role) x.vars p.own.numbers.attempt) is number))
 
       sent_own : (value : ℤ) → IsBelow q → IsOwnSend q.setup q.role (sent_event v point value)
       sent_own value below = subst (λ (p : PartView). IsOwnSend q.setup q.role (sent_event p point value)) (sym is) (own_send q tail zs seen offers x running at point value some sends chosen_now below)
 
-      pub sent_next : (value : ℤ) → (IsOwnDue (rules_of q.setup) q.role q.own → ⊥) → IsBelow q → value ≡ number_for ((net_for v.setup).label point) (lines_of v.setup v.role) x.vars v.own.attempt → IsNextSend q.setup q.role q.own (sent_event v point value)
+      pub sent_next : (value : ℤ) → (IsOwnDue (rules_of q.setup) q.role q.own → ⊥) → IsBelow q → value ≡ number_for ((net_for v.setup).label point) (lines_of v.setup v.role) x.vars v.own.numbers.attempt → IsNextSend q.setup q.role q.own (sent_event v point value)
       sent_next value calm below number = record { may = sent_may value calm below number; sends = sent_own value below }
 
     pub whose_sends : (x sender : ℕ) → IsIn x zs → sender ≡ (net_for v.setup).sender x → sender ≡ v.role → AllSends q zs
@@ -471,14 +472,14 @@ module _ (v q : PartView) (tail : TailView) (is : v ≡ q) (part : IsPartOf v ta
   fields P x = subst P (sym is) x
 
   -- a test of crash lines
-  pub due_is : (plan : List PlanLine) (b : Bool) → q.own.crashed ≡ false → plan ≡ v.setup.plan → b ≡ nat_lt v.own.crashes (count_by (λ n. nat_le n v.own.raw) (crashes_in plan v.role)) → IsTrue b ↔ IsOwnDue (rules_of q.setup) q.role q.own
+  pub due_is : (plan : List PlanLine) (b : Bool) → q.own.numbers.crashed ≡ false → plan ≡ v.setup.plan → b ≡ nat_lt v.own.numbers.crashes (count_by (λ n. nat_le n v.own.numbers.raw) (crashes_in plan v.role)) → IsTrue b ↔ IsOwnDue (rules_of q.setup) q.role q.own
   due_is plan b running same e =
-      let calm : v.own.crashed ≡ false = fields (λ p. p.own.crashed ≡ false) running in
-      let t = less_by v.own.crashes (count_by (λ n. nat_le n v.own.raw) (crashes_in v.setup.plan v.role)) b (e ∙ ap (λ (l : List PlanLine). nat_lt v.own.crashes (count_by (λ n. nat_le n v.own.raw) (crashes_in l v.role))) same) in
+      let calm : v.own.numbers.crashed ≡ false = fields (λ p. p.own.numbers.crashed ≡ false) running in
+      let t = less_by v.own.numbers.crashes (count_by (λ n. nat_le n v.own.numbers.raw) (crashes_in v.setup.plan v.role)) b (e ∙ ap (λ (l : List PlanLine). nat_lt v.own.numbers.crashes (count_by (λ n. nat_le n v.own.numbers.raw) (crashes_in l v.role))) same) in
       subst (λ (p : PartView). IsTrue b ↔ IsOwnDue (rules_of p.setup) p.role p.own) is ((λ u. (calm, t.0 u)), λ d. t.1 d.1)
 
 -- the same of other own numbers, as far as a part keeps something of them
-pub same_part : (setup : SessionView) (r : ℕ) (own own' : Own) (base count : ℕ) (tail tail' : TailView) → IsPart setup r own base count tail → own'.events ≡ own.events → own'.raw ≡ own.raw → (own'.crashed ≡ false → own.crashed ≡ false) → tail' ≡ tail → IsPart setup r own' base count tail'
+pub same_part : (setup : SessionView) (r : ℕ) (own own' : Own) (base count : ℕ) (tail tail' : TailView) → IsPart setup r own base count tail → own'.events ≡ own.events → own'.numbers.raw ≡ own.numbers.raw → (own'.numbers.crashed ≡ false → own.numbers.crashed ≡ false) → tail' ≡ tail → IsPart setup r own' base count tail'
 same_part setup r own own' base count tail tail' part events raw runs same = subst (IsPart setup r own' base count) (sym same) (record {
   protocol = part.protocol;
   planned = part.planned;
@@ -504,48 +505,48 @@ from_tail setup r own base count tail part = subst (λ b. IsPart setup r own b c
 
 -- the part's fields behind an event, behind a crash, and behind a recovery
 module _ (v q : PartView) (tail tail' : TailView) (is : v ≡ q) (part : IsPartOf v tail) where
-  pub more_is : (e : Event) (state : State) (own' : Own) → q.own.crashed ≡ false → IsOwn q.setup q.role e → IsBelow q → state ≡ state_behind (vars_by q.setup) q.role (q.own.events ++ e ∷ []) → tail' ≡ with_held tail (tail.states ++ state ∷ []) → own'.events ≡ v.own.events ++ e ∷ [] → own'.raw ≡ v.own.raw + 1 → own'.crashed ≡ v.own.crashed → IsPart v.setup v.role own' tail'.base (v.held + 1) tail'
+  pub more_is : (e : Event) (state : State) (own' : Own) → q.own.numbers.crashed ≡ false → IsOwn q.setup q.role e → IsBelow q → state ≡ state_behind (vars_by q.setup) q.role (q.own.events ++ e ∷ []) → tail' ≡ with_held tail (tail.states ++ state ∷ []) → own'.events ≡ v.own.events ++ e ∷ [] → own'.numbers.raw ≡ v.own.numbers.raw + 1 → own'.numbers.crashed ≡ v.own.numbers.crashed → IsPart v.setup v.role own' tail'.base (v.held + 1) tail'
   more_is e state own' running own below behind same events raw crashed =
       from_tail v.setup v.role own' v.base (v.held + 1) tail'
       (same_part v.setup v.role (own_event v.own e) own' v.base (v.held + 1) (with_held tail (tail.states ++ state ∷ [])) tail'
-      (part_more v tail part (fields v q tail is part (λ p. p.own.crashed ≡ false) running) e state (fields v q tail is part (λ p. IsOwn p.setup p.role e) own) (fields v q tail is part IsBelow below) (fields v q tail is part (λ p. state ≡ state_behind (vars_by p.setup) p.role (p.own.events ++ e ∷ [])) behind))
+      (part_more v tail part (fields v q tail is part (λ p. p.own.numbers.crashed ≡ false) running) e state (fields v q tail is part (λ p. IsOwn p.setup p.role e) own) (fields v q tail is part IsBelow below) (fields v q tail is part (λ p. state ≡ state_behind (vars_by p.setup) p.role (p.own.events ++ e ∷ [])) behind))
       events raw (λ f. sym crashed ∙ f) same)
 
-  pub crashed_is : (count : ℕ) (own' : Own) → IsOwnDue (rules_of q.setup) q.role q.own → IsSaved tail count → tail' ≡ with_held tail (take (place_in tail count + 1) tail.states) → own'.events ≡ v.own.events → own'.raw ≡ v.own.raw → own'.crashed ≡ true → IsPart v.setup v.role own' tail'.base count tail'
+  pub crashed_is : (count : ℕ) (own' : Own) → IsOwnDue (rules_of q.setup) q.role q.own → IsSaved tail count → tail' ≡ with_held tail (take (place_in tail count + 1) tail.states) → own'.events ≡ v.own.events → own'.numbers.raw ≡ v.own.numbers.raw → own'.numbers.crashed ≡ true → IsPart v.setup v.role own' tail'.base count tail'
   crashed_is count own' due durable same events raw crashed =
       from_tail v.setup v.role own' v.base count tail'
       (same_part v.setup v.role (own_after v.own (Crash v.role)) own' v.base count (with_held tail (take (place_in tail count + 1) tail.states)) tail'
-      (part_crashed v tail part (fields v q tail is part (λ p. p.own.crashed ≡ false) due.0) count durable)
+      (part_crashed v tail part (fields v q tail is part (λ p. p.own.numbers.crashed ≡ false) due.0) count durable)
       events raw (λ f. absurd (let g = sym crashed ∙ f in cc)) same)
 
-  pub crashed_view : (count : ℕ) (log : List Timed) → IsOwnDue (rules_of q.setup) q.role q.own → IsSaved tail count → tail' ≡ with_held tail (take (place_in tail count + 1) tail.states) → log ≡ v.log ++ record { stamp = v.own.clock; step = Crash v.role } ∷ [] → record { setup = v.setup; role = v.role; own = own_after v.own (Crash v.role); held = count; base = tail'.base; log = log } ≡ with_crash q
+  pub crashed_view : (count : ℕ) (log : List Timed) → IsOwnDue (rules_of q.setup) q.role q.own → IsSaved tail count → tail' ≡ with_held tail (take (place_in tail count + 1) tail.states) → log ≡ v.log ++ record { stamp = v.own.numbers.clock; step = Crash v.role } ∷ [] → record { setup = v.setup; role = v.role; own = own_after v.own (Crash v.role); held = count; base = tail'.base; log = log } ≡ with_crash q
   crashed_view count log due durable same logged =
       let base : tail'.base ≡ v.base = ap (λ (t : TailView). t.base) same ∙ part.base_is in
-      ap (λ (x : ℕ × (ℕ × List Timed)). record { setup = v.setup; role = v.role; own = own_after v.own (Crash v.role); held = x.0; base = x.1.0; log = x.1.1 }) (λ i. (saved_is v tail part (fields v q tail is part (λ p. p.own.crashed ≡ false) due.0) count durable i, (base i, logged i)))
+      ap (λ (x : ℕ × (ℕ × List Timed)). record { setup = v.setup; role = v.role; own = own_after v.own (Crash v.role); held = x.0; base = x.1.0; log = x.1.1 }) (λ i. (saved_is v tail part (fields v q tail is part (λ p. p.own.numbers.crashed ≡ false) due.0) count durable i, (base i, logged i)))
       ∙ ap with_crash is
 
-  pub few_crashes_is : IsOwnDue (rules_of q.setup) q.role q.own → v.own.crashes < 100064
+  pub few_crashes_is : IsOwnDue (rules_of q.setup) q.role q.own → v.own.numbers.crashes < 100064
   few_crashes_is due = few_crashes v tail part (fields v q tail is part (λ p. IsOwnDue (rules_of p.setup) p.role p.own) due)
 
-  pub back_is : (keep clock : ℕ) (own' : Own) → q.base ≤ keep → keep ≤ q.held → tail' ≡ with_held tail (take (place_in tail keep + 1) tail.states) → own'.events ≡ take keep v.own.events → own'.raw ≡ v.own.raw → IsPart v.setup v.role own' tail'.base keep tail'
+  pub back_is : (keep clock : ℕ) (own' : Own) → q.base ≤ keep → keep ≤ q.held → tail' ≡ with_held tail (take (place_in tail keep + 1) tail.states) → own'.events ≡ take keep v.own.events → own'.numbers.raw ≡ v.own.numbers.raw → IsPart v.setup v.role own' tail'.base keep tail'
   back_is keep clock own' from le same events raw =
       from_tail v.setup v.role own' v.base keep tail'
       (same_part v.setup v.role (own_back v.own keep true clock) own' v.base keep (with_held tail (take (place_in tail keep + 1) tail.states)) tail'
       (part_back v tail part keep clock (fields v q tail is part (λ p. p.base ≤ keep) from) (fields v q tail is part (λ p. keep ≤ p.held) le))
       events raw (λ f. refl) same)
 
-  pub cut_is : (keep clock count : ℕ) (own' : Own) → count ≡ min keep v.held → q.own.crashed ≡ true → q.base ≤ keep → keep ≤ length q.own.events → tail' ≡ with_held tail (take (place_in tail count + 1) tail.states) → own'.events ≡ take keep v.own.events → own'.raw ≡ v.own.raw → own'.crashed ≡ v.own.crashed → IsPart v.setup v.role own' tail'.base count tail'
+  pub cut_is : (keep clock count : ℕ) (own' : Own) → count ≡ min keep v.held → q.own.numbers.crashed ≡ true → q.base ≤ keep → keep ≤ length q.own.events → tail' ≡ with_held tail (take (place_in tail count + 1) tail.states) → own'.events ≡ take keep v.own.events → own'.numbers.raw ≡ v.own.numbers.raw → own'.numbers.crashed ≡ v.own.numbers.crashed → IsPart v.setup v.role own' tail'.base count tail'
   cut_is keep clock count own' least crashed from le same events raw stays =
       subst (λ n. IsPart v.setup v.role own' tail'.base n tail') (sym least)
       (from_tail v.setup v.role own' v.base (min keep v.held) tail'
       (same_part v.setup v.role (own_back v.own keep false clock) own' v.base (min keep v.held) (with_held tail (take (place_in tail (min keep v.held) + 1) tail.states)) tail'
-      (part_cut v tail part keep clock (fields v q tail is part (λ p. p.own.crashed ≡ true) crashed) (fields v q tail is part (λ p. p.base ≤ keep) from) (fields v q tail is part (λ p. keep ≤ length p.own.events) le))
+      (part_cut v tail part keep clock (fields v q tail is part (λ p. p.own.numbers.crashed ≡ true) crashed) (fields v q tail is part (λ p. p.base ≤ keep) from) (fields v q tail is part (λ p. keep ≤ length p.own.events) le))
       events raw (λ f. sym stays ∙ f) (same ∙ ap (λ n. with_held tail (take (place_in tail n + 1) tail.states)) least)))
 
 -- the states that are asked for are held
 module _ (v q : PartView) (tail : TailView) (is : v ≡ q) (part : IsPartOf v tail) where
   pub crash_holds : (count : ℕ) → IsOwnDue (rules_of q.setup) q.role q.own → IsSaved tail count → Holds tail count
-  crash_holds count due saved = (from_saved v tail part (fields v q tail is part (λ p. p.own.crashed ≡ false) due.0) count saved, saved.within)
+  crash_holds count due saved = (from_saved v tail part (fields v q tail is part (λ p. p.own.numbers.crashed ≡ false) due.0) count saved, saved.within)
 
   pub back_holds : (keep : ℕ) → q.base ≤ keep → keep ≤ q.held → Holds tail keep
   back_holds keep from le =

@@ -9,7 +9,7 @@ use Rattle.rcv_tree.specs.declared.event.Message.{Message}
 use Rattle.rcv_model.specs.Run.{takes_on, taken_by, put, taken}
 use Rattle.rcv_model.proofs.Keeping.{taken_none, taken_some, put_none}
 use Rattle.rcv_model.proofs.Located.{item}
-use Rattle.rcv_theory.specs.Own.{MayOwnRecv}
+use Rattle.rcv_model.specs.Journal.{MayOwnRecv}
 use Rattle.rcv_theory.proofs.Merging.{own_takes}
 use Rattle.rcv_ledger.proofs.Lists.{take_left}
 use Rattle.rcv_ring.specs.Points.{HasPoint, CanPass}
@@ -67,8 +67,8 @@ module _ (p : PartView) (posts inboxes inboxes' : List End) (from : ℕ) (ends :
     lawful = tt;
     own = refl;
     settled = λ q d lt n. ⊎_elim
-        (λ f. subst (λ z. IsSettledWith (net_for p.setup) p.role z p.own.events p.own.raw (end_at posts p.role z d) (end_at inboxes' p.role z d)) (sym f) (let old = settled from d low apart in record { put = old.put; through = old.through; got = (received d).got ∙ old.got; taken = ap (λ k. take k (end_at inboxes' p.role from d).list) (received d).got ∙ front_stays None received d }))
-        (λ m. subst (λ y. IsSettledWith (net_for p.setup) p.role q p.own.events p.own.raw (end_at posts p.role q d) y) (sym (same_inbox q d n m)) (settled q d lt n))
+        (λ f. subst (λ z. IsSettledWith (net_for p.setup) p.role z p.own.events p.own.numbers.raw (end_at posts p.role z d) (end_at inboxes' p.role z d)) (sym f) (let old = settled from d low apart in record { put = old.put; through = old.through; got = (received d).got ∙ old.got; taken = ap (λ k. take k (end_at inboxes' p.role from d).list) (received d).got ∙ front_stays None received d }))
+        (λ m. subst (λ y. IsSettledWith (net_for p.setup) p.role q p.own.events p.own.numbers.raw (end_at posts p.role q d) y) (sym (same_inbox q d n m)) (settled q d lt n))
         (cases_eq q from);
     strangers = strangers;
     posts = λ q d x lt n h. h;
@@ -107,7 +107,7 @@ module _ (p : PartView) (posts inboxes inboxes' : List End) (from : ℕ) (ends :
     log = refl;
     lawful = (one_recv p e own.role own.dir may).0;
     own = (one_recv p e own.role own.dir may).1;
-    settled = λ q d lt n. ⊎_elim (λ f. subst (λ z. IsSettledWith (net_for p.setup) p.role z (p.own.events ++ e ∷ []) (p.own.raw + 1) (end_at posts p.role z d) (end_at inboxes' p.role z d)) (sym f) (here d)) (λ k. elsewhere q d lt n k) (cases_eq q from);
+    settled = λ q d lt n. ⊎_elim (λ f. subst (λ z. IsSettledWith (net_for p.setup) p.role z (p.own.events ++ e ∷ []) (p.own.numbers.raw + 1) (end_at posts p.role z d) (end_at inboxes' p.role z d)) (sym f) (here d)) (λ k. elsewhere q d lt n k) (cases_eq q from);
     strangers = λ t o. taken_none (net_for p.setup) t p.role p.own.events e (else_takes (net_for p.setup) t p.role e (λ f. ⊎_elim (λ g. apart (sym of ∙ f ∙ g)) (λ le. let g : from ≡ t = sym of ∙ f in omega (arith, le, low, g)) o)) ∙ strangers t o;
     posts = λ q d x lt n h. h;
     inboxes = received_channels (Some m) received;
@@ -124,7 +124,7 @@ module _ (p : PartView) (posts inboxes inboxes' : List End) (from : ℕ) (ends :
           taken_some (net_for p.setup) from p.role p.own.events e (subst (λ r. takes_on (net_for p.setup) from r e ≡ true) own.role (own_takes (net_for p.setup) from e own.dir of))
           ∙ ap (λ y. taken (net_for p.setup) from p.role p.own.events ++ y ∷ []) own.message
 
-      here : (d : End) → IsSettledWith (net_for p.setup) p.role from (p.own.events ++ e ∷ []) (p.own.raw + 1) (end_at posts p.role from d) (end_at inboxes' p.role from d)
+      here : (d : End) → IsSettledWith (net_for p.setup) p.role from (p.own.events ++ e ∷ []) (p.own.numbers.raw + 1) (end_at posts p.role from d) (end_at inboxes' p.role from d)
       here d =
           let old = settled from d low apart in
           record {
@@ -134,7 +134,7 @@ module _ (p : PartView) (posts inboxes inboxes' : List End) (from : ℕ) (ends :
             taken = ap (λ k. take k (end_at inboxes' p.role from d).list) ((received d).got ∙ one_more (end_at inboxes p.role from d).got) ∙ take_more (end_at inboxes' p.role from d).list (end_at inboxes p.role from d).got m (received d).front.0 ∙ ap (λ l. l ++ m ∷ []) (front_stays (Some m) received d) ∙ sym more_taken;
           }
 
-      elsewhere : (q : ℕ) (d : End) → q < roles_of p.setup → (q ≡ p.role → ⊥) → (q ≡ from → ⊥) → IsSettledWith (net_for p.setup) p.role q (p.own.events ++ e ∷ []) (p.own.raw + 1) (end_at posts p.role q d) (end_at inboxes' p.role q d)
+      elsewhere : (q : ℕ) (d : End) → q < roles_of p.setup → (q ≡ p.role → ⊥) → (q ≡ from → ⊥) → IsSettledWith (net_for p.setup) p.role q (p.own.events ++ e ∷ []) (p.own.numbers.raw + 1) (end_at posts p.role q d) (end_at inboxes' p.role q d)
       elsewhere q d lt n k =
           let old = settled q d lt n in
           let same = same_inbox q d n k in
@@ -170,7 +170,7 @@ module _ (p : PartView) (posts inboxes : List End) (q : CellView) (from role at 
   pub some_end : End
   some_end = (item inboxes at recv_at).0
 
-  pub recv_got : length p.own.events ≤ p.own.raw → IsBelow q.part → (d : End) → (slice_index_or inboxes at d).got < (slice_index_or inboxes at d).limit
+  pub recv_got : length p.own.events ≤ p.own.numbers.raw → IsBelow q.part → (d : End) → (slice_index_or inboxes at d).got < (slice_index_or inboxes at d).limit
   recv_got few low d = subst (λ k. (slice_index_or inboxes k d).got < (slice_index_or inboxes k d).limit) (sym at_from)
       (let s = (within from d froms.declared froms.apart).got in let l = (ends.inbox from d froms.declared froms.apart).limit in let n = fewer (taken_by (net_for p.setup) from p.role) p.own.events in let b = (subst (λ (c : CellView). IsBelow c.part) (sym is) low).raw in omega (arith, s, l, n, few, b))
 

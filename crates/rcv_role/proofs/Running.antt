@@ -56,7 +56,7 @@ one_more_passes p before seen now w n passed e new = record {
 pub record IsRunning (from now : CellView) (watch w : Shown) (n : ℕ) : Type 0 where
   pub goes : Goes from now
   pub few : length now.part.log ≤ length from.part.log + n
-  pub running : now.part.own.crashed ≡ false
+  pub running : now.part.own.numbers.crashed ≡ false
   pub made : Moves from n now
   pub fence : w.fence ≡ watch.fence
   pub looks : w.looks ≡ watch.looks + n
@@ -64,7 +64,7 @@ pub record IsRunning (from now : CellView) (watch w : Shown) (n : ℕ) : Type 0 
   pub passed : AllPass from.part watch.seen w.seen n
   pub unfenced : 0 < n → IsFencedBy from.part w.last → ⊥
 
-pub run_start : (c : CellView) (watch : Shown) → IsSettled c → HasNoStrangers c.part → c.part.own.crashed ≡ false → IsRunning c c watch watch 0
+pub run_start : (c : CellView) (watch : Shown) → IsSettled c → HasNoStrangers c.part → c.part.own.numbers.crashed ≡ false → IsRunning c c watch watch 0
 run_start c watch settled strangers running = record {
   goes = stays c settled strangers;
   few = omega arith;
@@ -128,7 +128,7 @@ module _ (a b : CellView) (watch w w2 : Shown) (k turns : ℕ) (fenced : Bool) (
     run_more polled = record {
       goes = run_goes;
       few = let f = so.few in omega (arith, f, few);
-      running = ap (λ (p : PartView). p.own.crashed) polled.1.part ∙ so.running;
+      running = ap (λ (p : PartView). p.own.numbers.crashed) polled.1.part ∙ so.running;
       made = step so.made polled;
       fence = fence ∙ so.fence;
       looks = let l = so.looks in omega (arith, looks, l);

@@ -7,7 +7,7 @@ use Rattle.rcv_tree.specs.declared.event.Dir.TheVariants.{Got}
 use Rattle.rcv_model.specs.Run.{put_by, taken}
 use Rattle.rcv_model.proofs.Keeping.{taken_none, put_none}
 use Rattle.rcv_model.proofs.Steps.{not_taken}
-use Rattle.rcv_theory.specs.Own.{MayOwnSend}
+use Rattle.rcv_model.specs.Journal.{MayOwnSend}
 use Rattle.rcv_ring.specs.Points.{HasPoint, CanPass}
 use Rattle.rcv_mailbox.specs.Ends.{End, through, IsChannel, WasFull}
 use Rattle.rcv_session.specs.Session.{roles_of, net_for, rules_of}
@@ -58,8 +58,8 @@ module _ (p : PartView) (posts posts' inboxes : List End) (e : Event) (to : ℕ)
     lawful = tt;
     own = refl;
     settled = λ q d lt n. ⊎_elim
-        (λ f. subst (λ z. IsSettledWith (net_for p.setup) p.role z p.own.events p.own.raw (end_at posts' p.role z d) (end_at inboxes p.role z d)) (sym f) (let old = settled to d low apart in record { put = (sent d).list ∙ old.put; through = let t = (sent d).through in let o = old.through in omega (arith, t, o); got = old.got; taken = old.taken }))
-        (λ m. subst (λ y. IsSettledWith (net_for p.setup) p.role q p.own.events p.own.raw y (end_at inboxes p.role q d)) (sym (same_post q d n m)) (settled q d lt n))
+        (λ f. subst (λ z. IsSettledWith (net_for p.setup) p.role z p.own.events p.own.numbers.raw (end_at posts' p.role z d) (end_at inboxes p.role z d)) (sym f) (let old = settled to d low apart in record { put = (sent d).list ∙ old.put; through = let t = (sent d).through in let o = old.through in omega (arith, t, o); got = old.got; taken = old.taken }))
+        (λ m. subst (λ y. IsSettledWith (net_for p.setup) p.role q p.own.events p.own.numbers.raw y (end_at inboxes p.role q d)) (sym (same_post q d n m)) (settled q d lt n))
         (cases_eq q to);
     strangers = strangers;
     posts = channels false sent;
@@ -75,7 +75,7 @@ module _ (p : PartView) (posts posts' inboxes : List End) (e : Event) (to : ℕ)
     log = refl;
     lawful = (one_send p e own.own.role own.dir may).0;
     own = (one_send p e own.own.role own.dir may).1;
-    settled = λ q d lt n. ⊎_elim (λ f. subst (λ z. IsSettledWith (net_for p.setup) p.role z (p.own.events ++ e ∷ []) (p.own.raw + 1) (end_at posts' p.role z d) (end_at inboxes p.role z d)) (sym f) (here d)) (λ m. elsewhere q d lt n m) (cases_eq q to);
+    settled = λ q d lt n. ⊎_elim (λ f. subst (λ z. IsSettledWith (net_for p.setup) p.role z (p.own.events ++ e ∷ []) (p.own.numbers.raw + 1) (end_at posts' p.role z d) (end_at inboxes p.role z d)) (sym f) (here d)) (λ m. elsewhere q d lt n m) (cases_eq q to);
     strangers = λ t o. taken_none (net_for p.setup) t p.role p.own.events e (not_taken (net_for p.setup) t p.role e own.dir) ∙ strangers t o;
     posts = channels true sent;
     inboxes = λ q d x lt n h. h;
@@ -84,7 +84,7 @@ module _ (p : PartView) (posts posts' inboxes : List End) (e : Event) (to : ℕ)
       got_same : (q : ℕ) → taken (net_for p.setup) q p.role (p.own.events ++ e ∷ []) ≡ taken (net_for p.setup) q p.role p.own.events
       got_same q = taken_none (net_for p.setup) q p.role p.own.events e (not_taken (net_for p.setup) q p.role e own.dir)
 
-      here : (d : End) → IsSettledWith (net_for p.setup) p.role to (p.own.events ++ e ∷ []) (p.own.raw + 1) (end_at posts' p.role to d) (end_at inboxes p.role to d)
+      here : (d : End) → IsSettledWith (net_for p.setup) p.role to (p.own.events ++ e ∷ []) (p.own.numbers.raw + 1) (end_at posts' p.role to d) (end_at inboxes p.role to d)
       here d =
           let old = settled to d low apart in
           record {
@@ -94,7 +94,7 @@ module _ (p : PartView) (posts posts' inboxes : List End) (e : Event) (to : ℕ)
             taken = old.taken ∙ sym (got_same to);
           }
 
-      elsewhere : (q : ℕ) (d : End) → q < roles_of p.setup → (q ≡ p.role → ⊥) → (q ≡ to → ⊥) → IsSettledWith (net_for p.setup) p.role q (p.own.events ++ e ∷ []) (p.own.raw + 1) (end_at posts' p.role q d) (end_at inboxes p.role q d)
+      elsewhere : (q : ℕ) (d : End) → q < roles_of p.setup → (q ≡ p.role → ⊥) → (q ≡ to → ⊥) → IsSettledWith (net_for p.setup) p.role q (p.own.events ++ e ∷ []) (p.own.numbers.raw + 1) (end_at posts' p.role q d) (end_at inboxes p.role q d)
       elsewhere q d lt n m =
           let old = settled q d lt n in
           let same = same_post q d n m in
@@ -114,7 +114,7 @@ module _ (p : PartView) (posts posts' inboxes : List End) (e : Event) (to : ℕ)
     next = subst (λ r. Offers (record p { role = r }) may.offered) own.own.role may.next;
     sends = λ z i. may.sends z i ∙ own.own.role;
     point = e.point;
-    chosen = may.point ∙ ap (λ r. (rules_of p.setup).chosen r p.own.events p.own.attempt may.offered) own.own.role;
+    chosen = may.point ∙ ap (λ r. (rules_of p.setup).chosen r p.own.events p.own.numbers.attempt may.offered) own.own.role;
     full = λ d. subst (λ t. WasFull (end_at posts p.role t d) (end_at posts' p.role t d)) is ((sent d).full refl);
     stay = one_post p;
     list = λ d. subst (λ t. (end_at posts' p.role t d).list ≡ (end_at posts p.role t d).list) is (sent d).list;
@@ -171,9 +171,9 @@ module _ (was p : PartView) (posts inboxes : List End) (q : CellView) (e : Event
   pub send_passes : (d : End) → CanPass (slice_index_or posts at d).base.points (message_of e)
   send_passes d = (subst (λ k. HasPoint (slice_index_or posts k d).base.points e.point) (sym at_slot) ((ends.post to d to_low to_apart).points e.point own.own.first own.own.last own.sender (sym to_is)), own.stamp)
 
-  pub send_room : length was.own.events ≤ was.own.raw → IsBelow q.part → (d : End) → length (slice_index_or posts at d).list < (slice_index_or posts at d).limit
+  pub send_room : length was.own.events ≤ was.own.numbers.raw → IsBelow q.part → (d : End) → length (slice_index_or posts at d).list < (slice_index_or posts at d).limit
   send_room had_few low d = subst (λ k. length (slice_index_or posts k d).list < (slice_index_or posts k d).limit) (sym at_slot)
-      (let s = inside to d to_low to_apart in let l = (ends.post to d to_low to_apart).limit in let n = fewer (put_by (net_for p.setup) p.role to) p.own.events in let m = ap length s.put in let b = (subst (λ (c : CellView). IsBelow c.part) (sym is) low).raw in let few : length p.own.events ≤ p.own.raw = subst (λ (x : PartView). length x.own.events ≤ x.own.raw) (sym same) had_few in omega (arith, l, n, m, few, b))
+      (let s = inside to d to_low to_apart in let l = (ends.post to d to_low to_apart).limit in let n = fewer (put_by (net_for p.setup) p.role to) p.own.events in let m = ap length s.put in let b = (subst (λ (c : CellView). IsBelow c.part) (sym is) low).raw in let few : length p.own.events ≤ p.own.numbers.raw = subst (λ (x : PartView). length x.own.events ≤ x.own.numbers.raw) (sym same) had_few in omega (arith, l, n, m, few, b))
 
   pub send_through : (rules_of p.setup).limit ≤ 100000 → IsBelow q.part → (d : End) → through (slice_index_or posts at d) < 2 ^ 62
   send_through limit low d = subst (λ k. through (slice_index_or posts k d) < 2 ^ 62) (sym at_slot) (let s = (inside to d to_low to_apart).through in let b = (subst (λ (c : CellView). IsBelow c.part) (sym is) low).raw in omega (arith, s, b, limit))

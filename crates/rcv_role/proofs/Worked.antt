@@ -14,7 +14,9 @@ use Rattle.rcv_model.specs.Text.{Single, End as Ended}
 use Rattle.rcv_model.specs.Places.{net_of}
 use Rattle.rcv_model.proofs.Checked.{next_by}
 use Rattle.rcv_model.proofs.OneLane.{one_lane}
-use Rattle.rcv_theory.specs.Own.{Own, own_back, own_through, MayOwnSend}
+use Rattle.rcv_model.proofs.Roles.{up}
+use Rattle.rcv_model.specs.Journal.{Own, MayOwnSend}
+use Rattle.rcv_theory.specs.Own.{own_back, own_through}
 use Rattle.rcv_tree.specs.declared.entry.Timed.{Timed}
 use Rattle.rcv_session.specs.Session.{SessionView, roles_of, net_for, rules_of}
 use Rattle.rcv_ring.specs.Points.{HasPoint}
@@ -195,8 +197,8 @@ module _ (protocol : Protocol) (is : net_for (session protocol) ≡ single) (two
   not_unlogged : Goes (a_before protocol to from) (record (a_behind protocol to from) { part = record (with_event (first_part (session protocol) 0) the_event (entry_of the_event)) { log = [] } }) → ⊥
   not_unlogged goes = none goes.more goes.log goes.own
     where
-      none : (more : List Timed) → [] ≡ more → own_by (the_event ∷ []) 1 0 false 0 1 ≡ own_through first_own more → ⊥
-      none [] log own = let n = ap (λ (o : Own). o.raw) own in omega (arith, n)
+      none : (more : List Timed) → [] ≡ more → own_by (the_event ∷ []) (up 1 0 0 1) ≡ own_through first_own more → ⊥
+      none [] log own = let n = ap (λ (o : Own). o.numbers.raw) own in omega (arith, n)
       none (x ∷ more) log own = absurd (cc)
 
   a_ready : IsReady (first_part (session protocol) 0)
@@ -225,7 +227,7 @@ module _ (protocol : Protocol) (is : net_for (session protocol) ≡ single) (two
       receiver = sym (ap (λ (net : Net). net.receiver 1) is)
 
   not_moved : Polled (a_before protocol to from) (a_before protocol to from) Moved → ⊥
-  not_moved polled = let n = ap (λ (p : PartView). p.own.raw) polled.1.part in omega (arith, n)
+  not_moved polled = let n = ap (λ (p : PartView). p.own.numbers.raw) polled.1.part in omega (arith, n)
 
   -- B waits, and takes nothing as it does
   b_ready : IsReady (first_part (session protocol) 1)

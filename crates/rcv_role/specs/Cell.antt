@@ -26,7 +26,7 @@ without_log c = record c { part = cleared c.part }
 abbrev pub IsSettledAt : CellView → List Event → Type 0
 IsSettledAt c events =
     (q : ℕ) (d : End) → q < roles_of c.part.setup → (q ≡ c.part.role → ⊥)
-    → IsSettledWith (net_for c.part.setup) c.part.role q events c.part.own.raw (end_at c.posts c.part.role q d)
+    → IsSettledWith (net_for c.part.setup) c.part.role q events c.part.own.numbers.raw (end_at c.posts c.part.role q d)
     (end_at c.inboxes c.part.role q d)
 
 abbrev pub IsSettled : CellView → Type 0

@@ -4,9 +4,7 @@ use Rattle.std.specs.Prelude.{◌≡◌, ◌↔◌, ℕ, ◌≤◌, List, [], le
 use Rattle.rcv_tree.specs.declared.event.Event.{Event}
 use Rattle.rcv_model.specs.Net.{Net}
 use Rattle.rcv_model.specs.Run.{put, taken}
-use Rattle.rcv_model.specs.Journal.{State, reading_from}
-use Rattle.rcv_model.specs.Numbers.{HasNumbers}
-use Rattle.rcv_theory.specs.Own.{own_of}
+use Rattle.rcv_model.specs.Journal.{State, own_of, reading_from}
 use Rattle.rcv_theory.specs.Round.{entries, IsLog}
 use Rattle.rcv_fence.specs.Shown.{Shown}
 use Rattle.rcv_mailbox.specs.Ends.{End, received}
@@ -40,8 +38,7 @@ RunsAreFencedExactly =
 -- state has what the cell has then.
 abbrev pub CellsFollowTheSession : Type 0
 CellsFollowTheSession =
-    (old new : CellView) (s : State) (goes : Goes old new) → HasNumbers (rules_of old.part.setup).roles s
-    → own_of s old.part.role ≡ old.part.own
+    (old new : CellView) (s : State) (goes : Goes old new) → own_of s old.part.role ≡ old.part.own
     → IsLog (rules_of old.part.setup) old.part.role s goes.more
     × (own_of (reading_from (rules_of old.part.setup) s (entries goes.more)) old.part.role ≡ new.part.own)
 

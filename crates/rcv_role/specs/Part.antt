@@ -1,5 +1,5 @@
 -- What contracts see of one role's part of a session, and what the part keeps.
-use Rattle.std.specs.Prelude.{◌≡◌, ◌⊎◌, ℕ, ◌+◌, ◌*◌, ◌/◌, ◌<◌, ◌≤◌, ◌^◌, min, Bool, true, false, Option, Some, None, List, [], ◌∷◌, ◌++◌, length, take, slice_get}
+use Rattle.std.specs.Prelude.{◌≡◌, ◌⊎◌, ℕ, ◌+◌, ◌*◌, ◌/◌, ◌<◌, ◌≤◌, ◌^◌, min, true, false, Option, Some, None, List, [], ◌∷◌, ◌++◌, length, take, slice_get}
 use Rattle.rcv_tree.specs.declared.entry.Entry.{Entry}
 use Rattle.rcv_tree.specs.declared.entry.Entry.TheVariants.{Send, Recv, Crash}
 use Rattle.rcv_tree.specs.declared.entry.Timed.{Timed}
@@ -7,14 +7,16 @@ use Rattle.rcv_tree.specs.declared.event.Event.{Event}
 use Rattle.rcv_tree.specs.declared.event.Dir.{Dir}
 use Rattle.rcv_tree.specs.declared.event.Dir.TheVariants.{Sent, Got}
 use Rattle.rcv_tree.specs.declared.event.Message.{Message}
+use Rattle.rcv_tree.specs.declared.numbers.Numbers.{Numbers}
 use Rattle.rcv_tree.specs.Bits.{is_listed}
+use Rattle.rcv_tree.specs.Numbers.{fresh}
 use Rattle.rcv_tables.specs.Starts.{IsOwnPoint}
 use Rattle.rcv_model.specs.Net.{IsIn}
 use Rattle.rcv_model.specs.Run.{taken}
 use Rattle.rcv_model.specs.Next.{AreNext, IsOf}
-use Rattle.rcv_model.specs.Journal.{group_of}
+use Rattle.rcv_model.specs.Journal.{Own, MayOwnSend, own_place, own_event, own_after, group_of}
 use Rattle.rcv_model.specs.Table.{IsConcerned}
-use Rattle.rcv_theory.specs.Own.{Own, MayOwnSend, own_place, own_event, own_after, own_back}
+use Rattle.rcv_theory.specs.Own.{own_back}
 use Rattle.rcv_accept.specs.Accepted.{IsAcceptedProtocol}
 use Rattle.rcv_plan.specs.Lines.{IsPlanned}
 use Rattle.rcv_session.specs.Session.{SessionView, roles_of, net_for, rules_of}
@@ -33,10 +35,9 @@ pub record PartView : Type 0 where
   pub base : ℕ
   pub log : List Timed
 
--- The same, made of these numbers.
-abbrev pub own_by : List Event → (raw crashes : ℕ) (crashed : Bool) (attempt clock : ℕ) → Own
-own_by events raw crashes crashed attempt clock =
-    record { events = events; raw = raw; crashes = crashes; crashed = crashed; attempt = attempt; clock = clock }
+-- The same, made of these.
+abbrev pub own_by : List Event → Numbers → Own
+own_by events numbers = record { events = events; numbers = numbers }
 
 abbrev pub part_by : SessionView → ℕ → Own → (held base : ℕ) → List Timed → PartView
 part_by setup role own held base log =
@@ -48,7 +49,7 @@ cleared p = record p { log = [] }
 
 -- Before the first event.
 abbrev pub first_own : Own
-first_own = record { events = []; raw = 0; crashes = 0; crashed = false; attempt = 0; clock = 0 }
+first_own = record { events = []; numbers = fresh }
 
 abbrev pub first_part : SessionView → ℕ → PartView
 first_part setup role = record { setup = setup; role = role; own = first_own; held = 0; base = 0; log = [] }
@@ -76,8 +77,8 @@ pub record AllRecvs (p : PartView) (zs : List ℕ) (from : ℕ) : Type 0 where
 
 -- The role may make more events, and its clock may go on.
 pub record IsBelow (p : PartView) : Type 0 where
-  pub raw : p.own.raw < (rules_of p.setup).limit
-  pub clock : p.own.clock < 2 ^ 62
+  pub raw : p.own.numbers.raw < (rules_of p.setup).limit
+  pub clock : p.own.numbers.clock < 2 ^ 62
 
 -- The entry of an event.
 abbrev pub entry_by : Dir → Event → Entry
@@ -101,7 +102,7 @@ with_crash p =
     record p {
       own = own_after p.own (Crash p.role);
       held = durable_of p;
-      log = p.log ++ record { stamp = p.own.clock; step = Crash p.role } ∷ [];
+      log = p.log ++ record { stamp = p.own.numbers.clock; step = Crash p.role } ∷ [];
     }
 
 -- An event of this role at a point of the text. A Recv is from another role of the protocol.
@@ -144,7 +145,7 @@ HasNoStrangers p =
 pub record HoldsStates (p : PartView) : Type 0 where
   pub base : p.base ≤ p.held
   pub within : p.held ≤ length p.own.events
-  pub running : p.own.crashed ≡ false → p.held ≡ length p.own.events
+  pub running : p.own.numbers.crashed ≡ false → p.held ≡ length p.own.events
   pub saved : durable_of p ≤ p.held
 
 -- The state of a role after the first n of its events.
@@ -163,13 +164,13 @@ pub record IsPart (setup : SessionView) (r : ℕ) (own : Own) (base count : ℕ)
   pub count_is : count ≡ made tail
   pub base_is : tail.base ≡ base
   pub saved : length own.events / (rules_of setup).every r * (rules_of setup).every r ≤ count
-  pub running : own.crashed ≡ false → count ≡ length own.events
+  pub running : own.numbers.crashed ≡ false → count ≡ length own.events
   pub step : (k : ℕ) × (k * (rules_of setup).every r ≡ base)
   pub low : base ≤ length own.events
   pub every_is : tail.every ≡ (rules_of setup).every r
   pub room_is : tail.room ≡ (rules_of setup).limit
-  pub few : length own.events ≤ own.raw
-  pub most : own.raw ≤ (rules_of setup).limit
+  pub few : length own.events ≤ own.numbers.raw
+  pub most : own.numbers.raw ≤ (rules_of setup).limit
 
 -- The part after a recovery that leaves so many of its first events: one that then runs; and one that is crashed and stays so,
 -- since it is another role's recovery.

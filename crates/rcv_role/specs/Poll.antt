@@ -2,7 +2,7 @@
 use Rattle.std.specs.Prelude.{◌≡◌, ◌⊎◌, ℕ, List, [], length}
 use Rattle.rcv_tree.specs.declared.event.Event.{Event}
 use Rattle.rcv_tree.specs.declared.event.Dir.TheVariants.{Sent, Got}
-use Rattle.rcv_theory.specs.Own.{IsOwnDue}
+use Rattle.rcv_model.specs.Journal.{IsOwnDue}
 use Rattle.rcv_session.specs.Session.{net_for, rules_of}
 use Rattle.rcv_mailbox.specs.Ends.{End, WasFull, WasEmpty}
 use Rattle.rcv_role.specs.declared.poll.Poll.{Poll}
@@ -43,7 +43,7 @@ pub record FoundFull (old new : CellView) : Type 0 where
   pub next : Offers old.part offered
   pub sends : AllSends old.part offered
   pub point : ℕ
-  pub chosen : point ≡ (rules_of old.part.setup).chosen old.part.role old.part.own.events old.part.own.attempt offered
+  pub chosen : point ≡ (rules_of old.part.setup).chosen old.part.role old.part.own.events old.part.own.numbers.attempt offered
   pub full : (d : End)
       → WasFull (end_at old.posts old.part.role (receiver_at old point) d)
       (end_at new.posts old.part.role (receiver_at old point) d)

@@ -1,7 +1,7 @@
 // A cell: a role's part with the ends of its channels, which it polls.
 
 ghost use Rattle.std.specs.Prelude.{◌≡◌, ◌≢◌, ◌+◌, ◌<◌, ◌≤◌, [], false, length, take, IfOk, IfSome, IsSome};
-ghost use Rattle.rcv_theory.specs.Own.{IsOwnDue};
+ghost use Rattle.rcv_model.specs.Journal.{IsOwnDue};
 ghost use Rattle.rcv_session.specs.Session.{roles_of, rules_of};
 ghost use Rattle.rcv_core.specs.Setup.{vars_by};
 ghost use Rattle.rcv_role.specs.Part.{Offers, AllSends, AllRecvs, IsBelow, HasNoStrangers, HoldsStates, first_part};
@@ -81,7 +81,7 @@ impl<'a> Cell<'a> {
     /// Makes one step of the role, which isn't crashed, if it can: a crash if a line of the plan is due, else the Send
     /// that its script chooses or the Recv of the message that it waits for. The log has room for an entry ([`LOG`]).
     pub fn poll(&mut self) -> Poll
-        requires running { self.old.part.own.crashed ≡ false }
+        requires running { self.old.part.own.numbers.crashed ≡ false }
         requires log { length self.old.part.log < LOG }
         requires settled { IsSettled self.old }
         ensures polled { Polled self.old self.new result }
@@ -108,7 +108,7 @@ impl<'a> Cell<'a> {
 
     // Sends the message of the chosen point, if its channel has room.
     fn poll_send(&mut self, offered: &[Point]) -> Poll
-        requires running { self.old.part.own.crashed ≡ false }
+        requires running { self.old.part.own.numbers.crashed ≡ false }
         requires log { length self.old.part.log < LOG }
         requires settled { IsSettled self.old }
         requires calm { IsOwnDue (rules_of self.old.part.setup) self.old.part.role self.old.part.own → ⊥ }
@@ -133,7 +133,7 @@ impl<'a> Cell<'a> {
 
     // Receives the front message of the channel from a role, if there is one.
     fn poll_recv(&mut self, offered: &[Point], from: RoleId) -> Poll
-        requires running { self.old.part.own.crashed ≡ false }
+        requires running { self.old.part.own.numbers.crashed ≡ false }
         requires log { length self.old.part.log < LOG }
         requires settled { IsSettled self.old }
         requires calm { IsOwnDue (rules_of self.old.part.setup) self.old.part.role self.old.part.own → ⊥ }
@@ -164,14 +164,14 @@ impl<'a> Cell<'a> {
 
     /// How many events the role ever made, undone ones too.
     pub fn raw(&self) -> u32
-        ensures { result ≡ self.now.part.own.raw }
+        ensures { result ≡ self.now.part.own.numbers.raw }
     {
         self.part.raw()
     }
 
     /// Whether the role has crashed and isn't recovered yet.
     pub fn crashed(&self) -> bool
-        ensures { result ≡ self.now.part.own.crashed }
+        ensures { result ≡ self.now.part.own.numbers.crashed }
     {
         self.part.crashed()
     }
@@ -205,7 +205,7 @@ impl<'a> Cell<'a> {
     pub fn known(&self)
         ensures ends { AreEnds (rules_of self.now.part.setup) self.now.part.role self.now.posts self.now.inboxes }
         ensures states { HoldsStates self.now.part }
-        ensures few { length self.now.part.own.events ≤ self.now.part.own.raw }
+        ensures few { length self.now.part.own.events ≤ self.now.part.own.numbers.raw }
         ensures strangers { HasNoStrangers self.now.part }
         ensures declared { self.now.part.role < roles_of self.now.part.setup }
     {

@@ -1,6 +1,6 @@
 // What one role did in a session, and what it does next.
 
-ghost use Rattle.std.specs.Prelude.{◌≡◌, ◌<◌, ◌≤◌, false, length, take, IfOk, IfSome, IsSome};
+ghost use Rattle.std.specs.Prelude.{◌≡◌, ◌<◌, ◌≤◌, length, take, IfOk, IfSome, IsSome};
 ghost use Rattle.rcv_session.specs.Session.{roles_of, rules_of};
 ghost use Rattle.rcv_core.specs.Setup.{vars_by};
 ghost use Rattle.rcv_role.specs.Part.{HasNoStrangers, HoldsStates, first_part, cleared};
@@ -17,6 +17,7 @@ use rcv_checkpoint::tail::Tail;
 use rcv_core::setup::Setup;
 use rcv_tree::entry::Timed;
 use rcv_tree::event::Event;
+use rcv_tree::numbers::Numbers;
 use rcv_tree::role::RoleId;
 use rcv_tree::variables::Vars;
 use std::alloc::{AllocError, Global};
@@ -28,11 +29,7 @@ use std::marker::Model;
 pub struct Part<'a> {
     setup: &'a Setup,
     role: RoleId,
-    raw: u32,
-    crashes: u32,
-    crashed: bool,
-    attempt: u32,
-    clock: u64,
+    numbers: Numbers,
     events: Vec<Event>,
     // The states, from the earliest that the role may still go back to.
     tail: Tail,
@@ -57,13 +54,11 @@ impl<'a> Model for Part<'a> {
     ghost coded = { Prim.hlevel (codes, e.the_row.coded, expr_code) };
 
     ghost view = { λ p. part_by p.setup.now p.role
-        (own_by p.events.items p.raw p.crashes p.crashed p.attempt p.clock) p.held p.tail.base p.log.items };
+        (own_by p.events.items p.numbers) p.held p.tail.base p.log.items };
 
-    ghost invariant = { λ p. IsPart p.setup.now p.role
-        (own_by p.events.items p.raw p.crashes p.crashed p.attempt p.clock) p.tail.base p.held p.tail
+    ghost invariant = { λ p. IsPart p.setup.now p.role (own_by p.events.items p.numbers) p.tail.base p.held p.tail
         × ((rules_of p.setup.now).limit ≤ vec_capacity p.events) × (LOG ≤ vec_capacity p.log)
-        × IfSome p.chosen (IsNextSend p.setup.now p.role
-        (own_by p.events.items p.raw p.crashes p.crashed p.attempt p.clock)) };
+        × IfSome p.chosen (IsNextSend p.setup.now p.role (own_by p.events.items p.numbers)) };
 }
 
 impl<'a> Part<'a> {
@@ -83,11 +78,7 @@ impl<'a> Part<'a> {
         Ok(Part {
             setup,
             role,
-            raw: 0,
-            crashes: 0,
-            crashed: false,
-            attempt: 0,
-            clock: 0,
+            numbers: Numbers::new(),
             events: Vec::with_capacity(alloc, limit as usize)?,
             tail: Tail::new(alloc, first, setup.every(role), limit)?,
             held: 0,
@@ -104,16 +95,16 @@ impl<'a> Part<'a> {
 
     /// How many events the role ever made, undone ones too.
     pub fn raw(&self) -> u32
-        ensures { result ≡ self.now.own.raw }
+        ensures { result ≡ self.now.own.numbers.raw }
     {
-        self.raw
+        self.numbers.raw
     }
 
     /// Whether the role has crashed and isn't recovered yet.
     pub fn crashed(&self) -> bool
-        ensures { result ≡ self.now.own.crashed }
+        ensures { result ≡ self.now.own.numbers.crashed }
     {
-        self.crashed
+        self.numbers.crashed
     }
 
     /// The entries since the log was cleared.
@@ -146,8 +137,8 @@ impl<'a> Part<'a> {
     pub fn known(&self)
         ensures states { HoldsStates self.now }
         ensures strangers { HasNoStrangers self.now }
-        ensures few { length self.now.own.events ≤ self.now.own.raw }
-        ensures most { self.now.own.raw ≤ (rules_of self.now.setup).limit }
+        ensures few { length self.now.own.events ≤ self.now.own.numbers.raw }
+        ensures most { self.now.own.numbers.raw ≤ (rules_of self.now.setup).limit }
         ensures limit { (rules_of self.now.setup).limit ≤ 100000 }
         ensures declared { self.now.role < roles_of self.now.setup }
     {

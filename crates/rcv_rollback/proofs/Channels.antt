@@ -57,8 +57,8 @@ module _ (book : BookView) (s t : ℕ) (half : List (Option CellView)) (going : 
   pub kept_first : (r : ℕ) (c : CellView) → IsGoing book r c → kept_of book r ≡ take (kept_in book r) c.part.own.events
   kept_first r c g = ap (λ o. o.events) g.back
 
-  pub put_own : (a : CellView) (d : End) → Has half s a → HoldsPut (net_for book.setup) s t a.part.own.events a.part.own.raw (end_at a.posts s t d)
-  put_own a d has = subst (λ p. HoldsPut (net_for book.setup) s t (by_then book p s a) a.part.own.raw
+  pub put_own : (a : CellView) (d : End) → Has half s a → HoldsPut (net_for book.setup) s t a.part.own.events a.part.own.numbers.raw (end_at a.posts s t d)
+  put_own a d has = subst (λ p. HoldsPut (net_for book.setup) s t (by_then book p s a) a.part.own.numbers.raw
       (end_at a.posts s t d)) (still s t) (going.posts s t a d has lt (λ e. apart (sym e)))
 
   pub taken_own : (b : CellView) (d : End) → Has half t b → HoldsTaken (net_for book.setup) s t b.part.own.events (end_at b.inboxes t s d)

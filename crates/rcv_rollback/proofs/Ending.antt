@@ -1,15 +1,15 @@
 -- The parts go back, one after another.
-use Prim.Native.Nat.{zero, suc}
-use Rattle.std.proofs.Common.{◌≡◌, ℕ, ◌+◌, ◌<◌, Bool, true, false, Option, Some, None, List, [], ◌∷◌, length, take, refl, sym, ◌∙◌, ap, subst, ⊎_elim, arith}
-use Rattle.std.specs.Prelude.{slice_get, slice_index_or, slice_set, if◌then◌else◌, IsTrue, ◌↔◌}
+use Rattle.std.proofs.Common.{◌≡◌, ℕ, ◌+◌, ◌<◌, Bool, true, false, Option, Some, None, List, length, refl, sym, ◌∙◌, ap, subst, ⊎_elim, arith}
+use Rattle.std.specs.Prelude.{slice_get, slice_set, if◌then◌else◌, IsTrue, ◌↔◌}
 use Rattle.std.proofs.lemmas.Bool.{cases_eq, cases_lt}
 use Rattle.std.proofs.lemmas.Bool.Decides.{nat_tests}
 use Rattle.rcv_tree.specs.declared.event.Event.{Event}
 use Rattle.rcv_model.specs.Run.{taken}
-use Rattle.rcv_model.specs.Journal.{IsLegal}
+use Rattle.rcv_model.specs.Journal.{Own, own_of, IsLegal}
 use Rattle.rcv_model.specs.Final.{IsCrashed}
 use Rattle.rcv_model.proofs.Numbers.{bounded}
-use Rattle.rcv_theory.specs.Own.{Own, own_of, own_back}
+use Rattle.rcv_model.proofs.Roles.{runs}
+use Rattle.rcv_theory.specs.Own.{own_back}
 use Rattle.rcv_ring.specs.Lists.{Begins}
 use Rattle.rcv_mailbox.specs.Ends.{End, IsChannel, received}
 use Rattle.rcv_session.specs.Session.{SessionView, roles_of, net_for, rules_of}
@@ -22,67 +22,46 @@ use Rattle.rcv_rollback.specs.Back.{kept_of, kept_in, clock_in_book, CanGoBack, 
 use Rattle.rcv_rollback.specs.Going.{StayBut, IsGoing, HoldsPut, HoldsTaken, is_passed, by_then, AreGoing, HasMoved, HaveMoved, part_back, HasGoneInPlace, HasGoneAt, AreGone}
 use Rattle.rcv_rollback.proofs.Standing.{get_within, one_cell, not_both, set_here, stay_set}
 
--- whether a role is crashed in a state that has it
-runs_there : (xs : List Bool) (k : ℕ) → k < length xs → (slice_get xs k ≡ Some true → ⊥) → slice_index_or xs k true ≡ false
-runs_there [] k lt n = absurd (omega (arith, lt))
-runs_there (true ∷ xs) zero lt n = absurd (n refl)
-runs_there (false ∷ xs) zero lt n = refl
-runs_there (x ∷ xs) (suc k) lt n = runs_there xs k (omega (arith, lt)) n
-
-crashed_there : (xs : List Bool) (k : ℕ) → slice_get xs k ≡ Some true → slice_index_or xs k true ≡ true
-crashed_there [] k e = refl
-crashed_there (true ∷ xs) zero e = refl
-crashed_there (false ∷ xs) zero e = absurd (cc)
-crashed_there (x ∷ xs) (suc k) e = crashed_there xs k e
-
 module _ (book : BookView) (r : ℕ) (stays : Bool) (legal : IsLegal (rules_of book.setup) book.entries)
     (lr : r < roles_of book.setup) (tells : IsTrue stays ↔ IsCrashed (state_of book) r) where
-  pub is_running : stays ≡ false → (own_of (state_of book) r).crashed ≡ false
-  is_running e = runs_there (state_of book).crashed r (let n = (bounded (rules_of book.setup) book.entries legal).numbers.crashed in omega (arith, n, lr))
-      (λ f. let t = tells.1 f in absurd (no stays e t))
+  pub is_running : stays ≡ false → (own_of (state_of book) r).numbers.crashed ≡ false
+  is_running e = runs (state_of book) r (let n = (bounded (rules_of book.setup) book.entries legal).numbers in omega (arith, n, lr))
+      (λ f. no stays e (tells.1 f))
     where
       no : (b : Bool) → b ≡ false → IsTrue b → ⊥
       no true f t = absurd (cc)
       no false f t = absurd (grind (arith, nat_tests))
 
-  pub is_crashed : stays ≡ true → (own_of (state_of book) r).crashed ≡ true
-  is_crashed e = crashed_there (state_of book).crashed r (tells.0 (yes stays e))
+  pub is_crashed : stays ≡ true → (own_of (state_of book) r).numbers.crashed ≡ true
+  is_crashed e = (tells.0 (yes stays e)).1
     where
       yes : (b : Bool) → b ≡ true → IsTrue b
       yes true f = refl
       yes false f = absurd (cc)
 
   -- a role that stays crashed was so before
-  pub was_crashed : (c : CellView) → IsGoing book r c → stays ≡ true → c.part.own.crashed ≡ true
-  was_crashed c g e = go g.failed (sym (ap (λ o. o.crashed) g.back) ∙ is_crashed e)
+  pub was_crashed : (c : CellView) → IsGoing book r c → stays ≡ true → c.part.own.numbers.crashed ≡ true
+  was_crashed c g e = go g.failed (sym (ap (λ (o : Own). o.numbers.crashed) g.back) ∙ is_crashed e)
     where
-      go : (b : Bool) → (if b then false else c.part.own.crashed) ≡ true → c.part.own.crashed ≡ true
+      go : (b : Bool) → (if b then false else c.part.own.numbers.crashed) ≡ true → c.part.own.numbers.crashed ≡ true
       go true f = absurd (cc)
       go false f = f
 
-  with_crashed : Own → Bool → Own
-  with_crashed o b = record o { crashed = b }
+  abbrev with_crashed : Own → Bool → Own
+  with_crashed o b = record o { numbers = record o.numbers { crashed = b } }
 
   -- what the book has of the role is what the cell has
   own_gone : (c : CellView) → IsGoing book r c → (keep clock : ℕ) → keep ≡ kept_in book r
       → clock ≡ clock_in_book book r → own_of (state_of book) r ≡ (part_back stays c.part keep clock).own
   own_gone c g keep clock k t = subst (λ (z : ℕ × ℕ). own_of (state_of book) r ≡ (part_back stays c.part z.0 z.1).own) (λ i. (sym k i, sym t i)) (go stays refl)
     where
-      mark : (b : Bool) → b ≡ (if g.failed then false else c.part.own.crashed)
-          → own_of (state_of book) r ≡ record (own_back c.part.own (kept_in book r) true (clock_in_book book r))
-          { crashed = b }
-      mark b e = g.back ∙ ap (λ x. record {
-        events = take (kept_in book r) c.part.own.events;
-        raw = c.part.own.raw;
-        crashes = c.part.own.crashes;
-        crashed = x;
-        attempt = (own_back c.part.own (kept_in book r) true (clock_in_book book r)).attempt;
-        clock = clock_in_book book r;
-      }) (sym e)
+      mark : (b : Bool) → b ≡ (if g.failed then false else c.part.own.numbers.crashed)
+          → own_of (state_of book) r ≡ with_crashed (own_back c.part.own (kept_in book r) true (clock_in_book book r)) b
+      mark b e = g.back ∙ ap (with_crashed (own_back c.part.own (kept_in book r) true (clock_in_book book r))) (sym e)
 
       go : (b : Bool) → stays ≡ b → own_of (state_of book) r ≡ (part_back b c.part (kept_in book r) (clock_in_book book r)).own
-      go true e = mark c.part.own.crashed (was_crashed c g e ∙ sym (is_crashed e) ∙ ap (λ o. o.crashed) g.back)
-      go false e = mark false (sym (is_running e) ∙ ap (λ o. o.crashed) g.back)
+      go true e = mark c.part.own.numbers.crashed (was_crashed c g e ∙ sym (is_crashed e) ∙ ap (λ (o : Own). o.numbers.crashed) g.back)
+      go false e = mark false (sym (is_running e) ∙ ap (λ (o : Own). o.numbers.crashed) g.back)
 
   pub gone_in_place : (c c' : CellView) (keep clock : ℕ) → IsGoing book r c → keep ≡ kept_in book r
       → clock ≡ clock_in_book book r → c' ≡ cell_of (part_back stays c.part keep clock) c.posts c.inboxes
@@ -313,19 +292,19 @@ to_settle book half going = record {
         let low : r < roles_of book.setup = let w = get_within half r (Some c) has in let k = going.count in omega (arith, w, k) in
         let lq' : q < roles_of book.setup = subst (λ v. q < roles_of v) g.setup_is lq in
         let m : q ≡ r → ⊥ = λ e. n (e ∙ sym g.role_is) in
-        let p : HoldsPut (net_for book.setup) r q (kept_of book r) c.part.own.raw (end_at c.posts r q d) =
-        subst (λ b. HoldsPut (net_for book.setup) r q (by_then book b r c) c.part.own.raw (end_at c.posts r q d))
+        let p : HoldsPut (net_for book.setup) r q (kept_of book r) c.part.own.numbers.raw (end_at c.posts r q d) =
+        subst (λ b. HoldsPut (net_for book.setup) r q (by_then book b r c) c.part.own.numbers.raw (end_at c.posts r q d))
         (all_passed (roles_of book.setup) r q low) (going.posts r q c d has lq' m) in
         let t : HoldsTaken (net_for book.setup) q r (kept_of book r) (end_at c.inboxes r q d) =
         subst (λ b. HoldsTaken (net_for book.setup) q r (by_then book b r c) (end_at c.inboxes r q d))
         (all_passed (roles_of book.setup) q r lq') (going.inboxes r q c d has lq' m) in
-        let made : IsSettledWith (net_for book.setup) r q (kept_of book r) c.part.own.raw (end_at c.posts r q d) (end_at c.inboxes r q d) = record {
+        let made : IsSettledWith (net_for book.setup) r q (kept_of book r) c.part.own.numbers.raw (end_at c.posts r q d) (end_at c.inboxes r q d) = record {
           put = p.put;
           through = p.through;
           got = t.got;
           taken = t.taken;
         } in
-        subst (λ (z : SessionView × ℕ). IsSettledWith (net_for z.0) z.1 q (kept_of book r) c.part.own.raw
+        subst (λ (z : SessionView × ℕ). IsSettledWith (net_for z.0) z.1 q (kept_of book r) c.part.own.numbers.raw
         (end_at c.posts z.1 q d) (end_at c.inboxes z.1 q d)) (λ i. (sym g.setup_is i, sym g.role_is i)) made
 
 pub to_go : (book : BookView) (half : List (Option CellView)) → CanGoBack book half → AreGoing book 0 0 half
@@ -341,7 +320,7 @@ to_go book half can = record {
     held = g.held;
     attempt = g.attempt;
   };
-  posts = λ r q c d has lq n. subst (λ b. HoldsPut (net_for book.setup) r q (by_then book b r c) c.part.own.raw
+  posts = λ r q c d has lq n. subst (λ b. HoldsPut (net_for book.setup) r q (by_then book b r c) c.part.own.numbers.raw
       (end_at c.posts r q d)) (sym (none_passed r q)) (let s = settled r q c d has lq n in record {
         put = s.put;
         through = s.through;
@@ -357,11 +336,11 @@ to_go book half can = record {
 }
   where
     settled : (r q : ℕ) (c : CellView) (d : End) → Has half r c → q < roles_of book.setup → (q ≡ r → ⊥)
-        → IsSettledWith (net_for book.setup) r q c.part.own.events c.part.own.raw (end_at c.posts r q d)
+        → IsSettledWith (net_for book.setup) r q c.part.own.events c.part.own.numbers.raw (end_at c.posts r q d)
         (end_at c.inboxes r q d)
     settled r q c d has lq n =
         let g = can.each r c has in
-        subst (λ (z : SessionView × ℕ). IsSettledWith (net_for z.0) z.1 q c.part.own.events c.part.own.raw
+        subst (λ (z : SessionView × ℕ). IsSettledWith (net_for z.0) z.1 q c.part.own.events c.part.own.numbers.raw
         (end_at c.posts z.1 q d) (end_at c.inboxes z.1 q d)) (λ i. (g.setup_is i, g.role_is i))
         (g.settled q d (subst (λ v. q < roles_of v) (sym g.setup_is) lq) (λ e. n (e ∙ g.role_is)))
 

@@ -211,35 +211,35 @@ module _ (book : BookView) (s t keep : ℕ) (old new : List (Option CellView)) (
           (going.begun x y fa.cell fb.cell d fa.has fb.has n)
 
   posts_on : (r q : ℕ) (c' : CellView) (d : End) → Has new r c' → q < roles_of book.setup → (q ≡ r → ⊥)
-      → HoldsPut (net_for book.setup) r q (by_then book (is_passed s (t + 1) r q) r c') c'.part.own.raw
+      → HoldsPut (net_for book.setup) r q (by_then book (is_passed s (t + 1) r q) r c') c'.part.own.numbers.raw
       (end_at c'.posts r q d)
   posts_on r q c' d has lq n = ⊎_elim
       (λ e. ⊎_elim (λ f. this e f) (λ f. rest (λ g h. f h)) (cases_eq q t))
       (λ e. rest (λ g h. e g))
       (cases_eq r s)
     where
-      rest : (r ≡ s → q ≡ t → ⊥) → HoldsPut (net_for book.setup) r q (by_then book (is_passed s (t + 1) r q) r c') c'.part.own.raw (end_at c'.posts r q d)
+      rest : (r ≡ s → q ≡ t → ⊥) → HoldsPut (net_for book.setup) r q (by_then book (is_passed s (t + 1) r q) r c') c'.part.own.numbers.raw (end_at c'.posts r q d)
       rest m =
           let f = before r c' has in
           let old_holds : HoldsPut (net_for book.setup) r q (by_then book (is_passed s (t + 1) r q) r f.cell)
-          f.cell.part.own.raw (end_at c'.posts r q d) =
+          f.cell.part.own.numbers.raw (end_at c'.posts r q d) =
           subst (λ (z : Bool × End). HoldsPut (net_for book.setup) r q (by_then book z.0 r f.cell)
-          f.cell.part.own.raw z.1) (λ i. (sym (passed_on s t r q m) i, sym (f.step.posts q d n m) i))
+          f.cell.part.own.numbers.raw z.1) (λ i. (sym (passed_on s t r q m) i, sym (f.step.posts q d n m) i))
           (going.posts r q f.cell d f.has lq n) in
           subst (λ (p : PartView). HoldsPut (net_for book.setup) r q
-          (by_then book (is_passed s (t + 1) r q) r (cell_of p c'.posts c'.inboxes)) p.own.raw
+          (by_then book (is_passed s (t + 1) r q) r (cell_of p c'.posts c'.inboxes)) p.own.numbers.raw
           (end_at c'.posts r q d)) (sym f.step.part) old_holds
 
-      this : r ≡ s → q ≡ t → HoldsPut (net_for book.setup) r q (by_then book (is_passed s (t + 1) r q) r c') c'.part.own.raw (end_at c'.posts r q d)
+      this : r ≡ s → q ≡ t → HoldsPut (net_for book.setup) r q (by_then book (is_passed s (t + 1) r q) r c') c'.part.own.numbers.raw (end_at c'.posts r q d)
       this e g =
           let f = before r c' has in
-          let raw : f.cell.part.own.raw ≡ c'.part.own.raw = sym (ap (λ p. p.own.raw) f.step.part) in
-          let held : HoldsPut (net_for book.setup) s t (by_then book (is_passed s (t + 1) s t) s c') c'.part.own.raw
+          let raw : f.cell.part.own.numbers.raw ≡ c'.part.own.numbers.raw = sym (ap (λ p. p.own.numbers.raw) f.step.part) in
+          let held : HoldsPut (net_for book.setup) s t (by_then book (is_passed s (t + 1) s t) s c') c'.part.own.numbers.raw
           (end_at c'.posts s t d) = subst (λ (z : Bool × ℕ). HoldsPut (net_for book.setup) s t
           (by_then book z.0 s c') z.1 (end_at c'.posts s t d)) (λ i. (sym (passed_now s t) i, raw i))
           (f.step.put d e) in
           subst (λ (z : ℕ × ℕ). HoldsPut (net_for book.setup) z.0 z.1
-          (by_then book (is_passed s (t + 1) z.0 z.1) z.0 c') c'.part.own.raw (end_at c'.posts z.0 z.1 d))
+          (by_then book (is_passed s (t + 1) z.0 z.1) z.0 c') c'.part.own.numbers.raw (end_at c'.posts z.0 z.1 d))
           (λ i. (sym e i, sym g i)) held
 
   inboxes_on : (r q : ℕ) (c' : CellView) (d : End) → Has new r c' → q < roles_of book.setup → (q ≡ r → ⊥)
@@ -359,7 +359,7 @@ passed_as : (book : BookView) (s t s' t' : ℕ) (half : List (Option CellView))
 passed_as book s t s' t' half same going = record {
   count = going.count;
   each = going.each;
-  posts = λ r q c d has lq n. subst (λ p. HoldsPut (net_for book.setup) r q (by_then book p r c) c.part.own.raw
+  posts = λ r q c d has lq n. subst (λ p. HoldsPut (net_for book.setup) r q (by_then book p r c) c.part.own.numbers.raw
       (end_at c.posts r q d)) (same r q (low r c has) lq n) (going.posts r q c d has lq n);
   inboxes = λ r q c d has lq n. subst (λ p. HoldsTaken (net_for book.setup) q r (by_then book p r c)
       (end_at c.inboxes r q d)) (same q r lq (low r c has) (λ e. n (sym e))) (going.inboxes r q c d has lq n);

@@ -1,9 +1,9 @@
 -- Cells go back to what a book keeps: the ends of their channels first, one after another, and then their parts.
-use Rattle.std.specs.Prelude.{◌≡◌, ℕ, ◌+◌, ◌^◌, ◌<◌, ◌≤◌, Bool, false, Option, List, length, slice_index}
+use Rattle.std.specs.Prelude.{◌≡◌, ℕ, ◌+◌, ◌^◌, ◌<◌, ◌≤◌, Bool, false, Option, List, length}
 use Rattle.rcv_tree.specs.declared.event.Event.{Event}
 use Rattle.rcv_model.specs.Run.{acts, put}
-use Rattle.rcv_model.specs.Journal.{events_of}
-use Rattle.rcv_theory.specs.Own.{own_of, own_back}
+use Rattle.rcv_model.specs.Journal.{own_of, numbers_at, events_of}
+use Rattle.rcv_theory.specs.Own.{own_back}
 use Rattle.rcv_ring.specs.Lists.{Begins}
 use Rattle.rcv_mailbox.specs.Ends.{End, received}
 use Rattle.rcv_session.specs.Session.{roles_of, net_for}
@@ -21,7 +21,7 @@ abbrev pub kept_in : BookView → ℕ → ℕ
 kept_in book r = length (acts r (state_of book).kept)
 
 abbrev pub clock_in_book : BookView → ℕ → ℕ
-clock_in_book book r = slice_index (state_of book).clocks r
+clock_in_book book r = (numbers_at (state_of book).roles r).clock
 
 -- The cell of role r can go back to what the book keeps of the role: its first events, with its numbers set. The state
 -- after these is held, unless the role stays crashed, and none of those that it goes back to was forgotten.
@@ -32,8 +32,8 @@ pub record CanGo (book : BookView) (r : ℕ) (c : CellView) : Type 0 where
   pub back : own_of (state_of book) r ≡ own_back c.part.own (kept_in book r) failed (clock_in_book book r)
   pub made : kept_in book r ≤ length c.part.own.events
   pub base : c.part.base ≤ kept_in book r
-  pub held : (own_of (state_of book) r).crashed ≡ false → kept_in book r ≤ c.part.held
-  pub attempt : c.part.own.attempt + 1 < 2 ^ 32
+  pub held : (own_of (state_of book) r).numbers.crashed ≡ false → kept_in book r ≤ c.part.held
+  pub attempt : c.part.own.numbers.attempt + 1 < 2 ^ 32
   pub settled : IsSettled c
 
 -- The cells of a half can go back. They are joined with one another, and what they sent to cells that aren't among them

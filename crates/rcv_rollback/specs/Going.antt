@@ -3,7 +3,8 @@ use Rattle.std.specs.Prelude.{◌≡◌, ℕ, ◌+◌, ◌^◌, ◌<◌, ◌≤�
 use Rattle.rcv_tree.specs.declared.event.Event.{Event}
 use Rattle.rcv_model.specs.Net.{Net}
 use Rattle.rcv_model.specs.Run.{put, taken}
-use Rattle.rcv_theory.specs.Own.{own_of, own_back}
+use Rattle.rcv_model.specs.Journal.{own_of}
+use Rattle.rcv_theory.specs.Own.{own_back}
 use Rattle.rcv_ring.specs.Lists.{Begins}
 use Rattle.rcv_mailbox.specs.Ends.{End, through}
 use Rattle.rcv_session.specs.Session.{roles_of, net_for}
@@ -82,8 +83,8 @@ pub record IsGoing (book : BookView) (r : ℕ) (c : CellView) : Type 0 where
   pub back : own_of (state_of book) r ≡ own_back c.part.own (kept_in book r) failed (clock_in_book book r)
   pub made : kept_in book r ≤ length c.part.own.events
   pub base : c.part.base ≤ kept_in book r
-  pub held : (own_of (state_of book) r).crashed ≡ false → kept_in book r ≤ c.part.held
-  pub attempt : c.part.own.attempt + 1 < 2 ^ 32
+  pub held : (own_of (state_of book) r).numbers.crashed ≡ false → kept_in book r ≤ c.part.held
+  pub attempt : c.part.own.numbers.attempt + 1 < 2 ^ 32
 
 -- A post holds what these events put on it, and so many events were ever made; an inbox holds what they took from it.
 pub record HoldsPut (net : Net) (s r : ℕ) (events : List Event) (raw : ℕ) (post : End) : Type 0 where
@@ -107,7 +108,7 @@ pub record AreGoing (book : BookView) (from to : ℕ) (half : List (Option CellV
   pub count : length half ≡ roles_of book.setup
   pub each : (r : ℕ) (c : CellView) → Has half r c → IsGoing book r c
   pub posts : (r q : ℕ) (c : CellView) (d : End) → Has half r c → q < roles_of book.setup → (q ≡ r → ⊥)
-      → HoldsPut (net_for book.setup) r q (by_then book (is_passed from to r q) r c) c.part.own.raw
+      → HoldsPut (net_for book.setup) r q (by_then book (is_passed from to r q) r c) c.part.own.numbers.raw
       (end_at c.posts r q d)
   pub inboxes : (r q : ℕ) (c : CellView) (d : End) → Has half r c → q < roles_of book.setup → (q ≡ r → ⊥)
       → HoldsTaken (net_for book.setup) q r (by_then book (is_passed from to q r) r c) (end_at c.inboxes r q d)
@@ -127,7 +128,7 @@ pub record IsStep (book : BookView) (half : List (Option CellView)) (s t keep r 
   pub alone : (d : End) → r ≡ t → Lacks half s
       → end_at new.inboxes t s d ≡ record (end_at old.inboxes t s d) { got = keep }
   pub put : (d : End) → r ≡ s
-      → HoldsPut (net_for book.setup) s t (kept_of book s) old.part.own.raw (end_at new.posts s t d)
+      → HoldsPut (net_for book.setup) s t (kept_of book s) old.part.own.numbers.raw (end_at new.posts s t d)
   pub taken : (d : End) → r ≡ t → HoldsTaken (net_for book.setup) s t (kept_of book t) (end_at new.inboxes t s d)
 
 pub record HasStep (book : BookView) (old new : List (Option CellView)) (s t keep r : ℕ) (c : CellView) : Type 0 where

@@ -17,8 +17,8 @@ fn back_or_cut<'a>(cell: &mut Cell<'a>, stays: bool, keep: u32, clock: u64)
     requires base { cell.old.part.base ≤ keep }
     requires made { keep ≤ length cell.old.part.own.events }
     requires held { stays ≡ false → keep ≤ cell.old.part.held }
-    requires crashed { stays ≡ true → cell.old.part.own.crashed ≡ true }
-    requires attempt { cell.old.part.own.attempt + 1 < 2 ^ 32 }
+    requires crashed { stays ≡ true → cell.old.part.own.numbers.crashed ≡ true }
+    requires attempt { cell.old.part.own.numbers.attempt + 1 < 2 ^ 32 }
     ensures back { cell.new ≡ cell_of (part_back stays cell.old.part keep clock) cell.old.posts cell.old.inboxes }
     ensures settled { IsSettled cell.new }
 {
@@ -36,7 +36,7 @@ fn settle_cell<'a>(book: &Book<'a>, cell: &mut Cell<'a>, role: RoleId)
     requires settled { IsSettledAt cell.old (kept_of book.now role) }
     ensures { HasGoneInPlace book.now role cell.old cell.new }
 {
-    // Tells the proof that the book has a number of each kind for each role.
+    // Tells the proof that the book has numbers of each role.
     let _entries = book.entries();
     let stays = book.crashed(role);
     back_or_cut(cell, stays, book.kept(role), book.clock(role));

@@ -4,10 +4,9 @@ use Rattle.std.specs.Prelude.{slice_get}
 use Rattle.std.proofs.lemmas.Bool.{cases_Bool}
 use Rattle.rcv_tree.specs.Bits.{has_bit}
 use Rattle.rcv_tree.specs.declared.role.RoleSet.{RoleSet}
-use Rattle.rcv_model.specs.Journal.{reading_from}
+use Rattle.rcv_model.specs.Journal.{own_of, reading_from}
 use Rattle.rcv_model.proofs.Lists.{some_same}
 use Rattle.rcv_model.proofs.Located.{get_below, item}
-use Rattle.rcv_theory.specs.Own.{own_of}
 use Rattle.rcv_theory.specs.Round.{entries, IsLog}
 use Rattle.rcv_session.specs.Session.{roles_of, rules_of}
 use Rattle.rcv_core.specs.Book.{BookView, state_of}

@@ -7,12 +7,11 @@ use Rattle.std.proofs.lemmas.List.{get_or_past}
 use Rattle.rcv_tree.specs.Bits.{has_bit}
 use Rattle.rcv_tree.specs.declared.role.RoleSet.{RoleSet}
 use Rattle.rcv_tree.specs.declared.entry.Entry.{Entry}
-use Rattle.rcv_model.specs.Journal.{start, May, IsLegal, events_of}
+use Rattle.rcv_model.specs.Journal.{Own, start, May, IsLegal, events_of}
 use Rattle.rcv_model.proofs.Bystanders.{as_many}
 use Rattle.rcv_model.proofs.Forms.{proper}
 use Rattle.rcv_model.proofs.Legal.{legal_more}
 use Rattle.rcv_model.proofs.StableLines.{line_holds, floor_high}
-use Rattle.rcv_theory.specs.Own.{Own}
 use Rattle.rcv_accept.specs.Accepted.{IsAcceptedProtocol}
 use Rattle.rcv_plan.specs.Lines.{IsPlanned}
 use Rattle.rcv_session.specs.Session.{SessionView, text_of, roles_of, rules_of}

@@ -8,7 +8,7 @@ use Rattle.rcv_tree.specs.declared.entry.Entry.{Entry}
 use Rattle.rcv_tree.specs.declared.entry.Entry.TheVariants.{Send, Recv, Crash, Recover}
 use Rattle.rcv_tree.specs.declared.entry.Timed.{Timed}
 use Rattle.rcv_tree.specs.declared.role.RoleSet.{RoleSet}
-use Rattle.rcv_model.specs.Journal.{start, IsLegal, IsLegalFrom}
+use Rattle.rcv_model.specs.Journal.{own_of, start, IsLegal, IsLegalFrom}
 use Rattle.rcv_model.proofs.Located.{item}
 use Rattle.rcv_theory.specs.Round.{NeverFalls, IsLog}
 use Rattle.rcv_theory.proofs.BesideRounds.{legal_front}
@@ -124,8 +124,8 @@ module _ (watch : Shown) (book : BookView) (gone met : List CellView) (parted : 
   -- and they bring the cells home
   pub behind_brings_home : (merged : List Entry) → IsMergeOf (logs_in met) merged → BringHome book merged met
   behind_brings_home merged is = record {
-    no_recover = no_recover_merged (logs_in met) merged is (λ r. no_recover_in_log (rules_of parted.before.setup) r (state_of parted.before) (log_at (logs_in met) r)
+    no_recover = no_recover_merged (logs_in met) merged is (λ r. no_recover_in_log (rules_of parted.before.setup) r (own_of (state_of parted.before) r) (log_at (logs_in met) r)
         (subst (λ (logs : List (List Timed)). IsLog (rules_of parted.before.setup) r (state_of parted.before) (log_at logs r)) (sym (met_logs gone met meet))
-        (beside_lawful watch.fence parted.before parted.entry (concerned_of parted.entry) parted.cells gone parted.home parted.parted was_legal r)));
+        (beside_lawful watch.fence parted.before parted.entry (concerned_of parted.entry) parted.cells gone parted.home parted.parted r)));
     home = home_behind merged is (with_more book merged) (map without_log met) refl (cleared_count met) (λ r d lt. cleared_at met r d lt);
   }

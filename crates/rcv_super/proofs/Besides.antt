@@ -7,11 +7,8 @@ use Rattle.rcv_tree.specs.Bits.{has_bit}
 use Rattle.rcv_tree.specs.declared.entry.Entry.{Entry}
 use Rattle.rcv_tree.specs.declared.entry.Timed.{Timed}
 use Rattle.rcv_tree.specs.declared.role.RoleSet.{RoleSet}
-use Rattle.rcv_model.specs.Journal.{reading_from, IsLegal}
-use Rattle.rcv_model.specs.Numbers.{HasNumbers}
+use Rattle.rcv_model.specs.Journal.{own_of, reading_from}
 use Rattle.rcv_model.proofs.Located.{item}
-use Rattle.rcv_model.proofs.Numbers.{bounded}
-use Rattle.rcv_theory.specs.Own.{own_of}
 use Rattle.rcv_theory.specs.Round.{entries, IsLog}
 use Rattle.rcv_fence.specs.Shown.{FenceId, Shown}
 use Rattle.rcv_merge.specs.Merge.{log_at}
@@ -28,7 +25,7 @@ use Rattle.rcv_super.specs.Rounds.{HasRecoveredBeside}
 use Rattle.rcv_super.proofs.Parted.{went_on_at, log_of_cell, log_beyond}
 
 module _ (fence : FenceId) (book : BookView) (recover : Entry) (concerned : RoleSet) (cells gone : List CellView) (home : AreHome book cells)
-    (parted : HaveParted fence (with_entry book recover) concerned cells gone) (legal : IsLegal (rules_of book.setup) book.entries) where
+    (parted : HaveParted fence (with_entry book recover) concerned cells gone) where
   abbrev Lawful : ℕ → List Timed → Type 0
   Lawful r log = IsLog (rules_of book.setup) r (state_of book) log
 
@@ -44,7 +41,6 @@ module _ (fence : FenceId) (book : BookView) (recover : Entry) (concerned : Role
       let here : own_of (state_of book) r ≡ (cell_at cells r d).part.own =
       subst (λ l. own_of (reading_from (rules_of book.setup) (state_of book) (entries l)) r ≡ (cell_at cells r d).part.own) (home.logs r d (low r lt)) o.own in
       let law = cells_follow_the_session (cell_at cells r d) (cell_at gone r d) (state_of book) g
-      (subst (λ z. HasNumbers (roles_of z) (state_of book)) (sym o.setup_is) (bounded (rules_of book.setup) book.entries legal).numbers)
       (subst (λ q. own_of (state_of book) q ≡ (cell_at cells r d).part.own) (sym o.role_is) here) in
       subst (Lawful r) (sym log)
       (subst (λ (z : SessionView × ℕ). IsLog (rules_of z.0) z.1 (state_of book) g.more) (λ i. (o.setup_is i, o.role_is i)) law.0)
@@ -88,9 +84,9 @@ pub parted_at : (watch : Shown) (book' book : BookView) (e : Entry) (concerned :
 parted_at watch book' book e concerned cells gone added same parted = subst (λ x. HaveParted watch.fence (with_entry book e) x cells gone) same (subst (λ b. HaveParted watch.fence b concerned cells gone) added parted)
 
 -- behind the Recover stands what the others did
-pub recovered_beside : (watch : Shown) (old between new : BookView) (cells gone : List CellView) (role : ℕ) (e : Entry) → IsRecoveryOf old role e → between ≡ with_entry old e → IsLegal (rules_of old.setup) old.entries → AreHome old cells
+pub recovered_beside : (watch : Shown) (old between new : BookView) (cells gone : List CellView) (role : ℕ) (e : Entry) → IsRecoveryOf old role e → between ≡ with_entry old e → AreHome old cells
     → IsLowered watch → HaveParted watch.fence (with_entry old e) (concerned_of e) cells gone → HaveMerged between new gone → HasRecoveredBeside old new role
-recovered_beside watch old between new cells gone role e recovers added legal home lowered parted merged = record {
+recovered_beside watch old between new cells gone role e recovers added home lowered parted merged = record {
   entry = e;
   recovers = recovers;
   cells = cells;
@@ -102,9 +98,9 @@ recovered_beside watch old between new cells gone role e recovers added legal ho
     gone = gone;
     count = parted.count;
     ran = parted.ran;
-    back = back_log watch.fence old e (concerned_of e) cells gone home parted legal;
+    back = back_log watch.fence old e (concerned_of e) cells gone home parted;
     is = merged.is;
-    lawful = beside_lawful watch.fence old e (concerned_of e) cells gone home parted legal;
+    lawful = beside_lawful watch.fence old e (concerned_of e) cells gone home parted;
   };
   added = merged.added
       ∙ ap (λ (b : BookView). with_more b merged.merged) added

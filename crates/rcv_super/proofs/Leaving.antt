@@ -1,6 +1,6 @@
 -- Behind its Recover the concerned cells can go back to what the book keeps.
 use Rattle.std.proofs.Common.{◌≡◌, ℕ, ◌+◌, ◌<◌, ◌≤◌, ◌^◌, true, false, cond, Option, List, [], ◌∷◌, length, sym, ◌∙◌, ap, subst, ◌⊎◌, inl, inr, arith, append-nil}
-use Rattle.std.specs.Prelude.{slice_index, ◌/◌, ◌*◌}
+use Rattle.std.specs.Prelude.{◌/◌, ◌*◌}
 use Rattle.std.proofs.lemmas.Bool.{cases_Bool}
 use Rattle.rcv_tree.specs.Bits.{has_bit, is_listed}
 use Rattle.rcv_tree.specs.declared.event.Event.{Event}
@@ -8,10 +8,9 @@ use Rattle.rcv_tree.specs.declared.role.RoleSet.{RoleSet}
 use Rattle.rcv_tree.specs.declared.entry.Entry.{Entry}
 use Rattle.rcv_tree.specs.declared.entry.Entry.TheVariants.{Send, Recv, Crash, Recover}
 use Rattle.rcv_model.specs.Next.{IsProper}
-use Rattle.rcv_model.specs.Numbers.{HasNumbers}
 use Rattle.rcv_model.specs.Run.{acts, put, IsRun}
 use Rattle.rcv_model.specs.Undo.{bound_of}
-use Rattle.rcv_model.specs.Journal.{State, start, after, durable, events_of, group_of, kept_by, May, IsLegal}
+use Rattle.rcv_model.specs.Journal.{State, Own, own_of, numbers_at, start, after, durable, events_of, group_of, kept_by, May, IsLegal}
 use Rattle.rcv_model.proofs.Bystanders.{as_many}
 use Rattle.rcv_model.proofs.Forms.{proper}
 use Rattle.rcv_model.proofs.Keeping.{keep_front, put_through}
@@ -21,7 +20,7 @@ use Rattle.rcv_model.proofs.Losses.{at_most}
 use Rattle.rcv_model.proofs.Numbers.{bounded}
 use Rattle.rcv_model.proofs.StableLines.{reading_join}
 use Rattle.rcv_theory.specs.Bystander.{KeepsAll}
-use Rattle.rcv_theory.specs.Own.{Own, own_of, own_back, own_behind, clock_in}
+use Rattle.rcv_theory.specs.Own.{own_back, own_behind, clock_in}
 use Rattle.rcv_theory.proofs.Besides.{keeps}
 use Rattle.rcv_theory.proofs.Owning.{own_recovery}
 use Rattle.rcv_ring.specs.Lists.{Begins}
@@ -56,12 +55,12 @@ module _ (book : BookView) (accepted : IsAcceptedProtocol book.setup.protocol) (
   run : IsRun (net_for book.setup) (state_of book).kept
   run = accepted_runs (rules_of book.setup) book.entries is_proper accepted.accepted legal book.entries [] (append-nil book.entries)
 
-  numbers : HasNumbers (roles_of book.setup) (state_of book)
+  numbers : length (state_of book).roles ≡ roles_of book.setup
   numbers = (bounded (rules_of book.setup) book.entries legal).numbers
 
   -- what each role has of its own there
   pub own_there : (r : ℕ) → r < roles_of book.setup → own_of (state_of (with_recover book p concerned kept undone)) r ≡ own_behind (rules_of book.setup) (state_of book) p r
-  own_there r lt = ap (λ s. own_of s r) (recovered book p concerned kept undone) ∙ own_recovery (rules_of book.setup) (state_of book) p r concerned kept undone numbers run.1.queued lt
+  own_there r lt = ap (λ s. own_of s r) (recovered book p concerned kept undone) ∙ own_recovery (rules_of book.setup) (state_of book) p r concerned kept undone run.1.queued (let n = numbers in omega (arith, n, lt))
 
   kept_there : (r : ℕ) → kept_in (with_recover book p concerned kept undone) r ≡ length (acts r (kept_by (rules_of book.setup) (state_of book) p))
   kept_there r = ap (λ (s : State). length (acts r s.kept)) (recovered book p concerned kept undone)
@@ -96,7 +95,7 @@ module _ (book : BookView) (accepted : IsAcceptedProtocol book.setup.protocol) (
         own_there r lt
         ∙ ap (λ o. own_back o (length (acts r (kept_by (rules_of book.setup) (state_of book) p))) (is_listed (group_of (rules_of book.setup) p) r) (clock_in (rules_of book.setup) (state_of book) p r)) here.own
         ∙ ap (λ n. own_back c.part.own n (is_listed (group_of (rules_of book.setup) p) r) (clock_in (rules_of book.setup) (state_of book) p r)) (sym (kept_there r))
-        ∙ ap (λ n. own_back c.part.own (kept_in (with_recover book p concerned kept undone) r) (is_listed (group_of (rules_of book.setup) p) r) n) (sym (ap (λ (o : Own). o.clock) (own_there r lt)))
+        ∙ ap (λ n. own_back c.part.own (kept_in (with_recover book p concerned kept undone) r) (is_listed (group_of (rules_of book.setup) p) r) n) (sym (ap (λ (o : Own). o.numbers.clock) (own_there r lt)))
 
     -- the saved states are held
     saved_held : durable (rules_of book.setup) (state_of book) r ≤ c.part.held
@@ -106,20 +105,20 @@ module _ (book : BookView) (accepted : IsAcceptedProtocol book.setup.protocol) (
         let same : durable_of c.part ≡ durable (rules_of book.setup) (state_of book) r = ap (λ n. length c.part.own.events / n * n) every ∙ ap (λ n. n / (rules_of book.setup).every r * (rules_of book.setup).every r) (sym count) in
         subst (λ n. n ≤ c.part.held) same states.saved
 
-    held : (own_of (state_of (with_recover book p concerned kept undone)) r).crashed ≡ false → kept_in (with_recover book p concerned kept undone) r ≤ c.part.held
+    held : (own_of (state_of (with_recover book p concerned kept undone)) r).numbers.crashed ≡ false → kept_in (with_recover book p concerned kept undone) r ≤ c.part.held
     held runs = go (cases_Bool (is_listed (group_of (rules_of book.setup) p) r))
       where
         go : (is_listed (group_of (rules_of book.setup) p) r ≡ true) ⊎ (is_listed (group_of (rules_of book.setup) p) r ≡ false) → kept_in (with_recover book p concerned kept undone) r ≤ c.part.held
         go (inl t) = let a = kept_there r in let b = kept_saved r t in let s = saved_held in omega (arith, a, b, s)
         go (inr f) =
-            let e : c.part.own.crashed ≡ false = sym (ap (λ b. cond b false c.part.own.crashed) f) ∙ sym (ap (λ (o : Own). o.crashed) back) ∙ runs in
+            let e : c.part.own.numbers.crashed ≡ false = sym (ap (λ b. cond b false c.part.own.numbers.crashed) f) ∙ sym (ap (λ (o : Own). o.numbers.crashed) back) ∙ runs in
             let h = states.running e in
             let m = made in
             omega (arith, h, m)
 
-    attempt : c.part.own.attempt + 1 < 2 ^ 32
+    attempt : c.part.own.numbers.attempt + 1 < 2 ^ 32
     attempt =
-        let a : slice_index (state_of book).attempts r ≡ c.part.own.attempt = ap (λ (o : Own). o.attempt) here.own in
+        let a : (numbers_at (state_of book).roles r).attempt ≡ c.part.own.numbers.attempt = ap (λ (o : Own). o.numbers.attempt) here.own in
         let b = (bounded (rules_of book.setup) book.entries legal).attempts r in
         let e = few_crash_lines book.setup accepted.form.few_roles planned in
         omega (arith, a, b, e)

@@ -8,7 +8,7 @@ use Rattle.rcv_tree.specs.declared.entry.Entry.{Entry}
 use Rattle.rcv_tree.specs.declared.entry.Entry.TheVariants.{Recover}
 use Rattle.rcv_tree.specs.declared.role.RoleSet.{RoleSet}
 use Rattle.rcv_model.specs.Run.{IsRun}
-use Rattle.rcv_model.specs.Journal.{start, reading, reading_from, May, IsLegal, IsLegalFrom}
+use Rattle.rcv_model.specs.Journal.{own_of, start, reading, reading_from, May, IsLegal, IsLegalFrom}
 use Rattle.rcv_model.specs.Premises.{IsSession}
 use Rattle.rcv_model.proofs.Forms.{proper}
 use Rattle.rcv_model.proofs.Legal.{accepted_runs, legal_more}
@@ -16,7 +16,6 @@ use Rattle.rcv_model.proofs.Located.{item}
 use Rattle.rcv_model.proofs.Numbers.{bounded}
 use Rattle.rcv_model.proofs.StableLines.{reading_join, legal_back}
 use Rattle.rcv_theory.specs.BystanderLaws.{IsRoundBeside}
-use Rattle.rcv_theory.specs.Own.{own_of}
 use Rattle.rcv_theory.specs.Round.{entries, NeverFalls, IsRound, IsMerge, in_order}
 use Rattle.rcv_theory.proofs.BesideRounds.{beside_recovery}
 use Rattle.rcv_theory.proofs.Following.{bystander_follows, concerned_goes_back}
@@ -186,7 +185,7 @@ module _ (fence : FenceId) (book : BookView) (p : ℕ) (concerned : RoleSet) (ke
           (cases_lt r (length cells))
 
   out : AreOut book as_met
-  out = met_out book as_gone as_met (gone_out book cells as_gone legal home all_go) all_meet
+  out = met_out book as_gone as_met (gone_out book cells as_gone home all_go) all_meet
 
   -- what each took begins what was put, among the cells that are
   gone_begun : (s r : ℕ) (d : CellView) (e : End) → s < roles_of book.setup → r < roles_of book.setup → (s ≡ r → ⊥) → BeginsAt s r e (cell_at gone s d) (cell_at gone r d)
@@ -257,7 +256,7 @@ module _ (fence : FenceId) (book : BookView) (p : ℕ) (concerned : RoleSet) (ke
     as_is = subst (λ l. IsMergeOf l merged) (sym same_logs) is
 
     merge : IsMerge (net_for book.setup) (state_of book).kept (log_at (logs_in as_met)) (in_order as_is.placed)
-    merge = by_stamp_merges (rules_of book.setup) (state_of book) (log_at (logs_in as_met)) as_is.placed (bounded (rules_of book.setup) book.entries legal).numbers.clocks round as_is.by_stamp
+    merge = by_stamp_merges (rules_of book.setup) (state_of book) (log_at (logs_in as_met)) as_is.placed round as_is.by_stamp
 
     round_beside : IsRoundBeside (rules_of book.setup) book.entries recover concerned (log_at (logs_in as_met)) (in_order as_is.placed)
     round_beside = record {
@@ -290,7 +289,7 @@ module _ (fence : FenceId) (book : BookView) (p : ℕ) (concerned : RoleSet) (ke
     own_back_then r d lt t =
         ap (λ s. own_of s r) (sym state_is)
         ∙ concerned_goes_back (rules_of book.setup) book.entries p concerned kept undone (log_at (logs_in as_met)) (in_order as_is.placed) session round_beside r lt t
-        ∙ sym (own_recovery (rules_of book.setup) (state_of book) p r concerned kept undone (bounded (rules_of book.setup) book.entries legal).numbers run.1.queued lt)
+        ∙ sym (own_recovery (rules_of book.setup) (state_of book) p r concerned kept undone run.1.queued (let n = (bounded (rules_of book.setup) book.entries legal).numbers in omega (arith, n, lt)))
         ∙ ap (λ s. own_of s r) (sym (reading_join (rules_of book.setup) (start (roles_of book.setup)) book.entries (recover ∷ [])))
         ∙ (parted.back r d (low r lt) t).own
 

@@ -11,13 +11,10 @@ use Rattle.rcv_tree.specs.declared.event.Dir.TheVariants.{Sent, Got}
 use Rattle.rcv_model.specs.Net.{IsIn, HasTwoEnds}
 use Rattle.rcv_model.specs.Run.{put, taken, channel}
 use Rattle.rcv_model.specs.Next.{AreNext}
-use Rattle.rcv_model.specs.Numbers.{HasNumbers}
-use Rattle.rcv_model.specs.Journal.{Rules, State, MaySend, MayRecv}
+use Rattle.rcv_model.specs.Journal.{State, own_of, own_place, IsOwnDue, MayOwnSend, MayOwnRecv, MaySend, MayRecv}
 use Rattle.rcv_model.proofs.Located.{item}
 use Rattle.rcv_model.proofs.Same.{one_next}
-use Rattle.rcv_theory.specs.Own.{Own, own_of, own_place, IsOwnDue, MayOwnSend, MayOwnRecv, IsOwnLog}
-use Rattle.rcv_theory.specs.Round.{IsLocalRecv}
-use Rattle.rcv_theory.proofs.Owning.{logs_by_own}
+use Rattle.rcv_theory.specs.Own.{IsOwnLog}
 use Rattle.rcv_mailbox.specs.Ends.{End, Knows, IsChannel, WasFull, WasEmpty}
 use Rattle.rcv_session.specs.Session.{SessionView, roles_of, net_for, rules_of}
 use Rattle.rcv_role.specs.declared.poll.Poll.{Poll}
@@ -69,8 +66,7 @@ empty_never inbox inbox' post puts takens m rest empty same old new knows list g
 -- what is known where a role's step is a Send, and what where it is a Recv
 pub record CanSend (setup : SessionView) (r : ℕ) (s : State) (c : CellView) (e : Event) : Type 0 where
   pub own : own_of s r ≡ c.part.own
-  pub size : HasNumbers (roles_of setup) s
-  pub clock : c.part.own.clock < 2 ^ 62
+  pub clock : c.part.own.numbers.clock < 2 ^ 62
   pub two : HasTwoEnds (net_for setup)
   pub may : MaySend (rules_of setup) s e
   pub role : e.role ≡ r
@@ -86,8 +82,7 @@ pub record CanSend (setup : SessionView) (r : ℕ) (s : State) (c : CellView) (e
 
 pub record CanRecv (setup : SessionView) (r : ℕ) (s : State) (c : CellView) (e : Event) : Type 0 where
   pub own : own_of s r ≡ c.part.own
-  pub size : HasNumbers (roles_of setup) s
-  pub clock : c.part.own.clock < 2 ^ 62
+  pub clock : c.part.own.numbers.clock < 2 ^ 62
   pub two : HasTwoEnds (net_for setup)
   pub may : MayRecv (rules_of setup) s e
   pub role : e.role ≡ r
@@ -108,30 +103,6 @@ pub record HasMade (c c' : CellView) (from to : ℕ) : Type 0 where
 
 abbrev timed : Event → Entry → Timed
 timed e x = record { stamp = e.stamp; step = x }
-
-module _ (rules : Rules) (s : State) (e : Event) (r : ℕ) (own : Own) (size : HasNumbers rules.roles s) (role : e.role ≡ r) (own_is : own_of s r ≡ own) where
-  own_send : MaySend rules s e → MayOwnSend rules own e
-  own_send may =
-      let log : IsOwnLog rules e.role (own_of s e.role) (timed e (Send e) ∷ []) = (logs_by_own rules e.role s (timed e (Send e) ∷ []) size).0 (refl, (refl, may), tt) in
-      subst (λ o. MayOwnSend rules o e) (ap (own_of s) role ∙ own_is) log.1.1
-
-  local_recv : MayRecv rules s e → IsLocalRecv rules s e
-  local_recv may = record {
-    free = may.free;
-    offered = may.offered;
-    some = λ f. let i : IsIn e.point [] = subst (IsIn e.point) f may.among in i;
-    from = may.from;
-    next = may.next;
-    receives = may.receives;
-    is_recv = may.is_recv;
-    sender = (may.receives e.point may.among).1;
-    stamp = may.stamp;
-  }
-
-  own_recv : MayRecv rules s e → MayOwnRecv rules own e
-  own_recv may =
-      let log : IsOwnLog rules e.role (own_of s e.role) (timed e (Recv e) ∷ []) = (logs_by_own rules e.role s (timed e (Recv e) ∷ []) size).0 (refl, (refl, local_recv may), tt) in
-      subst (λ o. MayOwnRecv rules o e) (ap (own_of s) role ∙ own_is) log.1.1
 
 module _ (c c' : CellView) (none : c.part.log ≡ []) (was : WasPolled c c') where
   -- each answer but one is refused
@@ -161,7 +132,7 @@ module _ (c c' : CellView) (none : c.part.log ≡ []) (was : WasPolled c c') whe
 
 module _ (c c' : CellView) (s : State) (e : Event) (none : c.part.log ≡ []) (was : WasPolled c c') (can : CanSend c.part.setup c.part.role s c e) where
   may_send : MayOwnSend (rules_of c.part.setup) c.part.own e
-  may_send = own_send (rules_of c.part.setup) s e c.part.role c.part.own can.size can.role can.own can.may
+  may_send = subst (λ o. MayOwnSend (rules_of c.part.setup) o e) (ap (own_of s) can.role ∙ can.own) can.may
 
   send_next : Offers c.part may_send.offered
   send_next = subst (λ r. AreNext (net_for c.part.setup) r (own_place r c.part.own) may_send.offered) can.role may_send.next
@@ -180,11 +151,11 @@ module _ (c c' : CellView) (s : State) (e : Event) (none : c.part.log ≡ []) (w
       let i : IsIn e.point found.offered = subst (IsIn e.point) (same_offered found.offered found.next) may_send.among in
       can.two e.point (sends_all e.point may_send.among ∙ sym (found.receives.receives e.point i).0)
 
-  chosen : (point : ℕ) (zs : List ℕ) → Offers c.part zs → point ≡ (rules_of c.part.setup).chosen c.part.role c.part.own.events c.part.own.attempt zs → point ≡ e.point
+  chosen : (point : ℕ) (zs : List ℕ) → Offers c.part zs → point ≡ (rules_of c.part.setup).chosen c.part.role c.part.own.events c.part.own.numbers.attempt zs → point ≡ e.point
   chosen point zs next f =
       f
-      ∙ ap (λ l. (rules_of c.part.setup).chosen c.part.role c.part.own.events c.part.own.attempt l) (sym (same_offered zs next))
-      ∙ ap (λ r. (rules_of c.part.setup).chosen r c.part.own.events c.part.own.attempt may_send.offered) (sym can.role)
+      ∙ ap (λ l. (rules_of c.part.setup).chosen c.part.role c.part.own.events c.part.own.numbers.attempt l) (sym (same_offered zs next))
+      ∙ ap (λ r. (rules_of c.part.setup).chosen r c.part.own.events c.part.own.numbers.attempt may_send.offered) (sym can.role)
       ∙ sym may_send.point
 
   not_full : FoundFull c c' → ⊥
@@ -219,7 +190,7 @@ module _ (c c' : CellView) (s : State) (e : Event) (none : c.part.log ≡ []) (w
       let may : MayOwnSend (rules_of c.part.setup) c.part.own step.event = log.1.1 in
       let role : step.event.role ≡ c.part.role = log.0 in
       let next : Offers c.part may.offered = subst (λ r. AreNext (net_for c.part.setup) r (own_place r c.part.own) may.offered) role may.next in
-      let point : step.event.point ≡ e.point = chosen step.event.point may.offered next (may.point ∙ ap (λ r. (rules_of c.part.setup).chosen r c.part.own.events c.part.own.attempt may.offered) role) in
+      let point : step.event.point ≡ e.point = chosen step.event.point may.offered next (may.point ∙ ap (λ r. (rules_of c.part.setup).chosen r c.part.own.events c.part.own.numbers.attempt may.offered) role) in
       subst (OnePost c c') (ap (net_for c.part.setup).receiver point) (step.sent f).stay
   sent_ends step Got f =
       let log = made_by c c' none was step Got f in
@@ -239,7 +210,7 @@ module _ (c c' : CellView) (s : State) (e : Event) (none : c.part.log ≡ []) (w
 
 module _ (c c' : CellView) (s : State) (e : Event) (none : c.part.log ≡ []) (was : WasPolled c c') (can : CanRecv c.part.setup c.part.role s c e) where
   may_recv : MayOwnRecv (rules_of c.part.setup) c.part.own e
-  may_recv = own_recv (rules_of c.part.setup) s e c.part.role c.part.own can.size can.role can.own can.may
+  may_recv = subst (λ o. MayOwnRecv (rules_of c.part.setup) o e) (ap (own_of s) can.role ∙ can.own) can.may.own
 
   recv_next : Offers c.part may_recv.offered
   recv_next = subst (λ r. AreNext (net_for c.part.setup) r (own_place r c.part.own) may_recv.offered) can.role may_recv.next
@@ -272,7 +243,7 @@ module _ (c c' : CellView) (s : State) (e : Event) (none : c.part.log ≡ []) (w
       let from : ℕ = (net_for c.part.setup).sender e.point in
       let at : found.from ≡ from = sym (found.receives.receives waited.0 (waited_in found.offered found.next)).1 ∙ from_is in
       let d : End = an_end c c' none was from (subst (λ z. from < roles_of z) (sym was.goes.setup) can.declared) (λ f. can.apart (f ∙ was.goes.role)) in
-      let sender : can.may.from ≡ from = sym (can.may.receives e.point can.may.among).1 in
+      let sender : can.may.own.from ≡ from = sym can.may.own.sender in
       empty_never
       (end_at c.inboxes c.part.role from d)
       (end_at c'.inboxes c.part.role from d)
@@ -314,5 +285,5 @@ module _ (c c' : CellView) (s : State) (e : Event) (none : c.part.log ≡ []) (w
     time = got.event.stamp;
     entry = entry_of got.event;
     log = log_is c c' none was got;
-    ends = inr (sym ((can.may.receives e.point can.may.among).0 ∙ can.role), got_ends got got.event.dir refl);
+    ends = inr (sym ((can.may.own.receives e.point can.may.among).0 ∙ can.role), got_ends got got.event.dir refl);
   }

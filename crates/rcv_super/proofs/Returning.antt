@@ -5,16 +5,12 @@ use Rattle.rcv_tree.specs.Bits.{has_bit}
 use Rattle.rcv_tree.specs.declared.role.RoleSet.{RoleSet}
 use Rattle.rcv_tree.specs.declared.entry.Entry.{Entry}
 use Rattle.rcv_tree.specs.declared.entry.Entry.TheVariants.{Send, Recv, Crash, Recover}
-use Rattle.rcv_model.specs.Journal.{State, May, IsLegal}
-use Rattle.rcv_model.specs.Net.{Net}
+use Rattle.rcv_model.specs.Journal.{May, IsLegal}
 use Rattle.rcv_model.proofs.Lists.{some_same}
-use Rattle.rcv_theory.specs.Bystander.{KeepsAll}
-use Rattle.rcv_theory.specs.Own.{own_of}
-use Rattle.rcv_theory.proofs.Following.{own_agrees}
 use Rattle.rcv_ring.specs.Lists.{Begins}
 use Rattle.rcv_mailbox.specs.Ends.{End, received, IsChannel}
 use Rattle.rcv_accept.specs.Accepted.{IsAcceptedProtocol}
-use Rattle.rcv_session.specs.Session.{roles_of, net_for, rules_of}
+use Rattle.rcv_session.specs.Session.{roles_of, rules_of}
 use Rattle.rcv_core.specs.Book.{BookView, state_of, with_entry, IsRecoveryOf}
 use Rattle.rcv_role.specs.Ends.{end_at}
 use Rattle.rcv_role.specs.Cell.{CellView}
@@ -28,10 +24,6 @@ use Rattle.rcv_super.proofs.Leaving.{with_recover, keeps_there}
 -- an inbox that went back alone is the end of the same channel
 pub still_channel : (post inbox : End) (count : ℕ) → IsChannel post inbox → IsChannel post (received inbox count)
 still_channel post inbox count h = record { ring = h.ring; dropped_is = h.dropped_is; rewound_is = h.rewound_is; limit_is = h.limit_is; first = h.first }
-
--- who keeps all has of its own what it had
-pub own_kept : (net : Net) (s t : State) (q : ℕ) → KeepsAll net s t q → own_of t q ≡ own_of s q
-own_kept net s t q k = own_agrees q t s (record { events = k.events; raw = k.raw; crashes = k.crashes; crashed = k.crashed; attempts = k.attempts; clocks = k.clocks })
 
 module _ (book : BookView) (cells cells' : List CellView) (p : ℕ) (concerned : RoleSet) (kept : List ℕ) (undone : ℕ) (back back' beside : List (Option CellView)) (accepted : IsAcceptedProtocol book.setup.protocol) (legal : IsLegal (rules_of book.setup) book.entries) (may : May (rules_of book.setup) (state_of book) (Recover p concerned kept undone)) (home : AreHome book cells) (split : AreSplit concerned cells back beside) (gone : HaveGoneBack (with_recover book p concerned kept undone) back back') (united : AreSplit concerned cells' back' beside) where
   count : length cells' ≡ roles_of book.setup
@@ -78,7 +70,7 @@ module _ (book : BookView) (cells cells' : List CellView) (p : ℕ) (concerned :
           subst (IsHomeAt (with_recover book p concerned kept undone) r) (sym (stays r d lt f)) (record {
             setup_is = h.setup_is;
             role_is = h.role_is;
-            own = own_kept (net_for book.setup) (state_of book) (state_of (with_recover book p concerned kept undone)) r (keeps_there book accepted legal p concerned kept undone r may lt f) ∙ h.own;
+            own = (keeps_there book accepted legal p concerned kept undone r may lt f).own ∙ h.own;
             log = h.log;
             settled = h.settled;
             strangers = h.strangers;

@@ -1,7 +1,5 @@
 -- One step of one thread: the cells go out by it, and are out with its entry alone.
-use Prim.Native.Nat.{zero, suc}
-use Rattle.std.proofs.Common.{◌≡◌, ℕ, ◌+◌, ◌<◌, ◌≤◌, ◌^◌, Bool, true, false, Some, List, [], ◌∷◌, ◌++◌, length, take, refl, sym, ◌∙◌, ap, subst, ◌⊎◌, inl, inr, ⊎_elim, arith}
-use Rattle.std.specs.Prelude.{slice_get, slice_index, slice_index_or}
+use Rattle.std.proofs.Common.{◌≡◌, ℕ, ◌+◌, ◌<◌, ◌≤◌, ◌^◌, false, List, [], ◌∷◌, ◌++◌, length, take, refl, sym, ◌∙◌, ap, subst, ◌⊎◌, inl, inr, ⊎_elim, arith}
 use Rattle.std.proofs.lemmas.Bool.{cases_eq, cases_lt}
 use Rattle.rcv_tree.specs.declared.entry.Entry.{Entry}
 use Rattle.rcv_tree.specs.declared.entry.Entry.TheVariants.{Send, Recv, Crash}
@@ -11,14 +9,13 @@ use Rattle.rcv_tree.specs.declared.event.Message.{Message}
 use Rattle.rcv_model.specs.Net.{HasTwoEnds}
 use Rattle.rcv_model.specs.Run.{put, taken, channel}
 use Rattle.rcv_model.specs.Next.{IsNext, IsProper}
-use Rattle.rcv_model.specs.Journal.{place, reading_from, May, IsLegal}
+use Rattle.rcv_model.specs.Journal.{Own, own_of, numbers_at, IsOwnDue, place, reading_from, May, IsLegal}
 use Rattle.rcv_model.specs.Final.{IsStep}
 use Rattle.rcv_model.proofs.Forms.{proper}
 use Rattle.rcv_model.proofs.Keeping.{put_through, taken_through}
 use Rattle.rcv_model.proofs.Located.{item}
 use Rattle.rcv_model.proofs.Numbers.{bounded}
 use Rattle.rcv_model.proofs.Ways.{next_in_text}
-use Rattle.rcv_theory.specs.Own.{Own, own_of, IsOwnDue}
 use Rattle.rcv_theory.specs.Round.{role_of, entries, IsLog}
 use Rattle.rcv_ring.specs.Lists.{Begins}
 use Rattle.rcv_mailbox.specs.Ends.{End, Knows, IsChannel}
@@ -62,18 +59,13 @@ met_home book old met home meet = record {
   logs = λ r d lt. ap (λ (p : PartView). p.log) (meet.1 r d).part ∙ home.logs r d lt;
 }
 
-running_is : (bs : List Bool) (r : ℕ) → slice_get bs r ≡ Some false → slice_index_or bs r true ≡ false
-running_is [] r e = absurd (cc)
-running_is (b ∷ bs) zero e = cc
-running_is (b ∷ bs) (suc r) e = running_is bs r e
-
 module _ (book : BookView) (cells : List CellView) (home : AreHome book cells) where
   pub own_at_home : (r : ℕ) (d : CellView) → r < roles_of book.setup → own_of (state_of book) r ≡ (cell_at cells r d).part.own
   own_at_home r d lt = subst (λ l. own_of (reading_from (rules_of book.setup) (state_of book) (entries l)) r ≡ (cell_at cells r d).part.own) (home.logs r d lt) (home.out.each r d lt).own
 
-  pub can_poll : (r : ℕ) (d : CellView) → r < roles_of book.setup → slice_get (state_of book).crashed r ≡ Some false → CanPoll (cell_at cells r d)
+  pub can_poll : (r : ℕ) (d : CellView) → r < roles_of book.setup → (numbers_at (state_of book).roles r).crashed ≡ false → CanPoll (cell_at cells r d)
   can_poll r d lt free = record {
-    running = subst (λ (o : Own). o.crashed ≡ false) (own_at_home r d lt) (running_is (state_of book).crashed r free);
+    running = subst (λ (o : Own). o.numbers.crashed ≡ false) (own_at_home r d lt) free;
     ready = ((home.out.each r d lt).settled, subst (λ (l : List Timed). length l ≤ round_steps) (sym (home.logs r d lt)) (omega arith));
   }
 
@@ -88,10 +80,10 @@ module _ (book : BookView) (cells : List CellView) (home : AreHome book cells) w
   )
 
   -- what its ends with another role hold is what the book keeps
-  settled_home : (r q : ℕ) (d : CellView) (e : End) → r < roles_of book.setup → q < roles_of book.setup → (q ≡ r → ⊥) → IsSettledWith (net_for book.setup) r q (cell_at cells r d).part.own.events (cell_at cells r d).part.own.raw (end_at (cell_at cells r d).posts r q e) (end_at (cell_at cells r d).inboxes r q e)
+  settled_home : (r q : ℕ) (d : CellView) (e : End) → r < roles_of book.setup → q < roles_of book.setup → (q ≡ r → ⊥) → IsSettledWith (net_for book.setup) r q (cell_at cells r d).part.own.events (cell_at cells r d).part.own.numbers.raw (end_at (cell_at cells r d).posts r q e) (end_at (cell_at cells r d).inboxes r q e)
   settled_home r q d e lt lq n =
       let o = home.out.each r d lt in
-      subst (λ (z : SessionView × ℕ). q < roles_of z.0 → (q ≡ z.1 → ⊥) → IsSettledWith (net_for z.0) z.1 q (cell_at cells r d).part.own.events (cell_at cells r d).part.own.raw (end_at (cell_at cells r d).posts z.1 q e) (end_at (cell_at cells r d).inboxes z.1 q e)) (λ i. (o.setup_is i, o.role_is i)) (λ l m. o.settled q e l m) lq n
+      subst (λ (z : SessionView × ℕ). q < roles_of z.0 → (q ≡ z.1 → ⊥) → IsSettledWith (net_for z.0) z.1 q (cell_at cells r d).part.own.events (cell_at cells r d).part.own.numbers.raw (end_at (cell_at cells r d).posts z.1 q e) (end_at (cell_at cells r d).inboxes z.1 q e)) (λ i. (o.setup_is i, o.role_is i)) (λ l m. o.settled q e l m) lq n
 
   put_home : (r q : ℕ) (d : CellView) (e : End) → r < roles_of book.setup → q < roles_of book.setup → (q ≡ r → ⊥) → (end_at (cell_at cells r d).posts r q e).list ≡ put (net_for book.setup) r q (state_of book).kept
   put_home r q d e lt lq n = (settled_home r q d e lt lq n).put ∙ ap (λ (o : Own). put (net_for book.setup) r q o.events) (sym (own_at_home r d lt)) ∙ sym (put_through (net_for book.setup) r q (state_of book).kept)
@@ -103,8 +95,8 @@ module _ (book : BookView) (cells : List CellView) (home : AreHome book cells) w
   taken_home r q d e lt lq n = (settled_home r q d e lt lq n).taken ∙ ap (λ (o : Own). taken (net_for book.setup) q r o.events) (sym (own_at_home r d lt)) ∙ sym (taken_through (net_for book.setup) q r (state_of book).kept)
 
   module _ (accepted : IsAcceptedProtocol book.setup.protocol) (planned : IsPlanned (roles_of book.setup) book.setup.plan) (legal : IsLegal (rules_of book.setup) book.entries) where
-    few_clock : (r : ℕ) (d : CellView) → r < roles_of book.setup → (cell_at cells r d).part.own.clock < 2 ^ 62
-    few_clock r d lt = subst (λ (o : Own). o.clock < 2 ^ 62) (own_at_home r d lt)
+    few_clock : (r : ℕ) (d : CellView) → r < roles_of book.setup → (cell_at cells r d).part.own.numbers.clock < 2 ^ 62
+    few_clock r d lt = subst (λ (o : Own). o.numbers.clock < 2 ^ 62) (own_at_home r d lt)
         (let b = bounded (rules_of book.setup) book.entries legal in
         let a = b.clocks r in
         let m = b.entries in
@@ -144,7 +136,6 @@ module _ (book : BookView) (old met : List CellView) (home : AreHome book old) (
     can_send : (d : CellView) → IsStep (rules_of book.setup) (state_of book) (Send e) → CanSend book.setup from (state_of book) (cell_at met from d) e
     can_send d step = record {
       own = own_at_home book met home' from d lf;
-      size = (bounded (rules_of book.setup) book.entries legal).numbers;
       clock = few_clock book met home' accepted planned legal from d lf;
       two = two book met home' accepted planned legal;
       may = step.3.1;
@@ -166,11 +157,10 @@ module _ (book : BookView) (old met : List CellView) (home : AreHome book old) (
     can_recv : (d : CellView) → IsStep (rules_of book.setup) (state_of book) (Recv e) → CanRecv book.setup to (state_of book) (cell_at met to d) e
     can_recv d step = record {
       own = own_at_home book met home' to d lt;
-      size = (bounded (rules_of book.setup) book.entries legal).numbers;
       clock = few_clock book met home' accepted planned legal to d lt;
       two = two book met home' accepted planned legal;
       may = step.3.1;
-      role = sym (step.3.1.receives e.point step.3.1.among).0 ∙ to_is;
+      role = sym (step.3.1.own.receives e.point step.3.1.among).0 ∙ to_is;
       declared = subst (λ q. q < roles_of book.setup) (sym from_is) lf;
       apart = λ f. apart (sym from_is ∙ f);
       post = λ x. end_at (cell_at met from d).posts from to x;
@@ -193,7 +183,7 @@ module _ (book : BookView) (old met : List CellView) (home : AreHome book old) (
         was
     event_made entry step (inr f) d new was =
         let now : IsStep (rules_of book.setup) (state_of book) (Recv e) = subst (IsStep (rules_of book.setup) (state_of book)) f step in
-        let role : to ≡ e.role = sym to_is ∙ (now.3.1.receives e.point now.3.1.among).0 in
+        let role : to ≡ e.role = sym to_is ∙ (now.3.1.own.receives e.point now.3.1.among).0 in
         subst (λ q. WasPolled (cell_at met q d) new → HasMade (cell_at met q d) new from to) role
         (λ w. made_is to d new lt (recv_made (cell_at met to d) new (state_of book) e (home'.logs to d lt) w (here_is to d lt (λ s r. CanRecv s r (state_of book) (cell_at met to d) e) (can_recv d now))))
         was
@@ -201,7 +191,7 @@ module _ (book : BookView) (old met : List CellView) (home : AreHome book old) (
 -- a cell at home was polled and made an entry, and of the channel from one role to another one end changed
 module _ (book : BookView) (met gone : List CellView) (home : AreHome book met) (r from to : ℕ) (lr : r < roles_of book.setup) (lf : from < roles_of book.setup) (lt : to < roles_of book.setup) (apart : from ≡ to → ⊥) (count : length gone ≡ length met) (others : (k : ℕ) (d : CellView) → (k ≡ r → ⊥) → cell_at gone k d ≡ cell_at met k d) (was : (d : CellView) → WasPolled (cell_at met r d) (cell_at gone r d)) (made : (d : CellView) → HasMade (cell_at met r d) (cell_at gone r d) from to) (legal : IsLegal (rules_of book.setup) book.entries) where
   pub out_gone : AreOut book gone
-  out_gone = gone_out book met gone legal home (one_goes book met home gone r count others was)
+  out_gone = gone_out book met gone home (one_goes book met home gone r count others was)
 
   role_met : (d : CellView) → (cell_at met r d).part.role ≡ r
   role_met d = (home.out.each r d lr).role_is
@@ -315,11 +305,11 @@ crash_only c c' polls.Waiting p due = absurd (p.0.calm due)
 crash_only c c' polls.Moved p due = absurd (p.0.calm due)
 
 -- a cell at home whose role is due was polled
-module _ (book : BookView) (old gone : List CellView) (home : AreHome book old) (r : ℕ) (step : IsStep (rules_of book.setup) (state_of book) (Crash r)) (count : length gone ≡ length old) (others : (k : ℕ) (d : CellView) → (k ≡ r → ⊥) → cell_at gone k d ≡ cell_at old k d) (was : (d : CellView) → WasPolled (cell_at old r d) (cell_at gone r d)) (legal : IsLegal (rules_of book.setup) book.entries) where
+module _ (book : BookView) (old gone : List CellView) (home : AreHome book old) (r : ℕ) (step : IsStep (rules_of book.setup) (state_of book) (Crash r)) (count : length gone ≡ length old) (others : (k : ℕ) (d : CellView) → (k ≡ r → ⊥) → cell_at gone k d ≡ cell_at old k d) (was : (d : CellView) → WasPolled (cell_at old r d) (cell_at gone r d)) where
   is_due : (d : CellView) → IsDue (cell_at old r d).part
   is_due d =
       let o = home.out.each r d step.2 in
-      let own : IsOwnDue (rules_of book.setup) r (cell_at old r d).part.own = subst (IsOwnDue (rules_of book.setup) r) (own_at_home book old home r d step.2) (running_is (state_of book).crashed r step.1.0.0, step.1.0.1) in
+      let own : IsOwnDue (rules_of book.setup) r (cell_at old r d).part.own = subst (IsOwnDue (rules_of book.setup) r) (own_at_home book old home r d step.2) step.1.0 in
       subst (λ (z : SessionView × ℕ). IsOwnDue (rules_of z.0) z.1 (cell_at old r d).part.own) (λ i. (sym o.setup_is i, sym o.role_is i)) own
 
   crashed_cell : (d : CellView) → cell_at gone r d ≡ cell_of (with_crash (cell_at old r d).part) (cell_at old r d).posts (cell_at old r d).inboxes
@@ -338,7 +328,7 @@ module _ (book : BookView) (old gone : List CellView) (home : AreHome book old) 
       (cases_eq k r)
 
   crash_out : AreOut book gone
-  crash_out = gone_out book old gone legal home (one_goes book old home gone r count others was)
+  crash_out = gone_out book old gone home (one_goes book old home gone r count others was)
 
   some_old : CellView
   some_old = (item old r (let c = home.out.count in let l = step.2 in omega (arith, c, l))).0
@@ -346,12 +336,12 @@ module _ (book : BookView) (old gone : List CellView) (home : AreHome book old) 
   crash_end : (s q : ℕ) → s < roles_of book.setup → q < roles_of book.setup → (s ≡ q → ⊥) → End
   crash_end s q ls lq n = (item (cell_at gone r some_old).posts 0 (let a : length (cell_at gone r some_old).posts + 1 ≡ roles_of book.setup = (was some_old).ends.post_count ∙ ap roles_of (crash_out.each r some_old step.2).setup_is in omega (arith, a, ls, lq, n))).0
 
-  crash_log : (d : CellView) → (cell_at gone r d).part.log ≡ record { stamp = slice_index (state_of book).clocks r; step = Crash r } ∷ []
+  crash_log : (d : CellView) → (cell_at gone r d).part.log ≡ record { stamp = (numbers_at (state_of book).roles r).clock; step = Crash r } ∷ []
   crash_log d =
       ap (λ (c : CellView). c.part.log) (crashed_cell d)
-      ∙ ap (λ l. l ++ record { stamp = (cell_at old r d).part.own.clock; step = Crash (cell_at old r d).part.role } ∷ []) (home.logs r d step.2)
-      ∙ ap (λ (o : Own). record { stamp = o.clock; step = Crash (cell_at old r d).part.role } ∷ []) (sym (own_at_home book old home r d step.2))
-      ∙ ap (λ q. record { stamp = slice_index (state_of book).clocks r; step = Crash q } ∷ []) (home.out.each r d step.2).role_is
+      ∙ ap (λ l. l ++ record { stamp = (cell_at old r d).part.own.numbers.clock; step = Crash (cell_at old r d).part.role } ∷ []) (home.logs r d step.2)
+      ∙ ap (λ (o : Own). record { stamp = o.numbers.clock; step = Crash (cell_at old r d).part.role } ∷ []) (sym (own_at_home book old home r d step.2))
+      ∙ ap (λ q. record { stamp = (numbers_at (state_of book).roles r).clock; step = Crash q } ∷ []) (home.out.each r d step.2).role_is
 
   pub out_with_crash : AreOutWith book gone (Crash r)
   out_with_crash = record {
@@ -359,7 +349,7 @@ module _ (book : BookView) (old gone : List CellView) (home : AreHome book old) 
     out = crash_out;
     begun = λ s q d e ls lq n. subst (λ (z : List End × List End). Begins (end_at z.0 q s e).list (end_at z.1 s q e).list) (λ i. (sym (same_inboxes q d) i, sym (same_posts s d) i)) (home.begun s q d e ls lq n);
     declared = step.2;
-    stamp = slice_index (state_of book).clocks r;
+    stamp = (numbers_at (state_of book).roles r).clock;
     made = crash_log;
     others = λ q d l n. ap (λ (c : CellView). c.part.log) (others q d n) ∙ home.logs q d l;
     there = crash_end;
@@ -396,14 +386,14 @@ module _ (book : BookView) (accepted : IsAcceptedProtocol book.setup.protocol) (
   pub event_between : IsBetween book.setup e.point
   event_between = ⊎_elim
       (λ f. let may = (as_send f).3.1 in between book.setup e.role (place (state_of book) e.role) e.point accepted (may.next.sound e.point may.among))
-      (λ f. let may = (as_recv f).3.1 in between book.setup e.role (place (state_of book) e.role) e.point accepted (may.next.sound e.point may.among))
+      (λ f. let may = (as_recv f).3.1 in between book.setup e.role (place (state_of book) e.role) e.point accepted (may.own.next.sound e.point may.among))
       next.is
 
   pub event_declared : e.role < roles_of book.setup
-  event_declared = ⊎_elim (λ f. (as_send f).3.1.free.declared) (λ f. (as_recv f).3.1.free.declared) next.is
+  event_declared = ⊎_elim (λ f. (as_send f).3.1.free.declared) (λ f. (as_recv f).3.1.own.free.declared) next.is
 
-  pub event_running : slice_get (state_of book).crashed e.role ≡ Some false
-  event_running = ⊎_elim (λ f. (as_send f).3.1.free.running) (λ f. (as_recv f).3.1.free.running) next.is
+  pub event_running : (numbers_at (state_of book).roles e.role).crashed ≡ false
+  event_running = ⊎_elim (λ f. (as_send f).3.1.free.running) (λ f. (as_recv f).3.1.own.free.running) next.is
 
   pub ends_apart : (net_for book.setup).sender e.point ≡ (net_for book.setup).receiver e.point → ⊥
   ends_apart = (proper (text_of book.setup) (roles_of book.setup) accepted.form).two_ends e.point

@@ -16,7 +16,7 @@ use Rattle.rcv_super.specs.Steps.{concerned_of}
 -- No cell at a place may make a step: there is none, or it is crashed.
 abbrev pub IsIdle : Option CellView → Type 0
 IsIdle None = Unit {0}
-IsIdle (Some c) = (c.part.own.crashed ≡ true) × HasNoStrangers c.part
+IsIdle (Some c) = (c.part.own.numbers.crashed ≡ true) × HasNoStrangers c.part
 
 abbrev pub AreIdle : List (Option CellView) → Type 0
 AreIdle half = (r : ℕ) (d : Option CellView) → r < length half → IsIdle (slice_index_or half r d)

@@ -21,7 +21,7 @@ pub record IsNextEvent (book : BookView) (entry : Entry) (e : Event) : Type 0 wh
 
 -- A cell at home, whose role isn't crashed.
 pub record CanPoll (c : CellView) : Type 0 where
-  pub running : c.part.own.crashed ≡ false
+  pub running : c.part.own.numbers.crashed ≡ false
   pub ready : IsReady c
 
 -- What one poll did.

@@ -105,8 +105,6 @@ fn make_crash<'a, G: Gate>(book: &mut Book<'a>, lanes: &mut [Cell<'a>], gate: &G
     ensures bases { SameBases lanes.old lanes.new }
     ensures stepped { HasStepped book.old book.new }
 {
-    // Tells the proof that the journal is legal.
-    let _entries = book.entries();
     poll_at(lanes, role, gate);
     add_entry(book, lanes, Entry::Crash(role));
 }

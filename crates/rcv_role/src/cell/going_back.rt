@@ -56,7 +56,7 @@ impl<'a> Cell<'a> {
         requires base { self.old.part.base ≤ keep }
         requires held { keep ≤ self.old.part.held }
         requires settled { IsSettledAt self.old (take keep self.old.part.own.events) }
-        requires attempt { self.old.part.own.attempt + 1 < 2 ^ 32 }
+        requires attempt { self.old.part.own.numbers.attempt + 1 < 2 ^ 32 }
         ensures back { self.new ≡ cell_of (gone_back self.old.part keep clock) self.old.posts self.old.inboxes }
         ensures settled { IsSettled self.new }
     {
@@ -66,11 +66,11 @@ impl<'a> Cell<'a> {
     /// The same for a crashed role which another role's recovery concerns: it stays crashed. Of the states after its
     /// events those that are still held stay, up to so many events. It takes no memory.
     pub fn cut_to(&mut self, keep: u32, clock: u64)
-        requires crashed { self.old.part.own.crashed ≡ true }
+        requires crashed { self.old.part.own.numbers.crashed ≡ true }
         requires base { self.old.part.base ≤ keep }
         requires made { keep ≤ length self.old.part.own.events }
         requires settled { IsSettledAt self.old (take keep self.old.part.own.events) }
-        requires attempt { self.old.part.own.attempt + 1 < 2 ^ 32 }
+        requires attempt { self.old.part.own.numbers.attempt + 1 < 2 ^ 32 }
         ensures cut { self.new ≡ cell_of (cut_back self.old.part keep clock) self.old.posts self.old.inboxes }
         ensures settled { IsSettled self.new }
     {

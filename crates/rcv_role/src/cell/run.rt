@@ -15,7 +15,7 @@ impl<'a> Cell<'a> {
     /// the role crashes with an event that it hasn't saved, it raises the watch. The log has room for as many entries
     /// as turns. The watch stays one of the same fence. It takes no memory.
     pub fn run<G: Gate>(&mut self, watch: &mut Watch, gate: &G, turns: u32) -> Stop
-        requires running { self.old.part.own.crashed ≡ false }
+        requires running { self.old.part.own.numbers.crashed ≡ false }
         requires turns { 1 ≤ turns }
         requires log { length self.old.part.log + turns ≤ LOG }
         requires settled { IsSettled self.old }

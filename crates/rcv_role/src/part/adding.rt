@@ -25,7 +25,7 @@ struct Behind {
 impl<'a> Part<'a> {
     /// Adds an event of the role, which isn't crashed, and logs it.
     pub fn add(&mut self, event: &Event)
-        requires running { self.old.own.crashed ≡ false }
+        requires running { self.old.own.numbers.crashed ≡ false }
         requires own { IsOwn self.old.setup self.old.role event.now }
         requires below { IsBelow self.old }
         requires log { length self.old.log < LOG }
@@ -35,8 +35,8 @@ impl<'a> Part<'a> {
         let behind = self.behind(event);
         hold(&mut self.tail, &behind);
         self.held += 1;
-        self.raw += 1;
-        self.clock = event.stamp;
+        self.numbers.raw += 1;
+        self.numbers.clock = event.stamp;
         self.events.push_reserved(*event);
         self.log.push_reserved(Timed {
             stamp: event.stamp,
@@ -47,7 +47,7 @@ impl<'a> Part<'a> {
 
     // What stands after one event more.
     fn behind(&self, event: &Event) -> Behind
-        requires running { self.now.own.crashed ≡ false }
+        requires running { self.now.own.numbers.crashed ≡ false }
         requires own { IsOwn self.now.setup self.now.role event.now }
         ensures state { result.state ≡ state_behind (vars_by self.now.setup) self.now.role
             (self.now.own.events ++ event.now ∷ []) }

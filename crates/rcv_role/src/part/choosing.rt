@@ -2,7 +2,7 @@
 
 ghost use Rattle.std.specs.Prelude.{◌≡◌, ◌≢◌, ◌+◌, ◌^◌, ◌<◌, ◌≤◌, ◌↔◌, [], false, IsTrue, MatchOption};
 ghost use Rattle.rcv_model.specs.Net.{IsIn};
-ghost use Rattle.rcv_theory.specs.Own.{MayOwnRecv, IsOwnDue};
+ghost use Rattle.rcv_model.specs.Journal.{MayOwnRecv, IsOwnDue};
 ghost use Rattle.rcv_session.specs.Session.{net_for, rules_of};
 ghost use Rattle.rcv_role.specs.Part.{IsNextSend, IsRecvOf, Offers, AllSends, AllRecvs, IsBelow};
 
@@ -14,22 +14,24 @@ use rcv_tree::role::RoleId;
 impl<'a> Part<'a> {
     /// Whether a crash line of the role, which isn't crashed, has come.
     pub fn due(&self) -> bool
-        requires { self.now.own.crashed ≡ false }
+        requires { self.now.own.numbers.crashed ≡ false }
         ensures { IsTrue result ↔ IsOwnDue (rules_of self.now.setup) self.now.role self.now.own }
     {
-        self.setup.plan().due(self.role, self.raw, self.crashes)
+        self.setup
+            .plan()
+            .due(self.role, self.numbers.raw, self.numbers.crashes)
     }
 
     /// Whether the role makes no more steps: it has made as many as the limit allows, or its clock has come too far.
     pub fn is_tired(&self) -> bool
         ensures { IsTrue result ↔ (IsBelow self.now → ⊥) }
     {
-        !(self.raw < self.setup.limit() && self.clock < 1 << 62)
+        !(self.numbers.raw < self.setup.limit() && self.numbers.clock < 1 << 62)
     }
 
     /// The next points of a role that isn't crashed, ascending.
     pub fn offered(&self) -> &'a [Point]
-        requires { self.now.own.crashed ≡ false }
+        requires { self.now.own.numbers.crashed ≡ false }
         ensures { Offers self.now result.now }
     {
         let setup = self.setup;
@@ -63,7 +65,7 @@ impl<'a> Part<'a> {
     /// The Send that the role makes if all its next points are its sends. The role asks its script for it once, and
     /// remembers the Send until it makes a step or goes back.
     pub fn sent(&mut self, offered: &[Point]) -> Event
-        requires running { self.old.own.crashed ≡ false }
+        requires running { self.old.own.numbers.crashed ≡ false }
         requires calm { IsOwnDue (rules_of self.old.setup) self.old.role self.old.own → ⊥ }
         requires offers { Offers self.old offered.now }
         requires some { offered.now ≢ [] }
@@ -89,7 +91,7 @@ impl<'a> Part<'a> {
 
     // The Send that the role's script chooses.
     fn choose(&self, offered: &[Point]) -> Event
-        requires running { self.now.own.crashed ≡ false }
+        requires running { self.now.own.numbers.crashed ≡ false }
         requires calm { IsOwnDue (rules_of self.now.setup) self.now.role self.now.own → ⊥ }
         requires offers { Offers self.now offered.now }
         requires some { offered.now ≢ [] }
@@ -100,22 +102,22 @@ impl<'a> Part<'a> {
         let state = self.tail.top();
         let point = self
             .setup
-            .choose(self.role, &state.vars, self.attempt, offered);
+            .choose(self.role, &state.vars, self.numbers.attempt, offered);
         Event {
             role: self.role,
             dir: Dir::Sent,
             point,
             value: self
                 .setup
-                .value(self.role, &state.vars, self.attempt, point),
-            stamp: self.clock + 1,
-            sent: self.clock + 1,
+                .value(self.role, &state.vars, self.numbers.attempt, point),
+            stamp: self.numbers.clock + 1,
+            sent: self.numbers.clock + 1,
         }
     }
 
     /// The Recv of a message from the role from which this role receives at all next points.
     pub fn got(&self, offered: &[Point], from: RoleId, message: &Message) -> Event
-        requires running { self.now.own.crashed ≡ false }
+        requires running { self.now.own.numbers.crashed ≡ false }
         requires calm { IsOwnDue (rules_of self.now.setup) self.now.role self.now.own → ⊥ }
         requires offers { Offers self.now offered.now }
         requires some { offered.now ≢ [] }
@@ -132,7 +134,7 @@ impl<'a> Part<'a> {
             dir: Dir::Got,
             point: message.point,
             value: message.value,
-            stamp: self.clock.max(message.stamp) + 1,
+            stamp: self.numbers.clock.max(message.stamp) + 1,
             sent: message.stamp,
         }
     }

@@ -2,7 +2,7 @@
 
 ghost use Rattle.std.specs.Prelude.{◌≡◌, ◌<◌, length, slice_get, IfSome};
 ghost use Rattle.rcv_tree.specs.Bits.{IsPoint};
-ghost use Rattle.rcv_theory.specs.Own.{IsOwnDue};
+ghost use Rattle.rcv_model.specs.Journal.{IsOwnDue};
 ghost use Rattle.rcv_session.specs.Session.{rules_of};
 ghost use Rattle.rcv_role.specs.Part.{with_crash, first_lost, point_in};
 
@@ -21,11 +21,11 @@ impl<'a> Part<'a> {
         let durable = self.tail.durable();
         self.tail.lose_to(durable);
         self.held = durable;
-        self.crashes += 1;
-        self.crashed = true;
+        self.numbers.crashes += 1;
+        self.numbers.crashed = true;
         self.chosen = None;
         self.log.push_reserved(Timed {
-            stamp: self.clock,
+            stamp: self.numbers.clock,
             step: Entry::Crash(self.role),
         });
     }

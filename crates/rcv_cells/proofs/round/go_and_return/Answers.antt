@@ -12,7 +12,7 @@ use Rattle.rcv_cells.proofs.round.go_and_return.Goals as goal
 
 pub meet_all-requires : goal.meet_all-requires
 meet_all-requires g c =
-    gone_can_meet c.args.book.now c.args.lanes.now c.go_out-activity.new.lanes c.entries-entries.ensures.legal c.requires.home c.go_out-activity.ensures.go
+    gone_can_meet c.args.book.now c.args.lanes.now c.go_out-activity.new.lanes c.requires.home c.go_out-activity.ensures.go
 
 pub merge_logs-requires-clause-rise : goal.merge_logs-requires-clause-rise
 merge_logs-requires-clause-rise g c =

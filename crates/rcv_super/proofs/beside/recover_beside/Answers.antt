@@ -84,7 +84,7 @@ returns-clause-recovered g c =
     then_ok c.hand_in.result
     (λ (merged : HaveMerged c.part.new.house.book c.hand_in.new.book c.as_mut_slice.result.now).
     recovered_beside c.lower.new.self c.args.house.now.book c.part.new.house.book c.hand_in.new.book c.args.house.now.lanes.items c.unite.new.cells.items c.args.role c.in_ok-entry.entry
-    c.in_ok-entry.ensures.recovers (c.part.ensures.book ∙ (succeeded c.push-reserved.result (c.push-reserved.new.self ≡ with_entry c.args.house.now.book c.in_ok-entry.entry) c.push-reserved.ensures.reserved c.push-reserved.ensures.ok)) c.entries-entries.ensures.legal c.requires.home gone.lowered
+    c.in_ok-entry.ensures.recovers (c.part.ensures.book ∙ (succeeded c.push-reserved.result (c.push-reserved.new.self ≡ with_entry c.args.house.now.book c.in_ok-entry.entry) c.push-reserved.ensures.reserved c.push-reserved.ensures.ok)) c.requires.home gone.lowered
     (parted_at c.lower.new.self c.push-reserved.new.self c.args.house.now.book c.in_ok-entry.entry c.concerned_by-concerned.result c.args.house.now.lanes.items c.unite.new.cells.items (succeeded c.push-reserved.result (c.push-reserved.new.self ≡ with_entry c.args.house.now.book c.in_ok-entry.entry) c.push-reserved.ensures.reserved c.push-reserved.ensures.ok) c.concerned_by-concerned.ensures
     (parted c.lower.new.self c.push-reserved.new.self c.concerned_by-concerned.result c.args.house.now.lanes.items c.in_ok-back.back.items c.in_ok-back.beside.items c.part.new.back.items c.part.new.beside.items c.in_ok-back.ensures.split c.part.ensures.back c.part.ensures.beside c.unite.new.cells.items c.unite.ensures))
     (subst (λ (cells : List CellView). HaveMerged c.part.new.house.book c.hand_in.new.book cells) value merged))
