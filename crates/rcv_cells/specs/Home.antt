@@ -30,7 +30,7 @@ AreBegun roles cells =
     → Begins (end_at (cell_at cells r d).inboxes r s e).list (end_at (cell_at cells s d).posts s r e).list
 
 -- The cell of role r: its log is one of the role at this state. After the log, the state has of the role what the cell has: its kept
--- events, raw count, crashes, whether it is crashed, attempt and clock. The cell's ends hold what its events say.
+-- events and its numbers. The cell's ends hold what its events say.
 pub record IsOutAt (setup : SessionView) (s : State) (r : ℕ) (c : CellView) : Type 0 where
   pub setup_is : c.part.setup ≡ setup
   pub role_is : c.part.role ≡ r
