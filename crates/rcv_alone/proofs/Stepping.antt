@@ -1,7 +1,5 @@
 -- A step that is to be made is something that is left to do; and steps one behind another are steps.
-use Prim.Native.Nat.{zero, suc}
-use Rattle.std.proofs.Common.{◌≡◌, ℕ, ◌+◌, ◌<◌, Some, List, [], ◌∷◌, ◌++◌, length, inl, inr, arith}
-use Rattle.std.specs.Prelude.{slice_get}
+use Rattle.std.proofs.Common.{List, [], ◌∷◌, ◌++◌, inl, inr, arith}
 use Rattle.rcv_tree.specs.declared.entry.Entry.{Entry}
 use Rattle.rcv_tree.specs.declared.entry.Entry.TheVariants.{Send, Recv, Crash, Recover}
 use Rattle.rcv_model.specs.Journal.{Rules, State, after, reading_from, IsLegal}
@@ -11,21 +9,14 @@ use Rattle.rcv_session.specs.Session.{rules_of}
 use Rattle.rcv_core.specs.Book.{BookView, state_of, HasMore}
 use Rattle.rcv_alone.specs.Steps.{AreSteps}
 
--- who has a number is declared
-within : {A : Type 0} (xs : List A) (k : ℕ) (x : A) → slice_get xs k ≡ Some x → k < length xs
-within [] k x e = absurd (cc)
-within (y ∷ xs) zero x e = omega arith
-within (y ∷ xs) (suc k) x e = let lt = within xs k x e in omega (arith, lt)
-
 -- where a step is to be made, something is left to do
 pub step_left : (book : BookView) (e : Entry) → IsLegal (rules_of book.setup) book.entries → IsStep (rules_of book.setup) (state_of book) e → HasMore book
 step_left book (Send e) legal x = inr (inr (e.role, x.3.1.free.declared, x.2.0))
-step_left book (Recv e) legal x = inr (inr (e.role, x.3.1.free.declared, x.2.0))
+step_left book (Recv e) legal x = inr (inr (e.role, x.3.1.own.free.declared, x.2.0))
 step_left book (Crash p) legal x = inr (inl (p, x.2, x.1.0))
 step_left book (Recover p c k u) legal x =
-    let numbers = (bounded (rules_of book.setup) book.entries legal).numbers in
-    let lt = within (state_of book).crashed p _ x.0.0 in
-    let count = numbers.crashed in
+    let count = (bounded (rules_of book.setup) book.entries legal).numbers in
+    let lt = x.0.0.0 in
     inl (p, omega (arith, lt, count), x.0.0)
 
 -- one step more
