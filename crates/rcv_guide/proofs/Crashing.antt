@@ -50,7 +50,7 @@ module _ {g : GuideView} {table : TableView} {ledger : LedgerView} (kept : IsGui
         seeds = is.numbers_are.have.seeds;
         forgotten = is.numbers_are.have.forgotten;
         points = is.numbers_are.have.points;
-        roles = length-set m.roles p _ ∙ is.numbers_are.have.roles;
+        numbers = length-set m.roles p _ ∙ is.numbers_are.have.numbers;
       };
       all = length-set g.numbers p _ ∙ is.numbers_are.all;
       each = λ r low. ⊎_elim
@@ -63,7 +63,7 @@ module _ {g : GuideView} {table : TableView} {ledger : LedgerView} (kept : IsGui
       own : AreNumbersOf (after_crash m p) p (numbers_at (with_crash g.numbers p) p)
       own =
           let old = is.numbers_are.each p declared in
-          let counted = counted_here m.roles p (counted_down (counted_at m.roles p)) (let a = is.numbers_are.have.roles in let b = declared in omega (arith, a, b)) in
+          let counted = counted_here m.roles p (counted_down (counted_at m.roles p)) (let a = is.numbers_are.have.numbers in let b = declared in omega (arith, a, b)) in
           subst (λ (x : Numbers). AreNumbersOf (after_crash m p) p x) (sym (fallen_own g.numbers p there))
           (record {
             seeds = old.seeds;

@@ -92,7 +92,7 @@ module _ (protocol : Protocol) (text : body_of protocol.body ≡ ping) (two : le
       events = whole_events;
       queued = send_queued (net_for before) [] sent (queued_nil (net_for before)) refl;
       numbers_are = record {
-        have = record { seeds = sym two; forgotten = sym two; points = sym two; roles = sym two };
+        have = record { seeds = sym two; forgotten = sym two; points = sym two; numbers = sym two };
         all = sym two;
         each = λ r lt. whole_numbers r (subst (λ n. r < n) two lt);
       };
@@ -124,7 +124,7 @@ module _ (protocol : Protocol) (text : body_of protocol.body ≡ ping) (two : le
           seeds = sym two;
           forgotten = sym two;
           points = sym two;
-          roles = is.numbers_are.have.roles;
+          numbers = is.numbers_are.have.numbers;
         };
         all = sym two;
         each = λ r lt. short_numbers r (subst (λ n. r < n) two lt);

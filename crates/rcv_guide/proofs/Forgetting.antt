@@ -147,7 +147,7 @@ module _ (g : GuideView) (counts ends : List ℕ) (many : length g.logs ≡ role
             seeds = length-map new (λ (x : Numbers). x.seeds) ∙ numbered_new;
             forgotten = length-map new (λ (x : Numbers). x.forgotten) ∙ numbered_new;
             points = length-map new (λ (x : Numbers). x.point) ∙ numbered_new;
-            roles = mem.numbers_are.have.roles;
+            numbers = mem.numbers_are.have.numbers;
           };
           all = numbered_new;
           each = numbers_short;

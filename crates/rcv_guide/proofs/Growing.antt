@@ -110,7 +110,7 @@ module _ (g : GuideView) (m : Remembered) (is : IsMemory g m) (e : Event) (lt : 
   own_numbers =
       let old = is.numbers_are.each e.role lt in
       let have = is.numbers_are.have in
-      let counted = counted_here m.roles e.role (counted_more (counted_at m.roles e.role) e.stamp) (let a = have.roles in omega (arith, lt, a)) in
+      let counted = counted_here m.roles e.role (counted_more (counted_at m.roles e.role) e.stamp) (let a = have.numbers in omega (arith, lt, a)) in
       subst (λ (x : Numbers). AreNumbersOf (after_event m e) e.role x) (sym (more_own g.numbers e in_numbers))
       (record {
         seeds = old.seeds;
@@ -149,7 +149,7 @@ module _ (g : GuideView) (m : Remembered) (is : IsMemory g m) (e : Event) (lt : 
         seeds = is.numbers_are.have.seeds;
         forgotten = is.numbers_are.have.forgotten;
         points = is.numbers_are.have.points;
-        roles = length-set m.roles e.role _ ∙ is.numbers_are.have.roles;
+        numbers = length-set m.roles e.role _ ∙ is.numbers_are.have.numbers;
       };
       all = length-set g.numbers e.role _ ∙ is.numbers_are.all;
       each = λ r low. ⊎_elim

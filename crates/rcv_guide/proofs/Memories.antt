@@ -99,7 +99,7 @@ module _ (g : GuideView) (m : Remembered) (is : IsMemory g m) where
   pub down_held : (r : ℕ) (b : Bool) → (stand g r).down ≡ Some b → down_at m r ≡ Some b
   down_held r b e =
       let lt = declared_by r b e in
-      let a = is.numbers_are.have.roles in
+      let a = is.numbers_are.have.numbers in
       down_told m.roles r (omega (arith, lt, a)) ∙ ap Some ((is.numbers_are.each r lt).down ∙ (down_there g.numbers r b e).1)
 
   -- what may be told to the guide may be told to the memory

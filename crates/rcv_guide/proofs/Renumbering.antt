@@ -57,7 +57,7 @@ module _ (roles : ℕ) (held : List Event) (m : Remembered) (numbers : List Numb
   own_now : AreNumbersOf (renumbered held m p x) p x
   own_now =
       let have = are.have in
-      let counted = counted_here m.roles p (recounted (counted_at m.roles p) x) (let a = have.roles in omega (arith, lt, a)) in
+      let counted = counted_here m.roles p (recounted (counted_at m.roles p) x) (let a = have.numbers in omega (arith, lt, a)) in
       record {
         seeds = set_here m.seeds p x.seeds (let a = have.seeds in omega (arith, lt, a));
         forgotten = set_here m.forgotten p x.forgotten (let a = have.forgotten in omega (arith, lt, a));
@@ -88,7 +88,7 @@ module _ (roles : ℕ) (held : List Event) (m : Remembered) (numbers : List Numb
       seeds = length-set m.seeds p _ ∙ are.have.seeds;
       forgotten = length-set m.forgotten p _ ∙ are.have.forgotten;
       points = length-set m.points p _ ∙ are.have.points;
-      roles = length-set m.roles p _ ∙ are.have.roles;
+      numbers = length-set m.roles p _ ∙ are.have.numbers;
     };
     all = length-set numbers p x ∙ are.all;
     each = λ r low. ⊎_elim

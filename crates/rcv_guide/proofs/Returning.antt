@@ -148,7 +148,7 @@ module _ {g : GuideView} {table : TableView} {ledger : LedgerView} (kept : IsGui
 
     module _ (logs : List (List Event)) (numbers : List Numbers) (log : (r : ℕ) → log_at logs r ≡ take (slice_index left r) (log_at g.logs r)) (numbers_are : AreBack g.numbers numbers group back.concerned.0 g.logs left) where
       latest_told : latest_from back.concerned.0 0 g.numbers ≡ greatest (is_listed (roles_in back.concerned)) 0 m.roles
-      latest_told = latest_is back.concerned.0 (roles_in back.concerned) 0 g.numbers m.roles (let a = is.numbers_are.all in let b = is.numbers_are.have.roles in omega (arith, a, b))
+      latest_told = latest_is back.concerned.0 (roles_in back.concerned) 0 g.numbers m.roles (let a = is.numbers_are.all in let b = is.numbers_are.have.numbers in omega (arith, a, b))
           (λ i lt. subst (λ n. has_bit back.concerned.0 n ≡ is_listed (roles_in back.concerned) n) (omega arith) (sym (in_set back.concerned i (low kept i (let a = is.numbers_are.all in omega (arith, a, lt))))))
           (λ i lt. sym (is.numbers_are.each i (let a = is.numbers_are.all in omega (arith, a, lt))).clock)
 
@@ -164,7 +164,7 @@ module _ {g : GuideView} {table : TableView} {ledger : LedgerView} (kept : IsGui
         old = counted_at m.roles r
 
         told_now : counted_at (map_roles told_behind 0 m.roles) r ≡ told_behind r old
-        told_now = mapped_at told_behind r m.roles (let a = is.numbers_are.have.roles in omega (arith, a, lt))
+        told_now = mapped_at told_behind r m.roles (let a = is.numbers_are.have.numbers in omega (arith, a, lt))
 
         attempt_now : (told_behind r old).attempt ≡ cond (slice_index left r == length (log_at g.logs r)) x.attempt (x.attempt + 1)
         attempt_now =
@@ -210,7 +210,7 @@ module _ {g : GuideView} {table : TableView} {ledger : LedgerView} (kept : IsGui
             seeds = is.numbers_are.have.seeds;
             forgotten = is.numbers_are.have.forgotten;
             points = is.numbers_are.have.points;
-            roles = length_mapped told_behind 0 m.roles ∙ is.numbers_are.have.roles;
+            numbers = length_mapped told_behind 0 m.roles ∙ is.numbers_are.have.numbers;
           };
           all = numbers_are.all ∙ is.numbers_are.all;
           each = numbers_now;

@@ -93,7 +93,7 @@ module _ (protocol : Protocol) (plan : List PlanLine) (room : ℕ) where
         seeds = length-replicate _ _;
         forgotten = length-replicate _ _;
         points = length-replicate _ _;
-        roles = length-replicate _ _;
+        numbers = length-replicate _ _;
       };
       all = length-replicate _ _;
       each = λ r lt. subst (λ (x : Numbers). AreNumbersOf (start roles) r x) (sym (number_at r)) (record {

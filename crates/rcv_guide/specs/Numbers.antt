@@ -35,7 +35,7 @@ pub record HaveAll (roles : ℕ) (m : Remembered) : Type 0 where
   pub seeds : length m.seeds ≡ roles
   pub forgotten : length m.forgotten ≡ roles
   pub points : length m.points ≡ roles
-  pub roles : length m.roles ≡ roles
+  pub numbers : length m.roles ≡ roles
 
 -- The numbers of so many roles in a memory.
 pub record AreNumbers (roles : ℕ) (m : Remembered) (numbers : List Numbers) : Type 0 where

@@ -21,7 +21,7 @@ use Rattle.rcv_retold.specs.Retold.{news_for}
 module _ (g : GuideView) (m : Remembered) (is : IsMemory g m) where
   -- a role that a memory knows is declared, and up or down as the guide says
   pub known : (r : ℕ) (b : Bool) → down_at m r ≡ Some b → r < roles_of g
-  known r b at = let w = (down_told m.roles r b at).0 in let d = is.numbers_are.have.roles in omega (arith, w, d)
+  known r b at = let w = (down_told m.roles r b at).0 in let d = is.numbers_are.have.numbers in omega (arith, w, d)
 
   pub stands : (r : ℕ) (b : Bool) → down_at m r ≡ Some b → (stand g r).down ≡ Some b
   stands r b at =
