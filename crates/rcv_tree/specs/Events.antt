@@ -1,0 +1,18 @@
+-- What an event is made of, and what lies in a channel after a Send.
+use Rattle.std.specs.Prelude.{ℕ, ℤ}
+use Rattle.rcv_tree.specs.declared.event.Dir.TheVariants.{Sent, Got}
+use Rattle.rcv_tree.specs.declared.event.Event.{Event}
+use Rattle.rcv_tree.specs.declared.event.Message.{Message}
+
+-- A role's Send of a number at a point, with this stamp.
+abbrev pub send_of : ℕ → ℕ → ℤ → ℕ → Event
+send_of role point value stamp = record { role = role; dir = Sent; point = point; value = value; stamp = stamp; sent = stamp }
+
+-- A role's Recv of a message, with this stamp.
+abbrev pub recv_of : ℕ → Message → ℕ → Event
+recv_of role message stamp =
+    record { role = role; dir = Got; point = message.point; value = message.value; stamp = stamp; sent = message.stamp }
+
+-- What a Send puts on its channel.
+abbrev pub message_of : Event → Message
+message_of e = record { point = e.point; value = e.value; stamp = e.stamp }
