@@ -6,6 +6,7 @@ ghost use Rattle.rcv_session.specs.Session.{roles_of, net_for};
 ghost use Rattle.rcv_journal.specs.JournalText.{name_of};
 
 use rcv_core::setup::Setup;
+use rcv_journal::name::name_of;
 use rcv_tree::point::Point;
 use rcv_tree::role::RoleId;
 use std::str::from_utf8;
@@ -16,14 +17,6 @@ fn text_of(bytes: &[u8]) -> &str
     ensures { result.now ≡ bytes.now }
 {
     from_utf8(bytes).unwrap()
-}
-
-// The bytes of the role's name.
-fn name_of(setup: &Setup, role: RoleId) -> &[u8]
-    requires { role < roles_of setup.now }
-    ensures { result.now ≡ name_of setup.now role }
-{
-    setup.protocol().roles.as_slice()[role.0 as usize].as_slice()
 }
 
 /// The name of a declared role.
