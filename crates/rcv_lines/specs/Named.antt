@@ -1,11 +1,8 @@
 -- What fields say of roles, which they name.
-use Rattle.std.specs.Prelude.{◌≡◌, ◌≢◌, ◌<◌, ◌^◌, ◌+◌, ℕ, false, if◌then◌else◌, List, [], ◌∷◌, ◌++◌, flat_map, length, slice_get, slice_index, slice_index_or, decimal, Option, Some, None}
+use Rattle.std.specs.Prelude.{◌≡◌, ◌≢◌, ◌<◌, ◌^◌, ◌+◌, ℕ, false, if◌then◌else◌, List, [], ◌∷◌, ◌++◌, flat_map, length, slice_get, slice_index, decimal, Option, Some, None}
 use Rattle.std.specs.List.{All, range_with_len}
 use Rattle.rcv_tree.specs.Bits.{has_bit}
-
--- The name of a role.
-abbrev pub name_at : List (List ℕ) → ℕ → List ℕ
-name_at names r = slice_index_or names r []
+use Rattle.rcv_tree.specs.Names.{name_at}
 
 -- Roles that have names.
 abbrev pub HaveNames : List (List ℕ) → List ℕ → Type 0
