@@ -1,4 +1,4 @@
--- What an event is made of, and what lies in a channel after a Send.
+-- What an event is made of, and its message.
 use Rattle.std.specs.Prelude.{ℕ, ℤ}
 use Rattle.rcv_tree.specs.declared.event.Dir.TheVariants.{Sent, Got}
 use Rattle.rcv_tree.specs.declared.event.Event.{Event}
@@ -13,6 +13,9 @@ abbrev pub recv_of : ℕ → Message → ℕ → Event
 recv_of role message stamp =
     record { role = role; dir = Got; point = message.point; value = message.value; stamp = stamp; sent = message.stamp }
 
--- What a Send puts on its channel.
-abbrev pub message_of : Event → Message
-message_of e = record { point = e.point; value = e.value; stamp = e.stamp }
+-- What a Send puts on its channel, and what a Recv takes from it.
+abbrev pub message_sent : Event → Message
+message_sent e = record { point = e.point; value = e.value; stamp = e.stamp }
+
+abbrev pub message_got : Event → Message
+message_got e = record { point = e.point; value = e.value; stamp = e.sent }
