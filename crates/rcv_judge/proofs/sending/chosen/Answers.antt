@@ -2,6 +2,7 @@
 use Rattle.std.proofs.Common.{◌+◌, ◌<◌, ◌^◌, refl, sym, ◌∙◌, ap, subst, arith, rules}
 use Rattle.std.specs.Prelude.{slice_index}
 use Rattle.std.specs.List.{All}
+use Rattle.rcv_tree.specs.declared.event.Event.{Event}
 use Rattle.rcv_model.specs.Journal.{place}
 use Rattle.rcv_model.proofs.Numbers.{bounded}
 use Rattle.rcv_accept.specs.Accepted.{IsAcceptedProtocol}
@@ -46,7 +47,8 @@ value-value-requires-clause-last c =
 pub returns : goal.returns
 returns c =
     let told = pick_told c.setup-setup.result.now c.args.book.now.setup c.args.role c.choose-point.result c.attempt-attempt.result (slice_index (state_of c.args.book.now).attempts c.args.role) c.vars-vars.result.now c.next_points-offered.result.now c.setup-setup.ensures c.attempt-attempt.ensures c.choose-point.ensures in
-    let number = number_told c.setup-setup.result.now c.args.book.now.setup c.args.role c.choose-point.result c.choose-point.result c.attempt-attempt.result (slice_index (state_of c.args.book.now).attempts c.args.role) c.value-value.result c.vars-vars.result.now c.setup-setup.ensures c.attempt-attempt.ensures refl c.value-value.ensures in (
+    let number = number_told c.setup-setup.result.now c.args.book.now.setup c.args.role c.choose-point.result c.choose-point.result c.attempt-attempt.result (slice_index (state_of c.args.book.now).attempts c.args.role) c.value-value.result c.vars-vars.result.now c.setup-setup.ensures c.attempt-attempt.ensures refl c.value-value.ensures in
+    subst (λ (e : Event). IsSendOf c.args.book.now c.args.role e) (sym c.send.ensures) (
       refl,
       sends c.args.book.now.setup (state_of c.args.book.now) c.args.role c.vars-vars.result.now c.next_points-offered.result.now c.vars-vars.ensures c.next_points-offered.ensures c.choose-point.result (c.clock-stamp.result + 1) _ c.requires.free
           (are_sent c.args.book.now c.args.role c.next_points-offered.result.now c.requires.next c.next_points-offered.ensures) told (search rules ∙ number) (ap (λ n. n + 1) c.clock-stamp.ensures),
