@@ -2,7 +2,6 @@
 -- and least one holds.
 use Rattle.std.proofs.Common.{◌≡◌, ℕ, Bool, true, false, List, [], ◌∷◌, ◌++◌, ◌<◌, ◌≤◌, length, arith, refl, ap, subst}
 use Rattle.std.specs.Prelude.{◌&&◌, ◌||◌, ◌==◌, codes, cond, Option, Some, None}
-use Rattle.std.specs.Str.{bytes_eq}
 use Rattle.rcv_tree.specs.Names.{place_of}
 use Rattle.rcv_tree.proofs.Naming.{is_named}
 use Rattle.rcv_model.specs.Plan.{PlanLine, EveryLine, CrashLine, LimitLine, RoomLine, HostLine}

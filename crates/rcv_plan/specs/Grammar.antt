@@ -1,6 +1,5 @@
 -- The grammar of plans: the items as they are written, and what each says.
 use Rattle.std.specs.Prelude.{◌≡◌, ℕ, codes, List, [], ◌∷◌, ◌++◌, length, map, Bool, is_some, unwrap_or}
-use Rattle.std.specs.List.{position}
 use Rattle.rcv_tree.specs.Names.{place_of}
 use Rattle.rcv_model.specs.Plan.{PlanLine, EveryLine, CrashLine, LimitLine, RoomLine, HostLine}
 use Rattle.rcv_plan.specs.declared.sign.Sign.TheVariants.{Equals, Comma}
