@@ -1,6 +1,6 @@
 // What is put after a text: words, and lists of names.
 
-ghost use Rattle.std.specs.Prelude.{◌≡◌, ◌++◌, OnOk, map};
+ghost use Rattle.std.specs.Prelude.{◌++◌, OnOk, map};
 ghost use Rattle.rcv_grammar.specs.Canonical.{names_at};
 ghost use Rattle.rcv_printer.specs.CanonicalText.{words, listed, comma_list};
 ghost use Rattle.rcv_printer.specs.Printing.{Puts};
