@@ -1,6 +1,5 @@
 -- All words and inputs have an outcome.
 use Rattle.std.proofs.Common.{◌≡◌, ℕ, ◌≤◌, Bool, Option, Some, None, List, [], length, refl, sym, subst, inl, inr, ⊎_elim, ◌⊎◌, arith}
-use Rattle.std.specs.Str.{bytes_eq}
 use Rattle.std.proofs.lemmas.Bool.{cases_lt}
 use Rattle.rcv_tree.specs.Names.{place_of}
 use Rattle.rcv_tree.proofs.Naming.{is_named}
