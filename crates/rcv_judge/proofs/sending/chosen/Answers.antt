@@ -10,6 +10,7 @@ use Rattle.rcv_session.specs.Session.{SessionView, rules_of, IsPointOf}
 use Rattle.rcv_core.specs.Book.{state_of, most_entries}
 use Rattle.rcv_core.proofs.Books.{IsOfText, few_entries}
 use Rattle.rcv_core.proofs.Picking.{in_text, offered_text}
+use Rattle.rcv_judge.specs.Could.{IsSendOf}
 use Rattle.rcv_judge.proofs.Sends.{stands_there, are_sent, pick_in, pick_told, number_told, sends}
 use Rattle.rcv_judge.proofs.sending.chosen.Goals as goal
 
