@@ -1,13 +1,14 @@
 -- What the rows of a table's picture are called: the lines of the table's text, without their line feeds.
 use Rattle.std.specs.Prelude.{ℕ, if◌then◌else◌, List, [], ◌∷◌, ◌++◌, flat_map, length, codes, decimal}
 use Rattle.std.specs.List.{range_with_len}
+use Rattle.rcv_tree.specs.Names.{name_at}
 use Rattle.rcv_model.specs.Net.{Net}
 use Rattle.rcv_tables.specs.Rows.{RowView, TableView, row_at}
-use Rattle.rcv_tables.specs.TableText.{is_own, name_of, roles_text}
+use Rattle.rcv_tables.specs.TableText.{is_own, roles_text}
 
 -- The row of a start, as `fail NAME POINT:` with its concerned roles.
 abbrev pub row_title : List (List ℕ) → ℕ → ℕ → RowView → List ℕ
-row_title names p n row = codes "fail " ++ name_of names p ++ codes " " ++ decimal n ++ codes ":" ++ roles_text names row
+row_title names p n row = codes "fail " ++ name_at names p ++ codes " " ++ decimal n ++ codes ":" ++ roles_text names row
 
 -- One if the point is the role's, else none.
 abbrev pub start_titles : Net → List (List ℕ) → TableView → ℕ → ℕ → List (List ℕ)

@@ -1,10 +1,10 @@
 -- What the boxes of a machine's picture are called, and what stands in them.
 use Rattle.std.specs.Prelude.{◌≡◌, ℕ, ◌-◌, nat_lt, if◌then◌else◌, List, [], ◌∷◌, ◌++◌, map, length, take, drop, codes, decimal}
 use Rattle.std.specs.List.{join_by}
+use Rattle.rcv_tree.specs.Names.{name_at}
 use Rattle.rcv_picture.specs.declared.group.Group.{Group}
 use Rattle.rcv_model.specs.Net.{Net}
 use Rattle.rcv_project.specs.Act.{ActView, Sending, Receiving, Ended}
-use Rattle.rcv_project.specs.LocalText.{name_of}
 use Rattle.rcv_charts.specs.States.{StateView, next_in}
 use Rattle.rcv_charts.specs.Titles.{texts_in}
 
@@ -25,9 +25,9 @@ shown_label label = if nat_lt 16 (length label) then take 10 label ++ (226 ∷ 1
 -- A step of a state: `3 ! pack to Store`, or `2 ? order from Buyer`.
 abbrev pub step_text : List (List ℕ) → Net → ActView → ℕ → List ℕ
 step_text names net (Sending points) z =
-    decimal z ++ codes " ! " ++ shown_label (net.label z) ++ codes " to " ++ name_of names (net.receiver z)
+    decimal z ++ codes " ! " ++ shown_label (net.label z) ++ codes " to " ++ name_at names (net.receiver z)
 step_text names net (Receiving from points) z =
-    decimal z ++ codes " ? " ++ shown_label (net.label z) ++ codes " from " ++ name_of names from
+    decimal z ++ codes " ? " ++ shown_label (net.label z) ++ codes " from " ++ name_at names from
 step_text names net Ended z = []
 
 -- The steps of a state, one for each next point, in order.

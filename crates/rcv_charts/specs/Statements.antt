@@ -1,8 +1,8 @@
 -- The statements of a protocol's picture: what each is called, in text order.
 use Rattle.std.specs.Prelude.{ℕ, ◌==◌, if◌then◌else◌, List, [], ◌∷◌, ◌++◌, map, codes, decimal}
+use Rattle.rcv_tree.specs.Names.{name_at}
 use Rattle.rcv_model.specs.Text.{Body, End, Single, Choose, Loop, Again, Parallel, Call, Bodies, NoMore, Or}
 use Rattle.rcv_model.specs.Places.{SingleMessage, singles, singles_of}
-use Rattle.rcv_tables.specs.TableText.{name_of}
 use Rattle.rcv_charts.specs.declared.reach.Reach.{Reach}
 use Rattle.rcv_charts.specs.declared.reach.Reach.TheVariants.{Nothing, From}
 use Rattle.rcv_charts.specs.MessageTitles.{message_title}
@@ -38,7 +38,7 @@ points_text points = reach_text (reached Nothing points)
 -- `choice at B: points 2 to 5`
 abbrev pub choice_title : List (List ℕ) → ℕ → Bodies → List ℕ
 choice_title roles subject branches =
-    codes "choice at " ++ name_of roles subject ++ codes ": " ++ points_text (points_beside branches)
+    codes "choice at " ++ name_at roles subject ++ codes ": " ++ points_text (points_beside branches)
 
 -- `rec Try: points 1 to 7`, and `continue Try`
 abbrev pub rec_title : List ℕ → Body → List ℕ

@@ -11,7 +11,6 @@ ghost use Rattle.rcv_charts.specs.Titles.{has_title, is_titled, texts_in, lists_
 
 use crate::drawing::{Drawing, titled};
 use crate::letters::{HEAD as HEAD_LETTER, PLAIN, cut, widest, width};
-use crate::messages::name_of;
 use crate::shapes::{end_text, line, rect, text};
 use crate::stand::{Frame, HEAD, STEP, frame_of};
 use crate::states::State;
@@ -77,14 +76,14 @@ fn step_of(source: &Source<'_>, act: &OwnedAct, point: Point) -> Result<Vec<u8>,
             words.word(b" ! ")?;
             words.word(label.as_slice())?;
             words.word(b" to ")?;
-            words.word(name_of(source.roles, source.points.receiver(point)))?;
+            words.word(source.roles.name(source.points.receiver(point)))?;
         }
         OwnedAct::Receives(from, _) => {
             words.number(point.0)?;
             words.word(b" ? ")?;
             words.word(label.as_slice())?;
             words.word(b" from ")?;
-            words.word(name_of(source.roles, *from))?;
+            words.word(source.roles.name(*from))?;
         }
         OwnedAct::Done => (),
     }

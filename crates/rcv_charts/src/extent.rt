@@ -4,7 +4,7 @@ use crate::beside::{Span, are_apart};
 use crate::calls::Calls;
 use crate::columns::ROLES;
 use crate::letters::{PLAIN, width};
-use crate::messages::{Message, name_of};
+use crate::messages::Message;
 use crate::words::Notes;
 use rcv_module::Called;
 use rcv_picture::pixels::Pixels;
@@ -198,7 +198,7 @@ impl Extent {
                 self.message(&message)
             }
             Stmt::Choice { subject, branches } => {
-                self.tag(within.inset, name_of(roles, *subject), b" chooses");
+                self.tag(within.inset, roles.name(*subject), b" chooses");
                 self.blocks(roles, calls, within.in_frame(), branches)
             }
             Stmt::Rec { name, body } => {

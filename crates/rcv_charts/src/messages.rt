@@ -1,7 +1,6 @@
 // The messages of a protocol's picture: their words, and how they are drawn.
 
 ghost use Rattle.std.specs.Prelude.{◌≡◌, ◌++◌, IfOk, OnOk, IsTrue};
-ghost use Rattle.rcv_tables.specs.TableText.{name_of};
 ghost use Rattle.rcv_charts.specs.MessageTitles.{names_text, message_title};
 ghost use Rattle.rcv_charts.specs.Titles.{has_title, is_titled};
 ghost use Rattle.rcv_charts.specs.Chart.{AddsOne, first_upper, first_lower, upper, lower};
@@ -28,16 +27,6 @@ pub struct Message<'a> {
     pub sender: RoleId,
     pub receiver: RoleId,
     pub point: Point,
-}
-
-/// The name of a role; none if the role isn't declared.
-pub fn name_of(roles: &Names, role: RoleId) -> &[u8]
-    ensures { result.now ≡ name_of roles.now role }
-{
-    match roles.as_slice().get(role.0 as usize) {
-        Some(name) => name.as_slice(),
-        None => &[],
-    }
 }
 
 // Names, with commas between.
@@ -76,9 +65,9 @@ fn title_of(alloc: Global, roles: &Names, message: &Message<'_>) -> Result<Vec<u
     text.word(b"(")?;
     write_names(&mut text, message.sorts.as_slice())?;
     text.word(b") from ")?;
-    text.word(name_of(roles, message.sender))?;
+    text.word(roles.name(message.sender))?;
     text.word(b" to ")?;
-    text.word(name_of(roles, message.receiver))?;
+    text.word(roles.name(message.receiver))?;
     Ok(text.finish())
 }
 

@@ -52,9 +52,7 @@ fn notes_of(alloc: Global, points: &Points, role: RoleId) -> Result<Notes, Alloc
 // What the picture is called: the role in its protocol.
 fn title_of(alloc: Global, protocol: &Protocol, role: RoleId) -> Result<Vec<u8>, AllocError> {
     let mut title = Writer::new(alloc);
-    if let Some(name) = protocol.roles.as_slice().get(role.0 as usize) {
-        title.word(name.as_slice())?;
-    }
+    title.word(protocol.roles.name(role))?;
     title.word(b" in ")?;
     title.word(protocol.name.as_slice())?;
     Ok(title.finish())

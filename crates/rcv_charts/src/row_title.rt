@@ -3,7 +3,7 @@
 ghost use Rattle.std.specs.Prelude.{◌≡◌, ◌<◌, ◌≤◌, ◌++◌, IfOk, OnOk, IsTrue, length};
 ghost use Rattle.rcv_accept.specs.Accepted.{roles_of};
 ghost use Rattle.rcv_tables.specs.Rows.{rows_at, row_at};
-ghost use Rattle.rcv_tables.specs.TableText.{name_of, points_text, role_text, concerned_text, roles_text};
+ghost use Rattle.rcv_tables.specs.TableText.{points_text, role_text, concerned_text, roles_text};
 ghost use Rattle.rcv_charts.specs.RowTitles.{row_title};
 ghost use Rattle.rcv_charts.specs.Titles.{is_titled};
 
@@ -13,14 +13,6 @@ use rcv_text::writer::Writer;
 use rcv_tree::point::Point;
 use rcv_tree::role::RoleId;
 use std::alloc::{AllocError, Global};
-
-/// The name of a role.
-pub fn name(accepted: &Accepted, role: RoleId) -> &[u8]
-    requires { role < roles_of accepted.now }
-    ensures { result.now ≡ name_of accepted.now.protocol.roles role }
-{
-    accepted.protocol().roles.as_slice()[role.0 as usize].as_slice()
-}
 
 // Points, with commas between.
 fn write_points(text: &mut Writer, points: &[Point]) -> Result<(), AllocError>
@@ -48,7 +40,6 @@ fn write_concerned(
 ) -> Result<(), AllocError>
     requires role { role < length table.now.rows }
     requires point { point < length (rows_at table.now role) }
-    requires other { other < roles_of accepted.now }
     requires few { other < 8 }
     requires row { length (row_at table.now role point).restarts ≡ 8 }
     ensures { OnOk result (text.new ≡ text.old
@@ -58,7 +49,7 @@ fn write_concerned(
         return Ok(());
     }
     text.word(b" ")?;
-    text.word(name(accepted, other))?;
+    text.word(accepted.protocol().roles.name(other))?;
     text.word(b"=")?;
     write_points(text, table.restarts(role, point, other))
 }
@@ -93,7 +84,6 @@ pub fn row_title(
     point: Point,
 ) -> Result<Vec<u8>, AllocError>
     requires role { role < length table.now.rows }
-    requires declared { role < roles_of accepted.now }
     requires point { point < length (rows_at table.now role) }
     requires row { length (row_at table.now role point).restarts ≡ 8 }
     requires few { roles_of accepted.now ≤ 8 }
@@ -103,7 +93,7 @@ pub fn row_title(
 {
     let mut text = Writer::new(alloc);
     text.word(b"fail ")?;
-    text.word(name(accepted, role))?;
+    text.word(accepted.protocol().roles.name(role))?;
     text.word(b" ")?;
     text.number(point.0)?;
     text.word(b":")?;

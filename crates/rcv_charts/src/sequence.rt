@@ -11,7 +11,7 @@ use crate::beside::{Span, are_apart};
 use crate::drawing::{Drawing, titled};
 use crate::extent::{INSET, Within};
 use crate::frames::{Chart, TAG, go_into, open_frame, put_frame};
-use crate::messages::{Message, draw_message, name_of};
+use crate::messages::{Message, draw_message};
 use crate::shapes::{line, path, text};
 use crate::titles::{block_title, choice_title, continue_title, par_title, rec_title};
 use crate::words::joined;
@@ -322,7 +322,7 @@ fn draw_choice<'t>(
 ) -> Result<(), AllocError>
     ensures { OnOk result (AddsStatement chart.now.roles.now (Choose subject (bodies_of branches.now)) drawing.old drawing.new) }
 {
-    let tag = joined(chart.alloc, name_of(chart.roles, subject), b" chooses")?;
+    let tag = joined(chart.alloc, chart.roles.name(subject), b" chooses")?;
     let title = choice_title(chart.alloc, chart.roles, subject, branches)?;
     open_frame(drawing);
     let mut inner = drawing.inner(chart.alloc);

@@ -5,7 +5,6 @@ ghost use Rattle.rcv_model.specs.Text.{body_of, bodies_of};
 ghost use Rattle.rcv_charts.specs.Statements.{choice_title, rec_title, continue_title, par_title, block_title};
 ghost use Rattle.rcv_charts.specs.Titles.{is_titled};
 
-use crate::messages::name_of;
 use crate::reach::Reach;
 use rcv_text::writer::Writer;
 use rcv_tree::name::{Name, Names};
@@ -25,7 +24,7 @@ pub fn choice_title(
 {
     let mut title = Writer::new(alloc);
     title.word(b"choice at ")?;
-    title.word(name_of(roles, subject))?;
+    title.word(roles.name(subject))?;
     title.word(b": ")?;
     Reach::of_blocks(branches).write(&mut title)?;
     Ok(title.finish())

@@ -1,8 +1,8 @@
 -- Words that name roles and points of an accepted protocol.
-use Rattle.std.specs.Prelude.{ℕ, ◌+◌, ◌&&◌, nat_lt, if◌then◌else◌, List, position, Option, Some, None}
+use Rattle.std.specs.Prelude.{ℕ, ◌+◌, ◌&&◌, nat_lt, if◌then◌else◌, List, Option, Some, None}
+use Rattle.rcv_tree.specs.Names.{name_at, place_of}
 use Rattle.rcv_accept.specs.Accepted.{AcceptedView, net_for}
-use Rattle.rcv_lines.specs.Named.{name_at}
-use Rattle.rcv_dialogue.specs.Numbers.{is_word, number_in}
+use Rattle.rcv_dialogue.specs.Numbers.{number_in}
 
 -- The name of a role.
 abbrev pub name_of : AcceptedView → ℕ → List ℕ
@@ -10,7 +10,7 @@ name_of a r = name_at a.protocol.roles r
 
 -- The role that has this name.
 abbrev pub role_in : AcceptedView → List ℕ → Option ℕ
-role_in a word = position (λ name. is_word word name) a.protocol.roles
+role_in a word = place_of a.protocol.roles word
 
 -- The point that has this number.
 abbrev pub point_if : AcceptedView → Option ℕ → Option ℕ

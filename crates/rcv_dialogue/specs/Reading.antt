@@ -1,7 +1,8 @@
 -- Reading a line's words from left to right: what they say, or the first one that doesn't fit.
 use Rattle.std.specs.Prelude.{◌≡◌, ℕ, ℤ, ◌+◌, ◌-◌, ◌==◌, ◌&&◌, ◌||◌, nat_lt, Bool, true, false, if◌then◌else◌, List, [], ◌∷◌, ◌++◌, length, take, drop, position, codes, Option, Some, None, Result, Ok, Err}
 use Rattle.rcv_accept.specs.Accepted.{AcceptedView, net_for, roles_of}
-use Rattle.rcv_tree.specs.declared.event.Dir.TheVariants.{Sent, Got}
+use Rattle.rcv_tree.specs.declared.event.Dir.TheVariants.{Got}
+use Rattle.rcv_tree.specs.Events.{send_of}
 use Rattle.rcv_dialogue.specs.declared.wrong.Wrong.{Wrong}
 use Rattle.rcv_dialogue.specs.declared.wrong.Expected.{Expected}
 use Rattle.rcv_dialogue.specs.declared.wrong.Expected.TheVariants as expected
@@ -307,14 +308,7 @@ again_send_at a left = do
   role ← role_at a left
   message ← message_at a role.1
   stamp ← marked_at 64 expected.Stamp message.2
-  ended stamp.1 (line.Again (again.Event (record {
-    role = role.0;
-    dir = Sent;
-    point = message.0;
-    value = message.1;
-    stamp = stamp.0;
-    sent = stamp.0;
-  })))
+  ended stamp.1 (line.Again (again.Event (send_of role.0 message.0 message.1 stamp.0)))
 
 unfoldable pub again_recv_at : AcceptedView → Words → Result Line Misfit
 again_recv_at a left = do

@@ -155,14 +155,8 @@ fn send(accepted: &Accepted, words: &[u8]) -> Result<Line, Misfit>
     if !is_over(words) {
         return Err(wrong(words, Expected::End));
     }
-    Ok(Line::Again(Again::Event(Event {
-        role: RoleId(role),
-        dir: Dir::Sent,
-        point: Point(point),
-        value,
-        stamp,
-        sent: stamp,
-    })))
+    let event = Event::send(RoleId(role), Point(point), value, stamp);
+    Ok(Line::Again(Again::Event(event)))
 }
 
 // `ROLE POINT LABEL VALUE @STAMP <SENT`

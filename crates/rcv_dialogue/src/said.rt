@@ -1,9 +1,8 @@
 // Words that name roles, points and messages.
 
-ghost use Rattle.std.specs.Prelude.{◌≡◌, ◌≤◌, ◌<◌, ℕ, true, length, IfOk, IfSome, IfNone};
+ghost use Rattle.std.specs.Prelude.{◌≡◌, ◌≤◌, length, IfOk, IfSome};
+ghost use Rattle.rcv_tree.specs.Names.{place_of};
 ghost use Rattle.rcv_accept.specs.Accepted.{net_for, roles_of};
-ghost use Rattle.rcv_lines.specs.Named.{name_at};
-ghost use Rattle.rcv_dialogue.specs.Numbers.{is_word};
 ghost use Rattle.rcv_dialogue.specs.Names.{role_in, point_in};
 ghost use Rattle.rcv_dialogue.specs.Left.{left};
 ghost use Rattle.rcv_dialogue.specs.Reading.{Gives, role_at, point_at, value_at, message_at};
@@ -13,20 +12,16 @@ use crate::numbers::{is_same, marked_number, number, signed_number};
 use crate::words::{Misfit, begins, take, wrong};
 use crate::wrong::Expected;
 use rcv_accept::accepted::Accepted;
-use rcv_tree::name::Name;
+use rcv_tree::name::Names;
 use rcv_tree::point::Point;
 use rcv_tree::role::RoleId;
 
 // The role whose name the word is.
-fn role_named(names: &[Name], word: &[u8]) -> Option<RoleId>
+fn role_named(names: &Names, word: &[u8]) -> Option<RoleId>
     requires { length names.now ≤ 8 }
-    ensures declared { IfSome result (λ r. r < length names.now) }
-    ensures some { IfSome result (λ r. is_word word.now (name_at names.now r) ≡ true) }
-    ensures none { IfNone result ((r : ℕ) → r < length names.now → is_word word.now (name_at names.now r) ≡ true → ⊥) }
+    ensures { result ≡ place_of names.now word.now }
 {
-    let place = names
-        .iter()
-        .position(|name| is_same(word, name.as_slice()))?;
+    let place = names.place_of(word)?;
     Some(RoleId(place as u8))
 }
 
@@ -34,7 +29,7 @@ fn role_named(names: &[Name], word: &[u8]) -> Option<RoleId>
 pub fn role_of(accepted: &Accepted, word: &[u8]) -> Option<RoleId>
     ensures { result ≡ role_in accepted.now word.now }
 {
-    role_named(accepted.protocol().roles.as_slice(), word)
+    role_named(&accepted.protocol().roles, word)
 }
 
 /// How many roles there are.

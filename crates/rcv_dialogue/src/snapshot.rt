@@ -9,7 +9,7 @@ use crate::line::{Again, Extent, Flight, ToldStanding};
 use crate::write::{message, named, numbered};
 use rcv_accept::accepted::Accepted;
 use rcv_text::writer::Writer;
-use rcv_tree::event::{Dir, Event, Message};
+use rcv_tree::event::{Dir, Event};
 use rcv_tree::role::RoleId;
 use std::alloc::AllocError;
 
@@ -94,12 +94,7 @@ fn event(text: &mut Writer, accepted: &Accepted, event: &Event) -> Result<(), Al
         Dir::Got => b"again recv",
     })?;
     named(text, accepted, event.role)?;
-    let sent = Message {
-        point: event.point,
-        value: event.value,
-        stamp: event.stamp,
-    };
-    message(text, accepted, &sent)?;
+    message(text, accepted, &event.message())?;
     match event.dir {
         Dir::Sent => Ok(()),
         Dir::Got => {

@@ -28,7 +28,7 @@ pub fn named(text: &mut Writer, accepted: &Accepted, role: RoleId) -> Result<(),
     ensures { OnOk result (text.new ≡ text.old ++ named_text accepted.now role) }
 {
     text.word(b" ")?;
-    text.word(accepted.protocol().roles.as_slice()[role.0 as usize].as_slice())
+    text.word(accepted.protocol().roles.name(role))
 }
 
 /// A space, and a number.

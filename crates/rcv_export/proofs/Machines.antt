@@ -4,12 +4,13 @@ use Rattle.json.proofs.Printed.Utf8.{IsUtf8-are_ascii}
 use Rattle.serde_json.specs.View.{items_of}
 use Rattle.rcv_tree.specs.declared.event.Dir.{Dir}
 use Rattle.rcv_tree.specs.declared.event.Dir.TheVariants.{Sent, Got}
+use Rattle.rcv_tree.specs.Names.{name_at}
 use Rattle.rcv_model.specs.Next.{IsPlaceOf}
 use Rattle.rcv_model.proofs.Forms.{proper}
 use Rattle.rcv_accept.specs.Accepted.{AcceptedView, IsAcceptedProtocol, text_of, roles_of, net_for}
 use Rattle.rcv_project.specs.Act.{ActView, Sending, Receiving, Ended, AreInText, IsActAt}
 use Rattle.rcv_project.specs.Local.{LocalView, IsLocalOf, act_at}
-use Rattle.rcv_project.specs.LocalText.{is_own, name_of, places_to}
+use Rattle.rcv_project.specs.LocalText.{is_own, places_to}
 use Rattle.rcv_project.proofs.Machine.{are_in_text, has_place, own_act}
 use Rattle.rcv_export.specs.Messages.{sorts_at}
 use Rattle.rcv_export.specs.Pieces.{word_data}
@@ -32,7 +33,7 @@ module _ (accepted : AcceptedView) (lawful : IsAcceptedProtocol accepted.protoco
       ascii_is_text ((net_for accepted).label p),
       (
         IsUtf8-are_ascii (codes "peer") refl,
-        ascii_is_text (name_of accepted.protocol.roles (peer_of (net_for accepted) dir p)),
+        ascii_is_text (name_at accepted.protocol.roles (peer_of (net_for accepted) dir p)),
         (
           IsUtf8-are_ascii (codes "point") refl,
           small p last,
@@ -79,7 +80,7 @@ module _ (accepted : AcceptedView) (lawful : IsAcceptedProtocol accepted.protoco
         plain_steps Got ps (are_in_text (net_for accepted) (roles_of accepted) r k ps (proper (text_of accepted) (roles_of accepted) lawful.form) at.0),
         (
           IsUtf8-are_ascii (codes "peer") refl,
-          ascii_is_text (name_of accepted.protocol.roles from),
+          ascii_is_text (name_at accepted.protocol.roles from),
           (IsUtf8-are_ascii (codes "place") refl, small k last, tt),
         ),
       ),
@@ -125,7 +126,7 @@ module _ (accepted : AcceptedView) (local : LocalView) (lawful : IsAcceptedProto
       (
         IsUtf8-are_ascii (codes "protocol") refl,
         ascii_is_text accepted.protocol.name,
-        (IsUtf8-are_ascii (codes "role") refl, ascii_is_text (name_of accepted.protocol.roles local.role), tt),
+        (IsUtf8-are_ascii (codes "role") refl, ascii_is_text (name_at accepted.protocol.roles local.role), tt),
       ),
     ),
     (((refl, tt), ((refl, tt), tt)), (((refl, tt), tt), (tt, tt))),

@@ -5,6 +5,7 @@ use Rattle.std.proofs.lemmas.Bool.Decides.{nat_tests}
 use Rattle.json.proofs.Printed.Utf8.{IsUtf8-are_ascii}
 use Rattle.serde_json.specs.View.{items_of}
 use Rattle.rcv_tree.specs.Bits.{has_bit}
+use Rattle.rcv_tree.specs.Names.{name_at}
 use Rattle.rcv_model.specs.Net.{Net, IsIn, IsWalk}
 use Rattle.rcv_model.specs.Next.{IsOf, IsProper}
 use Rattle.rcv_model.specs.Table.{IsRestart}
@@ -13,7 +14,7 @@ use Rattle.rcv_model.proofs.Lanes.{walk_in_text}
 use Rattle.rcv_accept.specs.Accepted.{AcceptedView, IsAcceptedProtocol, text_of, roles_of, net_for}
 use Rattle.rcv_tables.specs.Rows.{TableView, row_at, IsRowOf, IsTable}
 use Rattle.rcv_tables.specs.Starts.{IsOwnPoint}
-use Rattle.rcv_tables.specs.TableText.{is_own, name_of}
+use Rattle.rcv_tables.specs.TableText.{is_own}
 use Rattle.rcv_tables.proofs.Reading.{own_row, own_restarts, has_rows}
 use Rattle.rcv_export.specs.Pieces.{count, word_data}
 use Rattle.rcv_export.specs.ReadBack.{IsReadAs}
@@ -68,7 +69,7 @@ module _ (accepted : AcceptedView) (table : TableView) (lawful : IsAcceptedProto
     (
       IsUtf8-are_ascii (codes "restarts") refl,
       (0, omega arith, plain_map 0 (λ z. z < 2 ^ 64) count (λ z lt. lt) (get_or (row_at table p n).restarts q []) (restarts_small p n q role own other)),
-      (IsUtf8-are_ascii (codes "role") refl, ascii_is_text (name_of accepted.protocol.roles q), tt),
+      (IsUtf8-are_ascii (codes "role") refl, ascii_is_text (name_at accepted.protocol.roles q), tt),
     ),
     (((refl, tt), tt), (tt, tt)),
   )
@@ -90,7 +91,7 @@ module _ (accepted : AcceptedView) (table : TableView) (lawful : IsAcceptedProto
       (
         IsUtf8-are_ascii (codes "point") refl,
         small n own.1,
-        (IsUtf8-are_ascii (codes "role") refl, ascii_is_text (name_of accepted.protocol.roles p), tt),
+        (IsUtf8-are_ascii (codes "role") refl, ascii_is_text (name_at accepted.protocol.roles p), tt),
       ),
     ),
     (((refl, tt), ((refl, tt), tt)), (((refl, tt), tt), (tt, tt))),

@@ -4,12 +4,13 @@ use Rattle.std.specs.Prelude.{ℕ, if◌then◌else◌, List, [], ◌∷◌, map
 use Rattle.serde_json.specs.Data.{Data, boolean, member, no_members, object, string}
 use Rattle.rcv_tree.specs.declared.event.Dir.{Dir}
 use Rattle.rcv_tree.specs.declared.event.Dir.TheVariants.{Sent, Got}
+use Rattle.rcv_tree.specs.Names.{name_at}
 use Rattle.rcv_model.specs.Net.{Net}
 use Rattle.rcv_points.specs.Follow.{has_some}
 use Rattle.rcv_accept.specs.Accepted.{AcceptedView, net_for, text_of}
 use Rattle.rcv_project.specs.Act.{ActView, Sending, Receiving, Ended}
 use Rattle.rcv_project.specs.Local.{LocalView, act_at}
-use Rattle.rcv_project.specs.LocalText.{is_own, name_of, places_to}
+use Rattle.rcv_project.specs.LocalText.{is_own, places_to}
 use Rattle.rcv_export.specs.Messages.{sorts_at}
 use Rattle.rcv_export.specs.Pieces.{count, line_of, list_of, word_data, words_data}
 
@@ -19,7 +20,7 @@ peer_of net Sent p = net.receiver p
 peer_of net Got p = net.sender p
 
 abbrev pub role_name : AcceptedView → ℕ → Data
-role_name accepted r = word_data (name_of accepted.protocol.roles r)
+role_name accepted r = word_data (name_at accepted.protocol.roles r)
 
 -- A step: `{"label":LABEL,"peer":ROLE,"point":POINT,"sorts":[SORT,..],"value":BOOL}`. A message carries a value if it has sorts.
 abbrev pub step_data : AcceptedView → Dir → ℕ → Data

@@ -4,17 +4,18 @@ use Rattle.std.specs.Prelude.{ℕ, if◌then◌else◌, List, [], ◌∷◌, fla
 use Rattle.std.specs.List.{range_with_len}
 use Rattle.serde_json.specs.Data.{Data, member, no_members, object}
 use Rattle.rcv_tree.specs.Bits.{has_bit}
+use Rattle.rcv_tree.specs.Names.{name_at}
 use Rattle.rcv_model.specs.Net.{Net}
 use Rattle.rcv_accept.specs.Accepted.{AcceptedView, net_for}
 use Rattle.rcv_tables.specs.Rows.{RowView, TableView, row_at}
-use Rattle.rcv_tables.specs.TableText.{is_own, name_of}
+use Rattle.rcv_tables.specs.TableText.{is_own}
 use Rattle.rcv_export.specs.Pieces.{count, line_of, list_of, word_data, words_data}
 
 -- A role that goes back: `{"restarts":[POINT,..],"role":ROLE}`.
 abbrev pub restarts_data : List (List ℕ) → RowView → ℕ → Data
 restarts_data names row q =
     object (member (codes "restarts") (list_of (map count (slice_index_or row.restarts q [])))
-    (member (codes "role") (word_data (name_of names q)) no_members))
+    (member (codes "role") (word_data (name_at names q)) no_members))
 
 -- One if the role is concerned, else none; and those of all roles, in order.
 abbrev pub concerned_data : List (List ℕ) → RowView → ℕ → List Data
@@ -28,7 +29,7 @@ abbrev pub failure_data : List (List ℕ) → ℕ → ℕ → RowView → Data
 failure_data names p n row =
     object (member (codes "concerned") (list_of (concerned_list names row))
     (member (codes "point") (count n)
-    (member (codes "role") (word_data (name_of names p)) no_members)))
+    (member (codes "role") (word_data (name_at names p)) no_members)))
 
 -- One if the point is the role's, else none.
 abbrev pub start_data : Net → List (List ℕ) → TableView → ℕ → ℕ → List Data

@@ -3,8 +3,8 @@
 ghost use Rattle.std.specs.Prelude.{◌≡◌, map, IfOk};
 ghost use Rattle.std.specs.Str.{IsUtf8};
 ghost use Rattle.serde_json.specs.View.{view};
+ghost use Rattle.rcv_tree.specs.Names.{name_at};
 ghost use Rattle.rcv_export.specs.Pieces.{ascii_of, count, list_of, word_data, words_data};
-ghost use Rattle.rcv_tables.specs.TableText.{name_of};
 
 use rcv_tree::name::{Name, Names};
 use rcv_tree::point::Point;
@@ -64,19 +64,9 @@ pub fn points_value(alloc: Global, points: &[Point]) -> Result<Value, AllocError
     Ok(Value::Array(list))
 }
 
-// The name of a role; none if it isn't declared.
-fn name_of(roles: &Names, role: RoleId) -> &[u8]
-    ensures { result.now ≡ name_of roles.now role }
-{
-    match roles.as_slice().get(role.0 as usize) {
-        Some(name) => name.as_slice(),
-        None => &[],
-    }
-}
-
 /// The name of a role. Fails if memory runs out.
 pub fn role_value(alloc: Global, roles: &Names, role: RoleId) -> Result<Value, AllocError>
-    ensures { IfOk result (λ value. view value ≡ word_data (name_of roles.now role)) }
+    ensures { IfOk result (λ value. view value ≡ word_data (name_at roles.now role)) }
 {
-    word_value(alloc, name_of(roles, role))
+    word_value(alloc, roles.name(role))
 }

@@ -4,6 +4,7 @@ use Rattle.std.proofs.Common.{◌≡◌, ℕ, ◌+◌, ◌<◌, ◌≤◌, false
 use Rattle.std.specs.Prelude.{slice_get, nat_lt}
 use Rattle.std.proofs.Math.Nat.{le-max_left, le-max_right, max-le}
 use Rattle.std.proofs.lemmas.Bool.Decides.{nat_tests}
+use Rattle.rcv_tree.specs.Names.{name_at}
 use Rattle.rcv_model.specs.Text.{Body, End, Single, Choose, Loop, Again, Parallel, Call, Bodies, NoMore, Or}
 use Rattle.rcv_model.specs.Net.{IsIn}
 use Rattle.rcv_module.specs.Parts.{Part}
@@ -18,7 +19,6 @@ use Rattle.rcv_module.proofs.Walking.{named_once}
 use Rattle.rcv_module.proofs.Entered.{EntersFull}
 use Rattle.rcv_module.proofs.Fitting.{Fits, AllFit, PartsFit, StandWell, argument_in, called_well}
 use Rattle.rcv_module.proofs.Points.{never_first}
-use Rattle.rcv_grammar.specs.Canonical.{name_at}
 use Rattle.rcv_grammar.specs.Printable.{IsName, IsPrintableBody, ArePrintableBlocks, SomeBlocks, TwoBlocks}
 use Rattle.rcv_grammar.proofs.Mentioned.{Mentions, SomeMentions, AreDisjoint, HasDisjointLanes}
 use Rattle.rcv_grammar.proofs.Nesting.{Nests, AllNest}

@@ -5,6 +5,7 @@ use Rattle.std.specs.List.{AllByRecursion}
 use Rattle.rcv_tree.specs.Lists.{protocols}
 use Rattle.rcv_tree.specs.declared.module.Module.{Module}
 use Rattle.rcv_tree.specs.declared.protocol.Protocol.{Protocol}
+use Rattle.rcv_tree.specs.Names.{name_at}
 use Rattle.rcv_lexer.specs.declared.token.Span.{Span}
 use Rattle.rcv_lexer.specs.declared.token.Token.{Token}
 use Rattle.rcv_lexer.specs.Tokens.{AreTokens}
@@ -24,7 +25,7 @@ use Rattle.rcv_machine.specs.Words.{symbols_of, Source, Spells, spelling, tree_o
 use Rattle.rcv_machine.proofs.Exactly.{taken_is_free}
 use Rattle.rcv_machine.proofs.Passing.{passing}
 use Rattle.rcv_reader.specs.Refusals.{AreReadAs, IsRead}
-use Rattle.rcv_grammar.specs.Canonical.{name_at, written_of, source_of}
+use Rattle.rcv_grammar.specs.Canonical.{written_of, source_of}
 use Rattle.rcv_grammar.specs.Printable.{IsName, AreNames, SomeNames, IsPrintableBody, IsPrintable}
 use Rattle.rcv_grammar.proofs.Headings.{roles_of, head_follows}
 use Rattle.rcv_grammar.proofs.Canonizing.{source_taken, admitted}

@@ -4,6 +4,7 @@ use Rattle.std.proofs.Common.{◌≡◌, ℕ, ◌+◌, Bool, true, false, List, 
 use Rattle.std.proofs.lemmas.List.Elements.{All-append, All-cons, All-head, All-nil, All-tail}
 use Rattle.std.specs.List.{AllByRecursion}
 use Rattle.rcv_tree.specs.Words.{IsWord}
+use Rattle.rcv_tree.specs.Names.{name_at}
 use Rattle.rcv_machine.specs.Words.{Sign, Or, And, Symbol, Is, Word, Text, Number, reserved, sign_or, symbol_by, symbols_of, Written, NoStmt, AMessage, AChoice, ARec, AContinue, APar, ADo, Blocks, NoBlock, ABlock, dotted, names_behind, sort_list, roles_behind, decls, stmts, blocks_behind, declared, protocols, WrittenProtocol, IsTreeOf, AreTreesOf, AreDecls}
 use Rattle.rcv_machine.specs.Words.{role_at, roles_at, points, points_of, singles, tree_of, trees_of, IsDeclared, Decl, Named, nobody, Place, behind, beside, inside, inside_rec, outermost}
 use Rattle.rcv_tree.specs.declared.protocol.Protocol.{Protocol}
@@ -16,7 +17,7 @@ use Rattle.rcv_lexer.specs.declared.token.Token.{Token}
 use Rattle.rcv_lexer.specs.Tokens.{AreTokens, bytes_of, IsQuotable, IsOfKind}
 use Rattle.rcv_lexer.proofs.TokenBytes.{words_are_words}
 use Rattle.rcv_reader.specs.Refusals.{AreReadAs}
-use Rattle.rcv_grammar.specs.Canonical.{name_at, names_at}
+use Rattle.rcv_grammar.specs.Canonical.{names_at}
 use Rattle.rcv_grammar.specs.Printable.{IsName, AreNames, SomeNames, ArePrintableDecls, IsPrintableBody, ArePrintableBlocks, IsPrintable}
 use Rattle.rcv_machine.proofs.Passing.{named_by, AreTaken, AreGiven, Passes, PassAll, PassBeside}
 use Rattle.rcv_grammar.proofs.Headings.{is_later, IsAdmitted, AreAdmitted}

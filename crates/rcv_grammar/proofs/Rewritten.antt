@@ -1,11 +1,11 @@
 -- A body without calls that has the form, written with the names of its roles, is what the machine takes, and its tree is this
 -- same body.
-use Rattle.std.proofs.Common.{◌≡◌, ℕ, ◌+◌, ◌<◌, ◌≤◌, Bool, true, false, List, [], ◌∷◌, ◌++◌, length, refl, sym, ap, ap₂, subst, ◌∙◌, ◌⊎◌, inl, inr, ⊎_elim, arith, ◌==◌, ◌||◌, nat_le, nat_lt, not, Some, bytes_eq, length-append}
-use Rattle.std.specs.List.{position_or_len}
+use Rattle.std.proofs.Common.{◌≡◌, ℕ, ◌+◌, ◌<◌, ◌≤◌, Bool, true, false, List, [], ◌∷◌, ◌++◌, length, refl, sym, ap, ap₂, subst, ◌∙◌, ◌⊎◌, inl, inr, ⊎_elim, arith, ◌==◌, ◌||◌, nat_le, not, Some, bytes_eq, length-append}
 use Rattle.std.proofs.lemmas.Bool.Decides.{nat_tests}
-use Rattle.std.proofs.lemmas.List.Sums.{position_or_len_is}
 use Rattle.std.proofs.lemmas.Option.{slice_get-get_or}
 use Rattle.std.proofs.lemmas.Slice.Eq.{bytes_eq-Decides}
+use Rattle.rcv_tree.specs.Names.{name_at}
+use Rattle.rcv_tree.proofs.Naming.{is_placed}
 use Rattle.rcv_model.specs.Text.{Body, End, Single, Choose, Loop, Again, Parallel, Call, Bodies, NoMore, Or}
 use Rattle.rcv_model.specs.Names.{AreDifferent}
 use Rattle.rcv_model.specs.Form.{IsNumberedFrom, HaveEnds, HaveSubjects, HaveSubjectsIn}
@@ -15,7 +15,7 @@ use Rattle.rcv_machine.specs.Words.{Named, nobody, with_role, Place, behind, bes
 use Rattle.rcv_machine.proofs.Knowing.{recent}
 use Rattle.rcv_machine.proofs.Naming.{recent_more}
 use Rattle.rcv_machine.proofs.Passing.{named_by, named_by_all, Passes, PassAll, PassBeside}
-use Rattle.rcv_grammar.specs.Canonical.{name_at, written_of, blocks_of}
+use Rattle.rcv_grammar.specs.Canonical.{written_of, blocks_of}
 use Rattle.rcv_grammar.specs.Printable.{IsPrintableBody}
 use Rattle.rcv_grammar.proofs.Canonizing.{Knows, knows_more, knows_none}
 use Rattle.rcv_grammar.proofs.Mentioned.{Mentions, SomeMentions, AreDisjoint, HasDisjointLanes}
@@ -67,22 +67,8 @@ module _ (roles : List (List ℕ)) (differ : AreDifferent roles) where
 
   -- a role has its place
   has_place : (r : ℕ) → r < length roles → place_of roles (name_at roles r) ≡ Some r
-  has_place r inside =
-      let test = λ (role : List ℕ). bytes_eq role (name_at roles r) in
-      let other = λ (k : ℕ) (before : k < r). not_this r inside k before in
-      let here = λ (l : r < length roles). (bytes_eq-Decides (name_at roles r) (name_at roles r)).1 refl in
-      let at : position_or_len test roles ≡ r = position_or_len_is test roles r [] (omega (arith, inside)) other here in
-      let short : nat_lt r (length roles) ≡ true = grind (arith, nat_tests) in
-      rw (at, short) refl
-    where
-      not_this : (r : ℕ) → r < length roles → (k : ℕ) → k < r → bytes_eq (name_at roles k) (name_at roles r) ≡ false
-      not_this r inside k before = go (bytes_eq (name_at roles k) (name_at roles r)) refl
-        where
-          go : (b : Bool) → bytes_eq (name_at roles k) (name_at roles r) ≡ b → b ≡ false
-          go true e =
-              let same = same_role k r (omega (arith, before, inside)) inside ((bytes_eq-Decides (name_at roles k) (name_at roles r)).0 e) in
-              absurd (omega (arith, same, before))
-          go false e = refl
+  has_place r inside = is_placed roles (name_at roles r) r inside refl
+      (λ k before same. let one = same_role k r (omega (arith, before, inside)) inside same in omega (arith, one, before))
 
   declared : (r : ℕ) → r < length roles → IsDeclared roles (name_at roles r)
   declared r inside = (r, has_place r inside)

@@ -3,12 +3,13 @@ use Rattle.std.specs.Prelude.{◌≡◌, ℕ, true, List, [], ◌∷◌, None}
 use Rattle.rcv_tree.specs.Lists.{declarations}
 use Rattle.rcv_tree.specs.declared.protocol.Decl.{Decl}
 use Rattle.rcv_tree.specs.declared.protocol.Protocol.{Protocol}
+use Rattle.rcv_tree.specs.Names.{name_at}
 use Rattle.rcv_model.specs.Text.{Body, End, Single, Choose, Loop, Again, Parallel, Call, Bodies, NoMore, Or, body_of}
 use Rattle.rcv_tree.specs.Words.{IsWord}
 use Rattle.rcv_lexer.specs.Tokens.{IsQuotable}
 use Rattle.rcv_syntax.specs.Symbols.{reserved}
 use Rattle.rcv_syntax.specs.Grammar.{is_decl_word}
-use Rattle.rcv_grammar.specs.Canonical.{name_at, names_at}
+use Rattle.rcv_grammar.specs.Canonical.{names_at}
 
 -- a word that isn't reserved
 abbrev pub IsName : List ℕ → Type 0

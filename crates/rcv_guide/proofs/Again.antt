@@ -9,6 +9,7 @@ use Rattle.rcv_tree.specs.declared.event.Message.{Message}
 use Rattle.rcv_tree.specs.declared.event.Dir.{Dir}
 use Rattle.rcv_tree.specs.declared.event.Dir.TheVariants.{Sent, Got}
 use Rattle.rcv_tree.specs.declared.entry.Entry.TheVariants.{Send, Recv}
+use Rattle.rcv_tree.specs.Events.{message_got}
 use Rattle.rcv_model.specs.Net.{Net}
 use Rattle.rcv_model.specs.ByPoints.{IsByEnd}
 use Rattle.rcv_model.specs.Plan.{PlanLine}
@@ -25,7 +26,7 @@ use Rattle.rcv_guide.specs.declared.numbers.Numbers.{Numbers}
 use Rattle.rcv_guide.specs.Numbers.{at_start, numbers_at}
 use Rattle.rcv_guide.specs.Guide.{GuideView, guide_of, net_for, roles_of, opened, stand, IsMemory, HasMemory, IsGuide}
 use Rattle.rcv_guide.specs.Renewal.{with_one}
-use Rattle.rcv_guide.specs.Restoring.{begun_again, MayLie, MayBeAgain, sent_by, message_in, with_again, IsTurn, FitsEvent, with_logged}
+use Rattle.rcv_guide.specs.Restoring.{begun_again, MayLie, MayBeAgain, sent_by, with_again, IsTurn, FitsEvent, with_logged}
 use Rattle.rcv_guide.proofs.Guides.{next_in}
 use Rattle.rcv_guide.proofs.Logging.{seeded}
 use Rattle.rcv_guide.proofs.Memories.{made_at}
@@ -158,7 +159,7 @@ module _ {g : GuideView} {table : TableView} {ledger : LedgerView} (kept : IsGui
     few_seeds : seeds ≤ length (log_at g.logs e.role)
     few_seeds = kept.sound.seeds e.role may.log.declared
 
-    fits_with : (1 ≤ e.point) × (e.point ≤ (net_for g).count) → IsByEnd (net_for g) e → (e.dir ≡ Got → e.sent < e.stamp) → (e.dir ≡ Sent → e.sent ≡ e.stamp) → (e.dir ≡ Got → IsInFront (net_for g) (stand g e.role) (message_in e)) → FitsEvent g e seeds
+    fits_with : (1 ≤ e.point) × (e.point ≤ (net_for g).count) → IsByEnd (net_for g) e → (e.dir ≡ Got → e.sent < e.stamp) → (e.dir ≡ Sent → e.sent ≡ e.stamp) → (e.dir ≡ Got → IsInFront (net_for g) (stand g e.role) (message_got e)) → FitsEvent g e seeds
     fits_with text ends after same front = record {
       log = may.log;
       text = text;

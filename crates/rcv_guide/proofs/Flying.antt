@@ -1,5 +1,5 @@
 -- What a log puts on a channel, one event after another.
-use Rattle.std.proofs.Common.{◌≡◌, ℕ, ℤ, zero, suc, ◌+◌, ◌≤◌, true, false, cond, Some, None, List, [], ◌∷◌, length, drop, refl, ◌∙◌, ap, arith}
+use Rattle.std.proofs.Common.{◌≡◌, ℕ, zero, suc, ◌+◌, ◌≤◌, true, false, cond, Some, None, List, [], ◌∷◌, length, drop, refl, ◌∙◌, ap, arith}
 use Rattle.std.specs.Prelude.{slice_get}
 use Rattle.std.specs.List.{cons_option}
 use Rattle.std.proofs.Math.ListN.{drop_of_length-le}
@@ -11,9 +11,6 @@ use Rattle.rcv_model.specs.Net.{Net}
 use Rattle.rcv_model.specs.Run.{puts_on, put}
 use Rattle.rcv_model.proofs.Located.{get_below}
 use Rattle.rcv_model.proofs.Queues.{put_message, put_by_some}
-
-abbrev pub message_with : ℕ → ℤ → ℕ → Message
-message_with point value stamp = record { point = point; value = value; stamp = stamp }
 
 module _ (net : Net) (a b : ℕ) (log : List Event) (i : ℕ) where
   abbrev rest : List Message

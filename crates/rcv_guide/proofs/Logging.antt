@@ -6,6 +6,7 @@ use Rattle.rcv_tree.specs.declared.event.Event.{Event}
 use Rattle.rcv_tree.specs.declared.event.Dir.{Dir}
 use Rattle.rcv_tree.specs.declared.event.Dir.TheVariants.{Sent, Got}
 use Rattle.rcv_tree.specs.declared.entry.Entry.TheVariants.{Send, Recv}
+use Rattle.rcv_tree.specs.Events.{message_got}
 use Rattle.rcv_model.specs.Net.{Net}
 use Rattle.rcv_model.specs.ByPoints.{IsByEnd}
 use Rattle.rcv_model.specs.Run.{is_sent, put, taken, IsQueued}
@@ -28,7 +29,7 @@ use Rattle.rcv_guide.specs.declared.numbers.Numbers.{Numbers}
 use Rattle.rcv_guide.specs.Numbers.{numbers_at}
 use Rattle.rcv_guide.specs.Guide.{GuideView, net_for, roles_of, no_vars, IsMemory, IsSoundMemory, AreStamped, AreFewOf, IsGuide}
 use Rattle.rcv_guide.specs.Renewal.{HasRoomToAdd, with_one}
-use Rattle.rcv_guide.specs.Restoring.{FitsEvent, with_logged, message_in}
+use Rattle.rcv_guide.specs.Restoring.{FitsEvent, with_logged}
 use Rattle.rcv_guide.proofs.Guides.{low, log_is, carried, sender_in, receiver_in}
 use Rattle.rcv_guide.proofs.Growing.{log_own, log_other, all_more, rooms_more, IsGrown}
 use Rattle.rcv_guide.proofs.Memories.{lies}
@@ -253,7 +254,7 @@ module _ {g : GuideView} {table : TableView} {ledger : LedgerView} (kept : IsGui
       let front = fits.front is in
       let sender = sender_in kept e.point fits.text in
       let here = (carried kept).each from e.role (low kept from sender) (low kept e.role declared) in
-      let some = get_below (put (net_for g) from e.role (log_at g.logs from)) (length (taken (net_for g) from e.role (log_at g.logs e.role))) (message_in e) (front_at kept from e.role sender (message_in e) front.0 front.1) in
+      let some = get_below (put (net_for g) from e.role (log_at g.logs from)) (length (taken (net_for g) from e.role (log_at g.logs e.role))) (message_got e) (front_at kept from e.role sender (message_got e) front.0 front.1) in
       subst (λ (c : ChannelView). c.taken < length c.put) (sym here)
       (subst (λ l. length (taken (net_for g) from e.role (log_at ledger.logs e.role)) < length (put (net_for g) from e.role l)) (sym (log_is kept from))
       (subst (λ l. length (taken (net_for g) from e.role l) < length (put (net_for g) from e.role (log_at g.logs from))) (sym (log_is kept e.role)) some))

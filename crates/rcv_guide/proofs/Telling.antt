@@ -6,6 +6,7 @@ use Rattle.rcv_tree.specs.declared.event.Message.{Message}
 use Rattle.rcv_tree.specs.declared.event.Dir.TheVariants.{Sent, Got}
 use Rattle.rcv_tree.specs.declared.entry.Entry.TheVariants.{Send, Recv}
 use Rattle.rcv_tree.specs.declared.protocol.Protocol.{Protocol}
+use Rattle.rcv_tree.specs.Events.{message_got}
 use Rattle.rcv_model.specs.Plan.{PlanLine}
 use Rattle.rcv_model.specs.Run.{acts, place_of, is_sent, put_by, put, taken}
 use Rattle.rcv_model.specs.Journal.{events_of}
@@ -21,7 +22,7 @@ use Rattle.rcv_ledger.specs.Ledger as ledgers
 use Rattle.rcv_ledger.specs.Ledger.{LedgerView, stack_at, with_send, with_recv, behind_event, state_behind, HasRoomToSend}
 use Rattle.rcv_ledger.specs.Laws.{IsMore}
 use Rattle.rcv_ledger.proofs.Holding.{sends_hold, recvs_hold}
-use Rattle.rcv_told.specs.Told.{IsSend, IsRecv, message_of}
+use Rattle.rcv_told.specs.Told.{IsSend, IsRecv}
 use Rattle.rcv_told.proofs.Memories.{place_join}
 use Rattle.rcv_guide.specs.declared.news.News.{News}
 use Rattle.rcv_guide.specs.declared.numbers.Numbers.{Numbers}
@@ -138,7 +139,7 @@ module _ {g : GuideView} {table : TableView} {ledger : LedgerView} (kept : IsGui
     from = (net_for g).sender e.point
 
     sent_few : e.sent ≤ g.told
-    sent_few = few_stamp kept from e.role (sender_in kept e.point received_in) (message_of e) may.front.0 may.front.1
+    sent_few = few_stamp kept from e.role (sender_in kept e.point received_in) (message_got e) may.front.0 may.front.1
 
     recv_fits : IsFitting g e
     recv_fits =
@@ -158,7 +159,7 @@ module _ {g : GuideView} {table : TableView} {ledger : LedgerView} (kept : IsGui
     pub waits : (end : ℕ) → end ≡ (net_for g).sender e.point → HasFront (channel_at ledger.channels end e.role)
     waits end is =
         let here = (carried kept).each from e.role sender_low (low kept e.role receiver_declared) in
-        let some = get_below (put (net_for g) from e.role (log_at g.logs from)) (length (taken (net_for g) from e.role (log_at g.logs e.role))) (message_of e) (front_at kept from e.role (sender_in kept e.point received_in) (message_of e) may.front.0 may.front.1) in
+        let some = get_below (put (net_for g) from e.role (log_at g.logs from)) (length (taken (net_for g) from e.role (log_at g.logs e.role))) (message_got e) (front_at kept from e.role (sender_in kept e.point received_in) (message_got e) may.front.0 may.front.1) in
         subst (λ q. HasFront (channel_at ledger.channels q e.role)) (sym is)
         (subst (λ (c : ChannelView). c.taken < length c.put) (sym here)
         (subst (λ l. length (taken (net_for g) from e.role (log_at ledger.logs e.role)) < length (put (net_for g) from e.role l)) (sym (log_is kept from))

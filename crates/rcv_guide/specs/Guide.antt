@@ -9,6 +9,7 @@ use Rattle.rcv_tree.specs.declared.event.Message.{Message}
 use Rattle.rcv_tree.specs.declared.event.Dir.TheVariants.{Sent, Got}
 use Rattle.rcv_tree.specs.declared.entry.Entry.{Entry}
 use Rattle.rcv_tree.specs.declared.entry.Entry.TheVariants.{Recover}
+use Rattle.rcv_tree.specs.Events.{send_of, recv_of}
 use Rattle.rcv_model.specs.ByPoints.{IsByEnd}
 use Rattle.rcv_model.specs.Text.{body_of}
 use Rattle.rcv_model.specs.Net.{Net}
@@ -180,26 +181,10 @@ stamp_to_receive g r sent = max (stand g r).clock sent + 1
 
 -- The events that are told.
 abbrev pub sent : GuideView → News → Event
-sent g news =
-    record {
-      role = news.role;
-      dir = Sent;
-      point = news.point;
-      value = news.value;
-      stamp = stamp_to_send g news.role;
-      sent = stamp_to_send g news.role;
-    }
+sent g news = send_of news.role news.point news.value (stamp_to_send g news.role)
 
 abbrev pub received : GuideView → News → ℕ → Event
-received g news stamp =
-    record {
-      role = news.role;
-      dir = Got;
-      point = news.point;
-      value = news.value;
-      stamp = stamp_to_receive g news.role stamp;
-      sent = stamp;
-    }
+received g news stamp = recv_of news.role (message news stamp) (stamp_to_receive g news.role stamp)
 
 -- Each failed role has saved at least as many of its events as are forgotten.
 abbrev pub HaveSavedEnough : GuideView → ℕ → List ℕ → Type 0

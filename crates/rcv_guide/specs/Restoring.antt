@@ -5,6 +5,7 @@ use Rattle.rcv_tree.specs.declared.event.Dir.{Dir}
 use Rattle.rcv_tree.specs.declared.event.Dir.TheVariants.{Sent, Got}
 use Rattle.rcv_tree.specs.declared.event.Message.{Message}
 use Rattle.rcv_tree.specs.declared.protocol.Protocol.{Protocol}
+use Rattle.rcv_tree.specs.Events.{send_of, message_got}
 use Rattle.rcv_model.specs.ByPoints.{IsByEnd}
 use Rattle.rcv_model.specs.Next.{IsPlaceOf}
 use Rattle.rcv_model.specs.Plan.{PlanLine}
@@ -60,7 +61,7 @@ pub record FitsLog (g : GuideView) (r stamp : ℕ) : Type 0 where
 
 -- The Send of a message.
 abbrev pub sent_by : ℕ → Message → Event
-sent_by r m = record { role = r; dir = Sent; point = m.point; value = m.value; stamp = m.stamp; sent = m.stamp }
+sent_by r m = send_of r m.point m.value m.stamp
 
 -- A role sent the message in an event that is forgotten, and it lay in its channel then. No event of the role is restored yet.
 pub record MayLie (g : GuideView) (r : ℕ) (m : Message) : Type 0 where
@@ -78,10 +79,6 @@ with_seed g r m =
       used = g.used + 1;
     }
 
--- The message that a Recv takes.
-abbrev pub message_in : Event → Message
-message_in e = record { point = e.point; value = e.value; stamp = e.sent }
-
 -- It is the role's turn to make the event. A Send's message has its stamp. A Recv's message is in front, and has a lower stamp.
 pub record ComesAgain (g : GuideView) (e : Event) (end : ℕ) : Type 0 where
   pub next : IsNextOf g e.role e.point
@@ -90,7 +87,7 @@ pub record ComesAgain (g : GuideView) (e : Event) (end : ℕ) : Type 0 where
 abbrev pub IsTurn : GuideView → Event → Dir → Type 0
 IsTurn g e Sent = ComesAgain g e ((net_for g).sender e.point) × (e.sent ≡ e.stamp)
 IsTurn g e Got =
-    ComesAgain g e ((net_for g).receiver e.point) × IsInFront (net_for g) (stand g e.role) (message_in e) × (e.sent < e.stamp)
+    ComesAgain g e ((net_for g).receiver e.point) × IsInFront (net_for g) (stand g e.role) (message_got e) × (e.sent < e.stamp)
 
 -- A remembered event may be restored after those that are. The role made more events than are there now.
 pub record MayBeAgain (g : GuideView) (e : Event) : Type 0 where
@@ -110,7 +107,7 @@ pub record FitsEvent (g : GuideView) (e : Event) (count : ℕ) : Type 0 where
   pub ends : IsByEnd (net_for g) e
   pub after : e.dir ≡ Got → e.sent < e.stamp
   pub sent : e.dir ≡ Sent → e.sent ≡ e.stamp
-  pub front : e.dir ≡ Got → IsInFront (net_for g) (stand g e.role) (message_in e)
+  pub front : e.dir ≡ Got → IsInFront (net_for g) (stand g e.role) (message_got e)
   pub seeds : count ≤ length (log_at g.logs e.role) + 1
   pub seeds_are : (a : ℕ) → taken (net_for g) a e.role (take count (log_at g.logs e.role ++ e ∷ [])) ≡ []
   pub made : (numbers_at g.numbers e.role).forgotten + (length (log_at g.logs e.role) + 1 - count) ≤ (numbers_at g.numbers e.role).raw

@@ -48,11 +48,7 @@ pub fn flying(
             left -= 1;
             continue;
         }
-        messages.push(Message {
-            point: event.point,
-            value: event.value,
-            stamp: event.stamp,
-        })?;
+        messages.push(event.message())?;
     }
     Ok(messages)
 }

@@ -453,14 +453,7 @@ impl Guide {
     {
         self.may_send(news)?;
         let stamp = self.clock(news.role) + 1;
-        self.add_send(&Event {
-            role: news.role,
-            dir: Dir::Sent,
-            point: news.point,
-            value: news.value,
-            stamp,
-            sent: stamp,
-        });
+        self.add_send(&Event::send(news.role, news.point, news.value, stamp));
         Ok(stamp)
     }
 

@@ -4,13 +4,14 @@
 ghost use Rattle.std.specs.Prelude.{◌≡◌, ℕ, ◌<◌, ◌≤◌, ◌^◌, ◌↔◌, Some, slice_get, IsTrue, OnOk, OnErr};
 ghost use Rattle.rcv_tree.specs.declared.event.Event.{Event};
 ghost use Rattle.rcv_tree.specs.declared.event.Dir.TheVariants.{Sent, Got};
+ghost use Rattle.rcv_tree.specs.Events.{message_got};
 ghost use Rattle.rcv_model.specs.Next.{IsPlaceOf};
 ghost use Rattle.rcv_ledger.specs.Logs.{log_at};
 ghost use Rattle.rcv_told.specs.Told.{IsInFront};
 ghost use Rattle.rcv_guide.specs.Guide.{net_for, roles_of, stand, IsNextOf};
 ghost use Rattle.rcv_guide.specs.Numbers.{numbers_at};
 ghost use Rattle.rcv_guide.specs.Restoring.{begun_again, MayStand, with_standing, MayLie, with_seed, MayBeAgain, with_again};
-ghost use Rattle.rcv_guide.specs.Restoring.{IsWithin, FitsLog, IsTurn, message_in, FitsEvent, with_logged};
+ghost use Rattle.rcv_guide.specs.Restoring.{IsWithin, FitsLog, IsTurn, FitsEvent, with_logged};
 
 use crate::guide::Guide;
 use crate::numbers::{self, Numbers};
@@ -80,17 +81,8 @@ impl Guide {
             return Err(Unfit);
         }
         let seeds = self.seeds_of(role) + 1;
-        self.log(
-            &Event {
-                role,
-                dir: Dir::Sent,
-                point: message.point,
-                value: message.value,
-                stamp: message.stamp,
-                sent: message.stamp,
-            },
-            seeds,
-        );
+        let sent = Event::send(role, message.point, message.value, message.stamp);
+        self.log(&sent, seeds);
         Ok(())
     }
 
@@ -257,7 +249,7 @@ impl Guide {
     fn is_in_front(&self, event: &Event) -> bool
         requires declared { event.now.role < roles_of self.now }
         requires next { IsNextOf self.now event.now.role event.now.point }
-        ensures { IsTrue result ↔ IsInFront (net_for self.now) (stand self.now event.now.role) (message_in event.now) }
+        ensures { IsTrue result ↔ IsInFront (net_for self.now) (stand self.now event.now.role) (message_got event.now) }
     {
         let sender = self.accepted.points().sender(event.point);
         let Some(front) = self.front(sender, event.role) else {
@@ -291,7 +283,7 @@ fn is_within(standing: &Standing, told: u64) -> bool
 
 // Whether it is the message that a Recv takes.
 fn is_taken(front: &Message, event: &Event) -> bool
-    ensures { IsTrue result ↔ (front.now ≡ message_in event.now) }
+    ensures { IsTrue result ↔ (front.now ≡ message_got event.now) }
 {
     front.point == event.point && front.value == event.value && front.stamp == event.sent
 }

@@ -12,6 +12,7 @@ use Rattle.rcv_tree.specs.declared.event.Event.{Event}
 use Rattle.rcv_tree.specs.declared.event.Message.{Message}
 use Rattle.rcv_tree.specs.declared.event.Dir.{Dir}
 use Rattle.rcv_tree.specs.declared.event.Dir.TheVariants.{Sent, Got}
+use Rattle.rcv_tree.specs.Events.{message_got}
 use Rattle.rcv_model.specs.Net.{Net, IsPrefix}
 use Rattle.rcv_model.specs.Run.{is_sent, acts, place_of, put_by, taken_by, put, taken}
 use Rattle.rcv_model.specs.Next.{IsNext}
@@ -26,7 +27,7 @@ use Rattle.rcv_guide.specs.declared.numbers.Numbers.{Numbers}
 use Rattle.rcv_guide.specs.Numbers.{at_start, numbers_at}
 use Rattle.rcv_guide.specs.Guide.{net_for}
 use Rattle.rcv_guide.specs.Remembered.{seeds_at, seeds_of, IsDeclaredIn, AreRemembered}
-use Rattle.rcv_guide.specs.Restoring.{FitsLog, IsTurn, message_in}
+use Rattle.rcv_guide.specs.Restoring.{FitsLog, IsTurn}
 use Rattle.rcv_guide.proofs.Renewing.{each_same}
 use Rattle.rcv_dialogue.specs.declared.line.Again.{Again}
 use Rattle.rcv_dialogue.specs.declared.line.Again.TheVariants as again
@@ -261,7 +262,7 @@ module _ (s : SessionView) (form : HasForm s) (can : IsRestorable s) (events : L
       abbrev from : ℕ
       from = (net_for s.guide).sender e.point
 
-      takes : taken_by (net_for s.guide) from e.role e ≡ Some (message_in e)
+      takes : taken_by (net_for s.guide) from e.role e ≡ Some (message_got e)
       takes = taken_by_some (net_for s.guide) from e.role e (both (is_sent e.dir) (e.role == e.role) (from == from) (ap is_sent got) (eq-eqb e.role e.role refl) (eq-eqb from from refl))
         where
           both : (a b c : Bool) → a ≡ false → b ≡ true → c ≡ true → (not a && (b && c)) ≡ true
@@ -271,11 +272,11 @@ module _ (s : SessionView) (form : HasForm s) (can : IsRestorable s) (events : L
           both false true true f g h = refl
 
       declared : from < roles
-      declared = (can.sound.events from _ _ (put_at (net_for s.guide) from e.role (log_at s.guide.logs from) (log_at s.guide.logs e.role) (so_much done e.role) e (events_of e.role es) (message_in e) before_it takes (can.queued from e.role))).0
+      declared = (can.sound.events from _ _ (put_at (net_for s.guide) from e.role (log_at s.guide.logs from) (log_at s.guide.logs e.role) (so_much done e.role) e (events_of e.role es) (message_got e) before_it takes (can.queued from e.role))).0
 
-      lies : (rest : List Message) × (drop (length (taken (net_for s.guide) from e.role (log_at (log_all logs_first done) e.role))) (put (net_for s.guide) from e.role (log_at (log_all logs_first done) from)) ≡ message_in e ∷ rest)
+      lies : (rest : List Message) × (drop (length (taken (net_for s.guide) from e.role (log_at (log_all logs_first done) e.role))) (put (net_for s.guide) from e.role (log_at (log_all logs_first done) from)) ≡ message_got e ∷ rest)
       lies =
-          let front = in_front (net_for s.guide) from e.role (log_at s.guide.logs from) (log_at s.guide.logs e.role) (so_much done e.role) e (events_of e.role es) (message_in e) before_it takes (can.queued from e.role)
+          let front = in_front (net_for s.guide) from e.role (log_at s.guide.logs from) (log_at s.guide.logs e.role) (so_much done e.role) e (events_of e.role es) (message_got e) before_it takes (can.queued from e.role)
           (so_much done from) (events_of from (e ∷ es)) (whole_log done (e ∷ es) from whole)
           (λ n f at_n same.
           let one = one_of from (e ∷ es) n f at_n in

@@ -3,6 +3,7 @@ use Rattle.std.specs.Prelude.{◌≡◌, ◌⊎◌, ℕ, ◌<◌, ◌≤◌, ◌
 use Rattle.std.specs.List.{range_with_len}
 use Rattle.rcv_tree.specs.declared.entry.Entry.{Entry}
 use Rattle.rcv_tree.specs.declared.event.Event.{Event}
+use Rattle.rcv_tree.specs.Events.{message_sent}
 use Rattle.rcv_saves.specs.Counts.{with_count}
 use Rattle.rcv_saves.specs.Saves.{told_of, with_told}
 use Rattle.rcv_guide.specs.declared.standing.Standing.{Standing}
@@ -129,7 +130,7 @@ flight_again s e =
     again.Flight (record {
       from = e.role;
       to = (net_for s.guide).receiver e.point;
-      message = record { point = e.point; value = e.value; stamp = e.stamp };
+      message = message_sent e;
     })
 
 abbrev pub saves_again : SessionView → ℕ → List Again

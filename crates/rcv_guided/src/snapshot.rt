@@ -16,7 +16,7 @@ use crate::session::GuidedSession;
 use rcv_dialogue::answer::Answer;
 use rcv_dialogue::line::{Again, Extent, Flight, ToldStanding};
 use rcv_text::writer::Writer;
-use rcv_tree::event::{Event, Message};
+use rcv_tree::event::Event;
 use rcv_tree::role::RoleId;
 use std::alloc::{AllocError, Global};
 
@@ -59,11 +59,7 @@ impl GuidedSession {
         Again::Flight(Flight {
             from: sent.role,
             to: self.receiver(sent.point),
-            message: Message {
-                point: sent.point,
-                value: sent.value,
-                stamp: sent.stamp,
-            },
+            message: sent.message(),
         })
     }
 

@@ -9,8 +9,8 @@ ghost use Rattle.rcv_heat.specs.Words.{worst_text, sampled_text, step_text, foot
 
 use rcv_core::setup::Setup;
 use rcv_costs::{Cost, Costs};
+use rcv_journal::name::name_of;
 use rcv_losses::lines::{write_crash, write_share};
-use rcv_losses::names::name_of;
 use rcv_losses::totals::worst_of;
 use rcv_text::writer::Writer;
 use rcv_tree::role::RoleId;

@@ -1,11 +1,12 @@
 -- The text of a journal: a line for each entry, a line for each role, and how the session ended.
-use Rattle.std.specs.Prelude.{◌≡◌, ℕ, ◌<◌, ◌≤◌, Bool, true, false, if◌then◌else◌, List, [], ◌++◌, flat_map, slice_index, slice_index_or, codes, decimal, All}
+use Rattle.std.specs.Prelude.{◌≡◌, ℕ, ◌<◌, ◌≤◌, Bool, true, false, if◌then◌else◌, List, [], ◌++◌, flat_map, slice_index, codes, decimal, All}
 use Rattle.std.specs.Fmt.{signed_decimal}
 use Rattle.std.specs.List.{list_all, range_with_len}
 use Rattle.rcv_tree.specs.Bits.{has_bit}
 use Rattle.rcv_tree.specs.declared.event.Event.{Event}
 use Rattle.rcv_tree.specs.declared.entry.Entry.{Entry}
 use Rattle.rcv_tree.specs.declared.entry.Entry.TheVariants.{Send, Recv, Crash, Recover}
+use Rattle.rcv_tree.specs.Names.{name_at}
 use Rattle.rcv_session.specs.Session.{SessionView, roles_of, net_for}
 use Rattle.rcv_journal.specs.declared.line.RoleLine.{RoleLine}
 use Rattle.rcv_journal.specs.declared.line.RoleWord.{RoleWord}
@@ -41,7 +42,7 @@ HaveRoles setup lines = All (λ line. line.role < roles_of setup) lines
 
 -- The name of a role.
 abbrev pub name_of : SessionView → ℕ → List ℕ
-name_of setup r = slice_index_or setup.protocol.roles r []
+name_of setup r = name_at setup.protocol.roles r
 
 -- What a Send and a Recv have in common: `ROLE POINT LABEL VALUE @STAMP`.
 abbrev pub event_text : SessionView → Event → List ℕ

@@ -1,17 +1,15 @@
 // The name of a role.
 
-ghost use Rattle.std.specs.Prelude.{◌≡◌, ◌<◌};
-ghost use Rattle.rcv_session.specs.Session.{roles_of};
+ghost use Rattle.std.specs.Prelude.{◌≡◌};
 ghost use Rattle.rcv_journal.specs.JournalText.{name_of};
 
 use rcv_core::setup::Setup;
 use rcv_tree::role::RoleId;
 
-/// The name of a declared role.
+/// The name of a role; empty if it isn't declared.
 #[inline(always)]
-pub fn name_of<'a>(setup: &'a Setup, role: RoleId) -> &'a [u8]
-    requires { role < roles_of setup.now }
+pub fn name_of(setup: &Setup, role: RoleId) -> &[u8]
     ensures { result.now ≡ name_of setup.now role }
 {
-    setup.protocol().roles.as_slice()[role.0 as usize].as_slice()
+    setup.protocol().roles.name(role)
 }

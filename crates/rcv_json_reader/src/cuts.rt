@@ -53,8 +53,7 @@ fn cut(protocol: &Protocol, role: RoleId, pair: &Value) -> Option<u32>
     if parts.len() != 2 {
         return None;
     }
-    let names = protocol.roles.as_slice();
-    if !is_text(&parts[0], names[role.0 as usize].as_slice()) {
+    if !is_text(&parts[0], protocol.roles.name(role)) {
         return None;
     }
     short_count(&parts[1])

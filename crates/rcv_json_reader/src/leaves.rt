@@ -1,10 +1,11 @@
 // Texts, numbers and lists of a value that was read.
 
-ghost use Rattle.std.specs.Prelude.{◌≡◌, ◌<◌, ◌≤◌, ◌^◌, ℕ, ℤ, List, [], length, slice_index_or, true, false};
+ghost use Rattle.std.specs.Prelude.{◌≡◌, ◌<◌, ◌≤◌, ◌^◌, ℕ, ℤ, List, length, true, false};
 ghost use Rattle.std.specs.Prelude.{FitsSigned, map, IfSome, IfNone};
 ghost use Rattle.serde_json.specs.Data.{Data, number, string};
 ghost use Rattle.serde_json.specs.Find.{of_integer};
 ghost use Rattle.serde_json.specs.View.{view};
+ghost use Rattle.rcv_tree.specs.Names.{name_at};
 ghost use Rattle.rcv_journal.specs.Json.{count, list_of};
 ghost use mir.Syntax.{w64};
 
@@ -62,9 +63,9 @@ pub(crate) fn items(value: &Value) -> Option<&[Value]>
 pub(crate) fn role(protocol: &Protocol, value: &Value) -> Option<RoleId>
     requires { length protocol.now.roles ≤ 8 }
     ensures declared { IfSome result (λ r. r < length protocol.now.roles) }
-    ensures some { IfSome result (λ r. view value.now ≡ string (slice_index_or protocol.now.roles r [])) }
+    ensures some { IfSome result (λ r. view value.now ≡ string (name_at protocol.now.roles r)) }
     ensures none { IfNone result ((r : ℕ) → r < length protocol.now.roles
-        → view value.now ≡ string (slice_index_or protocol.now.roles r []) → ⊥) }
+        → view value.now ≡ string (name_at protocol.now.roles r) → ⊥) }
 {
     let names = protocol.roles.as_slice();
     let place = names

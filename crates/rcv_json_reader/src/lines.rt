@@ -56,8 +56,7 @@ pub(crate) fn read_line(protocol: &Protocol, role: RoleId, value: &Value) -> Opt
     if parts.len() != 4 {
         return None;
     }
-    let names = protocol.roles.as_slice();
-    if !is_text(&parts[0], names[role.0 as usize].as_slice()) {
+    if !is_text(&parts[0], protocol.roles.name(role)) {
         return None;
     }
     numbers(role, &parts[1], &parts[2], &parts[3])

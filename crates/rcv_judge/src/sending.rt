@@ -10,7 +10,7 @@ ghost use Rattle.rcv_judge.specs.Could.{HasSender, IsNextSender, IsSendOf};
 
 use crate::same::is_same_event;
 use rcv_core::book::Book;
-use rcv_tree::event::{Dir, Event};
+use rcv_tree::event::Event;
 use rcv_tree::point::Point;
 use rcv_tree::role::RoleId;
 
@@ -88,14 +88,7 @@ pub fn chosen(book: &Book<'_>, role: RoleId) -> Event
     let point = setup.choose(role, vars, attempt, offered);
     let value = setup.value(role, vars, attempt, point);
     let stamp = book.clock(role) + 1;
-    Event {
-        role,
-        dir: Dir::Sent,
-        point,
-        value,
-        stamp,
-        sent: stamp,
-    }
+    Event::send(role, point, value, stamp)
 }
 
 // Whether an event is the Send that its role's script chooses. The role may make a step, and this role sends at its

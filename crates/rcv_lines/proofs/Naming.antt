@@ -5,8 +5,9 @@ use Rattle.std.proofs.lemmas.Bool.{cases_lt}
 use Rattle.std.proofs.lemmas.Option.{slice_get-get_or}
 use Rattle.std.proofs.lemmas.List.{length-map, map-append, get_or-map, get_or_append_left, get_or-append-add}
 use Rattle.std.proofs.Math.Seq.{take-suc}
+use Rattle.rcv_tree.specs.Names.{name_at}
 use Rattle.rcv_model.specs.Names.{AreDifferent}
-use Rattle.rcv_lines.specs.Named.{name_at, HaveNames}
+use Rattle.rcv_lines.specs.Named.{HaveNames}
 
 -- Two roles with one name are one.
 pub same_role : (names : List (List ℕ)) (x y : ℕ) → AreDifferent names → x < length names → y < length names → name_at names x ≡ name_at names y → x ≡ y

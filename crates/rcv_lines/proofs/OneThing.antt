@@ -12,6 +12,7 @@ use Rattle.rcv_tree.specs.Bits.{has_bit}
 use Rattle.rcv_tree.specs.declared.event.Event.{Event}
 use Rattle.rcv_tree.specs.declared.event.Dir.{Dir}
 use Rattle.rcv_tree.specs.declared.entry.Entry.TheVariants.{Send, Recv, Crash, Recover}
+use Rattle.rcv_tree.specs.Names.{name_at}
 use Rattle.rcv_model.specs.Names.{AreDifferent}
 use Rattle.rcv_session.specs.Session.{SessionView, roles_of}
 use Rattle.rcv_accept.specs.Accepted.{IsAcceptedProtocol}
@@ -23,7 +24,7 @@ use Rattle.rcv_lines.specs.Cutting.{joined}
 use Rattle.rcv_lines.specs.Fields.{event_fields, line_fields}
 use Rattle.rcv_lines.specs.Laws.{LinesSayOneThing}
 use Rattle.rcv_lines.specs.Line.{EndLine, EntryLine, IsFormedLine, LineView, RoleLineOf}
-use Rattle.rcv_lines.specs.Named.{BeginOtherwise, FitsCut, cut_at, cut_fields, kept_fields, name_at}
+use Rattle.rcv_lines.specs.Named.{BeginOtherwise, FitsCut, cut_at, cut_fields, kept_fields}
 use Rattle.rcv_lines.proofs.Naming.{same_role, same_roles}
 use Rattle.rcv_lines.proofs.Parses.{within}
 use Rattle.rcv_lines.proofs.Texts.{last_byte, line_joins, text_said}

@@ -11,10 +11,11 @@ use Rattle.std.proofs.lemmas.Nat.{shr-shr, pow_pos}
 use Rattle.std.proofs.Math.Nat.{lt-div-mul-add, div-eq_of_lt, div-le_self}
 use Rattle.std.proofs.Math.Pow.{pow-lt}
 use Rattle.rcv_tree.specs.Bits.{has_bit}
+use Rattle.rcv_tree.specs.Names.{name_at}
 use Rattle.rcv_model.specs.Names.{AreDifferent}
 use Rattle.rcv_lines.specs.Cutting.{texts}
 use Rattle.rcv_journal.specs.Form.{AreCuts}
-use Rattle.rcv_lines.specs.Named.{name_at, cut_at, cut_fields, cuts_fields, kept_fields, BeginOtherwise, FitsCut}
+use Rattle.rcv_lines.specs.Named.{cut_at, cut_fields, cuts_fields, kept_fields, BeginOtherwise, FitsCut}
 use Rattle.rcv_lines.proofs.Naming.{same_role}
 
 range_more : (a n : ℕ) → range_with_len a (suc n) ≡ range_with_len a n ++ (a + n) ∷ []

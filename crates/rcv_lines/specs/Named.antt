@@ -1,12 +1,9 @@
 -- What fields say of roles, which they name.
-use Rattle.std.specs.Prelude.{◌≡◌, ◌<◌, ◌^◌, ℕ, if◌then◌else◌, List, [], ◌∷◌, ◌++◌, flat_map, length, slice_index, slice_index_or, decimal, Option, Some, None}
+use Rattle.std.specs.Prelude.{◌≡◌, ◌<◌, ◌^◌, ℕ, if◌then◌else◌, List, [], ◌∷◌, ◌++◌, flat_map, length, slice_index, decimal, Option, Some, None}
 use Rattle.std.specs.List.{All, range_with_len}
 use Rattle.rcv_tree.specs.Bits.{has_bit}
+use Rattle.rcv_tree.specs.Names.{name_at}
 use Rattle.rcv_journal.specs.Form.{AreCuts}
-
--- The name of a role.
-abbrev pub name_at : List (List ℕ) → ℕ → List ℕ
-name_at names r = slice_index_or names r []
 
 -- Roles that have names.
 abbrev pub HaveNames : List (List ℕ) → List ℕ → Type 0

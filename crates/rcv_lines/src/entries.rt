@@ -33,7 +33,7 @@ fn crash(accepted: &Accepted, fields: &[&[u8]]) -> Option<RoleId>
     if !is_same(fields[0], b"crash") {
         return None;
     }
-    role(accepted.protocol().roles.as_slice(), fields[1])
+    role(&accepted.protocol().roles, fields[1])
 }
 
 // The Recover that these fields say.
@@ -43,10 +43,10 @@ fn recovery_of(accepted: &Accepted, of: &[u8], number: &[u8], cuts: &[&[u8]]) ->
     ensures none { IfNone result ((e : Entry) → IsFormedEntry (bare accepted.now.protocol) e
         → SaysRecovery (bare accepted.now.protocol) e of.now number.now (texts cuts.now) → ⊥) }
 {
-    let names = accepted.protocol().roles.as_slice();
+    let names = &accepted.protocol().roles;
     let role = role(names, of)?;
     let undone = short_number_before(number, b':')?;
-    let cuts = read_cuts(names, cuts)?;
+    let cuts = read_cuts(names.as_slice(), cuts)?;
     let kept = cuts.kept;
     Some(Entry::Recover {
         role,

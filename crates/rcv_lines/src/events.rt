@@ -85,7 +85,7 @@ fn event_of(
     ensures none { IfNone result ((e : Event) → IsFormedEvent (bare accepted.now.protocol) dir e
         → SaysEvent (bare accepted.now.protocol) e of.now at.now named.now value.now → ⊥) }
 {
-    let role = role(accepted.protocol().roles.as_slice(), of)?;
+    let role = role(&accepted.protocol().roles, of)?;
     let point = point(accepted, at)?;
     if !is_same(named, label(accepted, point)) {
         return None;

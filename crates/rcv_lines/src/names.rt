@@ -1,31 +1,29 @@
 // Fields that are names of roles.
 
 ghost use Rattle.std.specs.Prelude.{◌≡◌, ◌≤◌, ◌<◌, ℕ, List, length, map, true, false, IfOk, IfSome, IfNone};
+ghost use Rattle.rcv_tree.specs.Names.{name_at};
 ghost use Rattle.rcv_model.specs.Names.{AreDifferent};
 ghost use Rattle.rcv_journal.specs.Form.{IsAscending};
 ghost use Rattle.rcv_lines.specs.Cutting.{texts};
-ghost use Rattle.rcv_lines.specs.Named.{name_at, HaveNames};
+ghost use Rattle.rcv_lines.specs.Named.{HaveNames};
 
-use crate::numbers::is_same;
-use rcv_tree::name::Name;
+use rcv_tree::name::Names;
 use rcv_tree::role::RoleId;
 use std::alloc::{AllocError, Global};
 
 // The role whose name the field is.
-pub fn role(names: &[Name], field: &[u8]) -> Option<RoleId>
+pub fn role(names: &Names, field: &[u8]) -> Option<RoleId>
     requires { length names.now ≤ 8 }
     ensures declared { IfSome result (λ r. r < length names.now) }
     ensures some { IfSome result (λ r. field.now ≡ name_at names.now r) }
     ensures none { IfNone result ((r : ℕ) → r < length names.now → field.now ≡ name_at names.now r → ⊥) }
 {
-    let place = names
-        .iter()
-        .position(|name| is_same(field, name.as_slice()))?;
+    let place = names.place_of(field)?;
     Some(RoleId(place as u8))
 }
 
 // The roles whose names the fields are. Fails if memory runs out.
-fn roles(alloc: Global, names: &[Name], fields: &[&[u8]]) -> Result<Option<Vec<RoleId>>, AllocError>
+fn roles(alloc: Global, names: &Names, fields: &[&[u8]]) -> Result<Option<Vec<RoleId>>, AllocError>
     requires { length names.now ≤ 8 }
     ensures declared { IfOk result (λ read. IfSome read (λ roles. HaveNames names.now roles.items)) }
     ensures some { IfOk result (λ read. IfSome read (λ roles. map (name_at names.now) roles.items ≡ texts fields.now)) }
@@ -60,7 +58,7 @@ fn is_ascending(roles: &[RoleId]) -> bool
 // The roles whose names the fields are, in order, each once. Fails if memory runs out.
 pub fn roles_in_order(
     alloc: Global,
-    names: &[Name],
+    names: &Names,
     fields: &[&[u8]],
 ) -> Result<Option<Vec<RoleId>>, AllocError>
     requires few { length names.now ≤ 8 }

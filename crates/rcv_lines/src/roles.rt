@@ -50,7 +50,7 @@ fn line_of(
         → SaysRole (bare accepted.now.protocol) line of.now kept.now raw.now ended.now → ⊥) }
 {
     Some(RoleLine {
-        role: role(accepted.protocol().roles.as_slice(), of)?,
+        role: role(&accepted.protocol().roles, of)?,
         kept: short_number(kept)?,
         raw: short_number(raw)?,
         word: word(ended)?,
@@ -109,7 +109,7 @@ fn limited(
     if !is_same(kind, b"limited") {
         return Ok(None);
     }
-    roles_in_order(alloc, accepted.protocol().roles.as_slice(), rest)
+    roles_in_order(alloc, &accepted.protocol().roles, rest)
 }
 
 // The roles at the limit that the fields of the last line say; none if the session is completed. Fails if memory runs

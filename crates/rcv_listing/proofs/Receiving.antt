@@ -1,13 +1,12 @@
 -- The tokens that are receivers name the receivers of the points, and the lines are theirs.
-use Rattle.std.proofs.Common.{◌≡◌, ℕ, ◌+◌, Bool, true, false, List, [], ◌∷◌, ◌++◌, map, slice_index_or, length, append_assoc, append-nil, refl, sym, ◌∙◌, ap, subst}
+use Rattle.std.proofs.Common.{◌≡◌, ℕ, ◌+◌, Bool, true, false, List, [], ◌∷◌, ◌++◌, map, length, append_assoc, append-nil, refl, sym, ◌∙◌, ap, subst}
 use Rattle.std.specs.Prelude.{Option, Some, None, if◌then◌else◌}
-use Rattle.std.specs.Str.{bytes_eq}
 use Rattle.std.proofs.lemmas.List.{map-append}
-use Rattle.std.proofs.lemmas.List.Quantifiers.{position-Some}
-use Rattle.std.proofs.lemmas.Slice.Eq.{bytes_eq-Decides}
 use Rattle.rcv_tree.specs.declared.protocol.Decl.{Decl}
 use Rattle.rcv_tree.specs.declared.protocol.Protocol.{Protocol}
 use Rattle.rcv_tree.specs.Lists as tree
+use Rattle.rcv_tree.specs.Names.{name_at, place_of}
+use Rattle.rcv_tree.proofs.Naming.{is_named}
 use Rattle.rcv_model.specs.Text.{Body}
 use Rattle.rcv_model.specs.Places as model
 use Rattle.rcv_model.specs.Places.{SingleMessage}
@@ -21,9 +20,8 @@ use Rattle.rcv_syntax.specs.declared.sign.Sign.{Sign}
 use Rattle.rcv_syntax.specs.declared.sign.Sign.TheVariants.{From, To, Or, And, Open, Close, Right, Semicolon}
 use Rattle.rcv_syntax.specs.Symbols.{Symbol, Is, Word, reserved, sign_or, symbol_by, symbols_of}
 use Rattle.rcv_syntax.specs.Grammar.{Written, NoStmt, AMessage, AChoice, ARec, AContinue, APar, ADo, Blocks, NoBlock, ABlock, WrittenProtocol, Source, dotted, names_behind, sort_list, roles_behind, decls, stmts, blocks_behind, declared, protocols, spelling}
-use Rattle.rcv_syntax.specs.Trees.{place_of, role_at, roles_at, singles, points, points_of, tree_of, trees_of, is_call, lines_of_calls, IsDeclared, MayReceive, IsFit, AreFit, IsTreeOf, AreTreesOf}
+use Rattle.rcv_syntax.specs.Trees.{role_at, roles_at, singles, points, points_of, tree_of, trees_of, is_call, lines_of_calls, IsDeclared, MayReceive, IsFit, AreFit, IsTreeOf, AreTreesOf}
 use Rattle.rcv_listing.specs.Receivers.{listed_behind, goes_on, is_receiver, is_global, said_by, receivers_of, up_to_next, texts_of, receivers_of_all, lines_of, receiver_lines, calls_in}
-use Rattle.rcv_listing.specs.Lines.{name_of}
 use Rattle.rcv_listing.specs.Laws.{receivers_in, named_by, written_at, first_lines, LinesAreThoseOfReceivers}
 
 -- ---- what symbols name as receivers
@@ -216,28 +214,25 @@ spelling_named s =
 
 -- ---- the tree
 
-place_named : (roles : List (List ℕ)) (n : List ℕ) (r : ℕ) → place_of roles n ≡ Some r → slice_index_or roles r [] ≡ n
-place_named roles n r e = let a = position-Some (λ role. bytes_eq role n) roles r [] e in (bytes_eq-Decides (slice_index_or roles r []) n).0 a.1
-
-role_named : (roles : List (List ℕ)) (n : List ℕ) → IsDeclared roles n → name_of roles (role_at roles n) ≡ n
+role_named : (roles : List (List ℕ)) (n : List ℕ) → IsDeclared roles n → name_at roles (role_at roles n) ≡ n
 role_named roles n d = go (place_of roles n) refl d.1
   where
-    go : (o : Option ℕ) → place_of roles n ≡ o → o ≡ Some d.0 → name_of roles (role_at roles n) ≡ n
+    go : (o : Option ℕ) → place_of roles n ≡ o → o ≡ Some d.0 → name_at roles (role_at roles n) ≡ n
     go None e f = absurd (cc)
-    go (Some r) e f = rw e (place_named roles n r e)
+    go (Some r) e f = rw e (is_named roles n r e).1
 
-receivers_named : (roles : List (List ℕ)) (sender : ℕ) (before : List ℕ) (ns : List (List ℕ)) → MayReceive roles sender before ns → map (name_of roles) (roles_at roles ns) ≡ ns
+receivers_named : (roles : List (List ℕ)) (sender : ℕ) (before : List ℕ) (ns : List (List ℕ)) → MayReceive roles sender before ns → map (name_at roles) (roles_at roles ns) ≡ ns
 receivers_named roles sender before [] h = refl
 receivers_named roles sender before (n ∷ ns) h =
-    ap (λ x. x ∷ map (name_of roles) (roles_at roles ns)) (role_named roles n h.0)
+    ap (λ x. x ∷ map (name_at roles) (roles_at roles ns)) (role_named roles n h.0)
     ∙ ap (λ l. n ∷ l) (receivers_named roles sender (before ++ role_at roles n ∷ []) ns h.3)
 
-singles_named : (roles : List (List ℕ)) (label : List ℕ) (sorts : List (List ℕ)) (sender : ℕ) (rs : List ℕ) (n : ℕ) (rest : Body) → receivers_in roles (model.singles (singles label sorts sender rs n rest)) ≡ map (name_of roles) rs ++ receivers_in roles (model.singles rest)
+singles_named : (roles : List (List ℕ)) (label : List ℕ) (sorts : List (List ℕ)) (sender : ℕ) (rs : List ℕ) (n : ℕ) (rest : Body) → receivers_in roles (model.singles (singles label sorts sender rs n rest)) ≡ map (name_at roles) rs ++ receivers_in roles (model.singles rest)
 singles_named roles label sorts sender [] n rest = refl
-singles_named roles label sorts sender (r ∷ rs) n rest = ap (λ l. name_of roles r ∷ l) (singles_named roles label sorts sender rs (n + 1) rest)
+singles_named roles label sorts sender (r ∷ rs) n rest = ap (λ l. name_at roles r ∷ l) (singles_named roles label sorts sender rs (n + 1) rest)
 
 both_named : (roles : List (List ℕ)) (xs ys : List (ℕ × SingleMessage)) (a b : List (List ℕ)) → receivers_in roles xs ≡ a → receivers_in roles ys ≡ b → receivers_in roles (xs ++ ys) ≡ a ++ b
-both_named roles xs ys a b e f = map-append (λ (m : ℕ × SingleMessage). name_of roles m.1.receiver) xs ys ∙ ap (λ l. l ++ receivers_in roles ys) e ∙ ap (λ l. a ++ l) f
+both_named roles xs ys a b e f = map-append (λ (m : ℕ × SingleMessage). name_at roles m.1.receiver) xs ys ∙ ap (λ l. l ++ receivers_in roles ys) e ∙ ap (λ l. a ++ l) f
 
 mutual
   tree_named : (roles : List (List ℕ)) (n : ℕ) (w : Written) → IsFit roles w → receivers_in roles (model.singles (tree_of roles n w)) ≡ written w

@@ -3,6 +3,7 @@ use Rattle.std.specs.Prelude.{◌≡◌, ℕ, List, ◌∷◌, map}
 use Rattle.rcv_tree.specs.Lists.{protocols}
 use Rattle.rcv_tree.specs.declared.module.Module.{Module}
 use Rattle.rcv_tree.specs.declared.protocol.Protocol.{Protocol}
+use Rattle.rcv_tree.specs.Names.{name_at}
 use Rattle.rcv_model.specs.Text.{body_of}
 use Rattle.rcv_model.specs.Places.{SingleMessage, singles}
 use Rattle.rcv_lexer.specs.declared.token.Token.{Token}
@@ -11,11 +12,10 @@ use Rattle.rcv_syntax.specs.Trees.{lines_of_calls}
 use Rattle.rcv_reader.specs.Refusals.{IsRead}
 use Rattle.rcv_input.specs.Input.{AreProtocolTokens}
 use Rattle.rcv_listing.specs.Receivers.{calls_in, receivers_of_all, receiver_lines}
-use Rattle.rcv_listing.specs.Lines.{name_of}
 
 -- The names of the receivers of messages, in order; and of the messages of a protocol's own text.
 abbrev pub receivers_in : List (List ℕ) → List (ℕ × SingleMessage) → List (List ℕ)
-receivers_in roles messages = map (λ (e : ℕ × SingleMessage). name_of roles e.1.receiver) messages
+receivers_in roles messages = map (λ (e : ℕ × SingleMessage). name_at roles e.1.receiver) messages
 
 abbrev pub named_by : Protocol → List (List ℕ)
 named_by p = receivers_in p.roles (singles (body_of p.body))

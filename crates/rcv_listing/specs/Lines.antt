@@ -3,6 +3,7 @@ use Rattle.std.specs.Prelude.{◌≡◌, ℕ, ◌-◌, ◌≤◌, ◌==◌, Bool
 use Rattle.std.specs.List.{range_with_len}
 use Rattle.rcv_tree.specs.declared.refusal.Refusal.{Refusal}
 use Rattle.rcv_tree.specs.declared.refusal.Refusal.TheVariants as refusals
+use Rattle.rcv_tree.specs.Names.{name_at}
 use Rattle.rcv_model.specs.Net.{Net}
 use Rattle.rcv_model.specs.Next.{AreNext}
 use Rattle.rcv_input.specs.Line.{refusal_line}
@@ -12,10 +13,7 @@ use Rattle.rcv_explain.specs.Explained.{HasRule, IsNamed}
 use Rattle.rcv_listing.specs.declared.written.PointLines.{PointLines}
 use Rattle.rcv_listing.specs.Way.{IsInTheWay}
 
--- The name of a role; and the line of a point, which counts from 1, and those of the calls through which it came.
-abbrev pub name_of : List (List ℕ) → ℕ → List ℕ
-name_of roles r = slice_index_or roles r []
-
+-- The line of a point, which counts from 1, and those of the calls through which it came.
 abbrev pub nowhere : PointLines
 nowhere = record { line = 0; calls = [] }
 
@@ -33,7 +31,7 @@ calls_text lines = flat_map (λ (line : ℕ). codes " do line " ++ decimal line)
 abbrev pub message_text : List (List ℕ) → Net → List PointLines → ℕ → List ℕ
 message_text roles net lines p =
     decimal p ++ codes " line " ++ decimal (line_of lines p) ++ codes " " ++ net.label p ++ codes " from "
-    ++ name_of roles (net.sender p) ++ codes " to " ++ name_of roles (net.receiver p)
+    ++ name_at roles (net.sender p) ++ codes " to " ++ name_at roles (net.receiver p)
 
 -- The line of a point: its message, and its calls, the outermost first.
 abbrev pub point_text : List (List ℕ) → Net → List PointLines → ℕ → List ℕ
@@ -56,18 +54,18 @@ stand_text lines place =
     if place == 0 then codes " is at the start" else codes " is after its point " ++ decimal place ++ codes ", line " ++ decimal (line_of lines place)
 
 abbrev pub place_text : List (List ℕ) → List PointLines → ℕ → ℕ → List ℕ
-place_text roles lines role place = name_of roles role ++ stand_text lines place ++ codes ". Its next points there:\n"
+place_text roles lines role place = name_at roles role ++ stand_text lines place ++ codes ". Its next points there:\n"
 
 -- What is wrong with a point: another role than the one that decides sends it, no way comes to it, or none leads from it
 -- to the end of its lane.
 abbrev pub subject_text : List (List ℕ) → ℕ → List ℕ
-subject_text roles role = name_of roles role ++ codes " decides, but another role sends this first message:\n"
+subject_text roles role = name_at roles role ++ codes " decides, but another role sends this first message:\n"
 
 abbrev pub unreached_text : List (List ℕ) → ℕ → List ℕ
-unreached_text roles role = name_of roles role ++ codes " sends this message, but no way from the start comes to it:\n"
+unreached_text roles role = name_at roles role ++ codes " sends this message, but no way from the start comes to it:\n"
 
 abbrev pub endless_text : List (List ℕ) → ℕ → List ℕ
-endless_text roles role = name_of roles role ++ codes " sends this message, but no way leads from it to the end of its lane, and a stage follows:\n"
+endless_text roles role = name_at roles role ++ codes " sends this message, but no way leads from it to the end of its lane, and a stage follows:\n"
 
 -- What is said of the place or the point where a rule fails, in front of the points that are shown.
 abbrev pub where_text : List (List ℕ) → List PointLines → ℕ → ℕ → ℕ → List ℕ
@@ -89,7 +87,7 @@ abbrev pub first_text : List PointLines → ℕ → List ℕ
 first_text lines p = codes "The choice whose first message is point " ++ decimal p ++ codes ", line " ++ decimal (line_of lines p)
 
 abbrev pub decides_text : List (List ℕ) → ℕ → List ℕ
-decides_text roles role = codes ", stands in its way. There " ++ name_of roles role ++ codes " decides.\n"
+decides_text roles role = codes ", stands in its way. There " ++ name_at roles role ++ codes " decides.\n"
 
 abbrev pub choice_text : List (List ℕ) → Net → List PointLines → ℕ → List ℕ
 choice_text roles net lines p = first_text lines p ++ decides_text roles (net.sender p)
@@ -102,7 +100,7 @@ pub data IsWay (roles : List (List ℕ)) (net : Net) (lines : List PointLines) :
 -- What a refusal says: its line, the place with its points, the choice in the way, the rule and the repair.
 abbrev pub told_text : List (List ℕ) → Net → List PointLines → ℕ → ℕ → ℕ → List ℕ → List ℕ → Explanation → List ℕ
 told_text roles net lines code role number shown way e =
-    codes "\n" ++ refusal_line (Rule code (name_of roles role) number) ++ where_text roles lines code role number
+    codes "\n" ++ refusal_line (Rule code (name_at roles role) number) ++ where_text roles lines code role number
     ++ points_text roles net lines shown ++ way ++ rule_text e
 
 -- This is said of a refusal by a rule.

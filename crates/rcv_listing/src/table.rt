@@ -1,9 +1,10 @@
 // The points of a text by line.
 
 ghost use Rattle.std.specs.Prelude.{◌≡◌, ◌≤◌, ◌++◌, length, OnOk};
+ghost use Rattle.rcv_tree.specs.Names.{name_at};
 ghost use Rattle.rcv_points.specs.Follow.{net_in};
 ghost use Rattle.rcv_accept.specs.Lists.{AreInText};
-ghost use Rattle.rcv_listing.specs.Lines.{name_of, line_of, calls_of, calls_text, message_text, point_text, points_text, all_text};
+ghost use Rattle.rcv_listing.specs.Lines.{line_of, calls_of, calls_text, message_text, point_text, points_text, all_text};
 
 use crate::written::PointLines;
 use rcv_points::points::Points;
@@ -35,12 +36,9 @@ fn write_calls(text: &mut Writer, lines: &[u32]) -> Result<(), AllocError>
 impl Table<'_> {
     /// The name of a role; the empty one if there is no such role.
     pub fn name(&self, role: RoleId) -> &[u8]
-        ensures { result.now ≡ name_of self.now.roles.now role }
+        ensures { result.now ≡ name_at self.now.roles.now role }
     {
-        match self.roles.as_slice().get(role.0 as usize) {
-            Some(name) => name.as_slice(),
-            None => &[],
-        }
+        self.roles.name(role)
     }
 
     /// The line of a point; 0 if there is no such point.

@@ -1,11 +1,12 @@
 // What a refusal by a rule of acceptance says.
 
 ghost use Rattle.std.specs.Prelude.{◌≡◌, ◌++◌, ◌≤◌, ℕ, List, length, codes, decimal, IfOk, OnOk};
+ghost use Rattle.rcv_tree.specs.Names.{name_at};
 ghost use Rattle.rcv_points.specs.Follow.{net_in};
 ghost use Rattle.rcv_input.specs.Line.{refusal_line};
 ghost use Rattle.rcv_input.specs.declared.refused.Refused.TheVariants.{Rule};
 ghost use Rattle.rcv_explain.specs.Explained.{HasRule};
-ghost use Rattle.rcv_listing.specs.Lines.{name_of, rule_text, stand_text, place_text, subject_text, unreached_text, endless_text};
+ghost use Rattle.rcv_listing.specs.Lines.{rule_text, stand_text, place_text, subject_text, unreached_text, endless_text};
 ghost use Rattle.rcv_listing.specs.Lines.{where_text, first_text, decides_text, choice_text, IsWay};
 ghost use Rattle.rcv_listing.specs.Lines as lines;
 ghost use Rattle.rcv_listing.specs.Lines.{IsNumberIn, IsRuleIn, AddsTold, AddsRefusal};
@@ -114,7 +115,7 @@ fn line_of(
     role: RoleId,
     number: u16,
 ) -> Result<Vec<u8>, AllocError>
-    ensures { IfOk result (λ line. line.items ≡ refusal_line (Rule code (name_of table.now.roles.now role) number)) }
+    ensures { IfOk result (λ line. line.items ≡ refusal_line (Rule code (name_at table.now.roles.now role) number)) }
 {
     let refused = Refused::Rule {
         code,

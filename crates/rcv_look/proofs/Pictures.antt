@@ -2,6 +2,7 @@
 use Rattle.std.proofs.Common.{◌≡◌, ℕ, List, Option, None, Some, refl, sym, subst, inl, inr}
 use Rattle.std.specs.Prelude.{Result, Ok, Err, IfOk}
 use Rattle.rcv_tree.specs.declared.protocol.Protocol.{Protocol}
+use Rattle.rcv_tree.specs.Names.{place_of}
 use Rattle.rcv_session.specs.Session.{SessionView}
 use Rattle.rcv_input.specs.declared.refused.Refused as refusals
 use Rattle.rcv_input.specs.declared.refused.Refused.TheVariants.{NoRole}
@@ -19,7 +20,7 @@ use Rattle.rcv_picture.specs.declared.picture.Picture.{Picture}
 use Rattle.rcv_look.specs.declared.output.Output.{Output}
 use Rattle.rcv_look.specs.declared.status.Status.TheVariants as statuses
 use Rattle.rcv_look.specs.Commands.{CommandView}
-use Rattle.rcv_look.specs.Drawing.{IsTextOf, IsRoleAnswer, IsRoleDrawing, accepted_as, place_of, IsExplanation, explained, unknown, no_rule_line}
+use Rattle.rcv_look.specs.Drawing.{IsTextOf, IsRoleAnswer, IsRoleDrawing, accepted_as, IsExplanation, explained, unknown, no_rule_line}
 use Rattle.rcv_look.specs.Outcome.{IsChartAnswer, Draws}
 use Rattle.rcv_look.specs.Outcome as outcomes
 use Rattle.rcv_look.proofs.Making.{Makes, made, widen, refused}

@@ -1,9 +1,9 @@
 -- What the pictures and texts of a session are.
-use Rattle.std.specs.Prelude.{◌≡◌, ◌≤◌, ◌+◌, ◌*◌, ℕ, Bool, ◌⊎◌, List, map, ◌++◌, length, nat_lt, if◌then◌else◌, position, codes, decimal, Option, Some, None}
-use Rattle.std.specs.Str.{bytes_eq}
+use Rattle.std.specs.Prelude.{◌≡◌, ◌≤◌, ◌+◌, ◌*◌, ℕ, Bool, ◌⊎◌, List, map, ◌++◌, length, nat_lt, if◌then◌else◌, codes, decimal, Some, None}
 use Rattle.rcv_tree.specs.declared.entry.Entry.{Entry}
 use Rattle.rcv_tree.specs.declared.event.Event.{Event}
 use Rattle.rcv_tree.specs.declared.protocol.Protocol.{Protocol}
+use Rattle.rcv_tree.specs.Names.{place_of}
 use Rattle.rcv_model.specs.Text.{body_of}
 use Rattle.rcv_model.specs.Journal.{reading}
 use Rattle.rcv_accept.specs.Accepted.{AcceptedView, net_for, roles_of}
@@ -145,10 +145,6 @@ pub record IsFailuresDrawing (session : SessionView) (bytes : List ℕ) : Type 0
   pub picture : Picture
   pub is_picture : IsFailuresPicture session picture
   pub is_text : IsTextOf picture bytes
-
--- The place of a name among others, counted from 0.
-abbrev pub place_of : List (List ℕ) → List ℕ → Option ℕ
-place_of names name = position (λ other. bytes_eq other name) names
 
 -- The role with this name is shown so, or the protocol declares none, and that is written.
 abbrev pub IsRoleAnswer : (ℕ → List ℕ → Type 0) → Protocol → List ℕ → Status → List ℕ → Type 0

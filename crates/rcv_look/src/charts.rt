@@ -7,7 +7,6 @@ ghost use Rattle.rcv_look.specs.Outcome.{IsChartAnswer};
 
 use crate::lines::{refuse, refused};
 use crate::output::Output;
-use crate::role::place_of;
 use crate::status::Status;
 use rcv_accept::accepted::Accepted;
 use rcv_charts::protocol::protocol_picture;
@@ -89,7 +88,7 @@ fn draw_role(alloc: Global, accepted: &Accepted, name: &[u8]) -> Result<Output, 
 {
     // Tells the proof that the place of a role fits in a byte.
     let _count = accepted.roles();
-    let Some(place) = place_of(&accepted.protocol().roles, name) else {
+    let Some(place) = accepted.protocol().roles.place_of(name) else {
         return refused(alloc, &Refused::NoRole);
     };
     let local = project(alloc, accepted, RoleId(place as u8))?;

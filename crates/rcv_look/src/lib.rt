@@ -17,7 +17,6 @@ mod lines;
 mod output;
 mod program;
 mod replay;
-mod role;
 mod session;
 mod status;
 mod texts;

@@ -5,7 +5,6 @@ ghost use Rattle.rcv_losses.specs.Totals.{TheWorstIsFound, RestartingCostsNoLess
 
 mod answers;
 pub mod lines;
-pub mod names;
 pub mod totals;
 
 pub use answers::{losses_text, named_costs};

@@ -8,10 +8,10 @@ ghost use Rattle.rcv_losses.specs.Totals.{IsNamedWorst};
 ghost use Rattle.rcv_losses.specs.LossText.{where_text, loss_text, names_text, whom_text, again_text, reach_text, crash_text, between_text, share_text, concerned_text, cost_text, cost_line};
 ghost use Rattle.rcv_losses.specs.LossText.{sampled_line, step_line, worst_text, role_line, worst_line, losses_text};
 
-use crate::names::name_of;
 use crate::totals::{undone_by, worst_by, worst_of};
 use rcv_core::setup::Setup;
 use rcv_costs::{Cost, Costs};
+use rcv_journal::name::name_of;
 use rcv_text::writer::Writer;
 use rcv_tree::point::Point;
 use rcv_tree::role::{RoleId, RoleSet};

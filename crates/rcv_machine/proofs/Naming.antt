@@ -6,9 +6,10 @@ use Rattle.std.proofs.lemmas.List.{drop-append-le}
 use Rattle.std.proofs.lemmas.List.Folds.{list_any-append}
 use Rattle.std.proofs.lemmas.Bool.Decides.{Decides-or, Decides-like, same_from_decides, nat_tests, Decides-eqb}
 use Rattle.std.proofs.lemmas.Slice.Eq.{bytes_eq-Decides}
+use Rattle.rcv_tree.proofs.Naming.{is_named}
+use Rattle.rcv_tree.specs.Names.{name_at}
 use Rattle.rcv_machine.specs.Words.{Choice, At, Or, Rec, Open, Close, Symbol, Is, Word, is_listed, place_of, is_among, open_braces, Comes, FromItsStart, IntoRec, IntoChoice, IntoBranch, Place, inside, inside_rec}
 use Rattle.rcv_machine.proofs.Knowing.{recent}
-use Rattle.std.proofs.lemmas.List.Quantifiers.{position-Some}
 
 pub or_left : (a b : Bool) → (a || b) ≡ false → a ≡ false
 or_left true b e = absurd cc
@@ -38,16 +39,13 @@ found n (x ∷ xs) = grind (arith, nat_tests, bytes_sym n x, found n xs)
 pub unknown : (n : List ℕ) (roles : List (List ℕ)) → not (is_among n roles) ≡ is_none (place_of roles n)
 unknown n roles = let here = found n roles in grind (arith, nat_tests, here)
 
-named_so : (roles : List (List ℕ)) (n : List ℕ) (r : ℕ) → place_of roles n ≡ Some r → slice_index_or roles r [] ≡ n
-named_so roles n r e = (bytes_eq-Decides _ n).0 (position-Some (λ role. bytes_eq role n) roles r [] e).1
-
 -- names are one exactly where their places are
 pub same_place : (roles : List (List ℕ)) (n m : List ℕ) (r q : ℕ) → place_of roles n ≡ Some r → place_of roles m ≡ Some q
     → (r == q) ≡ bytes_eq n m
 same_place roles n m r q e f =
     same_from_decides (r == q) (bytes_eq n m) (Decides-eqb r q) (Decides-like (bytes_eq n m)
     (λ s. let same : Some r ≡ Some q = sym e ∙ ap (place_of roles) s ∙ f in cc)
-    (λ s. sym (named_so roles n r e) ∙ ap (λ (i : ℕ). slice_index_or roles i []) s ∙ named_so roles m q f) (bytes_eq-Decides n m))
+    (λ s. sym (is_named roles n r e).1 ∙ ap (λ (i : ℕ). name_at roles i) s ∙ (is_named roles m q f).1) (bytes_eq-Decides n m))
 
 -- a list of names, and one more
 pub one_more : (roles : List (List ℕ)) (n m : List ℕ) (r q : ℕ) (ns : List (List ℕ)) (rs : List ℕ) → place_of roles n ≡ Some r

@@ -1,6 +1,7 @@
 -- Reading one symbol after another, with a stack of what is awaited. Each item that needs it knows its place in the text.
 use Rattle.std.specs.Prelude.{ℕ, ◌+◌, ◌-◌, ◌==◌, nat_le, Bool, true, false, not, ◌||◌, cond, codes, List, [], ◌∷◌, ◌++◌, length, drop, Option, Some, None}
 use Rattle.std.specs.Str.{bytes_eq}
+use Rattle.rcv_tree.specs.Names.{place_of}
 use Rattle.rcv_syntax.specs.declared.sign.Sign.{Sign}
 use Rattle.rcv_syntax.specs.contracts.sign.Sign.{the_type}
 use denote.Enum.Bare.{sameb}
@@ -10,7 +11,7 @@ use Rattle.rcv_syntax.specs.declared.fault.Fault.TheVariants.{Token, Deep, NoNam
 use Rattle.rcv_syntax.specs.Symbols.{Symbol, Is, Word, Text, Number}
 use Rattle.rcv_syntax.specs.Grammar.{is_decl_word}
 use Rattle.rcv_syntax.specs.Codes.{is_among}
-use Rattle.rcv_syntax.specs.Trees.{place_of, is_listed}
+use Rattle.rcv_syntax.specs.Trees.{is_listed}
 
 -- A set of roles, by their names: what it says of each name.
 abbrev pub Named : Type 0

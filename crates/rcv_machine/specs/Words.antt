@@ -1,4 +1,5 @@
 -- The words of the grammar, of the table of the codes and of the machine, passed on from one place. Declares nothing.
+pub use Rattle.rcv_tree.specs.Names.{place_of}
 pub use Rattle.rcv_syntax.specs.declared.sign.Sign.{Sign}
 pub use Rattle.rcv_syntax.specs.declared.sign.Sign.TheVariants.{Global, To, Or, Choice, Rec, Continue, Par, Do, Open}
 pub use Rattle.rcv_syntax.specs.declared.sign.Sign.TheVariants.{Close, Right, Comma, Semicolon, Dot, At, Protocol, Role}
@@ -13,7 +14,7 @@ pub use Rattle.rcv_syntax.specs.Grammar.{NoBlock, ABlock, dotted, names_behind, 
 pub use Rattle.rcv_syntax.specs.Grammar.{blocks_behind, IsBegun, IsProper, AreProper, is_decl_word, AreDecls, Source}
 pub use Rattle.rcv_syntax.specs.Grammar.{WrittenProtocol, declared, protocol, protocols, modules, AreProperBodies}
 pub use Rattle.rcv_syntax.specs.Grammar.{IsDerived, IsBeginning, decl, Spells, spelling}
-pub use Rattle.rcv_syntax.specs.Trees.{place_of, is_listed, Reads, or_first, role_at, points, points_of, singles}
+pub use Rattle.rcv_syntax.specs.Trees.{is_listed, Reads, or_first, role_at, points, points_of, singles}
 pub use Rattle.rcv_syntax.specs.Trees.{IsTreeOf, AreTreesOf, lines_of_calls, is_call}
 pub use Rattle.rcv_syntax.specs.Trees.{MayReceive, MayCall, roles_at, tree_of, trees_of, IsDeclared, IsFit, AreFit}
 pub use Rattle.rcv_syntax.specs.Codes.{is_among, code_of, Holds, Standing, standing, AsReceiver, AsOther, roles_before}

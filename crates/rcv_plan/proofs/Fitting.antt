@@ -5,12 +5,13 @@ use Rattle.std.proofs.Common.{◌≡◌, ℕ, Bool, true, false, List, [], ◌�
 use Rattle.std.specs.Prelude.{not, codes, map, Option, Some, None, is_some, unwrap_or}
 use Rattle.std.specs.List.{All}
 use Rattle.std.proofs.lemmas.List.Elements.{All-nil, All-cons}
+use Rattle.rcv_tree.specs.Names.{place_of}
 use Rattle.rcv_model.specs.Plan.{PlanLine, CrashLine, HostLine}
 use Rattle.rcv_plan.specs.declared.sign.Sign.TheVariants.{Equals, Comma}
 use Rattle.rcv_plan.specs.Symbols.{Symbol, Word, Number, Is}
 use Rattle.rcv_plan.specs.declared.fault.Fault.TheVariants.{Role, Twice, Range}
 use Rattle.rcv_plan.specs.Lines.{IsLineFor, IsPlanFor, has_crash, IsPlanned}
-use Rattle.rcv_plan.specs.Grammar.{Written, WrittenEvery, WrittenCrash, WrittenLimit, WrittenRoom, WrittenHost, more_roles, item_text, plan_text, place_of, is_role, place, said}
+use Rattle.rcv_plan.specs.Grammar.{Written, WrittenEvery, WrittenCrash, WrittenLimit, WrittenRoom, WrittenHost, more_roles, item_text, plan_text, is_role, place, said}
 use Rattle.rcv_plan.specs.Codes.{is_between, with_role, lines_before, is_unknown, is_repeated, is_out_of_range, within}
 use Rattle.rcv_plan.specs.Refusing.{backward, IsFree, IsRead}
 use Rattle.rcv_plan.proofs.Fresh.{Fresh, fresh}

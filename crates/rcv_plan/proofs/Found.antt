@@ -4,12 +4,12 @@ use Rattle.std.proofs.lemmas.List.Folds.{list_any-append}
 use Rattle.std.specs.Prelude.{◌<◌, cond, Option, Some, None, ◌||◌, ◌&&◌, ◌==◌}
 use Rattle.rcv_tree.specs.declared.role.RoleSet.{RoleSet}
 use Rattle.rcv_tree.specs.Bits.{is_listed}
+use Rattle.rcv_tree.specs.Names.{place_of}
 use Rattle.rcv_model.specs.Plan.{PlanLine, CrashLine}
 use Rattle.rcv_plan.specs.declared.sign.Sign.TheVariants.{Comma}
 use Rattle.rcv_plan.specs.Symbols.{Symbol, Is, Word, Number, Text}
 use Rattle.rcv_plan.specs.declared.fault.Fault.TheVariants.{Twice}
 use Rattle.rcv_plan.specs.Lines.{has_crash, is_crash, is_hosted}
-use Rattle.rcv_plan.specs.Grammar.{place_of}
 use Rattle.rcv_plan.specs.Codes.{within}
 use Rattle.rcv_plan.specs.CrashCounts.{crashes_at}
 use Rattle.rcv_plan.specs.Items.{AreFound, KnownView, Step, Takes, Stops, goes_on, found, unhosted, next_member, next_members, next_count}

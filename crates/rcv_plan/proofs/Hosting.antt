@@ -7,6 +7,7 @@ use Rattle.std.proofs.lemmas.Slice.Eq.{bytes_eq-Decides}
 use Rattle.std.proofs.lemmas.List.Elements.{All-push}
 use Rattle.std.proofs.lemmas.List.Folds.{list_any-append}
 use Rattle.rcv_tree.specs.Bits.{is_listed}
+use Rattle.rcv_tree.specs.Names.{place_of}
 use Rattle.rcv_model.specs.Plan.{PlanLine, EveryLine, CrashLine, LimitLine, RoomLine, HostLine}
 use Rattle.rcv_plan.specs.declared.sign.Sign.{Sign}
 use Rattle.rcv_plan.specs.declared.sign.Sign.TheVariants.{Equals, Comma, Foreign}
@@ -14,7 +15,7 @@ use Rattle.rcv_plan.specs.Symbols.{Symbol, Word, Number, Is, Text, is_comma, is_
 use Rattle.rcv_plan.specs.declared.fault.Fault.{Fault}
 use Rattle.rcv_plan.specs.declared.fault.Fault.TheVariants.{Token, Role, Twice}
 use Rattle.rcv_plan.specs.Lines.{is_hosted, is_host}
-use Rattle.rcv_plan.specs.Grammar.{more_roles, place_of, place}
+use Rattle.rcv_plan.specs.Grammar.{more_roles, place}
 use Rattle.rcv_plan.specs.Codes.{is_between, with_role, lines_before, hosts_before}
 use Rattle.rcv_plan.specs.Refusing.{backward}
 use Rattle.rcv_plan.specs.Items.{KnownView, Step, Takes, Stops, goes_on, found, unhosted, next_member, next_members}

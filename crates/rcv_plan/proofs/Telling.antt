@@ -2,17 +2,17 @@
 -- and least one holds.
 use Rattle.std.proofs.Common.{◌≡◌, ℕ, Bool, true, false, List, [], ◌∷◌, ◌++◌, ◌<◌, ◌≤◌, length, arith, refl, sym, ◌∙◌, ap, subst, append_assoc, append-nil}
 use Rattle.std.specs.Prelude.{◌&&◌, ◌||◌, ◌==◌, not, codes, cond, Option, Some, None}
-use Rattle.std.specs.Str.{bytes_eq}
+use Rattle.rcv_tree.specs.Names.{place_of}
+use Rattle.rcv_tree.proofs.Naming.{is_named}
 use Rattle.rcv_model.specs.Plan.{PlanLine, EveryLine, CrashLine, LimitLine, RoomLine, HostLine}
 use Rattle.rcv_plan.specs.declared.sign.Sign.{Sign}
 use Rattle.rcv_plan.specs.Symbols.{Symbol, Word, Number, Is, Text, is_comma, is_equals}
 use Rattle.rcv_plan.specs.declared.fault.Fault.{Fault}
 use Rattle.rcv_plan.specs.declared.fault.Fault.TheVariants.{Token, Role, Twice, Range}
 use Rattle.std.proofs.lemmas.Bool.Decides.{nat_tests}
-use Rattle.std.proofs.lemmas.List.Quantifiers.{position-Some}
 use Rattle.std.proofs.lemmas.List.Elements.{All-head, All-tail, All-cons}
 use Rattle.rcv_plan.specs.Lines.{IsReadLine, IsReadPlan, has_crash}
-use Rattle.rcv_plan.specs.Grammar.{Written, WrittenEvery, WrittenCrash, WrittenLimit, WrittenRoom, item_text, place_of, is_role, place, said}
+use Rattle.rcv_plan.specs.Grammar.{Written, WrittenEvery, WrittenCrash, WrittenLimit, WrittenRoom, item_text, is_role, place, said}
 use Rattle.rcv_plan.specs.Codes.{is_between, is_behind, is_behind_role, is_in_list, lines_before, hosts_before, is_unknown, is_repeated, is_second, is_out_of_range, within}
 use Rattle.rcv_plan.specs.Refusing.{backward}
 use Rattle.rcv_plan.specs.Items.{KnownView, Step, Takes, Stops, goes_on, with_line, found, next_role, next_number, next_count, every_line, crash_line, limit_line, room_line, is_first_word}
@@ -90,7 +90,7 @@ Tells roles back k symbols (Stops f left) = StopsAt roles back symbols f left
 
 -- a role that was found is one of them
 pub declared : (roles : List (List ℕ)) (r : List ℕ) (p : ℕ) → place_of roles r ≡ Some p → p < length roles
-declared roles r p e = (position-Some (λ other. bytes_eq other r) roles p [] e).0
+declared roles r p e = (is_named roles r p e).0
 
 -- a line more
 pub fits_more : (m : ℕ) (lines : List PlanLine) (line : PlanLine) → IsReadPlan m lines → IsReadLine m line → IsReadPlan m (lines ++ line ∷ [])

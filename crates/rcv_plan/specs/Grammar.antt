@@ -1,7 +1,6 @@
 -- The grammar of plans: the items as they are written, and what each says.
-use Rattle.std.specs.Prelude.{◌≡◌, ℕ, codes, List, [], ◌∷◌, ◌++◌, length, map, Bool, Option, is_some, unwrap_or}
-use Rattle.std.specs.List.{position}
-use Rattle.std.specs.Str.{bytes_eq}
+use Rattle.std.specs.Prelude.{◌≡◌, ℕ, codes, List, [], ◌∷◌, ◌++◌, length, map, Bool, is_some, unwrap_or}
+use Rattle.rcv_tree.specs.Names.{place_of}
 use Rattle.rcv_model.specs.Plan.{PlanLine, EveryLine, CrashLine, LimitLine, RoomLine, HostLine}
 use Rattle.rcv_plan.specs.declared.sign.Sign.TheVariants.{Equals, Comma}
 use Rattle.rcv_plan.specs.Symbols.{Symbol, Word, Number, Is}
@@ -36,10 +35,7 @@ IsDerived symbols = (ws : List Written) × (symbols ≡ plan_text ws)
 abbrev pub IsBeginning : List Symbol → Type 0
 IsBeginning front = (more : List Symbol) × IsDerived (front ++ more)
 
--- the place of a role's name, counted from 0; none if it isn't declared
-abbrev pub place_of : List (List ℕ) → List ℕ → Option ℕ
-place_of roles name = position (λ other. bytes_eq other name) roles
-
+-- the name is that of a role; and its place, or how many roles there are if it is none
 abbrev pub is_role : List (List ℕ) → List ℕ → Bool
 is_role roles name = is_some (place_of roles name)
 

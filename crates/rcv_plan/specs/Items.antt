@@ -3,6 +3,7 @@ use Rattle.std.specs.Prelude.{◌≡◌, ℕ, ◌<◌, codes, Bool, ◌||◌, if
 use Rattle.std.specs.Str.{bytes_eq}
 use Rattle.rcv_tree.specs.declared.role.RoleSet.{RoleSet}
 use Rattle.rcv_tree.specs.Bits.{is_listed}
+use Rattle.rcv_tree.specs.Names.{place_of}
 use Rattle.rcv_model.specs.Plan.{PlanLine, EveryLine, CrashLine, LimitLine, RoomLine, HostLine}
 use Rattle.rcv_plan.specs.declared.sign.Sign.{Sign}
 use Rattle.rcv_plan.specs.declared.sign.Sign.TheVariants.{Equals, Comma, Foreign}
@@ -13,7 +14,6 @@ use Rattle.rcv_plan.specs.declared.fault.PlanError.{PlanError}
 use Rattle.rcv_plan.specs.declared.fault.PlanError.TheVariants as errors
 use Rattle.rcv_plan.specs.Lines.{has_crash, is_hosted}
 use Rattle.rcv_plan.specs.CrashCounts.{crashes_at}
-use Rattle.rcv_plan.specs.Grammar.{place_of}
 use Rattle.rcv_plan.specs.Codes.{is_among, is_second, within}
 
 -- The lines and the names of hosts so far.

@@ -2,7 +2,6 @@
 
 ghost use Rattle.std.specs.Prelude.{◌≡◌, ◌≤◌, ◌<◌, ◌∷◌, length, true, false, IfSome, IfNone, IfOk, OnOk};
 ghost use Rattle.rcv_plan.specs.Symbols.{Is, IsNotNext};
-ghost use Rattle.rcv_plan.specs.Grammar.{place_of};
 ghost use Rattle.rcv_plan.specs.Codes.{within, is_second, is_second_every};
 ghost use Rattle.rcv_plan.specs.Items.{
   Goes,
@@ -29,7 +28,7 @@ use crate::known::Known;
 use crate::line::{Line, is_listed};
 use crate::sign::Sign;
 use rcv_lexer::{Ahead, is};
-use rcv_tree::name::{Name, Names};
+use rcv_tree::name::Names;
 use rcv_tree::role::{RoleId, Roles};
 use std::alloc::Global;
 
@@ -37,14 +36,6 @@ use std::alloc::Global;
 #[derive(Drop)]
 pub struct Reader<'a> {
     pub rest: Ahead<'a, Sign>,
-}
-
-// The place of the name, counted from 0.
-fn place_of(names: &[Name], name: &[u8]) -> Option<usize>
-    ensures is { result ≡ place_of names.now name.now }
-    ensures within { IfSome result (λ place. place < length names.now) }
-{
-    names.iter().position(|other| other.as_slice() == name)
 }
 
 // The number, if it is in the range.
@@ -94,7 +85,7 @@ impl<'a> Reader<'a> {
         let Some((name, after)) = self.rest.word() else {
             return Err(PlanError::Refused(Fault::Token));
         };
-        let Some(place) = place_of(roles.as_slice(), name) else {
+        let Some(place) = roles.place_of(name) else {
             return Err(PlanError::Refused(Fault::Role));
         };
         self.rest = after;
@@ -165,7 +156,7 @@ impl<'a> Reader<'a> {
         let Some((name, after)) = self.rest.word() else {
             return Err(PlanError::Refused(Fault::Token));
         };
-        let Some(place) = place_of(roles.as_slice(), name) else {
+        let Some(place) = roles.place_of(name) else {
             return Err(PlanError::Refused(Fault::Role));
         };
         let role = RoleId(place as u8);
@@ -222,7 +213,7 @@ impl<'a> Reader<'a> {
         let Some((name, _)) = self.rest.word() else {
             return false;
         };
-        match place_of(roles.as_slice(), name) {
+        match roles.place_of(name) {
             Some(place) => known.has_every(RoleId(place as u8)),
             None => false,
         }

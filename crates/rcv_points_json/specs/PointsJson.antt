@@ -5,6 +5,7 @@ use Rattle.serde_json.specs.Data.{Data, member, no_members, null, object}
 use Rattle.rcv_tree.specs.declared.protocol.Protocol.{Protocol}
 use Rattle.rcv_tree.specs.declared.refusal.Refusal.{Refusal}
 use Rattle.rcv_tree.specs.declared.refusal.Refusal.TheVariants.{Rule}
+use Rattle.rcv_tree.specs.Names.{name_at}
 use Rattle.rcv_model.specs.Net.{Net}
 use Rattle.rcv_model.specs.Text.{body_of}
 use Rattle.rcv_model.specs.Places.{net_of}
@@ -16,7 +17,7 @@ use Rattle.rcv_listing.specs.declared.listing.Listing.{Listing}
 use Rattle.rcv_listing.specs.declared.listing.Listing.TheVariants.{Accepted, RuledOut, HalfRead, Unread}
 use Rattle.rcv_listing.specs.declared.unread.Unread as unread
 use Rattle.rcv_listing.specs.declared.written.PointLines.{PointLines}
-use Rattle.rcv_listing.specs.Lines.{name_of, calls_of, is_at_place}
+use Rattle.rcv_listing.specs.Lines.{calls_of, is_at_place}
 use Rattle.rcv_listing.specs.Lines as lines
 use Rattle.rcv_listing.specs.Unread.{IsUnread, IsHalfRead}
 use Rattle.rcv_listing.specs.Listing.{IsSourceOf, AreRestRead}
@@ -26,11 +27,11 @@ use Rattle.rcv_export.specs.Pieces.{count, line_of, list_of, word_data, words_da
 abbrev pub point_data : List (List ℕ) → Net → List PointLines → ℕ → Data
 point_data roles net written p =
     object (member (codes "calls") (list_of (map count (calls_of written p)))
-    (member (codes "from") (word_data (name_of roles (net.sender p)))
+    (member (codes "from") (word_data (name_at roles (net.sender p)))
     (member (codes "label") (word_data (net.label p))
     (member (codes "line") (count (lines.line_of written p))
     (member (codes "point") (count p)
-    (member (codes "to") (word_data (name_of roles (net.receiver p))) no_members))))))
+    (member (codes "to") (word_data (name_at roles (net.receiver p))) no_members))))))
 
 abbrev pub points_data : List (List ℕ) → Net → List PointLines → Data
 points_data roles net written = list_of (map (point_data roles net written) (range_with_len 1 net.count))
@@ -68,7 +69,7 @@ abbrev pub at_data : List (List ℕ) → List ℕ → ℕ → ℕ → ℕ → Da
 at_data roles key code role number =
     object (member (codes "code") (count code)
     (member key (count number)
-    (member (codes "role") (word_data (name_of roles role)) no_members)))
+    (member (codes "role") (word_data (name_at roles role)) no_members)))
 
 abbrev pub rule_data : List (List ℕ) → ℕ → ℕ → ℕ → Data
 rule_data roles code role number =

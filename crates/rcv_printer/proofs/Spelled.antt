@@ -6,12 +6,13 @@ use Rattle.rcv_tree.specs.Lists.{declarations}
 use Rattle.rcv_tree.specs.Words.{is_word_byte}
 use Rattle.rcv_tree.specs.declared.protocol.Decl.{Decl}
 use Rattle.rcv_tree.specs.declared.protocol.Protocol.{Protocol}
+use Rattle.rcv_tree.specs.Names.{name_at}
 use Rattle.rcv_model.specs.Text.{Body, End, Single, Choose, Loop, Again, Parallel, Call, Bodies, NoMore, Or, body_of}
 use Rattle.rcv_syntax.specs.declared.sign.Sign.{Sign}
 use Rattle.rcv_syntax.specs.declared.sign.Sign.TheVariants as sign
 use Rattle.rcv_syntax.specs.Symbols.{Symbol, Is, Word}
 use Rattle.rcv_syntax.specs.Grammar.{is_decl_word, dotted, names_behind, sort_list, roles_behind, decl, decls, stmts, blocks_behind, spelling}
-use Rattle.rcv_grammar.specs.Canonical.{name_at, names_at, first_name, more_names, written_of, blocks_of, source_of}
+use Rattle.rcv_grammar.specs.Canonical.{names_at, first_name, more_names, written_of, blocks_of, source_of}
 use Rattle.rcv_grammar.specs.Printable.{IsName, AreNames, SomeNames, IsPrintableDecl, ArePrintableDecls, IsPrintableBody, ArePrintableBlocks, IsPrintable}
 use Rattle.rcv_printer.specs.CanonicalText.{inner, listed, comma_list, module_line, decl_line, decl_lines, body_text, blocks_text, head_line, canonical}
 use Rattle.rcv_printer.proofs.Saying.{StopsAt, Says, space, feed, mark, left, dot, opened, close, spaced, name, less_piece, text, says_nothing}

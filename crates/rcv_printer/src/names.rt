@@ -1,13 +1,13 @@
 // What is put after a text: words, and lists of names.
 
-ghost use Rattle.std.specs.Prelude.{◌≡◌, ◌++◌, OnOk, map};
-ghost use Rattle.rcv_grammar.specs.Canonical.{name_at, names_at};
+ghost use Rattle.std.specs.Prelude.{◌++◌, OnOk, map};
+ghost use Rattle.rcv_grammar.specs.Canonical.{names_at};
 ghost use Rattle.rcv_printer.specs.CanonicalText.{words, listed, comma_list};
 ghost use Rattle.rcv_printer.specs.Printing.{Puts};
 
 use rcv_text::writer::Writer;
 use rcv_tree::name::Names;
-use rcv_tree::role::{RoleId, Roles};
+use rcv_tree::role::Roles;
 use std::alloc::AllocError;
 
 // Puts the word after the text.
@@ -25,16 +25,6 @@ pub fn put_words(text: &mut Writer, all: &[&[u8]]) -> Result<(), AllocError>
         put(text, word)?;
     }
     Ok(())
-}
-
-// The name of a role.
-pub fn name_of(roles: &Names, role: RoleId) -> &[u8]
-    ensures { result.now ≡ name_at roles.now role }
-{
-    match roles.as_slice().get(role.0 as usize) {
-        Some(name) => name.as_slice(),
-        None => &[],
-    }
 }
 
 // Puts names after the text, with one word before the first and another one before each that follows.
@@ -60,7 +50,7 @@ pub fn put_roles(text: &mut Writer, roles: &Names, places: &Roles) -> Result<(),
 {
     let mut word: &[u8] = b"";
     for role in places.as_slice() {
-        put_words(text, &[word, name_of(roles, *role)])?;
+        put_words(text, &[word, roles.name(*role)])?;
         word = b", ";
     }
     Ok(())

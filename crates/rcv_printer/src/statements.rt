@@ -5,7 +5,7 @@ ghost use Rattle.rcv_model.specs.Text.{body_of, bodies_of, stmt_body};
 ghost use Rattle.rcv_printer.specs.CanonicalText.{inner, body_text, blocks_text};
 ghost use Rattle.rcv_printer.specs.Printing.{Puts, PutsStatements};
 
-use crate::names::{name_of, put, put_list, put_roles, put_words};
+use crate::names::{put, put_list, put_roles, put_words};
 use rcv_text::writer::Writer;
 use rcv_tree::name::{Name, Names};
 use rcv_tree::role::RoleId;
@@ -86,12 +86,12 @@ fn put_stmt(
         } => {
             put_words(text, &[margin, label.as_slice(), b"("])?;
             put_list(text, b"", b", ", sorts)?;
-            let sender = name_of(roles, *sender);
-            let receiver = name_of(roles, *receiver);
+            let sender = roles.name(*sender);
+            let receiver = roles.name(*receiver);
             put_words(text, &[b") from ", sender, b" to ", receiver, b";\n"])
         }
         Stmt::Choice { subject, branches } => {
-            put_words(text, &[margin, b"choice at ", name_of(roles, *subject)])?;
+            put_words(text, &[margin, b"choice at ", roles.name(*subject)])?;
             put_blocks(alloc, text, roles, margin, b" ", b" or ", branches)
         }
         Stmt::Rec { name, body } => {

@@ -16,12 +16,6 @@ use Rattle.rcv_project.specs.Act.{ActView, Sending, Receiving, Ended, AreSentBy,
 pub next_in_text : (net : Net) (roles r k z : ℕ) → IsProper net roles → IsNext net r k z → (1 ≤ z) × (z ≤ net.count)
 next_in_text = in_text
 
--- and is sent by a role of the protocol
-pub sender_declared : (net : Net) (roles r k z : ℕ) → IsProper net roles → IsNext net r k z → net.sender z < roles
-sender_declared net roles r k z form next =
-    let there = in_text net roles r k z form next in
-    form.senders z there.0 there.1
-
 -- each point of an accepted text is received by a role of the protocol
 pub receiver_declared : (body : Body) (roles p : ℕ) → HasForm body roles → IsAccepted (net_of body) roles → 1 ≤ p → p ≤ (net_of body).count → (net_of body).receiver p < roles
 receiver_declared body roles p form accepted low high = (proper body roles form).receivers p low high

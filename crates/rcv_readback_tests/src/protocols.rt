@@ -47,14 +47,7 @@ pub fn accepted(alloc: Global, input: &[u8]) -> Option<Accepted> {
 
 /// A Send of the number 0.
 pub fn send(role: u8, point: u16, stamp: u64) -> Entry {
-    Entry::Send(Event {
-        role: RoleId(role),
-        dir: Dir::Sent,
-        point: Point(point),
-        value: 0,
-        stamp,
-        sent: stamp,
-    })
+    Entry::Send(Event::send(RoleId(role), Point(point), 0, stamp))
 }
 
 /// The Recv of a number 0.

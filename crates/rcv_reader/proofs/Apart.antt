@@ -1,12 +1,13 @@
 -- In the tree of what the machine takes no role stands in two blocks of a par.
-use Rattle.std.proofs.Common.{◌≡◌, ℕ, ◌+◌, Bool, true, false, nat_le, List, [], ◌∷◌, ◌++◌, length, refl, sym, ap, subst, ◌≤◌, ◌∙◌, arith, inl, inr, ◌⊎◌, ⊎_elim, ◌||◌, bytes_eq, slice_index_or}
+use Rattle.std.proofs.Common.{◌≡◌, ℕ, ◌+◌, Bool, true, false, nat_le, List, [], ◌∷◌, ◌++◌, length, refl, sym, ap, subst, ◌≤◌, ◌∙◌, arith, inl, inr, ◌⊎◌, ⊎_elim, ◌||◌, bytes_eq}
 use Rattle.std.proofs.lemmas.Bool.Decides.{nat_tests}
 use Rattle.std.proofs.lemmas.Slice.Eq.{bytes_eq-Decides}
+use Rattle.rcv_tree.proofs.Naming.{is_named}
+use Rattle.rcv_tree.specs.Names.{name_at}
 use Rattle.rcv_model.specs.Text as trees
 use Rattle.rcv_model.specs.Places.{SingleMessage, HasEndOf, AreApart, HasLanesApart}
 use Rattle.rcv_model.specs.Places as places
 use Rattle.rcv_machine.specs.Words.{Written, NoStmt, AMessage, AChoice, ARec, AContinue, APar, ADo, Blocks, NoBlock, ABlock, or_first, role_at, roles_at, points, points_of, singles, tree_of, trees_of, IsDeclared, Named, nobody, with_role, Place, behind, beside, inside, inside_rec}
-use Rattle.std.proofs.lemmas.List.Quantifiers.{position-Some}
 use Rattle.rcv_machine.proofs.Naming.{or_left}
 use Rattle.rcv_machine.proofs.Passing.{with_roles, named_by, named_by_all, AreTaken, Passes, PassAll, PassBeside}
 
@@ -24,12 +25,12 @@ within d some = grind (arith, nat_tests)
 module _ (later : Bool) (roles : List (List ℕ)) where
   -- the name of a role
   abbrev pub name : ℕ → List ℕ
-  name q = slice_index_or roles q []
+  name q = name_at roles q
 
   pub its_name : (n : List ℕ) (q : ℕ) → IsDeclared roles n → role_at roles n ≡ q → n ≡ name q
   its_name n q is e =
       let place = ap or_first is.1 in
-      let same = (bytes_eq-Decides (name is.0) n).0 (position-Some (λ role. bytes_eq role n) roles is.0 [] is.1).1 in
+      let same = (is_named roles n is.0 is.1).1 in
       sym same ∙ ap name (sym place ∙ e)
 
   -- ---- what is named stays so, in the blocks of a par

@@ -1,7 +1,7 @@
 -- The tree of what is written has the form that acceptance asks for.
-use Rattle.std.proofs.Common.{◌≡◌, ℕ, ◌+◌, ◌<◌, ◌≤◌, true, List, [], ◌∷◌, ◌++◌, length, refl, sym, ap, subst, arith, append_assoc, append-nil, ◌==◌, bytes_eq}
+use Rattle.std.proofs.Common.{◌≡◌, ℕ, ◌+◌, ◌<◌, ◌≤◌, true, List, [], ◌∷◌, ◌++◌, length, refl, sym, ap, subst, arith, append_assoc, append-nil, ◌==◌}
 use Rattle.std.proofs.lemmas.Bool.Decides.{nat_tests}
-use Rattle.std.proofs.lemmas.List.Quantifiers.{position-Some}
+use Rattle.rcv_tree.proofs.Naming.{is_named}
 use Rattle.rcv_model.specs.Text as trees
 use Rattle.rcv_model.specs.Places as places
 use Rattle.rcv_model.specs.Places.{HasLanesApart}
@@ -24,7 +24,7 @@ one_more roles n m x xs h a =
 
 role_below : (roles : List (List ℕ)) (name : List ℕ) → IsDeclared roles name → role_at roles name < length roles
 role_below roles name d =
-    subst (λ (k : ℕ). k < length roles) (sym (ap or_first d.1)) (position-Some (λ role. bytes_eq role name) roles d.0 [] d.1).0
+    subst (λ (k : ℕ). k < length roles) (sym (ap or_first d.1)) (is_named roles name d.0 d.1).0
 
 -- The points of a body with those behind it are the ones behind n, up to m, and its subjects are roles.
 abbrev IsPart : ℕ → ℕ → ℕ → trees.Body → Messages → Type 0

@@ -1,10 +1,10 @@
 -- Roles by their bits, and by their names.
-use Rattle.std.proofs.Common.{◌≡◌, ℕ, ◌<◌, ◌≤◌, Bool, true, false, ◌||◌, ◌==◌, bytes_eq, List, [], length, Option, Some, None, refl, ap, ◌∙◌, arith}
+use Rattle.std.proofs.Common.{◌≡◌, ℕ, ◌<◌, ◌≤◌, Bool, true, false, ◌||◌, ◌==◌, bytes_eq, List, length, Option, Some, None, refl, ap, ◌∙◌, arith}
 use Rattle.std.proofs.Math.Path.{fun_ext}
-use Rattle.std.proofs.lemmas.List.Quantifiers.{position-Some}
 use Rattle.std.proofs.lemmas.Nat.Bits.{bit_at-zero}
 use Rattle.std.proofs.lemmas.Slice.Eq.{bytes_eq-Decides}
 use Rattle.rcv_tree.specs.Bits.{has_bit}
+use Rattle.rcv_tree.proofs.Naming.{is_named}
 use Rattle.rcv_machine.specs.Words.{place_of, nobody, with_role}
 use Rattle.rcv_machine.proofs.Naming.{bytes_sym, same_place}
 use Rattle.rcv_reader.specs.Descent.{has_place, named_in}
@@ -35,6 +35,6 @@ named_more roles bits more r n few is set = fun_ext (λ m. go m (place_of roles 
         other true same = let place = ap (place_of roles) ((bytes_eq-Decides m n).0 same) in absurd cc
         other false same = refl
     go m (Some q) e =
-        let below = (position-Some (λ role. bytes_eq role m) roles q [] e).0 in
+        let below = (is_named roles m q e).0 in
         let same : (r == q) ≡ bytes_eq m n = same_place roles n m r q is e ∙ bytes_sym n m in
         set q (omega (arith, below, few)) ∙ rw same (either (has_bit bits q) (bytes_eq m n))

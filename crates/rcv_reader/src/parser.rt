@@ -2,11 +2,11 @@
 
 ghost use Rattle.std.specs.Prelude.{◌≡◌, ◌<◌, ◌∷◌, ◌≢◌, [], length, ℕ, List};
 ghost use Rattle.std.specs.Prelude.{All, IfSome, IfNone, OnOk, IfOk, true, false, Some};
+ghost use Rattle.rcv_tree.specs.Names.{place_of};
 ghost use Rattle.rcv_lexer.specs.Parts.{LiesIn};
 ghost use Rattle.rcv_lexer.specs.Symbols.{symbol_in};
 ghost use Rattle.rcv_syntax.specs.Symbols.{Symbol, Is, Word, symbols_of};
 ghost use Rattle.rcv_syntax.specs.Codes.{is_among};
-ghost use Rattle.rcv_syntax.specs.Trees.{place_of};
 ghost use Rattle.rcv_machine.specs.Machine.{Item, This, AnyName, RoleName, MoreRoles};
 ghost use Rattle.rcv_machine.specs.Machine.{ProtocolName, MoreProtocols, Rest, beside, outermost};
 ghost use Rattle.rcv_reader.specs.Standing.{Standing, IsSmall, IsOver, at, afresh, named_in};
@@ -254,7 +254,6 @@ impl<'a> Parser<'a> {
         ensures is { result ≡ place_of self.now.roles name.now }
         ensures few { IfSome result (λ place. place < 8) }
     {
-        let roles = self.roles.as_slice();
-        roles.iter().position(|role| role.as_slice() == name)
+        self.roles.place_of(name)
     }
 }

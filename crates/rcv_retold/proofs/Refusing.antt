@@ -5,9 +5,10 @@ use Rattle.std.proofs.lemmas.Bool.{cases_lt}
 use Rattle.rcv_ledger.proofs.Lists.{none_there}
 use Rattle.rcv_tree.specs.declared.event.Event.{Event}
 use Rattle.rcv_tree.specs.declared.role.RoleSet.{RoleSet}
+use Rattle.rcv_tree.specs.Events.{message_got}
 use Rattle.rcv_model.specs.Next.{IsNext}
 use Rattle.rcv_model.proofs.Lists.{some_same}
-use Rattle.rcv_told.specs.Told.{Remembered, down_at, standpoint, IsSend, IsRecv, message_of, HasFailed}
+use Rattle.rcv_told.specs.Told.{Remembered, down_at, standpoint, IsSend, IsRecv, HasFailed}
 use Rattle.rcv_told.proofs.Telling.{down_there as down_told}
 use Rattle.rcv_guide.specs.declared.cause.Cause.{Cause}
 use Rattle.rcv_guide.specs.declared.cause.Cause.TheVariants.{Undeclared, Down, Up, Stale, Full, NotNext, Empty, NotFront, Forgotten}
@@ -51,7 +52,7 @@ module _ (g : GuideView) (m : Remembered) (is : IsMemory g m) where
   no_send e NotFront room why may = why
   no_send e Forgotten room why may = why
 
-  in_front : (e : Event) → (may : IsRecv (net_for g) (standpoint (net_for g) m e.role) e) → in_channel g ((net_for g).sender e.point) e.role ≡ message_of e ∷ may.front.0
+  in_front : (e : Event) → (may : IsRecv (net_for g) (standpoint (net_for g) m e.role) e) → in_channel g ((net_for g).sender e.point) e.role ≡ message_got e ∷ may.front.0
   in_front e may = sym (lies g m is ((net_for g).sender e.point) e.role) ∙ may.front.1
 
   pub no_recv : (e : Event) (cause : Cause) → HasRoom g → IsCauseNotToReceive g (news_for g e) e.sent cause → IsRecv (net_for g) (standpoint (net_for g) m e.role) e → ⊥
@@ -60,8 +61,8 @@ module _ (g : GuideView) (m : Remembered) (is : IsMemory g m) where
   no_recv e Stale room why may = why.other refl
   no_recv e Full room why may = why.full room
   no_recv e NotNext room why may = why.turn (turn_recv e may)
-  no_recv e Empty room why may = let f : [] ≡ message_of e ∷ may.front.0 = sym why.nothing ∙ in_front e may in absurd cc
-  no_recv e NotFront room why may = let f : why.front ∷ why.rest ≡ message_of e ∷ may.front.0 = sym why.there ∙ in_front e may in why.other cc
+  no_recv e Empty room why may = let f : [] ≡ message_got e ∷ may.front.0 = sym why.nothing ∙ in_front e may in absurd cc
+  no_recv e NotFront room why may = let f : why.front ∷ why.rest ≡ message_got e ∷ may.front.0 = sym why.there ∙ in_front e may in why.other cc
   no_recv e Up room why may = why
   no_recv e Forgotten room why may = why
 

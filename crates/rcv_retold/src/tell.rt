@@ -46,14 +46,7 @@ fn tell_send(guide: &mut Guide, event: &Event) -> bool
     match guide.tell_sent(&news) {
         Ok(stamp) => is_same(
             event,
-            &Event {
-                role: event.role,
-                dir: Dir::Sent,
-                point: event.point,
-                value: event.value,
-                stamp,
-                sent: stamp,
-            },
+            &Event::send(event.role, event.point, event.value, stamp),
         ),
         Err(_) => false,
     }

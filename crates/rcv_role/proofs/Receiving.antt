@@ -6,6 +6,7 @@ use Rattle.rcv_tree.specs.declared.event.Event.{Event}
 use Rattle.rcv_tree.specs.declared.event.Dir.{Dir}
 use Rattle.rcv_tree.specs.declared.event.Dir.TheVariants.{Sent, Got}
 use Rattle.rcv_tree.specs.declared.event.Message.{Message}
+use Rattle.rcv_tree.specs.Events.{message_got}
 use Rattle.rcv_model.specs.Run.{takes_on, taken_by, put, taken}
 use Rattle.rcv_model.proofs.Keeping.{taken_none, taken_some, put_none}
 use Rattle.rcv_model.proofs.Located.{item}
@@ -17,7 +18,7 @@ use Rattle.rcv_mailbox.specs.Ends.{End, IsChannel}
 use Rattle.rcv_session.specs.Session.{roles_of, net_for, rules_of}
 use Rattle.rcv_role.specs.declared.poll.Poll.TheVariants.{Moved, Waiting}
 use Rattle.rcv_role.specs.Part.{PartView, IsOwn, IsRecvOf, Offers, AllRecvs, IsBelow, HasNoStrangers, with_event, entry_of}
-use Rattle.rcv_role.specs.Ends.{slot, end_at, IsInboxFrom, AreEnds, IsSettledWith, message_got, HasReceived, HasTaken, OthersStay}
+use Rattle.rcv_role.specs.Ends.{slot, end_at, IsInboxFrom, AreEnds, IsSettledWith, HasReceived, HasTaken, OthersStay}
 use Rattle.rcv_role.specs.Cell.{CellView, cell_of, IsSettled, Goes}
 use Rattle.rcv_role.specs.Poll.{IsDue, FoundEmpty, EndsOfRecv, Polled}
 use Rattle.rcv_role.proofs.Slots.{slot_apart, slot_within, fewer, recv_puts, else_takes, take_more, one_more, taken_length}

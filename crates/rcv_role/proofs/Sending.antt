@@ -4,6 +4,7 @@ use Rattle.std.specs.Prelude.{slice_index_or}
 use Rattle.std.proofs.lemmas.Bool.{cases_eq}
 use Rattle.rcv_tree.specs.declared.event.Event.{Event}
 use Rattle.rcv_tree.specs.declared.event.Dir.TheVariants.{Got}
+use Rattle.rcv_tree.specs.Events.{message_sent}
 use Rattle.rcv_model.specs.Run.{put_by, taken}
 use Rattle.rcv_model.proofs.Keeping.{taken_none, put_none}
 use Rattle.rcv_model.proofs.Steps.{not_taken}
@@ -13,7 +14,7 @@ use Rattle.rcv_mailbox.specs.Ends.{End, through, IsChannel, WasFull}
 use Rattle.rcv_session.specs.Session.{roles_of, net_for, rules_of}
 use Rattle.rcv_role.specs.declared.poll.Poll.TheVariants.{Moved, Waiting}
 use Rattle.rcv_role.specs.Part.{PartView, IsOwn, IsOwnSend, IsNextSend, Offers, IsBelow, HasNoStrangers, with_event, entry_of}
-use Rattle.rcv_role.specs.Ends.{slot, end_at, IsPostTo, AreEnds, IsSettledWith, message_of, HasSent, HasPut, OthersStay}
+use Rattle.rcv_role.specs.Ends.{slot, end_at, IsPostTo, AreEnds, IsSettledWith, HasSent, HasPut, OthersStay}
 use Rattle.rcv_role.specs.Cell.{CellView, cell_of, IsSettled, Goes}
 use Rattle.rcv_role.specs.Poll.{IsDue, OnePost, FoundFull, EndsOfSend, Polled}
 use Rattle.rcv_role.proofs.Slots.{slot_apart, slot_within, fewer, put_some, own_puts, else_puts}
@@ -29,7 +30,7 @@ module _ (p : PartView) (posts posts' inboxes : List End) (e : Event) (to : ℕ)
   same_post : (q : ℕ) (d : End) → (q ≡ p.role → ⊥) → (q ≡ to → ⊥) → end_at posts' p.role q d ≡ end_at posts p.role q d
   same_post q d n m = others.others (slot p.role q) d (slot_apart p.role q to n apart m)
 
-  module _ (ok : Bool) (sent : (d : End) → HasSent (end_at posts p.role to d) (end_at posts' p.role to d) (message_of e) ok) where
+  module _ (ok : Bool) (sent : (d : End) → HasSent (end_at posts p.role to d) (end_at posts' p.role to d) (message_sent e) ok) where
     pub ends_sent : AreEnds (rules_of p.setup) p.role posts' inboxes
     ends_sent = record {
       declared = ends.declared;
@@ -48,7 +49,7 @@ module _ (p : PartView) (posts posts' inboxes : List End) (e : Event) (to : ℕ)
         (λ m. subst (λ y. IsChannel y x) (sym (same_post q d n m)) h)
         (cases_eq q to)
 
-  send_waits : HasNoStrangers p → ((d : End) → HasSent (end_at posts p.role to d) (end_at posts' p.role to d) (message_of e) false) → Goes (cell_of p posts inboxes) (cell_of p posts' inboxes)
+  send_waits : HasNoStrangers p → ((d : End) → HasSent (end_at posts p.role to d) (end_at posts' p.role to d) (message_sent e) false) → Goes (cell_of p posts inboxes) (cell_of p posts' inboxes)
   send_waits strangers sent = record {
     more = [];
     setup = refl;
@@ -66,7 +67,7 @@ module _ (p : PartView) (posts posts' inboxes : List End) (e : Event) (to : ℕ)
     inboxes = λ q d x lt n h. h;
   }
 
-  send_moves : HasNoStrangers p → MayOwnSend (rules_of p.setup) p.own e → ((d : End) → HasSent (end_at posts p.role to d) (end_at posts' p.role to d) (message_of e) true) → Goes (cell_of p posts inboxes) (cell_of (with_event p e (entry_of e)) posts' inboxes)
+  send_moves : HasNoStrangers p → MayOwnSend (rules_of p.setup) p.own e → ((d : End) → HasSent (end_at posts p.role to d) (end_at posts' p.role to d) (message_sent e) true) → Goes (cell_of p posts inboxes) (cell_of (with_event p e (entry_of e)) posts' inboxes)
   send_moves strangers may sent = record {
     more = record { stamp = e.stamp; step = entry_of e } ∷ [];
     setup = refl;
@@ -88,7 +89,7 @@ module _ (p : PartView) (posts posts' inboxes : List End) (e : Event) (to : ℕ)
       here d =
           let old = settled to d low apart in
           record {
-            put = (sent d).list ∙ ap (λ l. l ++ message_of e ∷ []) old.put ∙ sym (put_some (net_for p.setup) p.role to p.own.events e (own_puts (net_for p.setup) p.role to e own.dir own.own.role (sym is)));
+            put = (sent d).list ∙ ap (λ l. l ++ message_sent e ∷ []) old.put ∙ sym (put_some (net_for p.setup) p.role to p.own.events e (own_puts (net_for p.setup) p.role to e own.dir own.own.role (sym is)));
             through = let t = (sent d).through in let o = old.through in omega (arith, t, o);
             got = old.got ∙ ap length (sym (got_same to));
             taken = old.taken ∙ sym (got_same to);
@@ -108,7 +109,7 @@ module _ (p : PartView) (posts posts' inboxes : List End) (e : Event) (to : ℕ)
   one_post : (p' : PartView) → OnePost (cell_of p posts inboxes) (cell_of p' posts' inboxes) ((net_for p.setup).receiver e.point)
   one_post p' = record { inboxes = refl; others = subst (λ t. OthersStay posts posts' (slot p.role t)) is others }
 
-  found_full : MayOwnSend (rules_of p.setup) p.own e → ((d : End) → HasSent (end_at posts p.role to d) (end_at posts' p.role to d) (message_of e) false) → FoundFull (cell_of p posts inboxes) (cell_of p posts' inboxes)
+  found_full : MayOwnSend (rules_of p.setup) p.own e → ((d : End) → HasSent (end_at posts p.role to d) (end_at posts' p.role to d) (message_sent e) false) → FoundFull (cell_of p posts inboxes) (cell_of p posts' inboxes)
   found_full may sent = record {
     offered = may.offered;
     next = subst (λ r. Offers (record p { role = r }) may.offered) own.own.role may.next;
@@ -120,10 +121,10 @@ module _ (p : PartView) (posts posts' inboxes : List End) (e : Event) (to : ℕ)
     list = λ d. subst (λ t. (end_at posts' p.role t d).list ≡ (end_at posts p.role t d).list) is (sent d).list;
   }
 
-  ends_of_send : (p' : PartView) → ((d : End) → HasSent (end_at posts p.role to d) (end_at posts' p.role to d) (message_of e) true) → EndsOfSend (cell_of p posts inboxes) (cell_of p' posts' inboxes) e
+  ends_of_send : (p' : PartView) → ((d : End) → HasSent (end_at posts p.role to d) (end_at posts' p.role to d) (message_sent e) true) → EndsOfSend (cell_of p posts inboxes) (cell_of p' posts' inboxes) e
   ends_of_send p' sent = record {
     stay = one_post p';
-    put = λ d. subst (λ t. HasPut (end_at posts p.role t d) (end_at posts' p.role t d) (message_of e)) is (record { list = (sent d).list });
+    put = λ d. subst (λ t. HasPut (end_at posts p.role t d) (end_at posts' p.role t d) (message_sent e)) is (record { list = (sent d).list });
   }
 
   no_recv : e.dir ≡ Got → ⊥
@@ -168,7 +169,7 @@ module _ (was p : PartView) (posts inboxes : List End) (q : CellView) (e : Event
       let d = ends.declared in
       slot_within p.role to (length posts) at (omega (arith, c, d)) (let l = to_low in omega (arith, c, l)) to_apart at_slot
 
-  pub send_passes : (d : End) → CanPass (slice_index_or posts at d).base.points (message_of e)
+  pub send_passes : (d : End) → CanPass (slice_index_or posts at d).base.points (message_sent e)
   send_passes d = (subst (λ k. HasPoint (slice_index_or posts k d).base.points e.point) (sym at_slot) ((ends.post to d to_low to_apart).points e.point own.own.first own.own.last own.sender (sym to_is)), own.stamp)
 
   pub send_room : length was.own.events ≤ was.own.numbers.raw → IsBelow q.part → (d : End) → length (slice_index_or posts at d).list < (slice_index_or posts at d).limit
@@ -178,12 +179,12 @@ module _ (was p : PartView) (posts inboxes : List End) (q : CellView) (e : Event
   pub send_through : (rules_of p.setup).limit ≤ 100000 → IsBelow q.part → (d : End) → through (slice_index_or posts at d) < 2 ^ 62
   send_through limit low d = subst (λ k. through (slice_index_or posts k d) < 2 ^ 62) (sym at_slot) (let s = (inside to d to_low to_apart).through in let b = (subst (λ (c : CellView). IsBelow c.part) (sym is) low).raw in omega (arith, s, b, limit))
 
-  module _ (posts' : List End) (ok : Bool) (others : OthersStay posts posts' at) (sent : (d : End) → HasSent (slice_index_or posts at d) (slice_index_or posts' at d) (message_of e) ok) where
+  module _ (posts' : List End) (ok : Bool) (others : OthersStay posts posts' at) (sent : (d : End) → HasSent (slice_index_or posts at d) (slice_index_or posts' at d) (message_sent e) ok) where
     others' : OthersStay posts posts' (slot p.role to)
     others' = subst (OthersStay posts posts') at_slot others
 
-    sent' : (d : End) → HasSent (end_at posts p.role to d) (end_at posts' p.role to d) (message_of e) ok
-    sent' d = subst (λ k. HasSent (slice_index_or posts k d) (slice_index_or posts' k d) (message_of e) ok) at_slot (sent d)
+    sent' : (d : End) → HasSent (end_at posts p.role to d) (end_at posts' p.role to d) (message_sent e) ok
+    sent' d = subst (λ k. HasSent (slice_index_or posts k d) (slice_index_or posts' k d) (message_sent e) ok) at_slot (sent d)
 
     pub sent_ends : AreEnds (rules_of p.setup) p.role posts' inboxes
     sent_ends = ends_sent p posts posts' inboxes e to ends inside own to_is others' ok sent'
@@ -196,17 +197,17 @@ module _ (was p : PartView) (posts inboxes : List End) (q : CellView) (e : Event
       strangers_none none = subst HasNoStrangers (sym same) none
 
       pub sent_waits : ok ≡ false → HasNoStrangers was → Goes q (cell_of p posts' inboxes)
-      sent_waits f strangers = subst (λ c. Goes c (cell_of p posts' inboxes)) is (send_waits p posts posts' inboxes e to ends inside own to_is others' (strangers_none strangers) (λ d. subst (HasSent (end_at posts p.role to d) (end_at posts' p.role to d) (message_of e)) f (sent' d)))
+      sent_waits f strangers = subst (λ c. Goes c (cell_of p posts' inboxes)) is (send_waits p posts posts' inboxes e to ends inside own to_is others' (strangers_none strangers) (λ d. subst (HasSent (end_at posts p.role to d) (end_at posts' p.role to d) (message_sent e)) f (sent' d)))
 
       pub sent_waiting : ok ≡ false → Polled q (cell_of p posts' inboxes) Waiting
       sent_waiting f = (
         ready q.part zs calm offers some below,
-        inl (subst (λ c. FoundFull c (cell_of p posts' inboxes)) is (found_full p posts posts' inboxes e to ends inside own to_is others' next.may (λ d. subst (HasSent (end_at posts p.role to d) (end_at posts' p.role to d) (message_of e)) f (sent' d)))),
+        inl (subst (λ c. FoundFull c (cell_of p posts' inboxes)) is (found_full p posts posts' inboxes e to ends inside own to_is others' next.may (λ d. subst (HasSent (end_at posts p.role to d) (end_at posts' p.role to d) (message_sent e)) f (sent' d)))),
         ap (λ (c : CellView). c.part) is,
       )
 
       pub sent_moves : ok ≡ true → (p' : PartView) → p' ≡ with_event p e (entry_of e) → HasNoStrangers was → Goes q (cell_of p' posts' inboxes)
-      sent_moves f p' g strangers = subst (λ c. Goes c (cell_of p' posts' inboxes)) is (subst (λ z. Goes (cell_of p posts inboxes) (cell_of z posts' inboxes)) (sym g) (send_moves p posts posts' inboxes e to ends inside own to_is others' (strangers_none strangers) next.may (λ d. subst (HasSent (end_at posts p.role to d) (end_at posts' p.role to d) (message_of e)) f (sent' d))))
+      sent_moves f p' g strangers = subst (λ c. Goes c (cell_of p' posts' inboxes)) is (subst (λ z. Goes (cell_of p posts inboxes) (cell_of z posts' inboxes)) (sym g) (send_moves p posts posts' inboxes e to ends inside own to_is others' (strangers_none strangers) next.may (λ d. subst (HasSent (end_at posts p.role to d) (end_at posts' p.role to d) (message_sent e)) f (sent' d))))
 
       pub sent_moved : ok ≡ true → (p' : PartView) → p' ≡ with_event p e (entry_of e) → Polled q (cell_of p' posts' inboxes) Moved
       sent_moved f p' g = (
@@ -214,7 +215,7 @@ module _ (was p : PartView) (posts inboxes : List End) (q : CellView) (e : Event
         record {
           event = e;
           part = g ∙ ap (λ (c : CellView). with_event c.part e (entry_of e)) is;
-          sent = λ d. subst (λ c. EndsOfSend c (cell_of p' posts' inboxes) e) is (ends_of_send p posts posts' inboxes e to ends inside own to_is others' p' (λ d. subst (HasSent (end_at posts p.role to d) (end_at posts' p.role to d) (message_of e)) f (sent' d)));
+          sent = λ d. subst (λ c. EndsOfSend c (cell_of p' posts' inboxes) e) is (ends_of_send p posts posts' inboxes e to ends inside own to_is others' p' (λ d. subst (HasSent (end_at posts p.role to d) (end_at posts' p.role to d) (message_sent e)) f (sent' d)));
           got = λ d. absurd (no_recv p posts posts' inboxes e to ends inside own to_is others' d);
         },
       )

@@ -7,10 +7,11 @@ use Rattle.std.proofs.lemmas.Bool.Decides.{nat_tests}
 use Rattle.std.proofs.lemmas.List.Elements.{filter_map-append}
 use Rattle.rcv_tree.specs.declared.event.Event.{Event}
 use Rattle.rcv_tree.specs.declared.event.Dir.TheVariants.{Sent, Got}
+use Rattle.rcv_tree.specs.Events.{message_sent}
 use Rattle.rcv_model.specs.Net.{Net}
 use Rattle.rcv_model.specs.Run.{is_sent, puts_on, takes_on, put_by, put}
 use Rattle.rcv_model.proofs.Keeping.{is_recv}
-use Rattle.rcv_role.specs.Ends.{slot, message_of}
+use Rattle.rcv_role.specs.Ends.{slot}
 
 -- slots of two roles differ
 pub slot_apart : (r q t : ℕ) → (q ≡ r → ⊥) → (t ≡ r → ⊥) → (q ≡ t → ⊥) → slot r q ≡ slot r t → ⊥
@@ -32,8 +33,8 @@ fewer f (x ∷ xs) = go (f x) (fewer f xs)
     go None le = omega (arith, le)
     go (Some y) le = omega (arith, le)
 
-pub put_some : (net : Net) (s r : ℕ) (h : List Event) (e : Event) → puts_on net s r e ≡ true → put net s r (h ++ e ∷ []) ≡ put net s r h ++ message_of e ∷ []
-put_some net s r h e t = filter_map-append (put_by net s r) h (e ∷ []) ∙ ap (λ b. put net s r h ++ cons_option (cond b (Some (message_of e)) None) []) t
+pub put_some : (net : Net) (s r : ℕ) (h : List Event) (e : Event) → puts_on net s r e ≡ true → put net s r (h ++ e ∷ []) ≡ put net s r h ++ message_sent e ∷ []
+put_some net s r h e t = filter_map-append (put_by net s r) h (e ∷ []) ∙ ap (λ b. put net s r h ++ cons_option (cond b (Some (message_sent e)) None) []) t
 
 pub own_puts : (net : Net) (r q : ℕ) (e : Event) → e.dir ≡ Sent → e.role ≡ r → net.receiver e.point ≡ q → puts_on net r q e ≡ true
 own_puts net r q e d f g = let a = ap is_sent d in grind (arith, nat_tests)

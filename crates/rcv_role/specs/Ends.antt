@@ -56,13 +56,6 @@ pub record IsSettledWith (net : Net) (r q : ℕ) (events : List Event) (raw : �
   pub got : inbox.got ≡ length (taken net q r events)
   pub taken : take inbox.got inbox.list ≡ taken net q r events
 
--- The message of a Send, and that of a Recv.
-abbrev pub message_of : Event → Message
-message_of e = record { point = e.point; value = e.value; stamp = e.stamp }
-
-abbrev pub message_got : Event → Message
-message_got e = record { point = e.point; value = e.value; stamp = e.sent }
-
 -- The message went onto the post, or the post was full and holds what it held.
 pub record HasSent (old new : End) (m : Message) (sent : Bool) : Type 0 where
   pub list : new.list ≡ (if sent then old.list ++ m ∷ [] else old.list)

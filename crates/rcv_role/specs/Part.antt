@@ -9,6 +9,7 @@ use Rattle.rcv_tree.specs.declared.event.Dir.TheVariants.{Sent, Got}
 use Rattle.rcv_tree.specs.declared.event.Message.{Message}
 use Rattle.rcv_tree.specs.declared.numbers.Numbers.{Numbers}
 use Rattle.rcv_tree.specs.Bits.{is_listed}
+use Rattle.rcv_tree.specs.Events.{message_got}
 use Rattle.rcv_tree.specs.Numbers.{fresh}
 use Rattle.rcv_tables.specs.Starts.{IsOwnPoint}
 use Rattle.rcv_model.specs.Net.{IsIn}
@@ -134,7 +135,7 @@ pub record IsNextSend (setup : SessionView) (r : ℕ) (own : Own) (e : Event) : 
 pub record IsRecvOf (p : PartView) (m : Message) (e : Event) : Type 0 where
   pub role : e.role ≡ p.role
   pub dir : e.dir ≡ Got
-  pub message : record { point = e.point; value = e.value; stamp = e.sent } ≡ m
+  pub message : message_got e ≡ m
 
 -- No event of the role is a Recv from itself or from a role that the protocol doesn't declare.
 abbrev pub HasNoStrangers : PartView → Type 0

@@ -2,13 +2,14 @@
 use Rattle.std.specs.Prelude.{◌≡◌, ◌⊎◌, ℕ, List, [], length}
 use Rattle.rcv_tree.specs.declared.event.Event.{Event}
 use Rattle.rcv_tree.specs.declared.event.Dir.TheVariants.{Sent, Got}
+use Rattle.rcv_tree.specs.Events.{message_sent, message_got}
 use Rattle.rcv_model.specs.Journal.{IsOwnDue}
 use Rattle.rcv_session.specs.Session.{net_for, rules_of}
 use Rattle.rcv_mailbox.specs.Ends.{End, WasFull, WasEmpty}
 use Rattle.rcv_role.specs.declared.poll.Poll.{Poll}
 use Rattle.rcv_role.specs.declared.poll.Poll.TheVariants.{Crashed, Done, Tired, Moved, Waiting}
 use Rattle.rcv_role.specs.Part.{PartView, Offers, AllSends, AllRecvs, IsBelow, with_event, with_crash, entry_of}
-use Rattle.rcv_role.specs.Ends.{slot, end_at, message_of, message_got, HasPut, HasTaken, OthersStay}
+use Rattle.rcv_role.specs.Ends.{slot, end_at, HasPut, HasTaken, OthersStay}
 use Rattle.rcv_role.specs.Cell.{CellView, cell_of}
 
 -- A crash line of the role has come.
@@ -72,7 +73,7 @@ pub record EndsOfSend (old new : CellView) (e : Event) : Type 0 where
   pub stay : OnePost old new (receiver_at old e.point)
   pub put : (d : End)
       → HasPut (end_at old.posts old.part.role (receiver_at old e.point) d)
-      (end_at new.posts old.part.role (receiver_at old e.point) d) (message_of e)
+      (end_at new.posts old.part.role (receiver_at old e.point) d) (message_sent e)
 
 -- A Recv received its message from the inbox of the sender.
 pub record EndsOfRecv (old new : CellView) (e : Event) : Type 0 where

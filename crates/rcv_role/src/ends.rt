@@ -1,10 +1,11 @@
 // One end of a role's many, and what a step, a meeting or a recovery does to it.
 
 ghost use Rattle.std.specs.Prelude.{◌≡◌, ◌+◌, ◌^◌, ◌<◌, ◌≤◌, length, slice_index_or};
+ghost use Rattle.rcv_tree.specs.Events.{message_sent};
 ghost use Rattle.rcv_ring.specs.Points.{CanPass};
 ghost use Rattle.rcv_ring.specs.Lists.{Begins};
 ghost use Rattle.rcv_mailbox.specs.Ends.{End, through, received, Knows, IsChannel};
-ghost use Rattle.rcv_role.specs.Ends.{HasSent, HasReceived, IsSameAs, AreRewound, OthersStay, message_of, slot};
+ghost use Rattle.rcv_role.specs.Ends.{HasSent, HasReceived, IsSameAs, AreRewound, OthersStay, slot};
 
 use rcv_mailbox::{Inbox, Post};
 use rcv_tree::event::{Event, Message};
@@ -22,30 +23,25 @@ pub fn slot(role: RoleId, other: RoleId) -> usize
 // Sends the message of a Send, and says whether there was room.
 pub fn send_to(posts: &mut Vec<Post>, at: usize, event: &Event) -> bool
     requires at { at < length posts.old.items }
-    requires passes { (d : End) → CanPass (slice_index_or posts.old.items at d).base.points (message_of event.now) }
+    requires passes { (d : End) → CanPass (slice_index_or posts.old.items at d).base.points (message_sent event.now) }
     requires room { (d : End) → length (slice_index_or posts.old.items at d).list <
         (slice_index_or posts.old.items at d).limit }
     requires through { (d : End) → through (slice_index_or posts.old.items at d) < 2 ^ 62 }
     ensures others { OthersStay posts.old.items posts.new.items at }
     ensures sent { (d : End) → HasSent (slice_index_or posts.old.items at d) (slice_index_or posts.new.items at d)
-        (message_of event.now) result }
+        (message_sent event.now) result }
 {
     let post = &mut posts[at];
     send(post, event)
 }
 
 fn send(post: &mut Post, event: &Event) -> bool
-    requires passes { CanPass post.old.base.points (message_of event.now) }
+    requires passes { CanPass post.old.base.points (message_sent event.now) }
     requires room { length post.old.list < post.old.limit }
     requires through { through post.old < 2 ^ 62 }
-    ensures { HasSent post.old post.new (message_of event.now) result }
+    ensures { HasSent post.old post.new (message_sent event.now) result }
 {
-    let message = Message {
-        point: event.point,
-        value: event.value,
-        stamp: event.stamp,
-    };
-    post.send(message).is_ok()
+    post.send(event.message()).is_ok()
 }
 
 // Receives the next message, if there is one.

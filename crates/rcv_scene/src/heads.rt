@@ -9,10 +9,10 @@ ghost use Rattle.rcv_scene.specs.Grid.{grid_of};
 ghost use Rattle.rcv_scene.specs.Heads.{AddsLines, AddsHostName, AddsHost, AddsHead, AreHeads};
 
 use crate::layout::Layout;
-use crate::line::name_of;
 use crate::shapes::Shapes;
 use crate::spans::{at, back, further};
 use crate::wording::{Piece, lines_of_name, shortened, text_of};
+use rcv_journal::name::name_of;
 use rcv_picture::look::Look;
 use rcv_picture::pixels::{At, Pixels, place};
 use rcv_picture::shape::{Anchor, Shape};

@@ -3,12 +3,13 @@
 ghost use Rattle.std.specs.Prelude.{◌≡◌, ◌<◌, ◌++◌, IfOk, OnOk, flat_map};
 ghost use Rattle.std.specs.List.{range_with_len};
 ghost use Rattle.rcv_session.specs.Session.{roles_of};
-ghost use Rattle.rcv_journal.specs.JournalText.{IsNamed, IsNamedEvent, name_of, event_text, kept_text};
+ghost use Rattle.rcv_journal.specs.JournalText.{IsNamed, IsNamedEvent, event_text, kept_text};
 ghost use Rattle.rcv_fates.specs.Record.{journal_of};
 ghost use Rattle.rcv_scene.specs.Told.{bare_line, IsLineAt};
 
 use rcv_core::setup::Setup;
 use rcv_fates::Record;
+use rcv_journal::name::name_of;
 use rcv_text::writer::Writer;
 use rcv_tree::entry::Entry;
 use rcv_tree::event::Event;
@@ -17,14 +18,6 @@ use std::alloc::{AllocError, Global};
 
 // Most lines have at most so many bytes.
 const LINE: usize = 48;
-
-/// The name of a declared role.
-pub fn name_of(setup: &Setup, role: RoleId) -> &[u8]
-    requires { role < roles_of setup.now }
-    ensures { result.now ≡ name_of setup.now role }
-{
-    setup.protocol().roles.as_slice()[role.0 as usize].as_slice()
-}
 
 // What the lines of a Send and a Recv have in common.
 fn write_event(text: &mut Writer, setup: &Setup, event: &Event) -> Result<(), AllocError>

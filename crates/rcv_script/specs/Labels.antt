@@ -1,11 +1,8 @@
 -- The places of names, and what the protocol's messages say of a role and a label.
-use Rattle.std.specs.Prelude.{ℕ, ◌==◌, ◌&&◌, ◌||◌, not, Bool, true, false, List, Option, position, unwrap_or, bytes_eq}
+use Rattle.std.specs.Prelude.{ℕ, ◌==◌, ◌&&◌, ◌||◌, not, Bool, true, false, List, unwrap_or, bytes_eq}
 use Rattle.std.specs.List.{list_any}
+use Rattle.rcv_tree.specs.Names.{place_of}
 use Rattle.rcv_points.specs.Follow.{PointView}
-
--- the name's place, counted from 0
-abbrev pub place_of : List (List ℕ) → List ℕ → Option ℕ
-place_of names name = position (λ other. bytes_eq other name) names
 
 -- the place of a name that is known
 abbrev pub place_in : List (List ℕ) → List ℕ → ℕ

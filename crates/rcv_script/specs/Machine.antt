@@ -4,6 +4,7 @@ use Rattle.std.specs.Prelude.{ℕ, ◌+◌, ◌==◌, ◌||◌, not, nat_le, Boo
 use Rattle.std.specs.Prelude.{◌++◌, length, Option, Some, None, is_some, slice_set, ℤ, pos, neg_ℤ, bytes_eq}
 use Rattle.std.specs.List.{list_any}
 use Rattle.std.specs.Option.{option_or}
+pub use Rattle.rcv_tree.specs.Names.{place_of}
 use Rattle.rcv_model.specs.Script.{Condition, Expr, Literal, TheValue, TheAttempt, Variable, Negated, Plus, Minus}
 use Rattle.rcv_model.specs.Script.{Times, Test, Less, AtMost, Same, Differ, More, AtLeast, Line, VarLine, SendLine}
 use Rattle.rcv_model.specs.Script.{PickLine, OnLine}
@@ -18,7 +19,7 @@ use Rattle.rcv_script.specs.declared.words.LineKind.TheVariants as kinds
 use Rattle.rcv_script.specs.Symbols.{Symbol, Is, Word, Number, Text}
 use Rattle.rcv_script.specs.Table.{is_own_word}
 pub use Rattle.rcv_script.specs.Meaning.{no_lines}
-pub use Rattle.rcv_script.specs.Labels.{place_of, place_in, sends, takes_part, sends_bare, takes_bare}
+pub use Rattle.rcv_script.specs.Labels.{place_in, sends, takes_part, sends_bare, takes_bare}
 
 -- ---- what is known
 

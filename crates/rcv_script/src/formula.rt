@@ -6,7 +6,7 @@ ghost use Rattle.rcv_model.specs.Script.{Expr};
 ghost use Rattle.rcv_formula.specs.Expressions.{leaf_expr};
 ghost use Rattle.rcv_script.specs.Symbols.{Symbol, Is, Word, IsNotNext};
 ghost use Rattle.rcv_script.specs.Lines.{condition_of, test_of};
-ghost use Rattle.rcv_script.specs.Machine.{This, ATest, AnAtom, a_product, a_sum, compared, place_of};
+ghost use Rattle.rcv_script.specs.Machine.{This, ATest, AnAtom, a_product, a_sum, compared};
 ghost use Rattle.rcv_script.specs.Machine.{Item, Refuses, answer};
 ghost use Rattle.rcv_script.specs.Descent.{Goes, Passes, Writes, at_depth, rooms, term_sign};
 
@@ -18,20 +18,13 @@ use crate::writing::Writing;
 use rcv_formula::Operator::{Add, Multiply, Subtract};
 use rcv_formula::{Formula, Leaf, Steps};
 use rcv_lexer::{Lexeme, is};
-use rcv_tree::name::{Name, Names};
+use rcv_tree::name::Names;
 
 /// What speaks against the words `value` and `attempt` in an expression.
 #[derive(Clone, Copy)]
 pub struct Banned {
     pub value: Option<Fault>,
     pub attempt: Option<Fault>,
-}
-
-/// The place of the name, counted from 0.
-pub fn place_of(names: &[Name], name: &[u8]) -> Option<usize>
-    ensures { result ≡ place_of names.now name.now }
-{
-    names.iter().position(|other| other.as_slice() == name)
 }
 
 // What a word is in an expression, or what speaks against it.
@@ -49,7 +42,7 @@ fn word_atom(names: &Names, banned: Banned, word: &[u8]) -> Result<Leaf, Fault>
     if is(word, b"attempt") {
         return banned.attempt.map_or(Ok(Leaf::Attempt), Err);
     }
-    let place = place_of(names.as_slice(), word).ok_or(Fault::Variable)?;
+    let place = names.place_of(word).ok_or(Fault::Variable)?;
     Ok(Leaf::Variable(place))
 }
 

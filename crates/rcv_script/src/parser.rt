@@ -7,7 +7,7 @@ ghost use Rattle.rcv_script.specs.Machine.{This, ASigned, Lines, ALine, rest_of_
 ghost use Rattle.rcv_script.specs.Descent.{Goes, Adds};
 
 use crate::fault::{Fault, Read, ScriptError};
-use crate::formula::{Banned, place_of};
+use crate::formula::Banned;
 use crate::line::Line;
 use crate::sign::Sign;
 use crate::words::{LineKind, kind_of};
@@ -35,7 +35,7 @@ impl<'a> Parser<'a> {
             return Err(ScriptError::Refused(Fault::Token));
         }
         let (word, after) = self.rest.word().ok_or(Fault::Token)?;
-        let place = place_of(writing.names().as_slice(), word).ok_or(Fault::Variable)?;
+        let place = writing.names().place_of(word).ok_or(Fault::Variable)?;
         self.rest = after;
         Ok(place)
     }

@@ -9,7 +9,6 @@ ghost use Rattle.rcv_script.specs.Descent.{Goes, Ceases};
 ghost use Rattle.rcv_script.specs.Scripts.{AreScriptsOf, AreRefusedFor};
 
 use crate::fault::{Fault, Read, ScriptError};
-use crate::formula::place_of;
 use crate::parser::Parser;
 use crate::scripts::{Script, Scripts};
 use rcv_accept::accepted::Accepted;
@@ -30,7 +29,7 @@ impl<'a> Parser<'a> {
         ensures shorter { IfOk result (λ _. length self.new.rest ≤ length self.old.rest) }
     {
         let (word, after) = self.rest.word().ok_or(Fault::Token)?;
-        let role = place_of(roles.as_slice(), word).ok_or(Fault::Role)?;
+        let role = roles.place_of(word).ok_or(Fault::Role)?;
         if given.contains(&role) {
             return Err(ScriptError::Refused(Fault::Role));
         }

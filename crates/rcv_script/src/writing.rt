@@ -7,7 +7,7 @@ ghost use Rattle.rcv_script.specs.Machine.{begun, with_line, line_fault, label_f
 ghost use Rattle.rcv_script.specs.Descent.{at_depth};
 
 use crate::fault::Fault;
-use crate::formula::{Banned, place_of};
+use crate::formula::Banned;
 use crate::labels::{has_message, has_send};
 use crate::line::Line;
 use crate::words::LineKind;
@@ -90,10 +90,9 @@ impl<'a> Writing<'a> {
         ensures { result ≡ label_fault kind self.now label.now }
     {
         let (points, role) = (self.points, self.role);
-        let names = self.names.as_slice();
         match kind {
             LineKind::Var if is(label, b"value") || is(label, b"attempt") => Some(Fault::Variable),
-            LineKind::Var if place_of(names, label).is_some() => Some(Fault::Variable),
+            LineKind::Var if self.names.place_of(label).is_some() => Some(Fault::Variable),
             LineKind::On if !has_message(points, role, label, true, false) => Some(Fault::Label),
             LineKind::Pick if !has_message(points, role, label, false, false) => Some(Fault::Label),
             LineKind::Send if !has_message(points, role, label, false, false) => Some(Fault::Label),

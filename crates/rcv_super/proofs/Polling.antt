@@ -8,6 +8,7 @@ use Rattle.rcv_tree.specs.declared.event.Event.{Event}
 use Rattle.rcv_tree.specs.declared.event.Message.{Message}
 use Rattle.rcv_tree.specs.declared.event.Dir.{Dir}
 use Rattle.rcv_tree.specs.declared.event.Dir.TheVariants.{Sent, Got}
+use Rattle.rcv_tree.specs.Events.{message_got}
 use Rattle.rcv_model.specs.Net.{IsIn, HasTwoEnds}
 use Rattle.rcv_model.specs.Run.{put, taken, channel}
 use Rattle.rcv_model.specs.Next.{AreNext}
@@ -20,7 +21,7 @@ use Rattle.rcv_session.specs.Session.{SessionView, roles_of, net_for, rules_of}
 use Rattle.rcv_role.specs.declared.poll.Poll.{Poll}
 use Rattle.rcv_role.specs.declared.poll.Poll.TheVariants as polls
 use Rattle.rcv_role.specs.Part.{PartView, Offers, IsBelow, entry_by, entry_of}
-use Rattle.rcv_role.specs.Ends.{end_at, message_got}
+use Rattle.rcv_role.specs.Ends.{end_at}
 use Rattle.rcv_role.specs.Cell.{CellView}
 use Rattle.rcv_role.specs.Poll.{IsDue, FoundFull, FoundEmpty, OnePost, OneInbox, receiver_at, Polled, HasStepped}
 use Rattle.rcv_role.proofs.Slots.{taken_length}

@@ -1,8 +1,8 @@
 -- The tree of what is written: names of roles become places, each receiver a message of its own, points are counted.
-use Rattle.std.specs.Prelude.{◌≡◌, ℕ, ◌+◌, ◌==◌, Bool, true, false, if◌then◌else◌, List, [], ◌∷◌, ◌++◌, length, map, Option, Some, None, position}
+use Rattle.std.specs.Prelude.{◌≡◌, ℕ, ◌+◌, ◌==◌, Bool, true, false, if◌then◌else◌, List, [], ◌∷◌, ◌++◌, length, map, Option, Some, None}
 use Rattle.std.specs.List.{list_any}
-use Rattle.std.specs.Str.{bytes_eq}
 use Rattle.rcv_tree.specs.Lists.{declarations}
+use Rattle.rcv_tree.specs.Names.{place_of}
 use Rattle.rcv_lexer.specs.declared.token.Token.{Token}
 use Rattle.rcv_lexer.specs.Symbols.{symbol_of}
 use Rattle.rcv_syntax.specs.declared.sign.Sign.TheVariants.{Do}
@@ -10,10 +10,6 @@ use Rattle.rcv_tree.specs.declared.protocol.Protocol.{Protocol}
 use Rattle.rcv_model.specs.Text as trees
 use Rattle.rcv_syntax.specs.Symbols.{Symbol, Is, symbol_by}
 use Rattle.rcv_syntax.specs.Grammar.{Written, NoStmt, AMessage, AChoice, ARec, AContinue, APar, ADo, Blocks, NoBlock, ABlock, WrittenProtocol, Source, Spells}
-
--- the place of a role, counted from 0
-abbrev pub place_of : List (List ℕ) → List ℕ → Option ℕ
-place_of roles name = position (λ role. bytes_eq role name) roles
 
 abbrev pub is_listed : ℕ → List ℕ → Bool
 is_listed n ns = list_any (λ other. n == other) ns

@@ -10,6 +10,7 @@ use Rattle.rcv_tree.specs.declared.event.Event.{Event}
 use Rattle.rcv_tree.specs.declared.event.Dir.TheVariants.{Sent, Got}
 use Rattle.rcv_tree.specs.declared.entry.Entry.{Entry}
 use Rattle.rcv_tree.specs.declared.entry.Entry.TheVariants.{Send, Recv}
+use Rattle.rcv_tree.specs.Events.{message_got}
 use Rattle.rcv_model.specs.Net.{IsWalk, HasTwoEnds}
 use Rattle.rcv_model.specs.Run.{acts, part, place_of, puts_on, put_by, put, taken, channel}
 use Rattle.rcv_model.specs.Next.{IsNext}
@@ -20,7 +21,7 @@ use Rattle.rcv_model.proofs.Roles.{set_keeps}
 use Rattle.rcv_model.proofs.Ways.{point_is_next, ends_declared}
 use Rattle.std.specs.List.{cons_option}
 use Rattle.std.proofs.lemmas.List.Elements.{filter_map-append}
-use Rattle.rcv_told.specs.Told.{Terms, Remembered, start, down_at, standpoint, IsSend, IsRecv, message_of, after_event, told_after, told_from, IsToldFrom}
+use Rattle.rcv_told.specs.Told.{Terms, Remembered, start, down_at, standpoint, IsSend, IsRecv, after_event, told_after, told_from, IsToldFrom}
 use Rattle.rcv_told.specs.Laws.{AreAccepted}
 use Rattle.rcv_told.proofs.Telling.{ForgotNothing, down_here, nothing_after, at_start, place_is}
 use Rattle.rcv_tightness.proofs.Turns.{IsTurn, AreInTurn, acts_in_turn, all_taken, turns_join}
@@ -105,9 +106,9 @@ module _ (terms : Terms) (known : AreAccepted terms) where
     nothing_sent : ForgotNothing terms.roles after_send
     nothing_sent = nothing_after terms m (Send sending) is.nothing
 
-    in_front : channel terms.net s r (m.held ++ sending ∷ []) ≡ message_of receiving ∷ []
+    in_front : channel terms.net s r (m.held ++ sending ∷ []) ≡ message_got receiving ∷ []
     in_front = ap (λ l. drop (length l) (put terms.net s r (m.held ++ sending ∷ []))) takes ∙ ap (drop (length (put terms.net s r m.held))) puts
-        ∙ drop-append_seam (put terms.net s r m.held) (message_of receiving ∷ [])
+        ∙ drop-append_seam (put terms.net s r m.held) (message_got receiving ∷ [])
       where
         takes : taken terms.net s r (m.held ++ sending ∷ []) ≡ put terms.net s r m.held
         takes = taken_none terms.net s r m.held sending refl ∙ sym (all_taken terms.net u m.held s r is.turns)
@@ -115,9 +116,9 @@ module _ (terms : Terms) (known : AreAccepted terms) where
         on : puts_on terms.net s r sending ≡ true
         on = grind (arith, nat_tests)
 
-        puts : put terms.net s r (m.held ++ sending ∷ []) ≡ put terms.net s r m.held ++ message_of receiving ∷ []
+        puts : put terms.net s r (m.held ++ sending ∷ []) ≡ put terms.net s r m.held ++ message_got receiving ∷ []
         puts = filter_map-append (put_by terms.net s r) m.held (sending ∷ [])
-            ∙ ap (λ b. put terms.net s r m.held ++ cons_option (cond b (Some (message_of receiving)) None) []) on
+            ∙ ap (λ b. put terms.net s r m.held ++ cons_option (cond b (Some (message_got receiving)) None) []) on
 
     -- an event leaves who is up
     up_with : (l : Remembered) (e : Event) (q : ℕ) → (numbers_at l.roles q).crashed ≡ false → (numbers_at (after_event l e).roles q).crashed ≡ false

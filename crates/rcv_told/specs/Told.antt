@@ -10,6 +10,7 @@ use Rattle.rcv_tree.specs.declared.numbers.Numbers.{Numbers}
 use Rattle.rcv_tree.specs.declared.entry.Entry.{Entry}
 use Rattle.rcv_tree.specs.declared.entry.Entry.TheVariants.{Send, Recv, Crash, Recover}
 use Rattle.rcv_tree.specs.declared.role.RoleSet.{RoleSet}
+use Rattle.rcv_tree.specs.Events.{message_got}
 use Rattle.rcv_model.specs.Net.{Net}
 use Rattle.rcv_model.specs.Run.{acts, channel, place_of}
 use Rattle.rcv_model.specs.Next.{IsNext}
@@ -100,10 +101,6 @@ pub record IsSend (net : Net) (at : Standpoint) (e : Event) : Type 0 where
   pub stamp : e.stamp ≡ at.clock + 1
   pub sent : e.sent ≡ e.stamp
 
--- The message that a Recv takes.
-abbrev pub message_of : Event → Message
-message_of e = record { point = e.point; value = e.value; stamp = e.sent }
-
 -- A message is in front of the channel from the sender of its point.
 abbrev pub IsInFront : Net → Standpoint → Message → Type 0
 IsInFront net at m = (rest : List Message) × (at.lies (net.sender m.point) ≡ m ∷ rest)
@@ -114,7 +111,7 @@ pub record IsRecv (net : Net) (at : Standpoint) (e : Event) : Type 0 where
   pub next : IsNext net e.role at.place e.point
   pub receives : net.receiver e.point ≡ e.role
   pub is_recv : e.dir ≡ Got
-  pub front : IsInFront net at (message_of e)
+  pub front : IsInFront net at (message_got e)
   pub stamp : e.stamp ≡ max at.clock e.sent + 1
 
 -- Whom a failure of p takes: p itself, and the roles of its host.

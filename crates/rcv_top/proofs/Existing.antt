@@ -1,8 +1,8 @@
 -- All words and inputs have an outcome.
 use Rattle.std.proofs.Common.{◌≡◌, ℕ, ◌≤◌, Bool, Option, Some, None, List, [], length, refl, sym, subst, inl, inr, ⊎_elim, ◌⊎◌, arith}
-use Rattle.std.specs.Str.{bytes_eq}
 use Rattle.std.proofs.lemmas.Bool.{cases_lt}
-use Rattle.std.proofs.lemmas.List.Quantifiers.{position-Some}
+use Rattle.rcv_tree.specs.Names.{place_of}
+use Rattle.rcv_tree.proofs.Naming.{is_named}
 use Rattle.rcv_session.specs.Session.{SessionView}
 use Rattle.rcv_input.specs.Input.{IsTaken}
 use Rattle.rcv_input.specs.Line.{refusal_line}
@@ -15,7 +15,6 @@ use Rattle.rcv_words.specs.Commands.{CommandView, Run, RunMany, Check, Project, 
 use Rattle.rcv_words.proofs.Deciding.{command_or_none}
 use Rattle.rcv_top.specs.Commands.{WorksOnSource, TakesWhole, text_for}
 use Rattle.rcv_gen.proofs.Lengths.{generated_fits}
-use Rattle.rcv_top.specs.Projection.{place_of}
 use Rattle.rcv_top.specs.Running.{IsRunOf}
 use Rattle.rcv_top.specs.Outcome.{most_bytes, usage_line, IsAnswer, Makes, usage, too_long, answered, refused, made, replayed}
 use Rattle.rcv_replay.specs.declared.replayed.Replayed.{Replayed}
@@ -49,7 +48,7 @@ makes_some input session (Project name) whole taken = go (place_of session.proto
     go : (place : Option ℕ) → place_of session.protocol.roles name ≡ place → (status : Status) × (bytes : List ℕ) × Makes session (Project name) status bytes
     go None at = (Refused, refusal_line NoRole, inr (at, refl, refl))
     go (Some role) at =
-        let text = text_exists session.protocol role taken.protocol.accepted (position-Some (λ other. bytes_eq other name) session.protocol.roles role [] at).0 in
+        let text = text_exists session.protocol role taken.protocol.accepted (is_named session.protocol.roles name role at).0 in
         (Completed, text.0, inl (role, at, refl, text.1))
 
 -- it takes its whole text as a bundle, or it is `replay`

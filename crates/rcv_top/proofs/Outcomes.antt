@@ -3,6 +3,7 @@ use Rattle.std.proofs.Common.{◌≡◌, ℕ, ◌<◌, Bool, Option, Some, None,
 use Rattle.std.proofs.lemmas.Bool.{cases_lt}
 use Rattle.rcv_tree.specs.declared.protocol.Protocol.{Protocol}
 use Rattle.rcv_tree.specs.declared.entry.Entry.{Entry}
+use Rattle.rcv_tree.specs.Names.{place_of}
 use Rattle.rcv_model.specs.Text.{Body, body_of}
 use Rattle.rcv_model.specs.Places.{net_of}
 use Rattle.rcv_model.specs.Journal.{Rules, reading}
@@ -26,7 +27,7 @@ use Rattle.rcv_tables.specs.Rows.{TableView, IsTable}
 use Rattle.rcv_tables.specs.TableText.{table_text}
 use Rattle.rcv_tables.proofs.OneText.{one_table_text}
 use Rattle.rcv_top.specs.declared.status.Status.{Status}
-use Rattle.rcv_top.specs.Projection.{place_of, IsProjection}
+use Rattle.rcv_top.specs.Projection.{IsProjection}
 use Rattle.rcv_top.specs.Recovering.{accepted_as, IsTableText}
 use Rattle.rcv_top.specs.Running.{IsRunOf}
 use Rattle.rcv_top.specs.Generating.{kept_in, IsSummaryOf, IsSummaryRun}

@@ -2,11 +2,11 @@
 use Rattle.std.specs.Prelude.{◌≡◌, ℕ, codes, decimal, List, ◌++◌, flat_map, length}
 use Rattle.std.specs.List.{range_with_len}
 use Rattle.rcv_tree.specs.declared.entry.Entry.{Entry}
+use Rattle.rcv_tree.specs.Names.{name_at}
 use Rattle.rcv_model.specs.Journal.{Rules, reading}
 use Rattle.rcv_model.specs.Final.{IsOneThread}
 use Rattle.rcv_model.specs.StableLine.{IsStableLine}
 use Rattle.rcv_session.specs.Session.{SessionView, rules_of}
-use Rattle.rcv_tables.specs.TableText.{name_of}
 use Rattle.rcv_top.specs.declared.status.Status.{Status}
 use Rattle.rcv_top.specs.declared.status.Status.TheVariants.{Completed}
 use Rattle.rcv_top.specs.Running.{IsJournalOf}
@@ -17,7 +17,7 @@ IsLineBehind rules journal counts = IsStableLine rules.net rules.every (reading 
 
 -- A role and its count, as ` NAME COUNT`.
 abbrev pub count_text : List (List ℕ) → (ℕ → ℕ) → ℕ → List ℕ
-count_text names counts r = codes " " ++ name_of names r ++ codes " " ++ decimal (counts r)
+count_text names counts r = codes " " ++ name_at names r ++ codes " " ++ decimal (counts r)
 
 -- Each role, in order.
 abbrev pub counts_text : List (List ℕ) → (ℕ → ℕ) → List ℕ

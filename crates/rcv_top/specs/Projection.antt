@@ -1,16 +1,12 @@
 -- What `project` makes of a protocol.
-use Rattle.std.specs.Prelude.{◌≡◌, ℕ, ◌⊎◌, List, position, Option, Some, None}
-use Rattle.std.specs.Str.{bytes_eq}
+use Rattle.std.specs.Prelude.{◌≡◌, ℕ, ◌⊎◌, List, Some, None}
 use Rattle.rcv_tree.specs.declared.protocol.Protocol.{Protocol}
+use Rattle.rcv_tree.specs.Names.{place_of}
 use Rattle.rcv_input.specs.declared.refused.Refused.TheVariants.{NoRole}
 use Rattle.rcv_input.specs.Line.{refusal_line}
 use Rattle.rcv_project.specs.LocalText.{IsTextOf}
 use Rattle.rcv_top.specs.declared.status.Status.{Status}
 use Rattle.rcv_top.specs.declared.status.Status.TheVariants.{Completed, Refused}
-
--- The place of a name among others, counted from 0.
-abbrev pub place_of : List (List ℕ) → List ℕ → Option ℕ
-place_of names name = position (λ other. bytes_eq other name) names
 
 -- The role with this name is written; or the protocol declares none, and the line for that is written.
 abbrev pub IsProjection : Protocol → List ℕ → Status → List ℕ → Type 0

@@ -16,7 +16,6 @@ use crate::line::run_line;
 use crate::many::run_many;
 use crate::output::{Output, put};
 use crate::replaying::replay_answer;
-use crate::role::place_of;
 use crate::run::run;
 use crate::status::Status;
 use rcv_accept::accepted::Accepted;
@@ -128,7 +127,7 @@ fn project_role(alloc: Global, accepted: &Accepted, name: &[u8]) -> Result<Outpu
 {
     // Tells the proof that the place of a role fits in a byte.
     let _count = accepted.roles();
-    let Some(place) = place_of(&accepted.protocol().roles, name) else {
+    let Some(place) = accepted.protocol().roles.place_of(name) else {
         return Ok(Output {
             status: Status::Refused,
             bytes: refusal_line(alloc, &Refused::NoRole)?,

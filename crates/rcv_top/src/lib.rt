@@ -14,7 +14,6 @@ mod line;
 mod many;
 mod output;
 mod replaying;
-mod role;
 mod run;
 mod status;
 

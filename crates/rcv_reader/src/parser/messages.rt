@@ -3,9 +3,10 @@
 ghost use Rattle.std.specs.Prelude.{◌≡◌, ◌≤◌, ◌-◌, ◌++◌, ◌∷◌, [], length, ℕ, List};
 ghost use Rattle.std.specs.Prelude.{OnOk, IfOk, Some};
 ghost use Rattle.rcv_tree.specs.Lists.{statements};
+ghost use Rattle.rcv_tree.specs.Names.{place_of};
 ghost use Rattle.rcv_syntax.specs.Symbols.{Is, Word};
 ghost use Rattle.rcv_syntax.specs.Grammar.{sort_list};
-ghost use Rattle.rcv_syntax.specs.Trees.{place_of, is_listed};
+ghost use Rattle.rcv_syntax.specs.Trees.{is_listed};
 ghost use Rattle.rcv_machine.specs.Machine.{This, AnyName, Sorts, Subject};
 ghost use Rattle.rcv_machine.specs.Machine.{Sender, Receiver, MoreReceivers};
 ghost use Rattle.rcv_machine.specs.Machine.{Argument, MoreArguments};

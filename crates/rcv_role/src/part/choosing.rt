@@ -7,7 +7,7 @@ ghost use Rattle.rcv_session.specs.Session.{net_for, rules_of};
 ghost use Rattle.rcv_role.specs.Part.{IsNextSend, IsRecvOf, Offers, AllSends, AllRecvs, IsBelow};
 
 use crate::part::Part;
-use rcv_tree::event::{Dir, Event, Message};
+use rcv_tree::event::{Event, Message};
 use rcv_tree::point::Point;
 use rcv_tree::role::RoleId;
 
@@ -103,16 +103,10 @@ impl<'a> Part<'a> {
         let point = self
             .setup
             .choose(self.role, &state.vars, self.numbers.attempt, offered);
-        Event {
-            role: self.role,
-            dir: Dir::Sent,
-            point,
-            value: self
-                .setup
-                .value(self.role, &state.vars, self.numbers.attempt, point),
-            stamp: self.numbers.clock + 1,
-            sent: self.numbers.clock + 1,
-        }
+        let value = self
+            .setup
+            .value(self.role, &state.vars, self.numbers.attempt, point);
+        Event::send(self.role, point, value, self.numbers.clock + 1)
     }
 
     /// The Recv of a message from the role from which this role receives at all next points.
@@ -129,13 +123,7 @@ impl<'a> Part<'a> {
         ensures of { IsRecvOf self.now message.now result }
     {
         let _setup = self.setup;
-        Event {
-            role: self.role,
-            dir: Dir::Got,
-            point: message.point,
-            value: message.value,
-            stamp: self.numbers.clock.max(message.stamp) + 1,
-            sent: message.stamp,
-        }
+        let stamp = self.numbers.clock.max(message.stamp) + 1;
+        Event::recv(self.role, message, stamp)
     }
 }

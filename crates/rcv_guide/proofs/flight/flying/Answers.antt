@@ -1,12 +1,11 @@
 -- One event after another.
-use Rattle.std.proofs.Common.{rules, w64, ◌≡◌, List, [], ◌∷◌, ◌++◌, ◌+◌, ◌-◌, drop, sym, ◌∙◌, ap, append-nil, append_assoc, arith}
-use mir.Val.{SFits, of_z, to_z}
-use Rattle.std.proofs.lemmas.Int.{to_z-of_z}
+use Rattle.std.proofs.Common.{◌≡◌, List, [], ◌∷◌, ◌++◌, ◌+◌, ◌-◌, drop, sym, ◌∙◌, ap, append-nil, append_assoc, arith}
 use Rattle.rcv_tree.specs.declared.event.Message.{Message}
+use Rattle.rcv_tree.specs.Events.{message_sent}
 use Rattle.rcv_model.specs.Run.{put}
 use Rattle.rcv_points.specs.Follow.{net_in}
 use Rattle.rcv_ledger.specs.Logs.{log_at}
-use Rattle.rcv_guide.proofs.Flying.{message_with, put_none_at, put_some_at, put_later, put_end}
+use Rattle.rcv_guide.proofs.Flying.{put_none_at, put_some_at, put_later, put_end}
 use Rattle.rcv_guide.proofs.flight.flying.Goals as goal
 
 pub puts-requires : goal.puts-requires
@@ -24,13 +23,13 @@ loop-place-preserved-then-left-gt0 c =
 
 pub loop-place-preserved : goal.loop-place-preserved
 loop-place-preserved c =
+    let e = c.event-event.result.now in
+    let behind = put (net_in c.args.points.now) c.args.from c.args.to (drop (c.loop-place.place + 1) (log_at c.args.ledger.now.logs c.args.from)) in
     let none : c.loop-place.left ≡ 0 = omega (arith, c.if-left-gt0.false) in
-    let fits : SFits w64 c.event-event.result.now.value = search rules in
-    ap (λ (l : List Message). l ++ drop c.loop-place.left (put (net_in c.args.points.now) c.args.from c.args.to (drop (c.loop-place.place + 1) (log_at c.args.ledger.now.logs c.args.from)))) c.in_ok-push.ensures.items
-    ∙ append_assoc c.loop-place.messages.items (message_with c.event-event.result.now.point (to_z w64 (of_z w64 c.event-event.result.now.value)) c.event-event.result.now.stamp ∷ []) (drop c.loop-place.left (put (net_in c.args.points.now) c.args.from c.args.to (drop (c.loop-place.place + 1) (log_at c.args.ledger.now.logs c.args.from))))
-    ∙ ap (λ n. c.loop-place.messages.items ++ message_with c.event-event.result.now.point (to_z w64 (of_z w64 c.event-event.result.now.value)) c.event-event.result.now.stamp ∷ drop n (put (net_in c.args.points.now) c.args.from c.args.to (drop (c.loop-place.place + 1) (log_at c.args.ledger.now.logs c.args.from)))) none
-    ∙ ap (λ v. c.loop-place.messages.items ++ message_with c.event-event.result.now.point v c.event-event.result.now.stamp ∷ (put (net_in c.args.points.now) c.args.from c.args.to (drop (c.loop-place.place + 1) (log_at c.args.ledger.now.logs c.args.from)))) (to_z-of_z w64 c.event-event.result.now.value fits)
-    ∙ ap (λ l. c.loop-place.messages.items ++ l) (sym (put_some_at (net_in c.args.points.now) c.args.from c.args.to (log_at c.args.ledger.now.logs c.args.from) c.loop-place.place c.event-event.result.now c.event-event.ensures (sym c.puts.ensures ∙ c.if-not-puts.false)))
+    ap (λ (l : List Message). l ++ drop c.loop-place.left behind) (c.in_ok-push.ensures.items ∙ ap (λ (m : Message). c.loop-place.messages.items ++ m ∷ []) c.message.ensures)
+    ∙ append_assoc c.loop-place.messages.items (message_sent e ∷ []) (drop c.loop-place.left behind)
+    ∙ ap (λ n. c.loop-place.messages.items ++ message_sent e ∷ drop n behind) none
+    ∙ ap (λ l. c.loop-place.messages.items ++ l) (sym (put_some_at (net_in c.args.points.now) c.args.from c.args.to (log_at c.args.ledger.now.logs c.args.from) c.loop-place.place e c.event-event.ensures (sym c.puts.ensures ∙ c.if-not-puts.false)))
     ∙ ap (λ n. c.loop-place.messages.items ++ drop n (put (net_in c.args.points.now) c.args.from c.args.to (drop c.loop-place.place (log_at c.args.ledger.now.logs c.args.from)))) (sym none)
     ∙ c.loop-place.invariant
 

@@ -1,6 +1,7 @@
 -- The parts of the Send.
 use Rattle.std.proofs.Common.{◌+◌, ◌<◌, ◌^◌, refl, sym, ◌∙◌, ap, subst, arith, rules}
 use Rattle.std.specs.List.{All}
+use Rattle.rcv_tree.specs.declared.event.Event.{Event}
 use Rattle.rcv_model.specs.Journal.{numbers_at, place}
 use Rattle.rcv_model.proofs.Numbers.{bounded}
 use Rattle.rcv_accept.specs.Accepted.{IsAcceptedProtocol}
@@ -8,6 +9,7 @@ use Rattle.rcv_session.specs.Session.{SessionView, rules_of, IsPointOf}
 use Rattle.rcv_core.specs.Book.{state_of, most_entries}
 use Rattle.rcv_core.proofs.Books.{IsOfText, few_entries}
 use Rattle.rcv_core.proofs.Picking.{in_text, offered_text}
+use Rattle.rcv_judge.specs.Could.{IsSendOf}
 use Rattle.rcv_judge.proofs.Sends.{stands_there, are_sent, pick_in, pick_told, number_told, sends}
 use Rattle.rcv_judge.proofs.sending.chosen.Goals as goal
 
@@ -45,7 +47,8 @@ value-value-requires-clause-last c =
 pub returns : goal.returns
 returns c =
     let told = pick_told c.setup-setup.result.now c.args.book.now.setup c.args.role c.choose-point.result c.attempt-attempt.result (numbers_at (state_of c.args.book.now).roles c.args.role).attempt c.vars-vars.result.now c.next_points-offered.result.now c.setup-setup.ensures c.attempt-attempt.ensures c.choose-point.ensures in
-    let number = number_told c.setup-setup.result.now c.args.book.now.setup c.args.role c.choose-point.result c.choose-point.result c.attempt-attempt.result (numbers_at (state_of c.args.book.now).roles c.args.role).attempt c.value-value.result c.vars-vars.result.now c.setup-setup.ensures c.attempt-attempt.ensures refl c.value-value.ensures in (
+    let number = number_told c.setup-setup.result.now c.args.book.now.setup c.args.role c.choose-point.result c.choose-point.result c.attempt-attempt.result (numbers_at (state_of c.args.book.now).roles c.args.role).attempt c.value-value.result c.vars-vars.result.now c.setup-setup.ensures c.attempt-attempt.ensures refl c.value-value.ensures in
+    subst (λ (e : Event). IsSendOf c.args.book.now c.args.role e) (sym c.send.ensures) (
       refl,
       sends c.args.book.now.setup (state_of c.args.book.now) c.args.role c.vars-vars.result.now c.next_points-offered.result.now c.vars-vars.ensures c.next_points-offered.ensures c.choose-point.result (c.clock-stamp.result + 1) _ c.requires.free
           (are_sent c.args.book.now c.args.role c.next_points-offered.result.now c.requires.next c.next_points-offered.ensures) told (search rules ∙ number) (ap (λ n. n + 1) c.clock-stamp.ensures),

@@ -1,7 +1,8 @@
 -- The roles of the fields so far.
 use Rattle.std.proofs.Common.{◌≡◌, map, take}
+use Rattle.rcv_tree.specs.Names.{name_at}
 use Rattle.rcv_lines.specs.Cutting.{texts}
-use Rattle.rcv_lines.specs.Named.{name_at, HaveNames}
+use Rattle.rcv_lines.specs.Named.{HaveNames}
 use Rattle.rcv_lines.proofs.names.roles.Given as goal
 
 abbrev pub invariant-loop-field : goal.invariant-loop-field

@@ -1,9 +1,10 @@
 -- The roles are those that were read.
 use Rattle.std.proofs.Common.{sym, ◌≡◌, ◌∙◌, subst, map, ℕ, Option, Vec, Global}
 use Rattle.std.specs.Prelude.{IfSome}
+use Rattle.rcv_tree.specs.Names.{name_at}
 use Rattle.rcv_journal.specs.Form.{IsAscending}
 use Rattle.rcv_lines.specs.Cutting.{texts}
-use Rattle.rcv_lines.specs.Named.{name_at, HaveNames}
+use Rattle.rcv_lines.specs.Named.{HaveNames}
 use Rattle.rcv_lines.proofs.Naming.{same_roles}
 use Rattle.rcv_lines.proofs.names.roles_in_order.Goals as goal
 

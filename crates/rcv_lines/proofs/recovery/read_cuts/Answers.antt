@@ -1,8 +1,9 @@
 -- Role by role.
 use Rattle.std.proofs.Common.{List, ℕ, Bool, false, true≢false, eq-eqb, ◌==◌, Bor, [], ◌∷◌, length, sym, ◌-◌, ◌<◌, ◌++◌, ◌≡◌, ◌∙◌, ap, ap₂, subst, arith}
 use Rattle.std.proofs.lemmas.Bool.Decides.{nat_tests}
+use Rattle.rcv_tree.specs.Names.{name_at}
 use Rattle.rcv_lines.specs.Cutting.{texts}
-use Rattle.rcv_lines.specs.Named.{BeginOtherwise, cut_fields, name_at}
+use Rattle.rcv_lines.specs.Named.{BeginOtherwise, cut_fields}
 use Rattle.rcv_lines.specs.declared.recovery.Cuts.{Cuts}
 use Rattle.rcv_lines.proofs.Turns.{any_default, as_many, at_end, no_turn, none_said, noted, rest_texts, turn, when_none}
 use Rattle.rcv_lines.proofs.recovery.read_cuts.Goals as goal

@@ -1,10 +1,11 @@
 -- The pieces, one after another.
 use Rattle.std.proofs.Common.{◌++◌, codes, refl, sym, ◌∙◌, ap, subst}
+use Rattle.rcv_tree.specs.Names.{name_at}
 use Rattle.rcv_points.specs.Follow.{net_in}
 use Rattle.rcv_input.specs.Line.{refusal_line}
 use Rattle.rcv_input.specs.declared.refused.Refused.TheVariants.{Rule}
 use Rattle.rcv_accept.specs.Lists.{AreInText}
-use Rattle.rcv_listing.specs.Lines.{name_of, where_text, points_text, rule_text, told_text}
+use Rattle.rcv_listing.specs.Lines.{where_text, points_text, rule_text, told_text}
 use Rattle.rcv_listing.proofs.Lines.{six}
 use Rattle.rcv_listing.proofs.told.write_told.Goals as goal
 
@@ -28,7 +29,7 @@ returns c =
         text = refl;
       },
       six c.args.text.now c.word.new.self c.word-2.new.self c.write_where.new.text c.write_points.new.text c.write_way.new.text c.write_rule.new.text
-          (codes "\n") (refusal_line (Rule c.args.code (name_of roles c.args.role) c.args.number)) (where_text roles lines c.args.code c.args.role c.args.number)
+          (codes "\n") (refusal_line (Rule c.args.code (name_at roles c.args.role) c.args.number)) (where_text roles lines c.args.code c.args.role c.args.number)
           (points_text roles net lines c.in_ok-points.points.items) way.0 (rule_text c.in-Some.explanation)
           c.in_ok-word.ensures.ok (c.in_ok-word-2.ensures.ok ∙ ap (λ l. c.word.new.self ++ l) (c.as_slice.ensures.value ∙ c.in_ok-line.ensures)) c.in_ok-write_where.ensures
           (c.in_ok-write_points.ensures ∙ ap (λ l. c.write_where.new.text ++ points_text roles net lines l) c.as_slice-2.ensures.value) way.2 c.in_ok-write_rule.ensures,
