@@ -8,7 +8,8 @@ use Rattle.std.proofs.lemmas.List.{length-append, map-append, take_more}
 use Rattle.rcv_picture.specs.declared.shape.Shape.{Shape}
 use Rattle.rcv_picture.specs.declared.shape.Shape.TheVariants.{Line, Rect, Circle, Path, Text}
 use Rattle.rcv_picture.specs.declared.group.Group.{Group}
-use Rattle.rcv_charts.specs.Titles.{texts_in, lists_in}
+use Rattle.rcv_tree.specs.Lists.{lists_in}
+use Rattle.rcv_charts.specs.Titles.{texts_in}
 use Rattle.rcv_charts.specs.States.{StateView, next_in}
 use Rattle.rcv_charts.specs.Wires.{state_at, steps_from}
 use Rattle.rcv_charts.specs.Drawn.{DrawingView}

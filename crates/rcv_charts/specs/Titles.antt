@@ -1,8 +1,6 @@
 -- What the groups of a picture are called, and which words stand in them.
 use Rattle.std.specs.Prelude.{◌≡◌, ℕ, Bool, true, false, List, [], ◌∷◌, map}
 use Rattle.std.specs.List.{filter}
-use Rattle.std.specs.declared.alloc.Global.{Global}
-use Rattle.std.specs.declared.vec.Vec.{Vec}
 use Rattle.rcv_picture.specs.declared.pixels.At.{At}
 use Rattle.rcv_picture.specs.declared.shape.Shape.{Shape}
 use Rattle.rcv_picture.specs.declared.shape.Shape.TheVariants.{Line, Rect, Circle, Path, Text}
@@ -42,10 +40,6 @@ texts_in (Rect corner width height round look ∷ shapes) = texts_in shapes
 texts_in (Circle center radius look ∷ shapes) = texts_in shapes
 texts_in (Path places look ∷ shapes) = texts_in shapes
 texts_in (Text place anchor look text ∷ shapes) = text.items ∷ texts_in shapes
-
--- The lists that these vectors hold.
-abbrev pub lists_in : List (Vec ℕ Global) → List (List ℕ)
-lists_in told = map (λ (one : Vec ℕ Global). one.items) told
 
 -- The shape goes along these places.
 abbrev pub IsWay : List At → Shape → Type 0

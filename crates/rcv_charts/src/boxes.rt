@@ -7,7 +7,8 @@ ghost use Rattle.rcv_project.specs.Act.{AreInText, owned_view};
 ghost use Rattle.rcv_charts.specs.States.{StateView, next_in};
 ghost use Rattle.rcv_charts.specs.StateTitles.{IsBox, places_title, act_word, step_text, step_texts};
 ghost use Rattle.rcv_charts.specs.Machine.{Adds, ShowsBox};
-ghost use Rattle.rcv_charts.specs.Titles.{has_title, is_titled, texts_in, lists_in};
+ghost use Rattle.rcv_tree.specs.Lists.{lists_in};
+ghost use Rattle.rcv_charts.specs.Titles.{has_title, is_titled, texts_in};
 
 use crate::drawing::{Drawing, titled};
 use crate::letters::{HEAD as HEAD_LETTER, PLAIN, cut, widest, width};

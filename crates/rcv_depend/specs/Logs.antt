@@ -1,17 +1,11 @@
 -- The logs of the roles, the marks of their events, and the protocol that they are of.
-use Rattle.std.specs.Prelude.{◌≡◌, ℕ, ◌+◌, ◌*◌, ◌<◌, ◌≤◌, ◌^◌, List, [], length, map, Some, slice_get, slice_index_or}
-use Rattle.std.specs.declared.vec.Vec.{Vec}
-use Rattle.std.specs.declared.alloc.Global.{Global}
+use Rattle.std.specs.Prelude.{◌≡◌, ℕ, ◌+◌, ◌*◌, ◌<◌, ◌≤◌, ◌^◌, List, [], length, Some, slice_get, slice_index_or}
 use Rattle.rcv_tree.specs.declared.event.Event.{Event}
 use Rattle.rcv_model.specs.Net.{Net, HasTwoEnds}
 use Rattle.rcv_model.specs.Run.{IsQueued}
 use Rattle.rcv_model.specs.Journal.{events_of}
 use Rattle.rcv_model.specs.ByPoints.{AreByEnds}
 use Rattle.rcv_depend.specs.declared.mark.Mark.{Mark}
-
--- The lists that the code's logs hold.
-abbrev pub lists_in : List (Vec Event Global) → List (List Event)
-lists_in logs = map (λ log. log.items) logs
 
 -- The log of a role; a role without one did nothing.
 abbrev pub log_at : List (List Event) → ℕ → List Event

@@ -3,7 +3,8 @@
 ghost use Rattle.std.specs.Prelude.{◌≡◌, ◌≤◌, length};
 ghost use Rattle.rcv_model.specs.Run.{put, taken, puts_on, takes_on};
 ghost use Rattle.rcv_points.specs.Follow.{net_in};
-ghost use Rattle.rcv_depend.specs.Logs.{lists_in, AreSound, IsSoundLog};
+ghost use Rattle.rcv_tree.specs.Lists.{lists_in};
+ghost use Rattle.rcv_depend.specs.Logs.{AreSound, IsSoundLog};
 
 use crate::event_logs::EventLogs;
 use crate::mark::Mark;

@@ -8,7 +8,8 @@ use Rattle.std.proofs.lemmas.Bool.{cases_lt}
 use Rattle.std.proofs.lemmas.List.{get_or-map, map-set, map_push}
 use Rattle.std.proofs.lemmas.Option.{slice_get_within, slice_get-get_or, slice_get_read, get_or_from_slice_get}
 use Rattle.rcv_fates.specs.declared.sends.Sent.{Sent}
-use Rattle.rcv_fates.specs.Sends.{lists_in, sends_at, with_sent, HasNoStamp, HasSent}
+use Rattle.rcv_tree.specs.Lists.{lists_in}
+use Rattle.rcv_fates.specs.Sends.{sends_at, with_sent, HasNoStamp, HasSent}
 
 abbrev pub sent_of : ℕ → ℕ → Sent
 sent_of stamp place = record { stamp = stamp; place = place }

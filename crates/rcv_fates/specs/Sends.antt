@@ -1,14 +1,9 @@
 -- What the code keeps and finds while it runs: the Sends of each role, and events by their stamps.
-use Rattle.std.specs.Prelude.{◌≡◌, ℕ, List, [], ◌∷◌, ◌++◌, map, Some, slice_get, slice_index_or, slice_set}
-use Rattle.std.specs.declared.alloc.Global.{Global}
-use Rattle.std.specs.declared.vec.Vec.{Vec}
+use Rattle.std.specs.Prelude.{◌≡◌, ℕ, List, [], ◌∷◌, ◌++◌, Some, slice_get, slice_index_or, slice_set}
 use Rattle.rcv_tree.specs.declared.event.Event.{Event}
 use Rattle.rcv_fates.specs.declared.sends.Sent.{Sent}
 
--- The lists that the code holds, and that of a role; a role without one has sent nothing.
-abbrev pub lists_in : List (Vec Sent Global) → List (List Sent)
-lists_in lists = map (λ l. l.items) lists
-
+-- The list of a role; a role without one has sent nothing.
 abbrev pub sends_at : List (List Sent) → ℕ → List Sent
 sends_at lists r = slice_index_or lists r []
 

@@ -2,7 +2,8 @@
 
 ghost use Rattle.std.specs.Prelude.{◌≡◌, ◌<◌, [], length, replicate, IfOk, OnOk, MatchOption};
 ghost use Rattle.std.specs.List.Sorted.{IsNonDecreasingBy};
-ghost use Rattle.rcv_fates.specs.Sends.{lists_in, with_sent, HasNoStamp, HasSent};
+ghost use Rattle.rcv_tree.specs.Lists.{lists_in};
+ghost use Rattle.rcv_fates.specs.Sends.{with_sent, HasNoStamp, HasSent};
 
 use rcv_tree::role::RoleId;
 use std::alloc::{AllocError, Global};

@@ -20,7 +20,7 @@ use Rattle.rcv_told.specs.Forgetting.{since, seeds_of, Lacks, lacked, LacksMessa
 use Rattle.rcv_told.proofs.Memories.{place_join}
 use Rattle.rcv_guide.specs.declared.numbers.Numbers.{Numbers}
 use Rattle.rcv_guide.specs.Numbers.{numbers_at, AreNumbersOf}
-use Rattle.rcv_guide.specs.Failing.{point_or_none}
+use Rattle.rcv_tree.specs.Events.{point_or_none}
 use Rattle.rcv_guide.specs.Guide.{GuideView, net_for, roles_of, IsMemory, MayForget, HasForgotten}
 use Rattle.rcv_guide.specs.Renewal.{AreOrdered, AreEnds, MayEnd, staying, forgotten_from, AreForgotten, IsRenewed}
 use Rattle.rcv_guide.proofs.Memories.{seeds_at, forgotten_at, point_at, no_seeds, no_forgotten}

@@ -37,7 +37,8 @@ use Rattle.rcv_told.specs.Told.{Remembered, made_of, group_of, held_of, bound_at
 use Rattle.rcv_guide.specs.declared.numbers.Numbers.{Numbers}
 use Rattle.rcv_guide.specs.declared.recovery.Recovery.{Recovery}
 use Rattle.rcv_guide.specs.Numbers.{numbers_at}
-use Rattle.rcv_guide.specs.Failing.{HaveLogs, AreKeeps, point_or_none, AreStartsOf, AreMade, all_events, within_counts, AreCountsOf}
+use Rattle.rcv_tree.specs.Events.{point_or_none}
+use Rattle.rcv_guide.specs.Failing.{HaveLogs, AreKeeps, AreStartsOf, AreMade, all_events, within_counts, AreCountsOf}
 use Rattle.rcv_guide.specs.Guide.{GuideView, net_for, roles_of, terms_of, IsMemory, MayRecover, TellsLeft, listed_of, left_in, IsFailureOf, AreLeft, IsGuide}
 use Rattle.rcv_guide.proofs.Hosts.{host_range}
 use Rattle.rcv_guide.proofs.Memories.{many_held, seeds_at, forgotten_at, no_seeds, no_forgotten, declared_by}

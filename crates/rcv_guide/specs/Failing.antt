@@ -1,8 +1,9 @@
 -- What a failure leaves, read off a ledger.
-use Rattle.std.specs.Prelude.{◌≡◌, ℕ, ◌+◌, ◌-◌, ◌<◌, ◌≤◌, ◌^◌, min, true, if◌then◌else◌, Option, Some, None, List, length, slice_get, slice_index}
+use Rattle.std.specs.Prelude.{◌≡◌, ℕ, ◌+◌, ◌-◌, ◌<◌, ◌≤◌, ◌^◌, min, true, if◌then◌else◌, List, length, slice_get, slice_index}
 use Rattle.std.specs.List.{sum_by, range_with_len}
 use Rattle.rcv_tree.specs.Bits.{has_bit}
 use Rattle.rcv_tree.specs.declared.event.Event.{Event}
+use Rattle.rcv_tree.specs.Events.{point_or_none}
 use Rattle.rcv_depend.specs.declared.keeps.Keeps.{Keeps}
 use Rattle.rcv_ledger.specs.Logs.{log_at}
 use Rattle.rcv_guide.specs.declared.numbers.Numbers.{Numbers}
@@ -25,11 +26,6 @@ pub record AreKeeps (numbers : List Numbers) (logs : List (List Event)) (group :
   pub group_is : keeps.failed.0 ≡ group
   pub eight : length keeps.keep ≡ 8
   pub saved_is : (r : ℕ) → r < 8 → has_bit group r ≡ true → slice_index keeps.keep r ≡ logged_of numbers logs saved r
-
--- The point of an event; 0 if there is none.
-abbrev pub point_or_none : Option Event → ℕ
-point_or_none None = 0
-point_or_none (Some e) = e.point
 
 -- The start of a failed role: the point of its first event after those that it keeps; 0 if it loses none.
 abbrev pub first_lost : List (List Event) → Keeps → ℕ → ℕ

@@ -14,7 +14,8 @@ use Rattle.rcv_depend.specs.Cuts.{put_within, taken_within}
 use Rattle.rcv_guide.specs.declared.numbers.Numbers.{Numbers}
 use Rattle.rcv_guide.specs.declared.renewal.Front.{Front}
 use Rattle.rcv_guide.specs.Numbers.{numbers_at}
-use Rattle.rcv_guide.specs.Failing.{all_events, point_or_none}
+use Rattle.rcv_tree.specs.Events.{point_or_none}
+use Rattle.rcv_guide.specs.Failing.{all_events}
 use Rattle.rcv_guide.specs.Guide.{no_vars}
 
 -- The logs of some events in an order in which each Send stands before its Recv: by their stamps.

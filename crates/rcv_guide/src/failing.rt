@@ -4,7 +4,8 @@ ghost use Rattle.std.specs.Prelude.{◌≡◌, ℕ, ◌+◌, ◌-◌, ◌<◌, �
 ghost use Rattle.rcv_tree.specs.Bits.{has_bit};
 ghost use Rattle.rcv_ledger.specs.Logs.{log_at};
 ghost use Rattle.rcv_guide.specs.Numbers.{numbers_at};
-ghost use Rattle.rcv_guide.specs.Failing.{HaveLogs, AreKeeps, logged_of, first_lost, AreStartsOf, point_or_none};
+ghost use Rattle.rcv_tree.specs.Events.{point_or_none};
+ghost use Rattle.rcv_guide.specs.Failing.{HaveLogs, AreKeeps, logged_of, first_lost, AreStartsOf};
 ghost use Rattle.rcv_guide.specs.Failing.{AreMade, AreCountsOf, all_events, within_counts};
 
 use crate::numbers::{Numbers, ROLES};

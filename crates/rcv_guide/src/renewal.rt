@@ -12,7 +12,7 @@ ghost use Rattle.rcv_ledger.specs.Logs.{log_at};
 ghost use Rattle.rcv_ledger.specs.Ledger.{stack_at, IsStart};
 ghost use Rattle.rcv_depend.specs.Cuts.{put_within};
 ghost use Rattle.rcv_guide.specs.Numbers.{numbers_at};
-ghost use Rattle.rcv_guide.specs.Failing.{point_or_none};
+ghost use Rattle.rcv_tree.specs.Events.{point_or_none};
 ghost use Rattle.rcv_guide.specs.Renewal.{AreOrdered, AreEnds, MayEnd, AreReceived, stays, with_one};
 ghost use Rattle.rcv_guide.specs.Renewal.{ArePassed, AreAllPassed, HasRoomToAdd, IsLeast, IsNextEvent, IsRenewing, IsRenewed};
 ghost use Rattle.rcv_guide.specs.Renewal.{forgotten_from, AreForgotten};

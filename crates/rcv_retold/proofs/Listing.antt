@@ -5,7 +5,8 @@ use Rattle.std.specs.declared.alloc.Global.{Global}
 use Rattle.std.specs.declared.vec.Vec.{Vec}
 use Rattle.std.proofs.lemmas.Bool.{cases_eq, cases_lt}
 use Rattle.std.proofs.lemmas.List.{get_or-map, map-set, map_push, length-set, get_or-set_same, get_or-set_other}
-use Rattle.rcv_retold.specs.Stamps.{lists_in, stamps_at, with_stamp, cut_to}
+use Rattle.rcv_tree.specs.Lists.{lists_in}
+use Rattle.rcv_retold.specs.Stamps.{stamps_at, with_stamp, cut_to}
 
 -- that of a role, with one stamp more, and with its first ones alone
 module _ (xs : List (Vec ℕ Global)) (i : ℕ) (v w : Vec ℕ Global) (lt : i < length xs) (is : w ≡ slice_index_or xs i w) where

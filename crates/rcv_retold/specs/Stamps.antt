@@ -1,15 +1,10 @@
 -- The stamps of each role's events, in order.
 use Rattle.std.specs.Prelude.{◌≡◌, ℕ, ◌<◌, List, [], ◌∷◌, ◌++◌, length, map, take, Some, slice_get, slice_index_or, slice_set}
-use Rattle.std.specs.declared.alloc.Global.{Global}
-use Rattle.std.specs.declared.vec.Vec.{Vec}
 use Rattle.rcv_tree.specs.declared.event.Event.{Event}
 use Rattle.rcv_tree.specs.declared.entry.Entry.{Entry}
 use Rattle.rcv_tree.specs.declared.entry.Entry.TheVariants.{Send, Recv, Crash, Recover}
 
--- The lists that the code holds, and that of a role.
-abbrev pub lists_in : List (Vec ℕ Global) → List (List ℕ)
-lists_in lists = map (λ l. l.items) lists
-
+-- The list of a role.
 abbrev pub stamps_at : List (List ℕ) → ℕ → List ℕ
 stamps_at lists r = slice_index_or lists r []
 

@@ -7,7 +7,8 @@ ghost use Rattle.rcv_tree.specs.declared.entry.Entry.{Entry as TheEntry};
 ghost use Rattle.rcv_session.specs.Session.{SessionView};
 ghost use Rattle.rcv_fates.specs.Fates.{IsUndone, IsEventAt};
 ghost use Rattle.rcv_fates.specs.Record.{HasKept};
-ghost use Rattle.rcv_retold.specs.Stamps.{lists_in, stamps_at, LacksStamp, IsEventOf};
+ghost use Rattle.rcv_tree.specs.Lists.{lists_in};
+ghost use Rattle.rcv_retold.specs.Stamps.{stamps_at, LacksStamp, IsEventOf};
 
 use crate::stamps::{Stamps, has};
 use rcv_tree::entry::Entry;

@@ -7,7 +7,8 @@ ghost use Rattle.rcv_guide.specs.Guide.{roles_of, opened, IsMemory};
 ghost use Rattle.rcv_told.specs.Told.{told};
 ghost use Rattle.rcv_fates.specs.Record.{HasKept};
 ghost use Rattle.rcv_retold.specs.Retold.{terms_for, with_protocol, HasSameText, IsRetold, IsFirstUntold, HasWhole, HasStamps};
-ghost use Rattle.rcv_retold.specs.Stamps.{lists_in, AreStamps, IsEventOf, IsBehind};
+ghost use Rattle.rcv_tree.specs.Lists.{lists_in};
+ghost use Rattle.rcv_retold.specs.Stamps.{AreStamps, IsEventOf, IsBehind};
 ghost use Rattle.rcv_retold.specs.declared.retell.RetellError.TheVariants as errors;
 
 use crate::kept::undone_of;

@@ -4,7 +4,8 @@ ghost use Rattle.std.specs.Prelude.{◌≡◌, ◌↔◌, ◌<◌, [], ℕ, leng
 ghost use Rattle.std.specs.List.Sorted.{IsNonDecreasing};
 ghost use Rattle.rcv_guide.specs.Guide.{roles_of, IsMemory};
 ghost use Rattle.rcv_told.specs.Told.{Remembered, made};
-ghost use Rattle.rcv_retold.specs.Stamps.{lists_in, stamps_at, with_stamp, cut_to, IsStamp};
+ghost use Rattle.rcv_tree.specs.Lists.{lists_in};
+ghost use Rattle.rcv_retold.specs.Stamps.{stamps_at, with_stamp, cut_to, IsStamp};
 
 use rcv_guide::guide::Guide;
 use rcv_tree::role::RoleId;

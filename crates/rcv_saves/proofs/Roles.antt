@@ -11,7 +11,8 @@ use Rattle.std.proofs.lemmas.Bool.{cases_eq}
 use Rattle.std.proofs.lemmas.Grind.{get_or-set_at}
 use Rattle.std.proofs.lemmas.List.{get_or_default, get_or-map, map-set, length-map, get_or-set_other}
 use Rattle.rcv_saves.specs.Counts.{IsAscending}
-use Rattle.rcv_saves.specs.Saves.{SavesView, saves_of, lists_in, told_of, with_told, AreSaves}
+use Rattle.rcv_tree.specs.Lists.{lists_in}
+use Rattle.rcv_saves.specs.Saves.{SavesView, saves_of, told_of, with_told, AreSaves}
 
 pub on_err_weaker : {T E P Q : Type 0} (r : Result T E) → (P → Q) → OnErr r P → OnErr r Q
 on_err_weaker (Ok x) f p = tt

@@ -1,8 +1,6 @@
 -- What contracts see of saves.
-use Rattle.std.specs.Prelude.{◌≡◌, ℕ, ◌⊎◌, List, [], length, map, replicate, slice_index, slice_index_or, slice_set}
+use Rattle.std.specs.Prelude.{◌≡◌, ℕ, ◌⊎◌, List, [], length, replicate, slice_index, slice_index_or, slice_set}
 use Rattle.std.specs.List.{Contains}
-use Rattle.std.specs.declared.alloc.Global.{Global}
-use Rattle.std.specs.declared.vec.Vec.{Vec}
 use Rattle.rcv_saves.specs.Counts.{IsAscending, IsStepped, IsFrom, IsLast}
 
 -- For each role its step, or 0 if it has none; and the counts that were told of it.
@@ -12,10 +10,6 @@ pub record SavesView : Type 0 where
 
 abbrev pub saves_of : List ℕ → List (List ℕ) → SavesView
 saves_of steps told = record { steps = steps; told = told }
-
--- The lists that the code holds.
-abbrev pub lists_in : List (Vec ℕ Global) → List (List ℕ)
-lists_in told = map (λ (counts : Vec ℕ Global). counts.items) told
 
 -- Before anything is told.
 abbrev pub opened : List ℕ → SavesView

@@ -19,7 +19,8 @@ pub struct Saves {
 }
 
 impl Model for Saves {
-    ghost use Rattle.rcv_saves.specs.Saves.{SavesView, lists_in, saves_of, AreSaves};
+    ghost use Rattle.rcv_tree.specs.Lists.{lists_in};
+    ghost use Rattle.rcv_saves.specs.Saves.{SavesView, saves_of, AreSaves};
 
     ghost Value = { SavesView };
 

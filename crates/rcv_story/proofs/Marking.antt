@@ -9,7 +9,8 @@ use Rattle.rcv_tree.specs.declared.role.RoleSet.{RoleSet}
 use Rattle.rcv_model.specs.Net.{IsIn}
 use Rattle.rcv_model.proofs.Lists.{some_same}
 use Rattle.rcv_ledger.proofs.Lists.{take_whole}
-use Rattle.rcv_story.specs.Stacks.{lists_in, stack_at, with_place, left_count, AreMarked, IsTaken}
+use Rattle.rcv_tree.specs.Lists.{lists_in}
+use Rattle.rcv_story.specs.Stacks.{stack_at, with_place, left_count, AreMarked, IsTaken}
 use Rattle.rcv_story.proofs.Places.{take_more, in_take, in_more, in_left, in_last}
 
 -- one item is set

@@ -1,7 +1,5 @@
 -- What the code keeps while it runs: the events that each role keeps, and who undoes each entry.
-use Rattle.std.specs.Prelude.{◌≡◌, ◌⊎◌, ◌↔◌, ℕ, ◌-◌, ◌<◌, min, Bool, true, Option, Some, List, [], ◌∷◌, ◌++◌, length, map, drop, slice_get, slice_index, slice_index_or, slice_set, if◌then◌else◌}
-use Rattle.std.specs.declared.alloc.Global.{Global}
-use Rattle.std.specs.declared.vec.Vec.{Vec}
+use Rattle.std.specs.Prelude.{◌≡◌, ◌⊎◌, ◌↔◌, ℕ, ◌-◌, ◌<◌, min, Bool, true, Option, Some, List, [], ◌∷◌, ◌++◌, length, drop, slice_get, slice_index, slice_index_or, slice_set, if◌then◌else◌}
 use Rattle.rcv_tree.specs.Bits.{has_bit}
 use Rattle.rcv_tree.specs.declared.role.RoleSet.{RoleSet}
 use Rattle.rcv_tree.specs.declared.event.Event.{Event}
@@ -13,10 +11,7 @@ use Rattle.rcv_story.specs.declared.undoing.Undoing.{Undoing}
 use Rattle.rcv_story.specs.Kept.{IsUndoneBy}
 use Rattle.rcv_story.specs.Recoveries.{AreRecoveries}
 
--- The stacks that the code holds, and that of a role.
-abbrev pub lists_in : List (Vec ℕ Global) → List (List ℕ)
-lists_in lists = map (λ l. l.items) lists
-
+-- The stack of a role.
 abbrev pub stack_at : List (List ℕ) → ℕ → List ℕ
 stack_at lists r = slice_index_or lists r []
 

@@ -1,7 +1,8 @@
 // For each role the events that it keeps, as a stack of their places.
 
 ghost use Rattle.std.specs.Prelude.{◌≡◌, ◌<◌, ℕ, [], length, replicate, take, slice_get, slice_index_or, None, IfOk, OnOk};
-ghost use Rattle.rcv_story.specs.Stacks.{lists_in, stack_at, with_place, left_count, last_in};
+ghost use Rattle.rcv_tree.specs.Lists.{lists_in};
+ghost use Rattle.rcv_story.specs.Stacks.{stack_at, with_place, left_count, last_in};
 
 use rcv_tree::role::{RoleId, RoleSet};
 use std::alloc::{AllocError, Global};

@@ -2,7 +2,8 @@
 
 ghost use Rattle.std.specs.Prelude.{◌≡◌, ◌<◌, ℕ, length, drop, IfOk};
 ghost use Rattle.rcv_model.specs.Net.{IsIn};
-ghost use Rattle.rcv_story.specs.Stacks.{lists_in, stack_at, left_count, AreMarked, IsTaken, IsUndoing};
+ghost use Rattle.rcv_tree.specs.Lists.{lists_in};
+ghost use Rattle.rcv_story.specs.Stacks.{stack_at, left_count, AreMarked, IsTaken, IsUndoing};
 
 use crate::stacks::{Stacks, cut, firsts_of, lasts_of, left_of, no_stacks, put};
 use crate::story::Recovery;

@@ -1,5 +1,5 @@
 -- What an event is made of, and its message.
-use Rattle.std.specs.Prelude.{ℕ, ℤ}
+use Rattle.std.specs.Prelude.{ℕ, ℤ, Option, Some, None}
 use Rattle.rcv_tree.specs.declared.event.Dir.TheVariants.{Sent, Got}
 use Rattle.rcv_tree.specs.declared.event.Event.{Event}
 use Rattle.rcv_tree.specs.declared.event.Message.{Message}
@@ -19,3 +19,8 @@ message_sent e = record { point = e.point; value = e.value; stamp = e.stamp }
 
 abbrev pub message_got : Event → Message
 message_got e = record { point = e.point; value = e.value; stamp = e.sent }
+
+-- The point of an event; 0, which is no point's number, where there is none.
+abbrev pub point_or_none : Option Event → ℕ
+point_or_none None = 0
+point_or_none (Some e) = e.point

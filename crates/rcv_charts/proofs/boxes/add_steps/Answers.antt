@@ -1,6 +1,7 @@
 -- A line more.
 use Rattle.std.proofs.Common.{◌∷◌, [], ◌++◌, take, ◌∙◌, ap, append_assoc}
-use Rattle.rcv_charts.specs.Titles.{texts_in, lists_in}
+use Rattle.rcv_tree.specs.Lists.{lists_in}
+use Rattle.rcv_charts.specs.Titles.{texts_in}
 use Rattle.rcv_charts.proofs.Showing.{texts-append, lists_more}
 use Rattle.rcv_charts.proofs.boxes.add_steps.Goals as goal
 

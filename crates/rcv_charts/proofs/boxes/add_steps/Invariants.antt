@@ -1,5 +1,6 @@
 use Rattle.std.proofs.Common.{◌≡◌, ◌++◌, take}
-use Rattle.rcv_charts.specs.Titles.{texts_in, lists_in}
+use Rattle.rcv_tree.specs.Lists.{lists_in}
+use Rattle.rcv_charts.specs.Titles.{texts_in}
 use Rattle.rcv_charts.proofs.boxes.add_steps.Given as goal
 
 abbrev pub invariant-loop-step : goal.invariant-loop-step

@@ -1,6 +1,7 @@
 -- The words of a box.
 use Rattle.std.proofs.Common.{◌∷◌, [], ◌++◌, ◌∙◌, ap}
-use Rattle.rcv_charts.specs.Titles.{texts_in, lists_in}
+use Rattle.rcv_tree.specs.Lists.{lists_in}
+use Rattle.rcv_charts.specs.Titles.{texts_in}
 use Rattle.rcv_charts.specs.StateTitles.{act_word}
 use Rattle.rcv_charts.proofs.Showing.{texts-append}
 use Rattle.rcv_charts.proofs.boxes.group_of.Goals as goal

@@ -3,7 +3,8 @@ use Rattle.std.proofs.Common.{◌≤◌, ◌<◌, length, refl, sym, ◌∙◌, 
 use Rattle.std.specs.List.Sorted.{IsNonDecreasingBy}
 use Rattle.rcv_session.specs.Session.{SessionView, net_for}
 use Rattle.rcv_fates.specs.declared.sends.Sent.{Sent}
-use Rattle.rcv_fates.specs.Sends.{lists_in, sends_at, HasNoStamp, HasSent}
+use Rattle.rcv_tree.specs.Lists.{lists_in}
+use Rattle.rcv_fates.specs.Sends.{sends_at, HasNoStamp, HasSent}
 use Rattle.rcv_fates.proofs.Searching.{own_list, lists_length}
 use Rattle.rcv_fates.proofs.Joining.{entry_here, behind_send, behind_recv, behind_other, all_arrows, recv_point, send_declared, sender_declared, rises, is_there}
 use Rattle.rcv_fates.proofs.arrow.arrows.Goals as goal

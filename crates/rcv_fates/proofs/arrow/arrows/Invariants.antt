@@ -1,6 +1,6 @@
 -- The Sends of each role before the place, and the messages whose Recvs stand before it.
 use Rattle.rcv_session.specs.Session.{roles_of, net_for}
-use Rattle.rcv_fates.specs.Sends.{lists_in}
+use Rattle.rcv_tree.specs.Lists.{lists_in}
 use Rattle.rcv_fates.proofs.Joining.{AllSends, AreArrowsTo}
 use Rattle.rcv_fates.proofs.arrow.arrows.Given as goal
 

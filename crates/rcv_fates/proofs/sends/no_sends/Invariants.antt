@@ -1,5 +1,5 @@
 use Rattle.std.proofs.Common.{◌≡◌, replicate, []}
-use Rattle.rcv_fates.specs.Sends.{lists_in}
+use Rattle.rcv_tree.specs.Lists.{lists_in}
 use Rattle.rcv_fates.proofs.sends.no_sends.Given as goal
 
 abbrev pub invariant-loop-role : goal.invariant-loop-role

@@ -1,6 +1,7 @@
 -- The list of the role has the Send behind its others.
 use Rattle.std.proofs.Common.{◌∙◌, ap, arith}
-use Rattle.rcv_fates.specs.Sends.{lists_in, with_sent}
+use Rattle.rcv_tree.specs.Lists.{lists_in}
+use Rattle.rcv_fates.specs.Sends.{with_sent}
 use Rattle.rcv_fates.proofs.Searching.{list_more}
 use Rattle.rcv_fates.proofs.sends.note.Goals as goal
 

@@ -3,7 +3,7 @@ use Rattle.std.proofs.Common.{◌≡◌, Some, length, refl}
 use Rattle.std.specs.Prelude.{slice_get}
 use Rattle.std.proofs.lemmas.Option.{slice_get_read}
 use Rattle.rcv_fates.proofs.Recording.{all_marked}
-use Rattle.rcv_retold.specs.Stamps.{lists_in}
+use Rattle.rcv_tree.specs.Lists.{lists_in}
 use Rattle.rcv_retold.proofs.Marking.{event_at, one_marked}
 use Rattle.rcv_retold.proofs.kept.undone_of.Goals as goal
 

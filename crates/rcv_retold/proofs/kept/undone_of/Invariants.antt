@@ -5,7 +5,8 @@ use Rattle.rcv_tree.specs.declared.event.Event.{Event}
 use Rattle.rcv_tree.specs.declared.entry.Entry.{Entry}
 use Rattle.rcv_fates.specs.Fates.{IsUndone}
 use Rattle.rcv_fates.proofs.Recording.{AreMarked}
-use Rattle.rcv_retold.specs.Stamps.{lists_in, LacksStamp}
+use Rattle.rcv_tree.specs.Lists.{lists_in}
+use Rattle.rcv_retold.specs.Stamps.{LacksStamp}
 use Rattle.rcv_retold.proofs.kept.undone_of.Given as goal
 
 abbrev pub invariant-loop-entry : goal.invariant-loop-entry

@@ -5,7 +5,8 @@ use Rattle.rcv_tree.specs.declared.entry.Entry.TheVariants.{Send, Recv}
 use Rattle.rcv_guide.specs.Guide.{roles_of}
 use Rattle.rcv_guide.proofs.Memories.{on_success}
 use Rattle.rcv_ledger.specs.Logs.{log_at}
-use Rattle.rcv_retold.specs.Stamps.{lists_in, IsEventOf, IsBehind}
+use Rattle.rcv_tree.specs.Lists.{lists_in}
+use Rattle.rcv_retold.specs.Stamps.{IsEventOf, IsBehind}
 use Rattle.rcv_retold.proofs.Listing.{lists_length}
 use Rattle.rcv_retold.proofs.Telling.{one_stamp, cut_stamps}
 use Rattle.rcv_retold.proofs.retell.follow.Goals as goal

@@ -5,7 +5,7 @@ use Rattle.rcv_guide.specs.Guide.{IsMemory}
 use Rattle.rcv_told.specs.Told.{Terms, told}
 use Rattle.rcv_fates.specs.Record.{RecordView, HasKept}
 use Rattle.rcv_retold.specs.Retold.{terms_for, HasSameText}
-use Rattle.rcv_retold.specs.Stamps.{lists_in}
+use Rattle.rcv_tree.specs.Lists.{lists_in}
 use Rattle.rcv_retold.proofs.Listing.{lists_length}
 use Rattle.rcv_retold.proofs.Records.{event_declared, stamps_rise, all_lack, is_record}
 use Rattle.rcv_retold.proofs.Same.{terms_same, retold_same, untold_same, stamps_same, if_err}

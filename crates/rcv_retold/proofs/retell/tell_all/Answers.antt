@@ -7,7 +7,8 @@ use Rattle.rcv_session.specs.Session.{roles_of}
 use Rattle.rcv_ledger.specs.Logs.{log_at}
 use Rattle.rcv_guide.specs.Guide.{GuideView, roles_of as guide_roles}
 use Rattle.rcv_retold.specs.Retold.{terms_for, with_protocol, IsFirstUntold}
-use Rattle.rcv_retold.specs.Stamps.{lists_in, AreStamps}
+use Rattle.rcv_tree.specs.Lists.{lists_in}
+use Rattle.rcv_retold.specs.Stamps.{AreStamps}
 use Rattle.rcv_retold.proofs.Listing.{lists_length}
 use Rattle.rcv_retold.proofs.Telling.{at_first, at_next, whole_at, has_room, declared_here, behind, untold_here, all_stamps, all_memory, all_retold, stamps_first}
 use Rattle.rcv_retold.proofs.retell.tell_all.Goals as goal

@@ -2,7 +2,8 @@
 use Rattle.rcv_session.specs.Session.{roles_of}
 use Rattle.rcv_ledger.specs.Logs.{log_at}
 use Rattle.rcv_retold.specs.Retold.{with_protocol}
-use Rattle.rcv_retold.specs.Stamps.{lists_in, AreStamps}
+use Rattle.rcv_tree.specs.Lists.{lists_in}
+use Rattle.rcv_retold.specs.Stamps.{AreStamps}
 use Rattle.rcv_retold.proofs.Telling.{IsAt}
 use Rattle.rcv_retold.proofs.retell.tell_all.Given as goal
 

@@ -2,7 +2,7 @@
 use Rattle.std.proofs.Common.{◌≡◌, length}
 use Rattle.rcv_guide.specs.Guide.{IsMemory}
 use Rattle.rcv_told.specs.Told.{Remembered, made}
-use Rattle.rcv_retold.specs.Stamps.{lists_in}
+use Rattle.rcv_tree.specs.Lists.{lists_in}
 use Rattle.rcv_retold.proofs.Listing.{AreCut}
 use Rattle.rcv_retold.proofs.stamps.cut_all.Given as goal
 

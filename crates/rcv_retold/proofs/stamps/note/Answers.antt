@@ -1,6 +1,7 @@
 -- The list of the role has the stamp behind its others.
 use Rattle.std.proofs.Common.{◌∙◌, ap, arith}
-use Rattle.rcv_retold.specs.Stamps.{lists_in, with_stamp}
+use Rattle.rcv_tree.specs.Lists.{lists_in}
+use Rattle.rcv_retold.specs.Stamps.{with_stamp}
 use Rattle.rcv_retold.proofs.Listing.{list_more}
 use Rattle.rcv_retold.proofs.stamps.note.Goals as goal
 

@@ -1,7 +1,8 @@
 -- One stack more is cut.
 use Rattle.std.proofs.Common.{◌≡◌, ◌<◌, length, ◌∙◌, ap, arith}
 use Rattle.std.proofs.lemmas.List.{length-set}
-use Rattle.rcv_story.specs.Stacks.{lists_in, stack_at, left_count}
+use Rattle.rcv_tree.specs.Lists.{lists_in}
+use Rattle.rcv_story.specs.Stacks.{stack_at, left_count}
 use Rattle.rcv_story.proofs.Marking.{own_list, list_cut, lists_length, cut_here, cut_others}
 use Rattle.rcv_story.proofs.stacks.cut.Goals as goal
 

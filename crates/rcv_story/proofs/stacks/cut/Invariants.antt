@@ -1,6 +1,7 @@
 -- The stacks of the roles so far are cut, and the others are as they were.
 use Rattle.std.proofs.Common.{◌≡◌, ℕ, ◌<◌, ◌≤◌, length, take}
-use Rattle.rcv_story.specs.Stacks.{lists_in, stack_at, left_count}
+use Rattle.rcv_tree.specs.Lists.{lists_in}
+use Rattle.rcv_story.specs.Stacks.{stack_at, left_count}
 use Rattle.rcv_story.proofs.stacks.cut.Given as goal
 
 abbrev pub invariant-loop-role : goal.invariant-loop-role

@@ -1,7 +1,8 @@
 -- The first lost events of the roles so far.
 use Rattle.std.proofs.Common.{◌≡◌, ℕ, ◌<◌, length}
 use Rattle.std.specs.Prelude.{None, slice_get, slice_index_or}
-use Rattle.rcv_story.specs.Stacks.{lists_in, stack_at, left_count}
+use Rattle.rcv_tree.specs.Lists.{lists_in}
+use Rattle.rcv_story.specs.Stacks.{stack_at, left_count}
 use Rattle.rcv_story.proofs.stacks.firsts_of.Given as goal
 
 abbrev pub invariant-loop-role : goal.invariant-loop-role

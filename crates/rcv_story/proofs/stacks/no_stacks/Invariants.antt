@@ -1,5 +1,5 @@
 use Rattle.std.proofs.Common.{◌≡◌, replicate, []}
-use Rattle.rcv_story.specs.Stacks.{lists_in}
+use Rattle.rcv_tree.specs.Lists.{lists_in}
 use Rattle.rcv_story.proofs.stacks.no_stacks.Given as goal
 
 abbrev pub invariant-loop-role : goal.invariant-loop-role

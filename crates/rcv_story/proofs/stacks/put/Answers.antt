@@ -1,6 +1,7 @@
 -- The stack of the role has one place more.
 use Rattle.std.proofs.Common.{◌∙◌, ap, arith}
-use Rattle.rcv_story.specs.Stacks.{lists_in, with_place}
+use Rattle.rcv_tree.specs.Lists.{lists_in}
+use Rattle.rcv_story.specs.Stacks.{with_place}
 use Rattle.rcv_story.proofs.Marking.{list_more}
 use Rattle.rcv_story.proofs.stacks.put.Goals as goal
 

@@ -1,7 +1,8 @@
 -- What is taken from one role more is marked.
 use Rattle.std.proofs.Common.{◌≡◌, ◌-◌, List, ℕ, length, take, drop, ◌∙◌, ap, subst, arith}
 use Rattle.rcv_model.specs.Net.{IsIn}
-use Rattle.rcv_story.specs.Stacks.{lists_in, stack_at, left_count, AreMarked}
+use Rattle.rcv_tree.specs.Lists.{lists_in}
+use Rattle.rcv_story.specs.Stacks.{stack_at, left_count, AreMarked}
 use Rattle.rcv_story.proofs.Places.{in_take, in_drop}
 use Rattle.rcv_story.proofs.Marking.{own_list, end_of, taken_next}
 use Rattle.rcv_story.proofs.undoing.undo.Goals as goal

@@ -1,5 +1,6 @@
 -- What is taken from the roles so far is marked.
-use Rattle.rcv_story.specs.Stacks.{lists_in, AreMarked, IsTaken}
+use Rattle.rcv_tree.specs.Lists.{lists_in}
+use Rattle.rcv_story.specs.Stacks.{AreMarked, IsTaken}
 use Rattle.rcv_story.proofs.undoing.undo.Given as goal
 
 abbrev pub invariant-loop-role : goal.invariant-loop-role

@@ -4,7 +4,8 @@ use Rattle.std.specs.Prelude.{slice_index_or, slice_set}
 use Rattle.std.proofs.lemmas.List.{length-set}
 use Rattle.rcv_model.specs.Net.{IsIn}
 use Rattle.rcv_fates.proofs.Joining.{entry_here}
-use Rattle.rcv_story.specs.Stacks.{lists_in, AreMarked, IsTaken}
+use Rattle.rcv_tree.specs.Lists.{lists_in}
+use Rattle.rcv_story.specs.Stacks.{AreMarked, IsTaken}
 use Rattle.rcv_story.proofs.Keeping.{stands}
 use Rattle.rcv_story.proofs.Marking.{lists_length}
 use Rattle.rcv_story.proofs.Passing.{pass_event, pass_crash, pass_recover, pass_start, all_undone, all_told}

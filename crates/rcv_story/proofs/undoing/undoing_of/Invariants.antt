@@ -1,6 +1,6 @@
 -- What the entries so far leave.
 use Rattle.std.proofs.Common.{◌≡◌, length}
-use Rattle.rcv_story.specs.Stacks.{lists_in}
+use Rattle.rcv_tree.specs.Lists.{lists_in}
 use Rattle.rcv_story.proofs.Passing.{IsPass}
 use Rattle.rcv_story.proofs.undoing.undoing_of.Given as goal
 
