@@ -4,7 +4,7 @@ use Rattle.std.specs.Prelude.{slice_index_or, slice_set}
 use Rattle.std.proofs.lemmas.List.{length-set}
 use denote.Ref.{Bor}
 use Rattle.rcv_tree.specs.declared.entry.Timed.{Timed}
-use Rattle.rcv_merge.specs.Merge.{lists_in}
+use Rattle.rcv_merge.specs.Merge.{lent_logs}
 use Rattle.rcv_role.specs.Cell.{CellView}
 use Rattle.rcv_cells.specs.Home.{logs_in}
 
@@ -25,11 +25,11 @@ map_join f (x ∷ xs) ys = ap (λ l. f x ∷ l) (map_join f xs ys)
 plus : (k : ℕ) → k + 1 ≡ suc k
 plus k = omega arith
 
-pub one_log_more : (lanes : List CellView) (logs : List (Bor (List Timed))) (k : ℕ) (log : Bor (List Timed)) (cell : CellView) → k < length lanes → length lanes ≤ 8 → (length logs ≡ 8) × (lists_in (take k logs) ≡ logs_in (take k lanes)) → cell ≡ slice_index_or lanes k cell → log.now ≡ cell.part.log → (length (slice_set logs k log) ≡ 8) × (lists_in (take (k + 1) (slice_set logs k log)) ≡ logs_in (take (k + 1) lanes))
+pub one_log_more : (lanes : List CellView) (logs : List (Bor (List Timed))) (k : ℕ) (log : Bor (List Timed)) (cell : CellView) → k < length lanes → length lanes ≤ 8 → (length logs ≡ 8) × (lent_logs (take k logs) ≡ logs_in (take k lanes)) → cell ≡ slice_index_or lanes k cell → log.now ≡ cell.part.log → (length (slice_set logs k log) ≡ 8) × (lent_logs (take (k + 1) (slice_set logs k log)) ≡ logs_in (take (k + 1) lanes))
 one_log_more lanes logs k log cell lt few so is same = (
   length-set logs k log ∙ so.0,
-  ap (λ n. lists_in (take n (slice_set logs k log))) (plus k)
-      ∙ ap lists_in (take_set logs k log (let c = so.0 in omega (arith, lt, few, c)))
+  ap (λ n. lent_logs (take n (slice_set logs k log))) (plus k)
+      ∙ ap lent_logs (take_set logs k log (let c = so.0 in omega (arith, lt, few, c)))
       ∙ map_join (λ (l : Bor (List Timed)). l.now) (take k logs) (log ∷ [])
       ∙ ap (λ l. l ++ log.now ∷ []) so.1
       ∙ ap (λ x. logs_in (take k lanes) ++ x ∷ []) same

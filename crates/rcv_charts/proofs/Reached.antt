@@ -2,8 +2,8 @@
 use Rattle.std.proofs.Common.{◌≡◌, ℕ, List, [], ◌∷◌, ◌++◌, map, refl}
 use Rattle.rcv_model.specs.Places.{SingleMessage}
 use Rattle.rcv_charts.specs.declared.reach.Reach.{Reach}
-use Rattle.rcv_charts.specs.Statements.{point_of, reached, with_point}
+use Rattle.rcv_charts.specs.Statements.{message_point, reached, with_point}
 
-pub reached_two : (reach : Reach) (xs ys : List (ℕ × SingleMessage)) → reached reach (map point_of (xs ++ ys)) ≡ reached (reached reach (map point_of xs)) (map point_of ys)
+pub reached_two : (reach : Reach) (xs ys : List (ℕ × SingleMessage)) → reached reach (map message_point (xs ++ ys)) ≡ reached (reached reach (map message_point xs)) (map message_point ys)
 reached_two reach [] ys = refl
-reached_two reach (x ∷ xs) ys = reached_two (with_point reach (point_of x)) xs ys
+reached_two reach (x ∷ xs) ys = reached_two (with_point reach (message_point x)) xs ys

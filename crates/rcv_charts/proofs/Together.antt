@@ -12,7 +12,7 @@ use Rattle.rcv_project.specs.LocalText.{is_own, places_to}
 use Rattle.rcv_project.proofs.Acting.{one_act, next_in_text}
 use Rattle.rcv_project.proofs.Machine.{are_in_text}
 use Rattle.rcv_charts.specs.States.{StateView, times, times_in, AreStatesTo, IsState, DoesTheSame, StandTogether, AreStatesOf, HasAct, AreDifferent, AreMadeTo, next_in}
-use Rattle.rcv_charts.specs.Wires.{Holds}
+use Rattle.rcv_charts.specs.Wires.{HavePlace}
 use Rattle.rcv_charts.proofs.Counted.{places_more, times-append}
 
 -- a place is counted where it is
@@ -125,19 +125,19 @@ in_list (z ∷ zs) zero d lt = inl refl
 in_list (z ∷ zs) (suc k) d lt = inr (in_list zs k d (omega arith))
 
 module _ (net : Net) (roles r : ℕ) (form : IsProper net roles) where
-  next_held : (all : List StateView) → AreStatesTo net r net.count all → (state : StateView) → IsState net r state → All (Holds all) (next_in state.act)
+  next_held : (all : List StateView) → AreStatesTo net r net.count all → (state : StateView) → IsState net r state → All (HavePlace all) (next_in state.act)
   next_held all each state is i d lt = go state.places is.some is.acts
     where
       z : ℕ
       z = slice_index_or (next_in state.act) i d
 
-      go : (places : List ℕ) → places ≢ [] → ((k : ℕ) → IsIn k places → IsActAt net r k state.act) → Holds all z
+      go : (places : List ℕ) → places ≢ [] → ((k : ℕ) → IsIn k places → IsActAt net r k state.act) → HavePlace all z
       go [] some acts = absurd (some refl)
       go (k ∷ ks) some acts =
           let next = (act_next net r k state.act (acts k (inl refl))).sound z (in_list (next_in state.act) i d lt) in
           let there = next_in_text net roles r k z form next in
           held z all (subst (λ n. 1 ≤ n) (sym (each z)) (placed net r z (inr (there.0, there.1, next.own))))
 
-  pub closed : (all states : List StateView) → AreStatesTo net r net.count all → AllByRecursion (IsState net r) states → AllByRecursion (λ (s : StateView). All (Holds all) (next_in s.act)) states
+  pub closed : (all states : List StateView) → AreStatesTo net r net.count all → AllByRecursion (IsState net r) states → AllByRecursion (λ (s : StateView). All (HavePlace all) (next_in s.act)) states
   closed all [] each are = tt
   closed all (s ∷ ss) each are = (next_held all each s are.0, closed all ss each are.1)

@@ -8,14 +8,14 @@ use Rattle.rcv_charts.specs.declared.reach.Reach.TheVariants.{Nothing, From}
 use Rattle.rcv_charts.specs.MessageTitles.{message_title}
 
 -- The points of a body, and of bodies beside each other, in text order.
-abbrev pub point_of : ℕ × SingleMessage → ℕ
-point_of m = m.0
+abbrev pub message_point : ℕ × SingleMessage → ℕ
+message_point m = m.0
 
 abbrev pub points_of : Body → List ℕ
-points_of body = map point_of (singles body)
+points_of body = map message_point (singles body)
 
 abbrev pub points_beside : Bodies → List ℕ
-points_beside bodies = map point_of (singles_of bodies)
+points_beside bodies = map message_point (singles_of bodies)
 
 -- The first and the last of some points, with one more, and with more.
 abbrev pub with_point : Reach → ℕ → Reach

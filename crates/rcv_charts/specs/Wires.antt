@@ -15,12 +15,12 @@ abbrev pub wire_at : List Wire → ℕ → Wire
 wire_at wires i = slice_index_or wires i (record { from = 0; step = 0; point = 0; to = 0 })
 
 -- One of these states has the place.
-abbrev pub Holds : List StateView → ℕ → Type 0
-Holds states k = StandTogether states k k
+abbrev pub HavePlace : List StateView → ℕ → Type 0
+HavePlace states k = StandTogether states k k
 
 -- The place after each next point of each state is in one of them.
 abbrev pub AreClosed : List StateView → Type 0
-AreClosed states = All (λ (state : StateView). All (Holds states) (next_in state.act)) states
+AreClosed states = All (λ (state : StateView). All (HavePlace states) (next_in state.act)) states
 
 -- The steps of the states from number i on: each by the number of its state, and its point.
 abbrev pub steps_from : ℕ → List StateView → List (ℕ × ℕ)

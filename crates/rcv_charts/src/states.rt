@@ -9,7 +9,7 @@ ghost use Rattle.rcv_project.specs.Local.{IsLocalOf, act_at};
 ghost use Rattle.rcv_project.specs.LocalText.{is_own};
 ghost use Rattle.rcv_charts.specs.States.{AreMadeTo, next_in, same_act, alone, grown, with_place};
 ghost use Rattle.rcv_charts.specs.StateTitles.{act_word};
-ghost use Rattle.rcv_charts.specs.Wires.{Holds, state_at};
+ghost use Rattle.rcv_charts.specs.Wires.{HavePlace, state_at};
 
 use crate::words::owns;
 use rcv_accept::accepted::Accepted;
@@ -127,7 +127,7 @@ fn holding(states: &[State], place: u16) -> Option<usize>
 
 /// Which of these states has a place that one of them has.
 pub fn state_with(states: &[State], place: u16) -> usize
-    requires { Holds states.now place }
+    requires { HavePlace states.now place }
     ensures { IsIn place (state_at states.now result).places }
 {
     match holding(states, place) {

@@ -3,7 +3,7 @@
 ghost use Rattle.std.specs.Prelude.{◌≡◌, IfOk, OnOk};
 ghost use Rattle.std.specs.List.{All};
 ghost use Rattle.rcv_charts.specs.States.{next_in};
-ghost use Rattle.rcv_charts.specs.Wires.{Holds, AreClosed, AreWires, GetsWires, state_at};
+ghost use Rattle.rcv_charts.specs.Wires.{HavePlace, AreClosed, AreWires, GetsWires, state_at};
 
 use crate::states::{State, state_with};
 use rcv_tree::point::Point;
@@ -26,7 +26,7 @@ fn add_steps(
     from: usize,
     next: &[Point],
 ) -> Result<(), AllocError>
-    requires closed { All (Holds states.now) next.now }
+    requires closed { All (HavePlace states.now) next.now }
     requires next { next.now ≡ next_in (state_at states.now from).act }
     ensures { OnOk result (GetsWires states.now from wires.old.items wires.new.items) }
 {

@@ -8,7 +8,7 @@ use Rattle.std.proofs.Math.Nat.{mul-le-mul_left}
 use Rattle.rcv_checkpoint.specs.declared.state.State.{State}
 use Rattle.rcv_checkpoint.specs.Rows.{nowhere}
 use Rattle.rcv_checkpoint.specs.Stack.{StackView, held, last_vars, with_states}
-use Rattle.rcv_checkpoint.specs.Tail.{TailView, made, place_of, Holds, final_vars, IsSaved, with_held, from_base, tail_of, IsTail}
+use Rattle.rcv_checkpoint.specs.Tail.{TailView, made, place_of, HasState, final_vars, IsSaved, with_held, from_base, tail_of, IsTail}
 
 module _ (stack : StackView) (before base every : ℕ) (is : IsTail stack before base every) where
   -- As many events.
@@ -37,7 +37,7 @@ module _ (stack : StackView) (before base every : ℕ) (is : IsTail stack before
   saved_more s = ap (with_held (tail_of stack before base)) (drop-append-le (base - before) stack.states (s ∷ []) (let o = is.order in let w = is.within in let m = is.some in omega (arith, o, w, m)))
 
   -- The state after a count, from the base on.
-  pub state_there : (count : ℕ) (s : State) → Holds (tail_of stack before base) count → slice_get stack.states (count - before) ≡ Some s → slice_get (drop (base - before) stack.states) (count - base) ≡ Some s
+  pub state_there : (count : ℕ) (s : State) → HasState (tail_of stack before base) count → slice_get stack.states (count - before) ≡ Some s → slice_get (drop (base - before) stack.states) (count - base) ≡ Some s
   state_there count s holds at =
       let n = length-drop (base - before) stack.states in
       let o = is.order in
@@ -47,7 +47,7 @@ module _ (stack : StackView) (before base every : ℕ) (is : IsTail stack before
       slice_get-get_or (drop (base - before) stack.states) (count - base) nowhere (omega (arith, n, o, here, low))
       ∙ ap Some (get_or-drop (base - before) stack.states (count - base) nowhere ∙ ap (λ k. slice_index_or stack.states k nowhere) place ∙ get_or_from_slice_get stack.states (count - before) s nowhere at)
 
-  pub rewound : (count : ℕ) → Holds (tail_of stack before base) count → tail_of (with_states stack (take (count - before + 1) stack.states)) before base ≡ with_held (tail_of stack before base) (take (count - base + 1) (drop (base - before) stack.states))
+  pub rewound : (count : ℕ) → HasState (tail_of stack before base) count → tail_of (with_states stack (take (count - before + 1) stack.states)) before base ≡ with_held (tail_of stack before base) (take (count - base + 1) (drop (base - before) stack.states))
   rewound count holds =
       let o = is.order in
       let low = holds.0 in

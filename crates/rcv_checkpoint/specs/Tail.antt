@@ -21,8 +21,8 @@ abbrev pub place_of : TailView → ℕ → ℕ
 place_of tail count = count - tail.base
 
 -- A state is held after so many events.
-abbrev pub Holds : TailView → ℕ → Type 0
-Holds tail count = (tail.base ≤ count) × (count ≤ made tail)
+abbrev pub HasState : TailView → ℕ → Type 0
+HasState tail count = (tail.base ≤ count) × (count ≤ made tail)
 
 -- The variables after all of them.
 abbrev pub final_vars : TailView → List ℤ

@@ -3,7 +3,7 @@
 ghost use Rattle.std.specs.Prelude.{◌≡◌, ◌+◌, ◌-◌, ◌*◌, ◌^◌, ◌<◌, ◌≤◌, ℕ, Some, [], ◌∷◌, ◌++◌, length, take, slice_get};
 ghost use Rattle.std.specs.Prelude.{IfOk, IsOk, OnOk, OnErr};
 ghost use Rattle.rcv_checkpoint.specs.Changed.{IsChange};
-ghost use Rattle.rcv_checkpoint.specs.Tail.{TailView, made, place_of, Holds, final_vars, IsSaved, with_held, from_base};
+ghost use Rattle.rcv_checkpoint.specs.Tail.{TailView, made, place_of, HasState, final_vars, IsSaved, with_held, from_base};
 
 use crate::changed::Changed;
 use crate::stack::Stack;
@@ -75,7 +75,7 @@ impl Tail {
 
     /// The state after so many events, from the base on. It takes no memory.
     pub fn state_at(&self, count: u32) -> State
-        requires { Holds self.now count }
+        requires { HasState self.now count }
         ensures { slice_get self.now.states (place_of self.now count) ≡ Some result }
     {
         self.stack.state_at(count - self.before)
@@ -97,7 +97,7 @@ impl Tail {
 
     /// Goes back to so many events, from the base on. It takes no memory.
     pub fn rewind(&mut self, count: u32)
-        requires { Holds self.old count }
+        requires { HasState self.old count }
         ensures { self.new ≡ with_held self.old (take (place_of self.old count + 1) self.old.states) }
     {
         self.stack.rewind(count - self.before);
@@ -114,7 +114,7 @@ impl Tail {
     /// A crash: the states above this count, a multiple of `every` from the base on, are gone. It takes no memory.
     pub fn lose_to(&mut self, count: u32)
         requires multiple { (k : ℕ) × (k * self.old.every ≡ count) }
-        requires held { Holds self.old count }
+        requires held { HasState self.old count }
         ensures { self.new ≡ with_held self.old (take (place_of self.old count + 1) self.old.states) }
     {
         self.rewind(count);
@@ -125,7 +125,7 @@ impl Tail {
     /// What is forgotten gives its room to what is saved later: once it is at least as much as what stays, what stays
     /// moves over it. So moving costs no more than saving did.
     pub fn forget(&mut self, below: u32)
-        requires { Holds self.old below }
+        requires { HasState self.old below }
         ensures { self.new ≡ from_base self.old below }
     {
         let blocks = (below - self.before) / BLOCK;

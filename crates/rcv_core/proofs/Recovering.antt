@@ -19,12 +19,12 @@ use Rattle.rcv_checkpoint.specs.Stack.{StackView}
 use Rattle.rcv_session.specs.Session.{SessionView, roles_of, net_for, rules_of}
 use Rattle.rcv_plan.specs.Plans.{IsGroup}
 use Rattle.rcv_ledger.specs.Logs.{log_at}
-use Rattle.rcv_ledger.specs.Ledger.{LedgerView, MayCut, IsCutTo, Holds}
+use Rattle.rcv_ledger.specs.Ledger.{LedgerView, MayCut, IsCutTo, HoldsKept}
 use Rattle.rcv_ledger.proofs.Holding.{kept_may_be_cut_to, cuts_hold_what_is_kept}
 use Rattle.rcv_tree.specs.declared.numbers.Numbers.{Numbers}
 use Rattle.rcv_core.specs.Setup.{vars_by}
 use Rattle.rcv_core.specs.Failing.{AreUnlisted}
-use Rattle.rcv_core.specs.Numbers.{behind, AreFew}
+use Rattle.rcv_core.specs.Numbers.{after_recovery, AreFew}
 use Rattle.rcv_core.specs.Book.{IsBook}
 use Rattle.rcv_core.proofs.Books.{low_role, few_entries, left_by, is_proper, sizes, run_now, queued_now, stands_at, few_attempts, few_clocks, made, crashed_low}
 
@@ -38,9 +38,9 @@ not_both : false ≡ true → ⊥
 not_both e = absurd (cc)
 
 -- what the code makes of the roles' numbers, where it knows the same as the definition
-behind_same : (s : State) (group concerned : ℕ) (all some : List ℕ) (events : List Event) (logs : List (List Event)) (counts : List ℕ) → ((q : ℕ) → q < length s.roles → has_bit group q ≡ is_listed all q) → ((q : ℕ) → q < length s.roles → has_bit concerned q ≡ is_listed some q) → ((q : ℕ) → q < length s.roles → slice_index counts q ≡ length (acts q events)) → ((q : ℕ) → q < length s.roles → length (log_at logs q) ≡ length (acts q s.kept)) → map_roles (behind s.roles group concerned logs counts) 0 s.roles ≡ map_roles (numbers_behind s all some events) 0 s.roles
-behind_same s group concerned all some events logs counts fails named keeps did = mapped_alike (behind s.roles group concerned logs counts) (numbers_behind s all some events) 0 s.roles
-    (λ q lt. subst (λ n. behind s.roles group concerned logs counts n (numbers_at s.roles q) ≡ numbers_behind s all some events n (numbers_at s.roles q)) (omega arith) (each q lt))
+behind_same : (s : State) (group concerned : ℕ) (all some : List ℕ) (events : List Event) (logs : List (List Event)) (counts : List ℕ) → ((q : ℕ) → q < length s.roles → has_bit group q ≡ is_listed all q) → ((q : ℕ) → q < length s.roles → has_bit concerned q ≡ is_listed some q) → ((q : ℕ) → q < length s.roles → slice_index counts q ≡ length (acts q events)) → ((q : ℕ) → q < length s.roles → length (log_at logs q) ≡ length (acts q s.kept)) → map_roles (after_recovery s.roles group concerned logs counts) 0 s.roles ≡ map_roles (numbers_behind s all some events) 0 s.roles
+behind_same s group concerned all some events logs counts fails named keeps did = mapped_alike (after_recovery s.roles group concerned logs counts) (numbers_behind s all some events) 0 s.roles
+    (λ q lt. subst (λ n. after_recovery s.roles group concerned logs counts n (numbers_at s.roles q) ≡ numbers_behind s all some events n (numbers_at s.roles q)) (omega arith) (each q lt))
   where
     latest : greatest (has_bit concerned) 0 s.roles ≡ greatest (is_listed some) 0 s.roles
     latest = greatest_same (has_bit concerned) (is_listed some) 0 s.roles (λ q lt. subst (λ n. has_bit concerned n ≡ is_listed some n) (omega arith) (named q lt))
@@ -48,7 +48,7 @@ behind_same s group concerned all some events logs counts fails named keeps did 
     clock : (q : ℕ) → q < length s.roles → clock_behind s.roles (has_bit concerned) q (numbers_at s.roles q) ≡ clock_behind s.roles (is_listed some) q (numbers_at s.roles q)
     clock q lt = ap (λ b. cond b (greatest (has_bit concerned) 0 s.roles + 1) (numbers_at s.roles q).clock) (named q lt) ∙ ap (λ n. cond (is_listed some q) (n + 1) (numbers_at s.roles q).clock) latest
 
-    each : (q : ℕ) → q < length s.roles → behind s.roles group concerned logs counts q (numbers_at s.roles q) ≡ numbers_behind s all some events q (numbers_at s.roles q)
+    each : (q : ℕ) → q < length s.roles → after_recovery s.roles group concerned logs counts q (numbers_at s.roles q) ≡ numbers_behind s all some events q (numbers_at s.roles q)
     each q lt =
         ap (λ b. gone_back (numbers_at s.roles q) b (slice_index counts q) (length (log_at logs q)) (clock_behind s.roles (has_bit concerned) q (numbers_at s.roles q))) (fails q lt)
         ∙ ap (λ n. gone_back (numbers_at s.roles q) (is_listed all q) n (length (log_at logs q)) (clock_behind s.roles (has_bit concerned) q (numbers_at s.roles q))) (keeps q lt)
@@ -114,7 +114,7 @@ module _ (setup : SessionView) (entries : List Entry) (numbers : List Numbers) (
     may_cut = kept_may_be_cut_to (net_for setup) (roles_of setup) (vars_by setup) (left_by setup entries).kept (bound_of (group_of (rules_of setup) p) (durable (rules_of setup) (left_by setup entries)) (left_by setup entries).kept) counts ledger kept.holds (queued_now setup entries numbers ledger kept) counts_are
 
     -- the numbers behind the recovery are as the definition has them
-    as_defined : (group : ℕ) → IsGroup setup.plan p group → map_roles (behind (left_by setup entries).roles group concerned.0 ledger.logs counts) 0 (left_by setup entries).roles ≡ (after (rules_of setup) (left_by setup entries) (Recover p concerned listed_ undone)).roles
+    as_defined : (group : ℕ) → IsGroup setup.plan p group → map_roles (after_recovery (left_by setup entries).roles group concerned.0 ledger.logs counts) 0 (left_by setup entries).roles ≡ (after (rules_of setup) (left_by setup entries) (Recover p concerned listed_ undone)).roles
     as_defined group is = behind_same (left_by setup entries) group concerned.0 (group_of (rules_of setup) p) (concerned_in (rules_of setup) (left_by setup entries) p) (kept_by (rules_of setup) (left_by setup entries) p) ledger.logs counts
         (λ q lt. is q (low_role setup q kept.protocol (low q lt)))
         (λ q lt. concerned_is q (low_role setup q kept.protocol (low q lt)))
@@ -125,14 +125,14 @@ module _ (setup : SessionView) (entries : List Entry) (numbers : List Numbers) (
         low q lt = subst (λ n. q < n) (sizes setup entries numbers ledger kept) lt
 
     -- the book behind the recovery
-    pub with_recovery : (group : ℕ) (now_numbers : List Numbers) (now_ledger : LedgerView) → IsGroup setup.plan p group → now_numbers ≡ map_roles (behind numbers group concerned.0 ledger.logs counts) 0 numbers → IsCutTo (net_for setup) ledger now_ledger counts → IsBook setup (entries ++ Recover p concerned listed_ undone ∷ []) now_numbers now_ledger
+    pub with_recovery : (group : ℕ) (now_numbers : List Numbers) (now_ledger : LedgerView) → IsGroup setup.plan p group → now_numbers ≡ map_roles (after_recovery numbers group concerned.0 ledger.logs counts) 0 numbers → IsCutTo (net_for setup) ledger now_ledger counts → IsBook setup (entries ++ Recover p concerned listed_ undone ∷ []) now_numbers now_ledger
     with_recovery group now_numbers now_ledger is back cut = record {
       protocol = kept.protocol;
       planned = kept.planned;
       legal = legal_more (rules_of setup) (start (roles_of setup)) entries (Recover p concerned listed_ undone) kept.legal may;
-      many = ap length back ∙ length_mapped (behind numbers group concerned.0 ledger.logs counts) 0 numbers ∙ kept.many;
-      stand = back ∙ ap (λ l. map_roles (behind l group concerned.0 ledger.logs counts) 0 l) kept.stand ∙ as_defined group is ∙ ap (λ (s : State). s.roles) (sym next);
-      holds = subst (λ (s : State). Holds (net_for setup) (roles_of setup) (vars_by setup) s.kept now_ledger) (sym next)
+      many = ap length back ∙ length_mapped (after_recovery numbers group concerned.0 ledger.logs counts) 0 numbers ∙ kept.many;
+      stand = back ∙ ap (λ l. map_roles (after_recovery l group concerned.0 ledger.logs counts) 0 l) kept.stand ∙ as_defined group is ∙ ap (λ (s : State). s.roles) (sym next);
+      holds = subst (λ (s : State). HoldsKept (net_for setup) (roles_of setup) (vars_by setup) s.kept now_ledger) (sym next)
           (cuts_hold_what_is_kept (net_for setup) (roles_of setup) (vars_by setup) (left_by setup entries).kept (bound_of (group_of (rules_of setup) p) (durable (rules_of setup) (left_by setup entries)) (left_by setup entries).kept) counts ledger now_ledger kept.holds (queued_now setup entries numbers ledger kept) counts_are cut);
       saves = λ r lt. ap (λ (x : StackView). x.every) (cut.stack r (omega (arith, lt, kept.holds.logs))) ∙ kept.saves r lt;
     }

@@ -16,7 +16,7 @@ use Rattle.rcv_model.proofs.Lines.{Counts, closed_of_counts, counts_of_closed}
 use Rattle.rcv_theory.specs.Counts.{IsGreatestClosed, kept_counts}
 use Rattle.rcv_theory.proofs.Counting.{greatest_kept}
 use Rattle.rcv_depend.specs.declared.keeps.Keeps.{Keeps}
-use Rattle.rcv_depend.specs.Keeps.{fails, bound_of}
+use Rattle.rcv_depend.specs.Keeps.{fails, ceiling_of}
 use Rattle.rcv_depend.specs.Logs.{between, log_at, AreLogsOf}
 use Rattle.rcv_depend.specs.declared.cut.Counted.{Counted}
 use Rattle.rcv_depend.specs.Cuts.{put_within, taken_within, IsCounted, AllEven, IsAbove, IsKeptOf, Owes}
@@ -134,9 +134,9 @@ one_less net logs bound cs role within above more h are q = ⊎_elim
     (cases_eq q role)
 
 -- What is lost isn't kept.
-pub lose_above : (net : Net) (logs : List (List Event)) (keeps : Keeps) (cs : List ℕ) (role : ℕ) → role < length cs → IsAbove net logs (bound_of keeps) cs → fails keeps role ≡ true → slice_index keeps.keep role < slice_index cs role → IsAbove net logs (bound_of keeps) (slice_set cs role (slice_index cs role - 1))
-lose_above net logs keeps cs role within above t lt = one_less net logs (bound_of keeps) cs role within above (λ h are.
-    let k = (greatest_kept net (bound_of keeps h) h are.queued).bounded role in
+pub lose_above : (net : Net) (logs : List (List Event)) (keeps : Keeps) (cs : List ℕ) (role : ℕ) → role < length cs → IsAbove net logs (ceiling_of keeps) cs → fails keeps role ≡ true → slice_index keeps.keep role < slice_index cs role → IsAbove net logs (ceiling_of keeps) (slice_set cs role (slice_index cs role - 1))
+lose_above net logs keeps cs role within above t lt = one_less net logs (ceiling_of keeps) cs role within above (λ h are.
+    let k = (greatest_kept net (ceiling_of keeps h) h are.queued).bounded role in
     let b = failed_bound h keeps role t in
     omega (arith, k, b, lt))
 
@@ -169,8 +169,8 @@ module _ (net : Net) (logs : List (List Event)) (cut : Counted) (place : ℕ) (a
   still_above bound above = one_less net logs bound cut.counts (place % 8) (let n = a.eight in omega (arith, n)) above (λ h are. owes_above net h logs are (bound h) cut.counts (above h are) (place / 8) (place % 8) more_within)
 
 -- Where no channel owes the counts are what is kept.
-pub kept_now : (net : Net) (logs : List (List Event)) (keeps : Keeps) (cut : Counted) (role : ℕ) → length logs ≤ role → IsCounted net logs cut → IsLow keeps cut.counts role → IsAbove net logs (bound_of keeps) cut.counts → AllEven (length logs) cut → IsKeptOf net logs (bound_of keeps) cut.counts
-kept_now net logs keeps cut role all a low above even h are r = reached net h logs are (bound_of keeps h) cut.counts (above h are) bounded a.made channels r
+pub kept_now : (net : Net) (logs : List (List Event)) (keeps : Keeps) (cut : Counted) (role : ℕ) → length logs ≤ role → IsCounted net logs cut → IsLow keeps cut.counts role → IsAbove net logs (ceiling_of keeps) cut.counts → AllEven (length logs) cut → IsKeptOf net logs (ceiling_of keeps) cut.counts
+kept_now net logs keeps cut role all a low above even h are r = reached net h logs are (ceiling_of keeps h) cut.counts (above h are) bounded a.made channels r
   where
     channels : (x y : ℕ) → x < length logs → y < length logs → taken_within net logs cut.counts x y ≤ put_within net logs cut.counts x y
     channels x y lx ly =
@@ -179,13 +179,13 @@ kept_now net logs keeps cut role all a low above even h are r = reached net h lo
         let t = a.taken_is x y lx ly in
         omega (arith, e, p, t)
 
-    bounded : (q : ℕ) → slice_index cut.counts q ≤ bound_of keeps h q
+    bounded : (q : ℕ) → slice_index cut.counts q ≤ ceiling_of keeps h q
     bounded q = ⊎_elim
         (λ t. let b = failed_bound h keeps q t in
         ⊎_elim (λ in'. let l = low q in' t in omega (arith, b, l))
         (λ out. let z = ap length (get_or_past logs q [] (omega (arith, all, out))) in let m = a.made q in omega (arith, z, m))
         (cases_lt q role))
-        (λ f. let b : bound_of keeps h q ≡ length (acts q h) = ap (λ y. cond y (slice_index keeps.keep q) (length (acts q h))) f in
+        (λ f. let b : ceiling_of keeps h q ≡ length (acts q h) = ap (λ y. cond y (slice_index keeps.keep q) (length (acts q h))) f in
         let m = a.made q in
         let d = ap length (are.lists q) in
         let n = as_many q h in

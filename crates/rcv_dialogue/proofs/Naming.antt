@@ -6,7 +6,7 @@ use Rattle.rcv_tree.proofs.Naming.{is_named, is_placed}
 use Rattle.rcv_model.specs.Names.{AreDifferent}
 use Rattle.rcv_accept.specs.Accepted.{AcceptedView, net_for, roles_of}
 use Rattle.rcv_lines.proofs.Naming.{same_role}
-use Rattle.rcv_dialogue.specs.Names.{name_of, role_in, point_if, point_in, place_if, place_in}
+use Rattle.rcv_dialogue.specs.Names.{name_of, role_in, point_if, point_said, place_if, place_in}
 use Rattle.rcv_dialogue.specs.Numbers.{number_in}
 use Rattle.rcv_dialogue.proofs.Numerals.{both_so, number_again, number_takes, some_if}
 
@@ -18,7 +18,7 @@ role_again a r differ inside = is_placed a.protocol.roles (name_of a r) r inside
     (λ k before same. let one = same_role a.protocol.roles k r differ (omega (arith, before, inside)) inside same in omega (arith, one, before))
 
 -- Points.
-pub point_takes : (a : AcceptedView) (w : List ℕ) (p : ℕ) → point_in a w ≡ Some p → (1 ≤ p) × (p ≤ (net_for a).count) × (w ≡ decimal p)
+pub point_takes : (a : AcceptedView) (w : List ℕ) (p : ℕ) → point_said a w ≡ Some p → (1 ≤ p) × (p ≤ (net_for a).count) × (w ≡ decimal p)
 point_takes a w p is = go (number_in w) refl is
   where
     go : (o : Option ℕ) → number_in w ≡ o → point_if a o ≡ Some p → (1 ≤ p) × (p ≤ (net_for a).count) × (w ≡ decimal p)
@@ -31,7 +31,7 @@ point_takes a w p is = go (number_in w) refl is
         let same = s.1 in
         (grind (arith, nat_tests), grind (arith, nat_tests), (number_takes w n read).0 ∙ ap decimal same)
 
-pub point_again : (a : AcceptedView) (p : ℕ) → 1 ≤ p → p ≤ (net_for a).count → p < 2 ^ 64 → point_in a (decimal p) ≡ Some p
+pub point_again : (a : AcceptedView) (p : ℕ) → 1 ≤ p → p ≤ (net_for a).count → p < 2 ^ 64 → point_said a (decimal p) ≡ Some p
 point_again a p first last fits =
     let low : nat_lt 0 p ≡ true = grind (arith, nat_tests) in
     let high : nat_lt p ((net_for a).count + 1) ≡ true = grind (arith, nat_tests) in

@@ -10,7 +10,7 @@ use Rattle.rcv_dialogue.specs.declared.wrong.Expected.{Expected}
 use Rattle.rcv_dialogue.specs.declared.wrong.Expected.TheVariants as expected
 use Rattle.rcv_dialogue.specs.Lines.{Fits, IsMessage, IsRole, MayFit, down_text, marked_word, message_words}
 use Rattle.rcv_lines.proofs.Parses.{within}
-use Rattle.rcv_dialogue.specs.Names.{name_of, place_in, point_in, role_in}
+use Rattle.rcv_dialogue.specs.Names.{name_of, place_in, point_said, role_in}
 use Rattle.rcv_dialogue.specs.Numbers.{is_word, marked_in, number_in, signed_in}
 use Rattle.rcv_dialogue.specs.Reading.{◌>>=◌, Words, begins, down_at, down_in, literal_at, marked_at, message_at, named_at, number_at, optional_at, place_at, point_at, role_at, value_at}
 use Rattle.rcv_dialogue.proofs.Naming.{place_again, place_takes, point_again, point_takes, role_again, role_takes}
@@ -147,7 +147,7 @@ message_at_takes a left p v rest is =
     let b1 = bind_ok (literal_at ((net_for a).label n) expected.Label b0.0.1) (λ label. value_at label >>= λ value. three n value.0 value.1) (p, v, rest) b0.2 in
     let b2 = bind_ok (value_at b1.0) (λ value. three n value.0 value.1) (p, v, rest) b1.2 in
     let same = ok_is (n, b2.0.0, b2.0.1) (p, v, rest) b2.2 in
-    let o0 = one_takes (point_in a) expected.Point left n b0.0.1 b0.1 in
+    let o0 = one_takes (point_said a) expected.Point left n b0.0.1 b0.1 in
     let t0 = point_takes a o0.0 n o0.2 in
     let t1 = literal_takes ((net_for a).label n) expected.Label b0.0.1 b1.0 b1.1 in
     let o2 = one_takes signed_in expected.Value b1.0 b2.0.0 b2.0.1 b2.1 in
@@ -160,7 +160,7 @@ message_at_takes a left p v rest is =
 
 point_at_again : (a : AcceptedView) (p : ℕ) (rest : Words) → 1 ≤ p → p ≤ (net_for a).count → p < 2 ^ 64 → point_at a (decimal p ∷ rest) ≡ Ok (p, rest)
 unfolding point_at
-point_at_again a p rest first last fits = one_again (point_in a) expected.Point (decimal p) rest p (point_again a p first last fits)
+point_at_again a p rest first last fits = one_again (point_said a) expected.Point (decimal p) rest p (point_again a p first last fits)
 
 value_at_again : (v : ℤ) (rest : Words) → FitsSigned w64 v → value_at (signed_decimal v ∷ rest) ≡ Ok (v, rest)
 unfolding value_at

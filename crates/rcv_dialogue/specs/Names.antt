@@ -17,8 +17,8 @@ abbrev pub point_if : AcceptedView → Option ℕ → Option ℕ
 point_if a None = None
 point_if a (Some p) = if nat_lt 0 p && nat_lt p ((net_for a).count + 1) then Some p else None
 
-abbrev pub point_in : AcceptedView → List ℕ → Option ℕ
-point_in a word = point_if a (number_in word)
+abbrev pub point_said : AcceptedView → List ℕ → Option ℕ
+point_said a word = point_if a (number_in word)
 
 -- The place that has this number: a point, or 0.
 abbrev pub place_if : AcceptedView → Option ℕ → Option ℕ

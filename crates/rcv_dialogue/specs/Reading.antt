@@ -21,7 +21,7 @@ use Rattle.rcv_dialogue.specs.declared.line.Again.TheVariants as again
 use Rattle.rcv_dialogue.specs.declared.line.Stated.{Stated}
 use Rattle.rcv_dialogue.specs.declared.words.Misfit.{Misfit}
 use Rattle.rcv_lines.specs.Cutting.{fields_of}
-use Rattle.rcv_dialogue.specs.Names.{role_in, point_in, place_in}
+use Rattle.rcv_dialogue.specs.Names.{role_in, point_said, place_in}
 use Rattle.rcv_dialogue.specs.Numbers.{is_word, number_in, signed_in, marked_in, number_before}
 use Rattle.rcv_dialogue.specs.Kinds.{kind_in, again_in}
 
@@ -81,7 +81,7 @@ unfoldable pub role_at : AcceptedView → Words → Result (ℕ × Words) Misfit
 role_at a left = one_word (role_in a) expected.Role left
 
 unfoldable pub point_at : AcceptedView → Words → Result (ℕ × Words) Misfit
-point_at a left = one_word (point_in a) expected.Point left
+point_at a left = one_word (point_said a) expected.Point left
 
 unfoldable pub value_at : Words → Result (ℤ × Words) Misfit
 value_at left = one_word signed_in expected.Value left

@@ -3,7 +3,7 @@
 ghost use Rattle.std.specs.Prelude.{◌≡◌, ◌≤◌, length, IfOk, IfSome};
 ghost use Rattle.rcv_tree.specs.Names.{place_of};
 ghost use Rattle.rcv_accept.specs.Accepted.{net_for, roles_of};
-ghost use Rattle.rcv_dialogue.specs.Names.{role_in, point_in};
+ghost use Rattle.rcv_dialogue.specs.Names.{role_in, point_said};
 ghost use Rattle.rcv_dialogue.specs.Left.{left};
 ghost use Rattle.rcv_dialogue.specs.Reading.{Gives, role_at, point_at, value_at, message_at};
 ghost use Rattle.rcv_dialogue.specs.Reading.{number_at, marked_at, optional_at, literal_at};
@@ -62,7 +62,7 @@ pub fn label(accepted: &Accepted, point: Point) -> &[u8]
 
 // The point whose number the word is.
 fn point_of(accepted: &Accepted, word: &[u8]) -> Option<Point>
-    ensures value { result ≡ point_in accepted.now word.now }
+    ensures value { result ≡ point_said accepted.now word.now }
     ensures first { IfSome result (λ p. 1 ≤ p) }
     ensures last { IfSome result (λ p. p ≤ (net_for accepted.now).count) }
 {

@@ -9,7 +9,7 @@ use Rattle.rcv_tree.specs.declared.statement.Stmt.TheOpen.{Block-F, Blocks-F}
 use Rattle.rcv_tree.specs.declared.statement.Stmt.TheViews.{roll-Block, out-roll-Block, roll-Blocks, out-roll-Blocks}
 use Rattle.rcv_tree.specs.declared.statement.Block.{Block}
 use Rattle.rcv_tree.specs.declared.statement.Blocks.{Blocks}
-use Rattle.rcv_machine.specs.Words.{Or, And, Close, Open, Symbol, Is, symbols_of, lines_of_calls, WrittenProtocol, declared, protocols, IsTreeOf, AreTreesOf, Reads, role_at, roles_at, points, points_of, singles, tree_of, trees_of, IsFit, AreFit, Decl, Named, nobody, Place, Answer, Taken, Refuses, behind, beside, inside, inside_rec, outermost, reading}
+use Rattle.rcv_machine.specs.Words.{Or, And, Close, Open, Symbol, Is, symbols_of, lines_of_calls, WrittenProtocol, declared, protocols, IsTreeOf, AreTreesOf, Reads, role_at, roles_at, points, points_of, singles, tree_of, trees_of, IsFit, AreFit, Decl, Named, nobody, Place, Answer, Taken, Refuses, after_statement, beside, inside, inside_rec, outermost, reading}
 use Rattle.rcv_tree.specs.declared.protocol.Protocol.{Protocol}
 use Rattle.rcv_tree.specs.declared.module.Module.{Module}
 use Rattle.rcv_tree.specs.Lists.{declarations}
@@ -78,25 +78,25 @@ module _ (later : Bool) (roles : List (List ℕ)) where
         → IsFit roles w × HasStmts (tree_of roles n w) (length next) (length (stmts w next))
     has_stmts n p NoStmt next h lt = (tt, ([], refl, omega arith))
     has_stmts n p (AMessage label ss s r rs rest) next h lt =
-        let more = has_stmts (n + (1 + length rs)) (behind p false) rest next h.4 (omega (arith, length-names)) in
+        let more = has_stmts (n + (1 + length rs)) (after_statement p false) rest next h.4 (omega (arith, length-names)) in
         let all = has_singles label ss (role_at roles s) (r ∷ rs) n _ (length next) (length (stmts rest next)) more.1 in
         ((h.1, receivers_fit roles p.earlier _ n [] (r ∷ rs) h.3, more.0), (all.0, all.1, omega (arith, length-names)))
     has_stmts n p (AChoice s f os rest) next h lt =
         let us = stmts rest next in
         let first = has_stmts n (inside p) f (Is Close ∷ blocks_behind Or os us) h.4 (omega arith) in
         let others = all_have (n + points f) p os us h.5 (omega arith) in
-        let more = has_stmts (n + (points f + points_of os)) (behind p false) rest next h.6 (omega arith) in
+        let more = has_stmts (n + (points f + points_of os)) (after_statement p false) rest next h.6 (omega arith) in
         let block = block_of first.1.0 (omega arith) in
         let blocks = blocks_of (block.0 ∷ others.1.0) (omega arith) in
         let all = stmt.Choice (role_at roles s) blocks.0 ∷ more.1.0 in
         (assumption, (all, rw (stmt_body-Choice, blocks.1, block.1, first.1.1, others.1.1, more.1.1) refl, omega arith))
     has_stmts n p (ARec name body rest) next h lt =
         let first = has_stmts n (inside (inside_rec p name)) body (Is Close ∷ stmts rest next) h.2 (omega arith) in
-        let more = has_stmts (n + points body) (behind p false) rest next h.3 (omega arith) in
+        let more = has_stmts (n + points body) (after_statement p false) rest next h.3 (omega arith) in
         let block = block_of first.1.0 (omega arith) in
         (assumption, (stmt.Rec name block.0 ∷ more.1.0, rw (stmt_body-Rec, block.1, first.1.1, more.1.1), omega arith))
     has_stmts n p (AContinue name rest) next h lt =
-        let more = has_stmts n (behind p true) rest next h.3 (omega arith) in
+        let more = has_stmts n (after_statement p true) rest next h.3 (omega arith) in
         (more.0, (stmt.Continue name ∷ more.1.0, rw (stmt_body-Continue, more.1.1) refl, omega arith))
     has_stmts n p (APar f g os rest) next h lt =
         let us = stmts rest next in
@@ -105,14 +105,14 @@ module _ (later : Bool) (roles : List (List ℕ)) where
         let first = has_stmts n (inside (beside p nobody)) f (Is Close ∷ Is And ∷ Is Open ∷ stmts g vs) h.2.1 (omega arith) in
         let second = has_stmts (n + points f) (inside (beside p one)) g vs h.2.3 (omega arith) in
         let others = beside_have (n + points f + points g) p (named_by one g) os us h.2.4 (omega arith) in
-        let more = has_stmts (n + (points f + (points g + points_of os))) (behind p false) rest next h.3 (omega arith) in
+        let more = has_stmts (n + (points f + (points g + points_of os))) (after_statement p false) rest next h.3 (omega arith) in
         let block = block_of first.1.0 (omega arith) in
         let block_too = block_of second.1.0 (omega arith) in
         let blocks = blocks_of (block.0 ∷ block_too.0 ∷ others.1.0) (omega arith) in
         let all = stmt.Par blocks.0 ∷ more.1.0 in
         (assumption, (all, rw (stmt_body-Par, blocks.1, block.1, block_too.1, first.1.1, second.1.1, others.1.1, more.1.1) refl, omega arith))
     has_stmts n p (ADo x r rs rest) next h lt =
-        let more = has_stmts n (behind p false) rest next h.2 (omega (arith, length-names)) in
+        let more = has_stmts n (after_statement p false) rest next h.2 (omega (arith, length-names)) in
         ((arguments_fit roles p.earlier [] (r ∷ rs) h.1, more.0), (stmt.Do x (roles_at roles (r ∷ rs)) ∷ more.1.0, rw (stmt_body-Do, more.1.1) refl, omega (arith, length-names)))
 
     all_have : (n : ℕ) (p : Place) (os : Blocks') (next : List Symbol) → PassAll later roles n p os

@@ -8,7 +8,7 @@ use Rattle.rcv_lexer.specs.Symbols.{symbol_of}
 use Rattle.rcv_model.specs.Text as trees
 use Rattle.rcv_module.specs.Parts.{part_of, calls, calls_of, sites_from}
 use Rattle.rcv_machine.specs.Words.{Sign, Or, And, Open, Close, Right, Semicolon, Symbol, Is, symbols_of, symbol_by, is_call, lines_of_calls, Written, NoStmt, AMessage, AChoice, ARec, AContinue, APar, ADo, Blocks, NoBlock, ABlock, dotted, names_behind, sort_list, roles_behind, decls, Decl, stmts, blocks_behind, WrittenProtocol, protocols, Source, spelling, IsTreeOf, AreTreesOf, roles_at, role_at, points, points_of, singles, tree_of, trees_of}
-use Rattle.rcv_machine.specs.Words.{Named, nobody, Place, behind, beside, inside, inside_rec}
+use Rattle.rcv_machine.specs.Words.{Named, nobody, Place, after_statement, beside, inside, inside_rec}
 use Rattle.rcv_machine.proofs.Passing.{named_by, AreTaken, Passes, PassAll, PassBeside}
 
 -- ---- calls
@@ -180,23 +180,23 @@ mutual
   points_few later roles n p NoStmt h few = omega (arith, few)
   points_few later roles n p (AMessage label ss s r rs rest) h few =
       let taken = taken_few roles p.earlier (role_at roles s) n [] (r ∷ rs) h.3 few in
-      let more = points_few later roles (n + (1 + length rs)) (behind p false) rest h.4 (omega (arith, taken)) in omega (arith, more)
+      let more = points_few later roles (n + (1 + length rs)) (after_statement p false) rest h.4 (omega (arith, taken)) in omega (arith, more)
   points_few later roles n p (AChoice s f os rest) h few =
       let first = points_few later roles n (inside p) f h.4 few in
       let others = all_few later roles (n + points f) p os h.5 first in
-      let more = points_few later roles (n + (points f + points_of os)) (behind p false) rest h.6 (omega (arith, others)) in omega (arith, more)
+      let more = points_few later roles (n + (points f + points_of os)) (after_statement p false) rest h.6 (omega (arith, others)) in omega (arith, more)
   points_few later roles n p (ARec name body rest) h few =
       let first = points_few later roles n (inside (inside_rec p name)) body h.2 few in
-      let more = points_few later roles (n + points body) (behind p false) rest h.3 first in omega (arith, more)
-  points_few later roles n p (AContinue name rest) h few = points_few later roles n (behind p true) rest h.3 few
+      let more = points_few later roles (n + points body) (after_statement p false) rest h.3 first in omega (arith, more)
+  points_few later roles n p (AContinue name rest) h few = points_few later roles n (after_statement p true) rest h.3 few
   points_few later roles n p (APar f g os rest) h few =
       let one = named_by nobody f in
       let first = points_few later roles n (inside (beside p nobody)) f h.2.1 few in
       let second = points_few later roles (n + points f) (inside (beside p one)) g h.2.3 first in
       let others = beside_few later roles (n + points f + points g) p (named_by one g) os h.2.4 second in
-      let more = points_few later roles (n + (points f + (points g + points_of os))) (behind p false) rest h.3 (omega (arith, others)) in
+      let more = points_few later roles (n + (points f + (points g + points_of os))) (after_statement p false) rest h.3 (omega (arith, others)) in
       omega (arith, more)
-  points_few later roles n p (ADo name r rs rest) h few = points_few later roles n (behind p false) rest h.2 few
+  points_few later roles n p (ADo name r rs rest) h few = points_few later roles n (after_statement p false) rest h.2 few
 
   all_few : (later : Bool) (roles : List (List ℕ)) (n : ℕ) (p : Place) (os : Blocks) → PassAll later roles n p os → n ≤ 256
       → n + points_of os ≤ 256

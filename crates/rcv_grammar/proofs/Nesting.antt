@@ -2,7 +2,7 @@
 use Rattle.std.proofs.Common.{◌≡◌, ℕ, ◌+◌, ◌<◌, Bool, true, false, nat_le, List, [], ◌∷◌, length, arith}
 use Rattle.std.proofs.lemmas.Bool.Decides.{nat_tests}
 use Rattle.rcv_model.specs.Text.{Body, End, Single, Choose, Loop, Again, Parallel, Call, Bodies, NoMore, Or}
-use Rattle.rcv_machine.specs.Words.{Written, NoStmt, AMessage, AChoice, ARec, AContinue, APar, ADo, Blocks, NoBlock, ABlock, role_at, roles_at, points, points_of, singles, tree_of, trees_of, Named, nobody, Place, behind, beside, inside, inside_rec}
+use Rattle.rcv_machine.specs.Words.{Written, NoStmt, AMessage, AChoice, ARec, AContinue, APar, ADo, Blocks, NoBlock, ABlock, role_at, roles_at, points, points_of, singles, tree_of, trees_of, Named, nobody, Place, after_statement, beside, inside, inside_rec}
 use Rattle.rcv_machine.proofs.Passing.{named_by, Passes, PassAll, PassBeside}
 
 -- Where so many blocks are open, at most 32 are in the body.
@@ -33,14 +33,14 @@ module _ (later : Bool) (roles : List (List ℕ)) where
     pub nests : (n : ℕ) (p : Place) (w : Written) → Passes later roles n p w → Nests p.depth (tree_of roles n w)
     nests n p NoStmt h = tt
     nests n p (AMessage label ss s r rs rest) h =
-        nests_behind label ss (role_at roles s) (r ∷ rs) n p.depth _ (nests (n + (1 + length rs)) (behind p false) rest h.4)
+        nests_behind label ss (role_at roles s) (r ∷ rs) n p.depth _ (nests (n + (1 + length rs)) (after_statement p false) rest h.4)
     nests n p (AChoice s f os rest) h = (
       (has_room p.depth h.3, nests n (inside p) f h.4, all_nest (n + points f) p os h.5),
-      nests (n + (points f + points_of os)) (behind p false) rest h.6,
+      nests (n + (points f + points_of os)) (after_statement p false) rest h.6,
     )
     nests n p (ARec name body rest) h =
-        (has_room p.depth h.1, nests n (inside (inside_rec p name)) body h.2, nests (n + points body) (behind p false) rest h.3)
-    nests n p (AContinue name rest) h = nests n (behind p true) rest h.3
+        (has_room p.depth h.1, nests n (inside (inside_rec p name)) body h.2, nests (n + points body) (after_statement p false) rest h.3)
+    nests n p (AContinue name rest) h = nests n (after_statement p true) rest h.3
     nests n p (APar f g os rest) h = (
       (
         has_room p.depth h.2.0,
@@ -51,9 +51,9 @@ module _ (later : Bool) (roles : List (List ℕ)) where
           beside_nest (n + points f + points g) p (named_by (named_by nobody f) g) os h.2.4,
         ),
       ),
-      nests (n + (points f + (points g + points_of os))) (behind p false) rest h.3,
+      nests (n + (points f + (points g + points_of os))) (after_statement p false) rest h.3,
     )
-    nests n p (ADo x r rs rest) h = nests n (behind p false) rest h.2
+    nests n p (ADo x r rs rest) h = nests n (after_statement p false) rest h.2
 
     all_nest : (n : ℕ) (p : Place) (os : Blocks) → PassAll later roles n p os → AllNest p.depth (trees_of roles n os)
     all_nest n p NoBlock h = tt

@@ -6,7 +6,7 @@ use Rattle.std.specs.List.{AllByRecursion}
 use Rattle.rcv_tree.specs.Words.{IsWord}
 use Rattle.rcv_tree.specs.Names.{name_at}
 use Rattle.rcv_machine.specs.Words.{Sign, Or, And, Symbol, Is, Word, Text, Number, reserved, sign_or, symbol_by, symbols_of, Written, NoStmt, AMessage, AChoice, ARec, AContinue, APar, ADo, Blocks, NoBlock, ABlock, dotted, names_behind, sort_list, roles_behind, decls, stmts, blocks_behind, declared, protocols, WrittenProtocol, IsTreeOf, AreTreesOf, AreDecls}
-use Rattle.rcv_machine.specs.Words.{role_at, roles_at, points, points_of, singles, tree_of, trees_of, IsDeclared, Decl, Named, nobody, Place, behind, beside, inside, inside_rec, outermost}
+use Rattle.rcv_machine.specs.Words.{role_at, roles_at, points, points_of, singles, tree_of, trees_of, IsDeclared, Decl, Named, nobody, Place, after_statement, beside, inside, inside_rec, outermost}
 use Rattle.rcv_tree.specs.declared.protocol.Protocol.{Protocol}
 use Rattle.rcv_model.specs.Text as trees
 use Rattle.rcv_model.specs.Places as places
@@ -116,32 +116,32 @@ module _ (later : Bool) (roles : List (List ℕ)) where
         let ss = (fine_names sorts _).3 f.1.1 in
         let from = role_name sender h.1 ss.1.1.1.0 in
         let receivers = (fine_names others _).0 ss.1.1.1.1.1.1 in
-        let more = fine_body (n + (1 + length others)) (behind p false) rest next h.4 receivers.1.1 in
+        let more = fine_body (n + (1 + length others)) (after_statement p false) rest next h.4 receivers.1.1 in
         (fine_singles p.earlier label sorts _ (receiver ∷ others) n [] _ f.0 ss.0 from h.3 (ss.1.1.1.1.1.0, receivers.0) more.0, more.1)
     fine_body n p (AChoice subject first others rest) next h f =
         let block = fine_body n (inside p) first _ h.4 f.1.1.1.1 in
         let blocks = fine_blocks (n + points first) p others _ h.5 block.1.1 in
-        let more = fine_body (n + (points first + points_of others)) (behind p false) rest next h.6 blocks.1 in
+        let more = fine_body (n + (points first + points_of others)) (after_statement p false) rest next h.6 blocks.1 in
         let labels = All-append HasLabel _ _ (All-append HasLabel _ _ block.0.1 blocks.0.1) more.0.1 in
         (((role_name subject h.1 f.1.1.0, (block.0.0, blocks.0.0), more.0.0), labels), more.1)
     fine_body n p (ARec name body rest) next h f =
         let block = fine_body n (inside (inside_rec p name)) body _ h.2 f.1.1.1 in
-        let more = fine_body (n + points body) (behind p false) rest next h.3 block.1.1 in
+        let more = fine_body (n + points body) (after_statement p false) rest next h.3 block.1.1 in
         (((f.1.0, block.0.0, more.0.0), All-append HasLabel _ _ block.0.1 more.0.1), more.1)
     fine_body n p (AContinue name rest) next h f =
-        let more = fine_body n (behind p true) rest next h.3 f.1.1.1 in
+        let more = fine_body n (after_statement p true) rest next h.3 f.1.1.1 in
         (((f.1.0, more.0.0), more.0.1), more.1)
     fine_body n p (APar first second others rest) next h f =
         let one = named_by nobody first in
         let block = fine_body n (inside (beside p nobody)) first _ h.2.1 f.1.1 in
         let next_block = fine_body (n + points first) (inside (beside p one)) second _ h.2.3 block.1.1.1.1 in
         let blocks = fine_beside (n + points first + points second) p (named_by one second) others _ h.2.4 next_block.1.1 in
-        let more = fine_body (n + (points first + (points second + points_of others))) (behind p false) rest next h.3 blocks.1 in
+        let more = fine_body (n + (points first + (points second + points_of others))) (after_statement p false) rest next h.3 blocks.1 in
         let labels = All-append HasLabel _ _ (All-append HasLabel _ _ block.0.1 (All-append HasLabel _ _ next_block.0.1 blocks.0.1)) more.0.1 in
         ((((block.0.0, (next_block.0.0, blocks.0.0)), more.0.0), labels), more.1)
     fine_body n p (ADo x r rs rest) next h f =
         let others = (fine_names rs _).0 f.1.1.1.1 in
-        let more = fine_body n (behind p false) rest next h.2 others.1.1.1 in
+        let more = fine_body n (after_statement p false) rest next h.2 others.1.1.1 in
         let places = fine_places p.earlier [] (r ∷ rs) h.1 (f.1.1.1.0, others.0) in
         (((f.1.0, places, more.0.0), more.0.1), more.1)
 

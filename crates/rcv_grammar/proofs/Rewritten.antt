@@ -11,7 +11,7 @@ use Rattle.rcv_model.specs.Names.{AreDifferent}
 use Rattle.rcv_model.specs.Form.{IsNumberedFrom, HaveEnds, HaveSubjects, HaveSubjectsIn}
 use Rattle.rcv_model.specs.Places.{SingleMessage, singles, singles_of, IsNothing, IsNamed, IsFull, AreFull, OthersFull, IsFullText}
 use Rattle.rcv_machine.specs.Words.{IsBegun, IsProper, AreProper, place_of, role_at, points, points_of, tree_of, trees_of, IsDeclared, IsFit, AreFit, is_among}
-use Rattle.rcv_machine.specs.Words.{Named, nobody, with_role, Place, behind, beside, inside, inside_rec, outermost}
+use Rattle.rcv_machine.specs.Words.{Named, nobody, with_role, Place, after_statement, beside, inside, inside_rec, outermost}
 use Rattle.rcv_machine.proofs.Knowing.{recent}
 use Rattle.rcv_machine.proofs.Naming.{recent_more}
 use Rattle.rcv_machine.proofs.Passing.{named_by, named_by_all, Passes, PassAll, PassBeside}
@@ -181,7 +181,7 @@ module _ (roles : List (List ℕ)) (differ : AreDifferent roles) where
 
   one_back : (n : ℕ) (p : Place) (label : List ℕ) (sorts : List (List ℕ)) (s r q : ℕ) (rest : Body) → p.ended ≡ false → q ≡ n + 1
       → s < length roles → r < length roles → (s ≡ r → ⊥) → n < 256 → p.earlier (name_at roles s) ≡ false → p.earlier (name_at roles r) ≡ false
-      → IsBack (n + 1) (behind p false) rest → IsBack n p (Single label sorts s r q rest)
+      → IsBack (n + 1) (after_statement p false) rest → IsBack n p (Single label sorts s r q rest)
   one_back n p label sorts s r q rest going at sends takes apart room free_s free_r more =
       let sender = role_back s sends in
       let receiver = role_back r takes in
@@ -217,7 +217,7 @@ module _ (roles : List (List ℕ)) (differ : AreDifferent roles) where
 
   rec_back : (n : ℕ) (p : Place) (name : List ℕ) (body rest : Body) → p.ended ≡ false → AreBehind n (singles body ++ singles rest) → p.depth < 32
       → IsBegun (written_of roles body) → (AreBehind n (singles body) → IsBack n (inside (inside_rec p name)) body)
-      → ((k : ℕ) → AreBehind k (singles rest) → IsBack k (behind p false) rest) → IsBack n p (Loop name body rest)
+      → ((k : ℕ) → AreBehind k (singles rest) → IsBack k (after_statement p false) rest) → IsBack n p (Loop name body rest)
   rec_back n p name body rest going are deep is block others =
       let cut = split n (n + length (singles body)) (singles body) (singles rest) refl are in
       let first = block cut.0 in
@@ -236,7 +236,7 @@ module _ (roles : List (List ℕ)) (differ : AreDifferent roles) where
   choice_back : (n : ℕ) (p : Place) (s : ℕ) (b : Body) (bs : Bodies) (rest : Body) → p.ended ≡ false → AreBehind n ((singles b ++ singles_of bs) ++ singles rest)
       → s < length roles → p.depth < 32 → p.earlier (name_at roles s) ≡ false → IsBegun (written_of roles b)
       → (AreBehind n (singles b) → IsBack n (inside p) b) → ((k : ℕ) → AreBehind k (singles_of bs) → AreBack k p bs)
-      → ((k : ℕ) → AreBehind k (singles rest) → IsBack k (behind p false) rest) → IsBack n p (Choose s (Or b bs) rest)
+      → ((k : ℕ) → AreBehind k (singles rest) → IsBack k (after_statement p false) rest) → IsBack n p (Choose s (Or b bs) rest)
   choice_back n p s b bs rest going are subject deep free is block blocks others =
       let cut = split n (n + length (singles b ++ singles_of bs)) (singles b ++ singles_of bs) (singles rest) refl are in
       let all = more_back n p b bs cut.0 deep is block blocks in
@@ -260,7 +260,7 @@ module _ (roles : List (List ℕ)) (differ : AreDifferent roles) where
     back n p recs bare (Single label sorts s r q rest) going f all near are subjects deep free =
         let few = are.few in
         let behind_it : AreBehind (n + 1) (singles rest) = record { numbered = are.numbered.1; ends = are.ends.3; few = omega (arith, few) } in
-        let more = back (n + 1) (behind p false) recs [] rest refl f all (knows_none p false) behind_it subjects deep (λ q i. free q (inr i)) in
+        let more = back (n + 1) (after_statement p false) recs [] rest refl f all (knows_none p false) behind_it subjects deep (λ q i. free q (inr i)) in
         one_back n p label sorts s r q rest going are.numbered.0 are.ends.0 are.ends.1 are.ends.2 (omega (arith, few))
         (free s (inl (inl refl))) (free r (inl (inr refl))) more
     back n p recs bare (Choose s NoMore rest) going f all near are subjects deep free = absurd f.0
@@ -268,12 +268,12 @@ module _ (roles : List (List ℕ)) (differ : AreDifferent roles) where
         choice_back n p s b bs rest going are subjects.0 deep.0.0 (free s (inl (inl refl))) (begun b f.0.0)
         (λ x. back n (inside p) recs bare b refl f.0.1 all near x subjects.1.0 deep.0.1 (λ q i. free q (inl (inr (inl i)))))
         (λ k x. blocks_back k p recs bare bs f.0.2 all near x subjects.1.1 deep.0.2 (λ q i. free q (inl (inr (inr i)))))
-        (λ k x. back k (behind p false) recs [] rest refl f.1 all (knows_none p false) x subjects.2 deep.1 (λ q i. free q (inr i)))
+        (λ k x. back k (after_statement p false) recs [] rest refl f.1 all (knows_none p false) x subjects.2 deep.1 (λ q i. free q (inr i)))
     back n p recs bare (Loop name body rest) going f all near are subjects deep free =
         let near_too : Knows (recent (inside (inside_rec p name))) (name ∷ bare) = rw (recent_more p name) (knows_more name (recent p) bare near) in
         rec_back n p name body rest going are deep.0 (begun body f.0)
         (λ x. back n (inside (inside_rec p name)) (name ∷ recs) (name ∷ bare) body refl f.1 (knows_more name p.recs recs all) near_too x subjects.0 deep.1 (λ q i. free q (inl i)))
-        (λ k x. back k (behind p false) recs [] rest refl f.2 all (knows_none p false) x subjects.1 deep.2 (λ q i. free q (inr i)))
+        (λ k x. back k (after_statement p false) recs [] rest refl f.2 all (knows_none p false) x subjects.1 deep.2 (λ q i. free q (inr i)))
     back n p recs bare (Again name End) going f all near are subjects deep free =
         let bound : not (is_among name p.recs) ≡ false = ap not ((all name).1 f.0) in
         record { proper = tt; passes = (going, unreached (recent p) bare name near f.1, bound, tt); fit = tt; long = refl; tree = refl }

@@ -3,7 +3,7 @@ use Rattle.std.proofs.Common.{◌≡◌, ℕ, ◌+◌, Bool, true, false, nat_le
 use Rattle.rcv_model.specs.Text as trees
 use Rattle.rcv_model.specs.Net.{IsIn}
 use Rattle.rcv_module.specs.Form.{ShareNoRole}
-use Rattle.rcv_machine.specs.Words.{Written, NoStmt, AMessage, AChoice, ARec, AContinue, APar, ADo, Blocks, NoBlock, ABlock, role_at, roles_at, points, points_of, singles, tree_of, trees_of, Named, nobody, with_role, Place, behind, beside, inside, inside_rec}
+use Rattle.rcv_machine.specs.Words.{Written, NoStmt, AMessage, AChoice, ARec, AContinue, APar, ADo, Blocks, NoBlock, ABlock, role_at, roles_at, points, points_of, singles, tree_of, trees_of, Named, nobody, with_role, Place, after_statement, beside, inside, inside_rec}
 use Rattle.rcv_machine.proofs.Naming.{or_left}
 use Rattle.rcv_machine.proofs.Passing.{with_roles, named_by, named_by_all, AreGiven, Passes, PassAll, PassBeside}
 use Rattle.rcv_reader.proofs.Apart.{deeper, within, name, its_name, named_last, stays_receivers, stays, all_stay, Among, receivers_named, receivers_free}
@@ -45,31 +45,31 @@ module _ (later : Bool) (roles : List (List ℕ)) where
         let sends = λ (a : role_at roles s ≡ q). stays_receivers later roles from (r ∷ rs) (name later roles q)
         (subst (λ (m : List ℕ). with_role since s m ≡ true) (its_name later roles s q h.1 a) (named_last later roles since s)) in
         let takes = λ (a : Among later roles q (r ∷ rs)). receivers_named later roles from p.earlier (role_at roles s) n [] (r ∷ rs) q h.3 a in
-        ⊎_elim (λ a. stays later roles last (behind p false) rest _ (name later roles q) h.4 deep (⊎_elim sends takes a))
-        (λ a. roles_named last (behind p false) rest _ q h.4 deep a) (ends_of label ss (role_at roles s) (r ∷ rs) n _ q e)
+        ⊎_elim (λ a. stays later roles last (after_statement p false) rest _ (name later roles q) h.4 deep (⊎_elim sends takes a))
+        (λ a. roles_named last (after_statement p false) rest _ q h.4 deep a) (ends_of label ss (role_at roles s) (r ∷ rs) n _ q e)
     roles_named n p (AChoice s f os rest) since q h deep (inl (inl e)) =
-        stays later roles (n + (points f + points_of os)) (behind p false) rest _ (name later roles q) h.6 deep
+        stays later roles (n + (points f + points_of os)) (after_statement p false) rest _ (name later roles q) h.6 deep
         (all_stay later roles (n + points f) p os _ (name later roles q) h.5 deep
         (stays later roles n (inside p) f _ (name later roles q) h.4 (deeper p.depth deep)
         (subst (λ (m : List ℕ). with_role since s m ≡ true) (its_name later roles s q h.1 e) (named_last later roles since s))))
     roles_named n p (AChoice s f os rest) since q h deep (inl (inr (inl e))) =
-        stays later roles (n + (points f + points_of os)) (behind p false) rest _ (name later roles q) h.6 deep
+        stays later roles (n + (points f + points_of os)) (after_statement p false) rest _ (name later roles q) h.6 deep
         (all_stay later roles (n + points f) p os _ (name later roles q) h.5 deep
         (roles_named n (inside p) f _ q h.4 (deeper p.depth deep) e))
     roles_named n p (AChoice s f os rest) since q h deep (inl (inr (inr e))) =
-        stays later roles (n + (points f + points_of os)) (behind p false) rest _ (name later roles q) h.6 deep
+        stays later roles (n + (points f + points_of os)) (after_statement p false) rest _ (name later roles q) h.6 deep
         (all_roles_named (n + points f) p os _ q h.5 deep e)
     roles_named n p (AChoice s f os rest) since q h deep (inr e) =
-        roles_named (n + (points f + points_of os)) (behind p false) rest _ q h.6 deep e
+        roles_named (n + (points f + points_of os)) (after_statement p false) rest _ q h.6 deep e
     roles_named n p (ARec x body rest) since q h deep (inl e) =
-        stays later roles (n + points body) (behind p false) rest _ (name later roles q) h.3 deep
+        stays later roles (n + points body) (after_statement p false) rest _ (name later roles q) h.3 deep
         (roles_named n (inside (inside_rec p x)) body since q h.2 (deeper p.depth deep) e)
-    roles_named n p (ARec x body rest) since q h deep (inr e) = roles_named (n + points body) (behind p false) rest _ q h.3 deep e
-    roles_named n p (AContinue x rest) since q h deep e = roles_named n (behind p true) rest since q h.3 deep e
+    roles_named n p (ARec x body rest) since q h deep (inr e) = roles_named (n + points body) (after_statement p false) rest _ q h.3 deep e
+    roles_named n p (AContinue x rest) since q h deep e = roles_named n (after_statement p true) rest since q h.3 deep e
     roles_named n p (APar f g os rest) since q h deep e = let outer = sym deep ∙ or_left (nat_le 2 p.depth) later h.1 in absurd cc
     roles_named n p (ADo x r rs rest) since q h deep (inl e) =
-        stays later roles n (behind p false) rest _ (name later roles q) h.2 deep (given_named since p.earlier [] (r ∷ rs) q h.1 e)
-    roles_named n p (ADo x r rs rest) since q h deep (inr e) = roles_named n (behind p false) rest _ q h.2 deep e
+        stays later roles n (after_statement p false) rest _ (name later roles q) h.2 deep (given_named since p.earlier [] (r ∷ rs) q h.1 e)
+    roles_named n p (ADo x r rs rest) since q h deep (inr e) = roles_named n (after_statement p false) rest _ q h.2 deep e
 
     all_roles_named : (n : ℕ) (p : Place) (os : Blocks) (since : Named) (q : ℕ) → PassAll later roles n p os → nat_le 2 p.depth ≡ true
         → SomeMentions q (trees_of roles n os) → named_by_all since os (name later roles q) ≡ true
@@ -88,20 +88,20 @@ module _ (later : Bool) (roles : List (List ℕ)) where
     roles_free n p (AMessage label ss s r rs rest) q h deep e =
         let sends = λ (a : role_at roles s ≡ q). subst (λ (m : List ℕ). p.earlier m ≡ false) (its_name later roles s q h.1 a) h.2 in
         let takes = λ (a : Among later roles q (r ∷ rs)). receivers_free later roles p.earlier (role_at roles s) n [] (r ∷ rs) q h.3 a in
-        ⊎_elim (λ a. ⊎_elim sends takes a) (λ a. roles_free (n + (1 + length rs)) (behind p false) rest q h.4 deep a)
+        ⊎_elim (λ a. ⊎_elim sends takes a) (λ a. roles_free (n + (1 + length rs)) (after_statement p false) rest q h.4 deep a)
         (ends_of label ss (role_at roles s) (r ∷ rs) n _ q e)
     roles_free n p (AChoice s f os rest) q h deep (inl (inl e)) =
         subst (λ (m : List ℕ). p.earlier m ≡ false) (its_name later roles s q h.1 e) h.2
     roles_free n p (AChoice s f os rest) q h deep (inl (inr (inl e))) = roles_free n (inside p) f q h.4 (deeper p.depth deep) e
     roles_free n p (AChoice s f os rest) q h deep (inl (inr (inr e))) = all_roles_free (n + points f) p os q h.5 deep e
-    roles_free n p (AChoice s f os rest) q h deep (inr e) = roles_free (n + (points f + points_of os)) (behind p false) rest q h.6 deep e
+    roles_free n p (AChoice s f os rest) q h deep (inr e) = roles_free (n + (points f + points_of os)) (after_statement p false) rest q h.6 deep e
     roles_free n p (ARec x body rest) q h deep (inl e) =
         roles_free n (inside (inside_rec p x)) body q h.2 (deeper p.depth deep) e
-    roles_free n p (ARec x body rest) q h deep (inr e) = roles_free (n + points body) (behind p false) rest q h.3 deep e
-    roles_free n p (AContinue x rest) q h deep e = roles_free n (behind p true) rest q h.3 deep e
+    roles_free n p (ARec x body rest) q h deep (inr e) = roles_free (n + points body) (after_statement p false) rest q h.3 deep e
+    roles_free n p (AContinue x rest) q h deep e = roles_free n (after_statement p true) rest q h.3 deep e
     roles_free n p (APar f g os rest) q h deep e = let outer = sym deep ∙ or_left (nat_le 2 p.depth) later h.1 in absurd cc
     roles_free n p (ADo x r rs rest) q h deep (inl e) = given_free p.earlier [] (r ∷ rs) q h.1 e
-    roles_free n p (ADo x r rs rest) q h deep (inr e) = roles_free n (behind p false) rest q h.2 deep e
+    roles_free n p (ADo x r rs rest) q h deep (inr e) = roles_free n (after_statement p false) rest q h.2 deep e
 
     all_roles_free : (n : ℕ) (p : Place) (os : Blocks) (q : ℕ) → PassAll later roles n p os → nat_le 2 p.depth ≡ true
         → SomeMentions q (trees_of roles n os) → p.earlier (name later roles q) ≡ false
@@ -145,11 +145,11 @@ module _ (later : Bool) (roles : List (List ℕ)) where
   pub lanes_disjoint : (n : ℕ) (p : Place) (w : Written) → 1 ≤ p.depth → Passes later roles n p w → HasDisjointLanes (tree_of roles n w)
   lanes_disjoint n p NoStmt some h = tt
   lanes_disjoint n p (AMessage label ss s r rs rest) some h =
-      disjoint_behind label ss (role_at roles s) (r ∷ rs) n _ (lanes_disjoint (n + (1 + length rs)) (behind p false) rest some h.4)
-  lanes_disjoint n p (AChoice s f os rest) some h = lanes_disjoint (n + (points f + points_of os)) (behind p false) rest some h.6
-  lanes_disjoint n p (ARec x body rest) some h = lanes_disjoint (n + points body) (behind p false) rest some h.3
-  lanes_disjoint n p (AContinue x rest) some h = lanes_disjoint n (behind p true) rest some h.3
+      disjoint_behind label ss (role_at roles s) (r ∷ rs) n _ (lanes_disjoint (n + (1 + length rs)) (after_statement p false) rest some h.4)
+  lanes_disjoint n p (AChoice s f os rest) some h = lanes_disjoint (n + (points f + points_of os)) (after_statement p false) rest some h.6
+  lanes_disjoint n p (ARec x body rest) some h = lanes_disjoint (n + points body) (after_statement p false) rest some h.3
+  lanes_disjoint n p (AContinue x rest) some h = lanes_disjoint n (after_statement p true) rest some h.3
   lanes_disjoint n p (APar f g os rest) some h =
-      let more = lanes_disjoint (n + (points f + (points g + points_of os))) (behind p false) rest some h.3 in
+      let more = lanes_disjoint (n + (points f + (points g + points_of os))) (after_statement p false) rest some h.3 in
       (are_disjoint n p nobody (ABlock f (ABlock g os)) (h.2.0, h.2.1, (h.2.2, h.2.3, h.2.4)) some, more)
-  lanes_disjoint n p (ADo x r rs rest) some h = lanes_disjoint n (behind p false) rest some h.2
+  lanes_disjoint n p (ADo x r rs rest) some h = lanes_disjoint n (after_statement p false) rest some h.2

@@ -22,7 +22,7 @@ use Rattle.rcv_checkpoint.specs.declared.state.State as checkpoints
 use Rattle.rcv_checkpoint.specs.Stack.{StackView, with_states}
 use Rattle.rcv_tables.specs.Rows.{TableView}
 use Rattle.rcv_ledger.specs.Logs.{log_at, with_event_of}
-use Rattle.rcv_ledger.specs.Ledger.{LedgerView, stack_at, with_state, Holds}
+use Rattle.rcv_ledger.specs.Ledger.{LedgerView, stack_at, with_state, HoldsKept}
 use Rattle.rcv_ledger.proofs.Lists.{get_left, get_more, none_there, take_left}
 use Rattle.rcv_told.specs.Told.{Remembered, after_event}
 use Rattle.rcv_guide.specs.declared.numbers.Numbers.{Numbers}
@@ -297,7 +297,7 @@ module _ {g : GuideView} {table : TableView} {ledger : LedgerView} (kept : IsGui
         clocks = let a = old.clocks in omega (arith, a);
       }))
 
-  pub guide_more : (now : LedgerView) → HasRoom g → IsQueued (net_for g) (kept.holds.memory.held ++ e ∷ []) → Holds (net_for g) (roles_of g) no_vars (kept.holds.memory.held ++ e ∷ []) now → IsGrown ledger now → IsGuide (with_event g e) table now
+  pub guide_more : (now : LedgerView) → HasRoom g → IsQueued (net_for g) (kept.holds.memory.held ++ e ∷ []) → HoldsKept (net_for g) (roles_of g) no_vars (kept.holds.memory.held ++ e ∷ []) now → IsGrown ledger now → IsGuide (with_event g e) table now
   guide_more now room queued holds grown = record {
     protocol = kept.protocol;
     planned = kept.planned;

@@ -3,7 +3,7 @@ use Rattle.std.proofs.Common.{◌≡◌, List, [], ◌∷◌, ◌++◌, length, 
 use Rattle.rcv_tree.specs.declared.entry.Entry.{Entry}
 use Rattle.rcv_model.specs.Text.{body_of}
 use Rattle.rcv_model.specs.Places.{net_of}
-use Rattle.rcv_told.specs.Told.{Terms, Remembered, start, told, told_from, told_after, MayBeTold, IsTold, IsToldFrom}
+use Rattle.rcv_told.specs.Told.{Terms, Remembered, nothing_told, told, told_from, told_after, MayBeTold, IsTold, IsToldFrom}
 use Rattle.rcv_told.specs.Forgetting.{IsShorter}
 use Rattle.rcv_told.proofs.Adding.{adds_up}
 use Rattle.rcv_told.proofs.Remembering.{no_answer}
@@ -15,7 +15,7 @@ use Rattle.rcv_guide.proofs.Tracking.{start_shorter, to_longer}
 pub histories_begin : HistoriesBegin
 histories_begin protocol plan room = record {
   may = tt;
-  memory = start (length protocol.roles);
+  memory = nothing_told (length protocol.roles);
   is = memory_first protocol plan room;
   shorter = start_shorter (net_of (body_of protocol.body)) (length protocol.roles);
 }
@@ -32,12 +32,12 @@ after_more terms m (x ∷ entries) e = after_more terms (told_after terms m x) e
 -- A shorter memory of a history.
 record IsMemoryOf (terms : Terms) (entries : List Entry) (m : Remembered) : Type 0 where
   may : IsTold terms entries
-  shorter : IsShorter terms.net (told_from terms (start terms.roles) entries) m
+  shorter : IsShorter terms.net (told_from terms (nothing_told terms.roles) entries) m
 
 goes_on : (terms : Terms) (entries : List Entry) (m : Remembered) (e : Entry) → IsMemoryOf terms entries m → MayBeTold terms m e → IsMemoryOf terms (entries ++ e ∷ []) (told_after terms m e)
 goes_on terms entries m e of may = record {
-  may = told_more terms (start terms.roles) entries e of.may (to_longer terms (told terms entries) m of.shorter e may);
-  shorter = subst (λ (x : Remembered). IsShorter terms.net x (told_after terms m e)) (sym (after_more terms (start terms.roles) entries e)) ((no_answer terms (told terms entries) m e of.shorter).1 may);
+  may = told_more terms (nothing_told terms.roles) entries e of.may (to_longer terms (told terms entries) m of.shorter e may);
+  shorter = subst (λ (x : Remembered). IsShorter terms.net x (told_after terms m e)) (sym (after_more terms (nothing_told terms.roles) entries e)) ((no_answer terms (told terms entries) m e of.shorter).1 may);
 }
 
 history_of : (g : GuideView) (terms : Terms) (entries : List Entry) (m : Remembered) → terms_of g ≡ terms → IsMemory g m → IsMemoryOf terms entries m → HasHistory g entries

@@ -10,7 +10,7 @@ use Rattle.rcv_model.specs.Next.{IsPlaceOf}
 use Rattle.rcv_model.proofs.Lists.{some_same}
 use Rattle.rcv_model.proofs.Located.{item, get_below}
 use Rattle.rcv_ledger.specs.Logs.{log_at}
-use Rattle.rcv_ledger.specs.Ledger.{LedgerView, Holds}
+use Rattle.rcv_ledger.specs.Ledger.{LedgerView, HoldsKept}
 use Rattle.rcv_ledger.proofs.Lists.{get_left, none_there, take_left, take_whole}
 use Rattle.rcv_told.specs.Told.{Remembered}
 use Rattle.rcv_guide.specs.declared.numbers.Numbers.{Numbers}
@@ -182,5 +182,5 @@ module _ (g : GuideView) (counts ends : List ℕ) (many : length g.logs ≡ role
     states = λ r lt. let a = is.rooms.states r (let b = is.holds.stacks in omega (arith, b, lt, many)) in omega (arith, a);
   }
 
-  pub holds_now : (h : List Event) → h ≡ is.held → Holds (net_for g) (roles_of g) no_vars h fresh
-  holds_now h e = subst (λ l. Holds (net_for g) (roles_of g) no_vars l fresh) (sym e) (subst (λ n. Holds (net_for g) n no_vars is.held fresh) many is.holds)
+  pub holds_now : (h : List Event) → h ≡ is.held → HoldsKept (net_for g) (roles_of g) no_vars h fresh
+  holds_now h e = subst (λ l. HoldsKept (net_for g) (roles_of g) no_vars l fresh) (sym e) (subst (λ n. HoldsKept (net_for g) n no_vars is.held fresh) many is.holds)

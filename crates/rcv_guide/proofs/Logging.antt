@@ -21,7 +21,7 @@ use Rattle.rcv_tables.specs.Rows.{TableView}
 use Rattle.rcv_ledger.specs.Channels.{ChannelView, channel_at, HasFront}
 use Rattle.rcv_ledger.specs.Logs.{log_at, with_event_of}
 use Rattle.rcv_depend.specs.Logs.{IsSound}
-use Rattle.rcv_ledger.specs.Ledger.{LedgerView, stack_at, behind_event, with_send, with_recv, Holds}
+use Rattle.rcv_ledger.specs.Ledger.{LedgerView, stack_at, behind_event, with_send, with_recv, HoldsKept}
 use Rattle.rcv_ledger.specs.Laws.{IsMore}
 use Rattle.rcv_ledger.proofs.Holding.{sends_hold, recvs_hold}
 use Rattle.rcv_ledger.proofs.Lists.{get_left, get_more}
@@ -167,7 +167,7 @@ module _ {g : GuideView} {table : TableView} {ledger : LedgerView} (kept : IsGui
         clocks = old.clocks;
       }
 
-  pub guide_logged : (now : LedgerView) → IsQueued (net_for g) (kept.holds.memory.held ++ e ∷ []) → Holds (net_for g) (roles_of g) no_vars (kept.holds.memory.held ++ e ∷ []) now → IsGrown ledger now → IsGuide (with_logged g e k) table now
+  pub guide_logged : (now : LedgerView) → IsQueued (net_for g) (kept.holds.memory.held ++ e ∷ []) → HoldsKept (net_for g) (roles_of g) no_vars (kept.holds.memory.held ++ e ∷ []) now → IsGrown ledger now → IsGuide (with_logged g e k) table now
   guide_logged now queued holds grown = record {
     protocol = kept.protocol;
     planned = kept.planned;

@@ -8,7 +8,7 @@ use Rattle.rcv_model.specs.Run.{put, taken}
 use Rattle.rcv_model.proofs.Keeping.{queued_now}
 use Rattle.rcv_tables.specs.Rows.{TableView}
 use Rattle.rcv_ledger.specs.Logs.{log_at}
-use Rattle.rcv_ledger.specs.Ledger.{LedgerView, Holds}
+use Rattle.rcv_ledger.specs.Ledger.{LedgerView, HoldsKept}
 use Rattle.rcv_told.specs.Told.{Remembered}
 use Rattle.rcv_guide.specs.Failing.{all_events}
 use Rattle.rcv_guide.specs.Guide.{GuideView, net_for, roles_of, no_vars, IsMemory, AreStamped, IsGuide}
@@ -17,7 +17,7 @@ use Rattle.rcv_guide.proofs.Guides.{few_all, one_of_all}
 use Rattle.rcv_guide.proofs.Memories.{put_held, taken_held}
 use Rattle.rcv_guide.proofs.Shortening.{all_staying}
 
-pub ordered : (g : GuideView) (ledger : LedgerView) (m : Remembered) → IsMemory g m → Holds (net_for g) (roles_of g) no_vars m.held ledger → length g.logs ≡ roles_of g → AreStamped g → all_events g.logs < 2 ^ 31 → AreOrdered (net_for g) g.logs
+pub ordered : (g : GuideView) (ledger : LedgerView) (m : Remembered) → IsMemory g m → HoldsKept (net_for g) (roles_of g) no_vars m.held ledger → length g.logs ≡ roles_of g → AreStamped g → all_events g.logs < 2 ^ 31 → AreOrdered (net_for g) g.logs
 ordered g ledger m is holds many stamped small = record {
   few = let few = holds.few in omega (arith, few, many);
   sound = λ r n e at. holds.sound r n e (ap (λ l. slice_get l n) (holds.log r ∙ is.events r) ∙ at);

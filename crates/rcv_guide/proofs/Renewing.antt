@@ -25,7 +25,7 @@ use Rattle.rcv_depend.specs.Logs.{between}
 use Rattle.rcv_ledger.specs.Channels.{ChannelView, channel_at, HasFront}
 use Rattle.rcv_ledger.specs.Logs.{log_at}
 use Rattle.rcv_ledger.specs.Ledger as ledgers
-use Rattle.rcv_ledger.specs.Ledger.{LedgerView, stack_at, with_state, with_send, with_recv, behind_event, state_behind, IsStart, Holds}
+use Rattle.rcv_ledger.specs.Ledger.{LedgerView, stack_at, with_state, with_send, with_recv, behind_event, state_behind, IsStart, HoldsKept}
 use Rattle.rcv_ledger.specs.Laws.{IsMore}
 use Rattle.rcv_depend.specs.Cuts.{put_within, taken_within}
 use Rattle.rcv_ledger.proofs.Holding.{sends_hold, recvs_hold, starts_hold_nothing}
@@ -50,7 +50,7 @@ record IsLonger (e : Event) (state : checkpoints.State) (old new : LedgerView) :
   pub most : new.most ≡ old.most
 
 -- what it says of a ledger that it holds events of roles without variables
-module _ (net : Net) (roles : ℕ) (h : List Event) (ledger : LedgerView) (holds : Holds net roles no_vars h ledger) (r : ℕ) (lt : r < roles) where
+module _ (net : Net) (roles : ℕ) (h : List Event) (ledger : LedgerView) (holds : HoldsKept net roles no_vars h ledger) (r : ℕ) (lt : r < roles) where
   pub held_of : held (stack_at ledger.stacks r) ≡ length (log_at ledger.logs r)
   held_of = let a = (holds.states r lt).all in let b = ap length (holds.log r) in omega (arith, a, b)
 
@@ -181,7 +181,7 @@ module _ (net : Net) (logs : List (List Event)) (ends : List ℕ) (room : ℕ) (
             behind = behind_more (events_of next.event.role is.held) next.event;
           }
 
-      grown : (new : LedgerView) → IsLonger next.event (behind_event next.event (replicate 16 (pos 0))) fresh new → Holds net (length logs) no_vars more new → IsRenewing net logs ends room (now net logs o counts r next) new
+      grown : (new : LedgerView) → IsLonger next.event (behind_event next.event (replicate 16 (pos 0))) fresh new → HoldsKept net (length logs) no_vars more new → IsRenewing net logs ends room (now net logs o counts r next) new
       grown new longer holds =
           let logged : next.event.role < length fresh.logs = (let lt = next.role in let a = many_logs in omega (arith, lt, own, a)) in
           let stacked : next.event.role < length fresh.stacks = (let lt = next.role in let a = is.holds.stacks in omega (arith, lt, own, a)) in
@@ -273,7 +273,7 @@ module _ (net : Net) (logs : List (List Event)) (o : AreOrdered net logs) where
     held = [];
     stay = λ r. sym (ap (staying net logs ends r) (no_count r));
     queued = queued_nil net;
-    holds = subst (λ n. Holds net n no_vars [] fresh) (size ∙ are)
+    holds = subst (λ n. HoldsKept net n no_vars [] fresh) (size ∙ are)
         (starts_hold_nothing net no_vars (replicate roles (replicate 16 (pos 0))) (replicate roles 1) room room fresh (let few = o.few in omega (arith, few, size, are))
         (λ r lt. sym (get_or_from_slice_get (replicate roles (replicate 16 (pos 0))) r (replicate 16 (pos 0)) [] (get_replicate roles r (replicate 16 (pos 0)) (omega (arith, lt, size)))))
         begun);

@@ -23,7 +23,7 @@ use Rattle.rcv_checkpoint.specs.Stack.{StackView}
 use Rattle.rcv_plan.specs.Plans.{IsGroup}
 use Rattle.rcv_tables.specs.Rows.{TableView}
 use Rattle.rcv_ledger.specs.Logs.{log_at}
-use Rattle.rcv_ledger.specs.Ledger.{LedgerView, stack_at, Holds, MayCut, IsCutTo}
+use Rattle.rcv_ledger.specs.Ledger.{LedgerView, stack_at, HoldsKept, MayCut, IsCutTo}
 use Rattle.rcv_ledger.proofs.Holding.{kept_may_be_cut_to, cuts_hold_what_is_kept}
 use Rattle.rcv_ledger.proofs.Lists.{get_taken, take_prefix, none_there}
 use Rattle.rcv_told.specs.Told.{Remembered, state_of, made_of, group_of, held_of, bound_at, left_at, roles_in, after_recovery}
@@ -31,7 +31,7 @@ use Rattle.rcv_guide.specs.declared.numbers.Numbers.{Numbers}
 use Rattle.rcv_guide.specs.declared.recovery.Recovery.{Recovery}
 use Rattle.rcv_guide.specs.Numbers.{at_start, numbers_at, latest_from, back_from, AreNumbersOf, AreBack}
 use Rattle.rcv_guide.specs.Failing.{all_events}
-use Rattle.rcv_guide.specs.Guide.{GuideView, guide_of, net_for, roles_of, terms_of, no_vars, IsMemory, MayRecover, listed_of, left_in, IsFailureOf, AreLeft, IsSoundMemory, AreStamped, AreFewOf, IsGuide, IsAfter, entry_of}
+use Rattle.rcv_guide.specs.Guide.{GuideView, guide_of, net_for, roles_of, terms_of, no_vars, IsMemory, MayRecover, listed_of, left_in, IsFailureOf, AreLeft, IsSoundMemory, AreStamped, AreFewOf, IsGuide, IsAfter, recovery_entry}
 use Rattle.rcv_guide.proofs.Starting.{view_with}
 use Rattle.rcv_guide.proofs.Recutting.{same_cut}
 use Rattle.rcv_guide.proofs.Sets.{in_set, not_in_set}
@@ -326,7 +326,7 @@ module _ {g : GuideView} {table : TableView} {ledger : LedgerView} (kept : IsGui
         let b = ap (λ n. sum_by (λ r. length (log_at g.logs r)) (range_with_len 0 n)) size in
         omega (arith, a, b)
 
-    pub guide_back : Holds (net_for g) (roles_of g) no_vars (left_in g kept.holds.memory p saved) now → length now.entries ≡ length ledger.entries → now.most ≡ ledger.most → now.room ≡ ledger.room → ((r : ℕ) → r < roles_of g → (stack_at now.stacks r).room ≡ (stack_at ledger.stacks r).room) → IsGuide (back_to g logs numbers) table now
+    pub guide_back : HoldsKept (net_for g) (roles_of g) no_vars (left_in g kept.holds.memory p saved) now → length now.entries ≡ length ledger.entries → now.most ≡ ledger.most → now.room ≡ ledger.room → ((r : ℕ) → r < roles_of g → (stack_at now.stacks r).room ≡ (stack_at ledger.stacks r).room) → IsGuide (back_to g logs numbers) table now
     guide_back holds entries most room rooms = record {
       protocol = kept.protocol;
       planned = kept.planned;
@@ -375,7 +375,7 @@ module _ {g : GuideView} {table : TableView} {ledger : LedgerView} (kept : IsGui
         (ap length cut.entries) cut.room_in_all cut.room
         (λ r lt. ap (λ (s : StackView). s.room) (cut.stack r (let a = many_logs kept in omega (arith, a, lt))))
 
-    pub after_cut : IsAfter g (back_to g now.logs numbers) (entry_of p back)
+    pub after_cut : IsAfter g (back_to g now.logs numbers) (recovery_entry p back)
     after_cut = record {
       may = λ m is. (down_held g m is p true may.down, (slice_index saved, failure.failed m is));
       memory = λ m is. memory_back m is now.logs numbers log_cut numbers_are;

@@ -21,9 +21,9 @@ use Rattle.rcv_accept.specs.Accepted.{IsAcceptedProtocol}
 use Rattle.rcv_plan.specs.Lines.{IsPlanned}
 use Rattle.rcv_tables.specs.Rows.{TableView, IsTable}
 use Rattle.rcv_ledger.specs.Logs.{log_at}
-use Rattle.rcv_ledger.specs.Ledger.{LedgerView, IsStart, Holds}
+use Rattle.rcv_ledger.specs.Ledger.{LedgerView, IsStart, HoldsKept}
 use Rattle.rcv_ledger.proofs.Holding.{starts_hold_nothing}
-use Rattle.rcv_told.specs.Told.{start}
+use Rattle.rcv_told.specs.Told.{nothing_told}
 use Rattle.rcv_guide.specs.declared.numbers.Numbers.{Numbers}
 use Rattle.rcv_guide.specs.Numbers.{at_start, numbers_at, AreNumbersOf}
 use Rattle.rcv_guide.specs.Guide.{GuideView, guide_of, opened, no_vars, IsMemory, AreFewOf, IsGuide}
@@ -84,7 +84,7 @@ module _ (protocol : Protocol) (plan : List PlanLine) (room : ℕ) where
       nowhere : (n : ℕ) (e : Event) → slice_get [] n ≡ Some e → ⊥
       nowhere n e at = absurd (cc)
 
-  pub memory_first : IsMemory (opened protocol plan room) (start roles)
+  pub memory_first : IsMemory (opened protocol plan room) (nothing_told roles)
   memory_first = record {
     events = λ r. sym (no_log r);
     queued = queued_nil (net_of (body_of protocol.body));
@@ -96,7 +96,7 @@ module _ (protocol : Protocol) (plan : List PlanLine) (room : ℕ) where
         numbers = length-replicate _ _;
       };
       all = length-replicate _ _;
-      each = λ r lt. subst (λ (x : Numbers). AreNumbersOf (start roles) r x) (sym (number_at r)) (record {
+      each = λ r lt. subst (λ (x : Numbers). AreNumbersOf (nothing_told roles) r x) (sym (number_at r)) (record {
         seeds = get_replicate roles r 0 lt;
         forgotten = get_replicate roles r 0 lt;
         point = get_replicate roles r 0 lt;
@@ -116,9 +116,9 @@ module _ (protocol : Protocol) (plan : List PlanLine) (room : ℕ) where
     logs = length-replicate _ _;
     numbers = length-replicate _ _;
     holds = record {
-      memory = start roles;
+      memory = nothing_told roles;
       is = memory_first;
-      holds = subst (λ n. Holds (net_of (body_of protocol.body)) n no_vars [] ledger) size
+      holds = subst (λ n. HoldsKept (net_of (body_of protocol.body)) n no_vars [] ledger) size
           (starts_hold_nothing (net_of (body_of protocol.body)) no_vars firsts everys room room ledger (let a = accepted.form.few_roles in omega (arith, a, size))
           (λ r lt. sym (get_or_from_slice_get firsts r (replicate 16 (pos 0)) [] (ap (λ l. slice_get l r) are ∙ get_replicate roles r (replicate 16 (pos 0)) (omega (arith, lt, size)))))
           begun);

@@ -11,7 +11,7 @@ use Rattle.rcv_model.specs.Run.{acts, put, taken, IsQueued}
 use Rattle.rcv_model.specs.Journal.{events_of}
 use Rattle.rcv_model.proofs.Bystanders.{as_many}
 use Rattle.rcv_model.proofs.Keeping.{queued_nil}
-use Rattle.rcv_told.specs.Told.{Terms, Remembered, start, left_at, MayBeTold}
+use Rattle.rcv_told.specs.Told.{Terms, Remembered, nothing_told, left_at, MayBeTold}
 use Rattle.rcv_told.specs.Forgetting.{seeds_of, Lacks, LacksMessages, IsShorter}
 use Rattle.rcv_told.proofs.Losing.{failed_shorter}
 use Rattle.rcv_told.proofs.Remembering.{no_answer}
@@ -68,9 +68,9 @@ module _ (net : Net) (m : Remembered) (many : (r : ℕ) → slice_index m.seeds 
       let b = as_many q (left_at net m group saved) in
       omega (arith, a, b)
 
-pub start_shorter : (net : Net) (roles : ℕ) → IsShorter net (start roles) (start roles)
+pub start_shorter : (net : Net) (roles : ℕ) → IsShorter net (nothing_told roles) (nothing_told roles)
 start_shorter net roles =
-    shorter_itself net (start roles)
+    shorter_itself net (nothing_told roles)
     (λ r. let a = none_at roles r in omega (arith, a))
     (λ a b. ap (taken net a b) (none_taken (slice_index (replicate roles 0) b)))
     (queued_nil net)

@@ -23,7 +23,7 @@ use Rattle.rcv_plan.specs.Lines.{IsPlanned}
 use Rattle.rcv_plan.specs.Plans.{IsGroup}
 use Rattle.rcv_tables.specs.Rows.{TableView, IsTable}
 use Rattle.rcv_ledger.specs.Logs.{log_at, with_event_of}
-use Rattle.rcv_ledger.specs.Ledger.{LedgerView, stack_at, Holds}
+use Rattle.rcv_ledger.specs.Ledger.{LedgerView, stack_at, HoldsKept}
 use Rattle.rcv_told.specs.Told.{Terms, Remembered, Standpoint, told_after, left_at, made_of, group_of, IsInFront, HasFailed, MayBeTold}
 use Rattle.rcv_told.specs.Forgetting.{IsShorter}
 use Rattle.rcv_guide.specs.declared.news.News.{News}
@@ -208,8 +208,8 @@ abbrev pub listed_of : Recovery → List ℕ
 listed_of back = map (λ r. if has_bit back.concerned.0 r then slice_index back.kept r else 0) (range_with_len 0 8)
 
 -- The recovery as it is told.
-abbrev pub entry_of : ℕ → Recovery → Entry
-entry_of p back = Recover p back.concerned (listed_of back) back.undone
+abbrev pub recovery_entry : ℕ → Recovery → Entry
+recovery_entry p back = Recover p back.concerned (listed_of back) back.undone
 
 -- The events of a memory that are left if p's group fails with these saved counts.
 abbrev pub left_in : GuideView → Remembered → ℕ → List ℕ → List Event
@@ -303,7 +303,7 @@ pub record HasRooms (g : GuideView) (ledger : LedgerView) : Type 0 where
 pub record HoldsMemory (g : GuideView) (ledger : LedgerView) : Type 0 where
   pub memory : Remembered
   pub is : IsMemory g memory
-  pub holds : Holds (net_for g) (roles_of g) no_vars memory.held ledger
+  pub holds : HoldsKept (net_for g) (roles_of g) no_vars memory.held ledger
 
 -- What a guide keeps.
 pub record IsGuide (g : GuideView) (table : TableView) (ledger : LedgerView) : Type 0 where

@@ -9,7 +9,7 @@ use Rattle.rcv_model.specs.Run.{is_sent, put, taken, IsQueued}
 use Rattle.rcv_model.specs.Journal.{events_of}
 use Rattle.rcv_depend.specs.Logs.{between, AreSound}
 use Rattle.rcv_ledger.specs.Logs.{log_at}
-use Rattle.rcv_ledger.specs.Ledger.{LedgerView, stack_at, behind_event, with_send, with_recv, HasRoom, HasRoomToSend, Holds}
+use Rattle.rcv_ledger.specs.Ledger.{LedgerView, stack_at, behind_event, with_send, with_recv, HasRoom, HasRoomToSend, HoldsKept}
 use Rattle.rcv_depend.specs.Cuts.{put_within, taken_within}
 use Rattle.rcv_guide.specs.declared.numbers.Numbers.{Numbers}
 use Rattle.rcv_guide.specs.declared.renewal.Front.{Front}
@@ -120,7 +120,7 @@ pub record IsRenewing (net : Net) (logs : List (List Event)) (ends : List ℕ) (
   pub held : List Event
   pub stay : (r : ℕ) → events_of r held ≡ staying net logs ends r (slice_index counts r)
   pub queued : IsQueued net held
-  pub holds : Holds net (length logs) no_vars held fresh
+  pub holds : HoldsKept net (length logs) no_vars held fresh
   pub entries : all_events fresh.logs ≡ length fresh.entries
   pub few : length fresh.entries + left_in logs counts ≤ all_events logs
   pub rooms : HasRoomFor room fresh
@@ -130,7 +130,7 @@ pub record IsRenewed (net : Net) (logs : List (List Event)) (ends : List ℕ) (r
   pub held : List Event
   pub stay : (r : ℕ) → events_of r held ≡ staying net logs ends r (length (log_at logs r))
   pub queued : IsQueued net held
-  pub holds : Holds net (length logs) no_vars held fresh
+  pub holds : HoldsKept net (length logs) no_vars held fresh
   pub entries : all_events fresh.logs ≡ length fresh.entries
   pub few : length fresh.entries ≤ all_events logs
   pub rooms : HasRoomFor room fresh

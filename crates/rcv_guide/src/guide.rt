@@ -12,7 +12,7 @@ ghost use Rattle.rcv_told.specs.Told.{Remembered, made, IsSend, IsRecv, IsInFron
 ghost use Rattle.rcv_guide.specs.Numbers.{numbers_at, with_crash};
 ghost use Rattle.rcv_guide.specs.Guide.{net_for, roles_of, opened, with_event, with_numbers, stand, HasRoom, IsMemory, HasMemory, IsAfter};
 ghost use Rattle.rcv_guide.specs.Guide.{IsNextOf, IsAble, IsTurnToSend, IsTurnToReceive, MayBeSent, MayBeReceived};
-ghost use Rattle.rcv_guide.specs.Guide.{message, sent, received, stamp_to_send, stamp_to_receive, in_channel, entry_of, IsOfText};
+ghost use Rattle.rcv_guide.specs.Guide.{message, sent, received, stamp_to_send, stamp_to_receive, in_channel, recovery_entry, IsOfText};
 ghost use Rattle.rcv_guide.specs.Failing.{all_events};
 ghost use Rattle.rcv_guide.specs.Guide.{HaveSavedEnough, MayRecover, AreLeft, IsFailureOf, HasGoneBack, HasRecovered};
 ghost use Rattle.rcv_guide.specs.Guide.{MayForget, HasForgotten};
@@ -584,7 +584,7 @@ impl Guide {
         requires left { AreLeft self.old role saved.now left.now }
         requires back { IsFailureOf self.old role saved.now back.now }
         ensures told { HasGoneBack self.old self.new role left.now back.now }
-        ensures after { IsAfter self.old self.new (entry_of role back.now) }
+        ensures after { IsAfter self.old self.new (recovery_entry role back.now) }
     {
         let group = self.plan.group(role);
         go_back(&mut self.numbers, &self.ledger, group, back.concerned, left);
@@ -598,7 +598,7 @@ impl Guide {
     pub fn tell_recovered(&mut self, role: RoleId, saved: &[u64; 8]) -> Result<Recovery, Cause>
         ensures legal { OnOk result (MayRecover self.old role saved.now) }
         ensures back { IfOk result (IsFailureOf self.old role saved.now) }
-        ensures after { IfOk result (λ back. IsAfter self.old self.new (entry_of role back)) }
+        ensures after { IfOk result (λ back. IsAfter self.old self.new (recovery_entry role back)) }
         ensures gone { IfOk result (HasRecovered self.old self.new role saved.now) }
         ensures cause { IfErr result (IsCauseNotToRecover self.old role saved.now) }
         ensures err { OnErr result (self.new ≡ self.old) }

@@ -6,7 +6,7 @@ use Rattle.rcv_tree.specs.Bits.{has_bit}
 use Rattle.rcv_tree.specs.declared.entry.Entry.TheVariants.{Crash}
 use Rattle.rcv_tree.specs.declared.protocol.Protocol.{Protocol}
 use Rattle.rcv_guide.specs.declared.recovery.Recovery.{Recovery}
-use Rattle.rcv_guide.specs.Guide.{HasMemory, IsFailureOf, entry_of}
+use Rattle.rcv_guide.specs.Guide.{HasMemory, IsFailureOf, recovery_entry}
 use Rattle.rcv_guide.proofs.Memories.{on_success}
 use Rattle.rcv_dialogue.specs.declared.answer.Answer.{Answer}
 use Rattle.rcv_dialogue.specs.declared.answer.Answer.TheVariants as answer
@@ -81,12 +81,12 @@ module _ {T E : Type 0} (result : Result T E) (s : SessionView) (text more : Lis
     }
 
     pub recover_said : (after : SessionView) (before : List ℕ) (taken : Taken) (back : Recovery) → HasMemory s.guide → ((r : ℕ) → r < roles_in s → slice_index before r ≡ incarnation_of s r) → IsStatedAs told.stated undone
-        → GoesBack (first_of told.failed) saved s back after → IsStill s after 1 → GoesOnBy s (entry_of (first_of told.failed) back ∷ []) after → IsTaken (back ∷ []) taken
+        → GoesBack (first_of told.failed) saved s back after → IsStill s after 1 → GoesOnBy s (recovery_entry (first_of told.failed) back ∷ []) after → IsTaken (back ∷ []) taken
         → OnOk result (Says (accepted_of after) text more (SaysTaken before taken after)) → OnOk result (Says (accepted_of s) text more (IsAnswer s (line.Recover told) after))
     recover_said after before taken back has before_is stated goes still history is = on_success (Says (accepted_of after) text more (SaysTaken before taken after)) (Says (accepted_of s) text more (IsAnswer s (line.Recover told) after)) result
         (across s after text more (SaysTaken before taken after) (IsAnswer s (line.Recover told) after) still.protocol
         (λ said it. answer_in s after (line.Recover told) said
-        (recover_comes s after before (subst (λ n. n ≤ 8) (sym roles) few) (λ r lt. before_is r (subst (λ n. r < n) roles lt)) told back (entry_of (first_of told.failed) back ∷ []) taken said may once entries is history as_stated it)))
+        (recover_comes s after before (subst (λ n. n ≤ 8) (sym roles) few) (λ r lt. before_is r (subst (λ n. r < n) roles lt)) told back (recovery_entry (first_of told.failed) back ∷ []) taken said may once entries is history as_stated it)))
       where
         roles : roles_in after ≡ roles_in s
         roles = ap (λ (q : Protocol). length q.roles) still.protocol
@@ -97,8 +97,8 @@ module _ {T E : Type 0} (result : Result T E) (s : SessionView) (text more : Lis
         once : FailsOnce told.failed (first_of told.failed) s back after
         once = record { saved = saved; saved_are = saved_are; back_is = subst (λ (t : SessionView). GoesBack (first_of told.failed) saved t back after) (sym (when_down s (first_of told.failed) down)) goes }
 
-        entries : entry_of (first_of told.failed) back ∷ [] ≡ entries_of s.guide (first_of told.failed) back
-        entries = ap (λ b. cond b [] (Crash (first_of told.failed) ∷ []) ++ entry_of (first_of told.failed) back ∷ []) (sym down)
+        entries : recovery_entry (first_of told.failed) back ∷ [] ≡ entries_of s.guide (first_of told.failed) back
+        entries = ap (λ b. cond b [] (Crash (first_of told.failed) ∷ []) ++ recovery_entry (first_of told.failed) back ∷ []) (sym down)
 
         concerned : (r : ℕ) → r < 8 → has_bit taken.concerned.0 r ≡ has_bit would.concerned.0 r
         concerned r lt = is.concerned r lt ∙ one_concerned back r ∙ concerned_same s.guide has.memory has.is (first_of told.failed) saved back would goes.failure failure r lt

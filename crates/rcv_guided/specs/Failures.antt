@@ -9,7 +9,7 @@ use Rattle.rcv_saves.specs.Counts.{up_to}
 use Rattle.rcv_saves.specs.Saves.{SavesView, told_of, IsLastSaved}
 use Rattle.rcv_guide.specs.declared.recovery.Recovery.{Recovery}
 use Rattle.rcv_guide.specs.Numbers.{numbers_at, with_crash}
-use Rattle.rcv_guide.specs.Guide.{GuideView, terms_of, with_numbers, most_told, MayRecover, IsFailureOf, HasRecovered, entry_of}
+use Rattle.rcv_guide.specs.Guide.{GuideView, terms_of, with_numbers, most_told, MayRecover, IsFailureOf, HasRecovered, recovery_entry}
 use Rattle.rcv_dialogue.specs.declared.answer.Answer.{Answer}
 use Rattle.rcv_dialogue.specs.declared.answer.Answer.TheVariants as answer
 use Rattle.rcv_dialogue.specs.declared.answer.Back.{Back}
@@ -72,7 +72,7 @@ fall_of g p = if is_down_in g p then [] else Crash p ∷ []
 
 -- What is told of a role's failure in all.
 abbrev pub entries_of : GuideView → ℕ → Recovery → List Entry
-entries_of g p back = fall_of g p ++ entry_of p back ∷ []
+entries_of g p back = fall_of g p ++ recovery_entry p back ∷ []
 
 -- The role goes back if p fails: it is of p's group, or it keeps fewer events than before.
 abbrev pub goes_back : GuideView → GuideView → ℕ → ℕ → Bool

@@ -1,7 +1,7 @@
 // Lines that tell failures.
 
 ghost use Rattle.std.specs.Prelude.{◌≡◌, ◌+◌, ◌*◌, ◌<◌, ◌≤◌, ◌^◌, ◌↔◌, [], ◌∷◌, All, IsTrue, OnOk, MatchOption, length};
-ghost use Rattle.rcv_guide.specs.Guide.{most_told, entry_of, HaveSavedEnough, MayRecover, IsFailureOf};
+ghost use Rattle.rcv_guide.specs.Guide.{most_told, recovery_entry, HaveSavedEnough, MayRecover, IsFailureOf};
 ghost use Rattle.rcv_dialogue.specs.declared.line.Line.TheVariants as line;
 ghost use Rattle.rcv_dialogue.specs.Lines.{AreFailed};
 ghost use Rattle.rcv_guided.specs.Session.{roles_in};
@@ -50,7 +50,7 @@ impl GuidedSession {
         requires { MayRecover self.old.guide role saved.now }
         ensures back { GoesBack role saved.now self.old result self.new }
         ensures still { IsStill self.old self.new 1 }
-        ensures history { GoesOnBy self.old (entry_of role result ∷ []) self.new }
+        ensures history { GoesOnBy self.old (recovery_entry role result ∷ []) self.new }
     {
         let roles = self.guide.roles();
         let before = all_made(&self.guide);

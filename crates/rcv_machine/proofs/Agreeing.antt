@@ -6,7 +6,7 @@ use Rattle.std.proofs.lemmas.Slice.Eq.{bytes_eq-Decides}
 use denote.Enum.Bare.{same_true}
 use Rattle.rcv_machine.specs.Words.{Global, Left, Role, To, Or, Choice, Rec, Continue, Par, And, Do, Open, Close, Right, Comma, Semicolon, Dot, Fault, Token, Deep, NoName, Twice, SelfMessage, AfterContinue, Unguarded, TooMany, NotYet, Shared, Symbol, Is, Word, Text, Number}
 use Rattle.rcv_machine.specs.Words.{Written, NoStmt, AMessage, AChoice, ARec, AContinue, APar, ADo, Blocks, NoBlock, ABlock, dotted, names_behind, sort_list, roles_behind, decls, stmts, blocks_behind, IsBegun, IsProper, AreProper, is_decl_word, AreDecls, WrittenProtocol, declared, protocols, AreProperBodies, Source, IsDerived, place_of, is_listed, is_among, Decl}
-use Rattle.rcv_machine.specs.Words.{Place, Item, This, AnyName, AnyQuoted, MoreModules, Decls, Alias, RoleName, MoreRoles, Sorts, MoreSorts, Subject, Sender, Receiver, MoreReceivers, RecName, AgainName, Opening, First, Rest, More, Lane, Later, Argument, MoreArguments, ProtocolName, MoreProtocols, State, Outcome, On, Wrong, behind, unless, by_place, meets, is_open, begins, ends, branches, later, outermost, step, awaited}
+use Rattle.rcv_machine.specs.Words.{Place, Item, This, AnyName, AnyQuoted, MoreModules, Decls, Alias, RoleName, MoreRoles, Sorts, MoreSorts, Subject, Sender, Receiver, MoreReceivers, RecName, AgainName, Opening, First, Rest, More, Lane, Later, Argument, MoreArguments, ProtocolName, MoreProtocols, State, Outcome, On, Wrong, after_statement, unless, by_place, meets, is_open, begins, ends, branches, later, outermost, step, awaited}
 use Rattle.rcv_syntax.specs.contracts.sign.Sign.{the_type}
 
 -- A symbol meets no other one.
@@ -143,9 +143,9 @@ begins_agrees (Is Rec) ts s p k = asked p.ended AfterContinue s _ _ _ (λ us d.
     let (_, (m, body, begun, proper, a), (vs, (rest, is, b), more)) = d in
     (vs, (ARec m body rest, tt, (begun, proper, is), simp (a, b)), more))
 begins_agrees (Is Continue) ts s p k =
-    let o : Offers (First p ∷ k) (Is Continue) (AgainName p ∷ Rest (behind p true) ∷ k) = λ us (_, (m, a), (vs, (rest, is, b), more)).
+    let o : Offers (First p ∷ k) (Is Continue) (AgainName p ∷ Rest (after_statement p true) ∷ k) = λ us (_, (m, a), (vs, (rest, is, b), more)).
     (vs, (AContinue m rest, tt, is, simp (a, b)), more) in
-    let some = has (First p ∷ k) (Is Continue) (AgainName p ∷ Rest (behind p true) ∷ k) o in
+    let some = has (First p ∷ k) (Is Continue) (AgainName p ∷ Rest (after_statement p true) ∷ k) o in
     tested p.ended AfterContinue _ _ _ some (asked (is_open p ts) Unguarded s _ _ _ o)
 begins_agrees (Is Par) ts s p k =
     let o : Offers (First p ∷ k) (Is Par) (Lane p ∷ This (Is And) ∷ Lane p ∷ Later p ∷ k) = λ us d.
@@ -167,15 +167,15 @@ branches_agrees : (t : Symbol) (ts : List Symbol) (s : State) (p : Place) (k : L
 branches_agrees (Is Or) ts s p k = λ us (_, (f, begun, proper, a), (vs, (os, rest, are, is, b), more)).
     (vs, (ABlock f os, rest, (begun, proper, are), is, simp (a, b)), more)
 branches_agrees t ts s p k =
-    through (ends s (behind p false) t ts k) (More p) (Rest (behind p false)) k t (λ us d. (d.0, (NoBlock, d.1.0, tt, d.1.1, d.1.2), d.2))
-    (ends_agrees t ts s (behind p false) k)
+    through (ends s (after_statement p false) t ts k) (More p) (Rest (after_statement p false)) k t (λ us d. (d.0, (NoBlock, d.1.0, tt, d.1.1, d.1.2), d.2))
+    (ends_agrees t ts s (after_statement p false) k)
 
 later_agrees : (t : Symbol) (ts : List Symbol) (s : State) (p : Place) (k : List Item) → Agrees (later s p t ts k) (Later p ∷ k) t
 later_agrees (Is And) ts s p k = λ us (_, (f, begun, proper, a), (vs, (os, rest, are, is, b), more)).
     (vs, (ABlock f os, rest, (begun, proper, are), is, simp (a, b)), more)
 later_agrees t ts s p k =
-    through (ends s (behind p false) t ts k) (Later p) (Rest (behind p false)) k t (λ us d. (d.0, (NoBlock, d.1.0, tt, d.1.1, d.1.2), d.2))
-    (ends_agrees t ts s (behind p false) k)
+    through (ends s (after_statement p false) t ts k) (Later p) (Rest (after_statement p false)) k t (λ us d. (d.0, (NoBlock, d.1.0, tt, d.1.1, d.1.2), d.2))
+    (ends_agrees t ts s (after_statement p false) k)
 
 pub agrees : (k : List Item) (t : Symbol) (ts : List Symbol) (s : State) → Agrees (step s t ts k) k t
 agrees (This m ∷ k) t ts s = chosen (meets t m) s _ t k (λ e us d. (us, ap (λ (x : Symbol). x ∷ us) (meets_only t m e), d))

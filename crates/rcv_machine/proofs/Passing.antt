@@ -1,7 +1,7 @@
 -- What the machine asks of statements that it takes: a condition on what is written, which says all that the machine asks.
 use Rattle.std.proofs.Common.{◌≡◌, ℕ, ◌+◌, Bool, true, false, List, [], ◌∷◌, ◌++◌, length, refl, add-zero, add_assoc, one-add, arith, ◌==◌, ◌↔◌, ◌||◌, nat_le, not, Option, Some, None}
 use Rattle.rcv_machine.specs.Words.{Or, And, Close, Right, Semicolon, Fault, Symbol, Is, Word, Written, NoStmt, AMessage, AChoice, ARec, AContinue, APar, ADo, Blocks, NoBlock, ABlock, names_behind, sort_list, stmts, blocks_behind, IsBegun, IsProper, AreProper, is_listed, or_first, role_at, points, points_of, IsDeclared, MayReceive, MayCall, is_among}
-use Rattle.rcv_machine.specs.Words.{Named, nobody, with_role, Place, Item, Sorts, MoreSorts, MoreReceivers, First, Rest, More, Later, MoreArguments, State, Outcome, behind, beside, inside, inside_rec, unless, by_place, is_open, after, Answer, Taken, answer, known}
+use Rattle.rcv_machine.specs.Words.{Named, nobody, with_role, Place, Item, Sorts, MoreSorts, MoreReceivers, First, Rest, More, Later, MoreArguments, State, Outcome, after_statement, beside, inside, inside_rec, unless, by_place, is_open, after, Answer, Taken, answer, known}
 
 -- The roles with those that are written, since the last par began.
 abbrev pub with_roles : Named → List (List ℕ) → Named
@@ -43,26 +43,26 @@ abbrev mutual
   Passes later roles n p NoStmt = Unit {0}
   Passes later roles n p (AMessage label ss s r rs rest) =
       (p.ended ≡ false) × IsDeclared roles s × (p.earlier s ≡ false) × AreTaken roles p.earlier (role_at roles s) n [] (r ∷ rs)
-      × Passes later roles (n + (1 + length rs)) (behind p false) rest
+      × Passes later roles (n + (1 + length rs)) (after_statement p false) rest
   Passes later roles n p (AChoice s f os rest) =
       (p.ended ≡ false) × IsDeclared roles s × (p.earlier s ≡ false) × (nat_le 32 p.depth ≡ false) × Passes later roles n (inside p) f
-      × PassAll later roles (n + points f) p os × Passes later roles (n + (points f + points_of os)) (behind p false) rest
+      × PassAll later roles (n + points f) p os × Passes later roles (n + (points f + points_of os)) (after_statement p false) rest
   Passes later roles n p (ARec name body rest) =
       (p.ended ≡ false) × (nat_le 32 p.depth ≡ false) × Passes later roles n (inside (inside_rec p name)) body
-      × Passes later roles (n + points body) (behind p false) rest
+      × Passes later roles (n + points body) (after_statement p false) rest
   -- The name isn't that of a recursion from the start of whose body a walk comes here without a message.
   Passes later roles n p (AContinue name rest) =
       (p.ended ≡ false) × (is_open p (Word name ∷ []) ≡ false) × (not (is_among name p.recs) ≡ false)
-      × Passes later roles n (behind p true) rest
+      × Passes later roles n (after_statement p true) rest
   -- The blocks share no role.
   Passes later roles n p (APar f g os rest) =
       (p.ended ≡ false) × ((nat_le 2 p.depth || later) ≡ false)
       × ((nat_le 32 p.depth ≡ false) × Passes later roles n (inside (beside p nobody)) f
       × (nat_le 32 p.depth ≡ false) × Passes later roles (n + points f) (inside (beside p (named_by nobody f))) g
       × PassBeside later roles (n + points f + points g) p (named_by (named_by nobody f) g) os)
-      × Passes later roles (n + (points f + (points g + points_of os))) (behind p false) rest
+      × Passes later roles (n + (points f + (points g + points_of os))) (after_statement p false) rest
   Passes later roles n p (ADo name r rs rest) =
-      (p.ended ≡ false) × AreGiven roles p.earlier [] (r ∷ rs) × Passes later roles n (behind p false) rest
+      (p.ended ≡ false) × AreGiven roles p.earlier [] (r ∷ rs) × Passes later roles n (after_statement p false) rest
 
   pub PassAll : Bool → List (List ℕ) → ℕ → Place → Blocks → Type 0
   PassAll later roles n p NoBlock = Unit {0}
@@ -112,12 +112,12 @@ first_is_rest : (b : Written) → IsBegun b → (s : State) (p : Place) (k : Lis
 first_is_rest b h s p k next = grind arith
 
 more_is_rest : (b : Written) (s : State) (p : Place) (k : List Item) (next : List Symbol)
-    → answer s (More p ∷ k) (stmts b (Is Close ∷ next)) ≡ answer s (Rest (behind p false) ∷ k) (stmts b (Is Close ∷ next))
+    → answer s (More p ∷ k) (stmts b (Is Close ∷ next)) ≡ answer s (Rest (after_statement p false) ∷ k) (stmts b (Is Close ∷ next))
 more_is_rest NoStmt s p k next = refl
 more_is_rest _ s p k next = refl
 
 later_is_rest : (b : Written) (s : State) (p : Place) (k : List Item) (next : List Symbol)
-    → answer s (Later p ∷ k) (stmts b (Is Close ∷ next)) ≡ answer s (Rest (behind p false) ∷ k) (stmts b (Is Close ∷ next))
+    → answer s (Later p ∷ k) (stmts b (Is Close ∷ next)) ≡ answer s (Rest (after_statement p false) ∷ k) (stmts b (Is Close ∷ next))
 later_is_rest NoStmt s p k next = refl
 later_is_rest _ s p k next = refl
 
@@ -157,29 +157,29 @@ module _ (names roles : List (List ℕ)) where
     passing n since p (AMessage label ss s r rs rest) proper k next =
         let from = with_role (with_role since s) r in
         let others = receiving (n + 1) from p.earlier (role_at roles s) (role_at roles r ∷ []) rs in
-        let more = passing (n + (1 + length rs)) (with_roles from rs) (behind p false) rest proper in
+        let more = passing (n + (1 + length rs)) (with_roles from rs) (after_statement p false) rest proper in
         simp (goes, others, more) assumption
     passing n since p (AChoice s f os rest) proper k next =
         let first = passing n (with_role since s) (inside p) f proper.1 in
         let others = all_passing (n + points f) (named_by (with_role since s) f) p os proper.2 in
-        let more = passing (n + (points f + points_of os)) (named_by_all (named_by (with_role since s) f) os) (behind p false) rest proper.3 in
+        let more = passing (n + (points f + points_of os)) (named_by_all (named_by (with_role since s) f) os) (after_statement p false) rest proper.3 in
         simp (goes, first_is_rest f proper.0, first, others, more_is_rest rest, more) assumption
     passing n since p (ARec name body rest) proper k next =
         let first = passing n since (inside (inside_rec p name)) body proper.1 in
-        let more = passing (n + points body) (named_by since body) (behind p false) rest proper.2 in
+        let more = passing (n + points body) (named_by since body) (after_statement p false) rest proper.2 in
         simp (goes, first_is_rest body proper.0, first, more) assumption
-    passing n since p (AContinue name rest) proper k next = simp (goes, passing n since (behind p true) rest proper) assumption
+    passing n since p (AContinue name rest) proper k next = simp (goes, passing n since (after_statement p true) rest proper) assumption
     passing n since p (APar f g os rest) proper k next =
         let one = named_by nobody f in
         let two = named_by one g in
         let first = passing n nobody (inside (beside p nobody)) f proper.1 in
         let second = passing (n + points f) one (inside (beside p one)) g proper.3 in
         let others = beside_passing (n + (points f + points g)) two p os proper.4 in
-        let more = passing (n + (points f + (points g + points_of os))) (named_by_all two os) (behind p false) rest proper.5 in
+        let more = passing (n + (points f + (points g + points_of os))) (named_by_all two os) (after_statement p false) rest proper.5 in
         simp (goes, first_is_rest f proper.0, first, first_is_rest g proper.2, second, others, later_is_rest rest, more) assumption
     passing n since p (ADo name r rs rest) proper k next =
         let others = arguing n (with_role since r) p.earlier (role_at roles r ∷ []) rs in
-        let more = passing n (with_roles since (r ∷ rs)) (behind p false) rest proper in
+        let more = passing n (with_roles since (r ∷ rs)) (after_statement p false) rest proper in
         simp (goes, others, more) assumption
 
     all_passing : (n : ℕ) (since : Named) (p : Place) (bs : Blocks) → AreProper bs → (k : List Item) (next : List Symbol)

@@ -6,7 +6,7 @@ use Rattle.std.proofs.Math.Bool.{or-false}
 use Rattle.rcv_machine.specs.Words.{Global, Protocol, Role, From, To, Choice, At, Or, Rec, Continue, Par, And, Do, Open, Close, Left, Right, Comma, Semicolon, Less, Greater, AfterContinue, NotYet, NoName, Twice, SelfMessage, TooMany, Shared, Symbol, Is, Word, Text}
 use Rattle.rcv_machine.specs.Words.{Written, NoStmt, AMessage, AChoice, ARec, AContinue, APar, ADo, Blocks, NoBlock, ABlock, dotted, names_behind, sort_list, roles_behind, decls, stmts, blocks_behind, IsBegun, IsProper, AreProper, AreDecls, WrittenProtocol, declared, protocols, AreProperBodies, IsDerived, place_of}
 use Rattle.rcv_machine.specs.Words.{is_among, named_since_par, is_beside, Standing, standing, is_at_name, AsNewProtocol, AsNewRole, AsAlias, AsActor, AsReceiver, AsArgument, AsTarget, AsOther, names_here, protocols_before, roles_before, aliases_before, points_before, listed, sender, open_braces, recs_of, Comes, FromItsStart, IntoRec, IntoChoice, IntoBranch, IsUnguarded, is_behind_continue, Decl}
-use Rattle.rcv_machine.specs.Words.{Named, nobody, with_role, Place, Item, This, MoreModules, Decls, RoleName, Sorts, MoreSorts, Receiver, MoreReceivers, Opening, First, Rest, More, Lane, Later, Argument, MoreArguments, ProtocolName, MoreProtocols, State, known, anew, argues, Outcome, On, unless, by_place, receives, behind, beside, inside, inside_rec, is_open, outermost, awaited}
+use Rattle.rcv_machine.specs.Words.{Named, nobody, with_role, Place, Item, This, MoreModules, Decls, RoleName, Sorts, MoreSorts, Receiver, MoreReceivers, Opening, First, Rest, More, Lane, Later, Argument, MoreArguments, ProtocolName, MoreProtocols, State, known, anew, argues, Outcome, On, unless, by_place, receives, after_statement, beside, inside, inside_rec, is_open, outermost, awaited}
 use Rattle.rcv_machine.proofs.Knowing.{state_at, ToldBy, Told, recent, Reaches, Shares, Fits, Here, InList, InCall, judged, judged_name, no_walk, kept_name, kept_called, kept_quiet}
 use Rattle.rcv_machine.proofs.Naming.{or_left, among_more, recent_more, unknown, same_place, one_more, origin}
 
@@ -145,10 +145,10 @@ into p b l on back r x = Decides-like (is_among x (recent p)) (on x) (back x) (r
 -- Behind a statement the rest of its block stands, and no walk comes without a message.
 here_behind : (p : Place) (ended : Bool) (braces : List (List Symbol)) (back : List Symbol) → standing back ≡ AsOther
     → open_braces back ≡ braces → Fits p braces → ended ≡ is_behind_continue back → ((x : List ℕ) → Comes x back → ⊥)
-    → Here (behind p ended) braces back
+    → Here (after_statement p ended) braces back
 here_behind p ended braces back plain same fits is unreached =
     let gone = drop_all (length p.recs - 0) p.recs (omega arith) in
-    let reaches : Reaches (behind p ended) back = λ x. rw gone ((λ h. absurd cc), (λ c. absurd (unreached x c))) in
+    let reaches : Reaches (after_statement p ended) back = λ x. rw gone ((λ h. absurd cc), (λ c. absurd (unreached x c))) in
     record { plain = plain; same = same; fits = fits; ended = is; reaches = reaches }
 
 guard : (p : Place) (back : List Symbol) (ts : List Symbol) → Reaches p back → Decides (is_open p ts) (IsUnguarded back (Is Continue) ts)
@@ -158,7 +158,7 @@ guard p back _ r = no_walk
 -- where a statement stands, or none behind the blocks of a choice
 as_block : (b : Written) (p : Place) (k : List Item) (back us : List Symbol) → let ts = stmts b (Is Close ∷ us) in
     (IsBegun b → Told (Rest p ∷ k) back ts → Told (First p ∷ k) back ts)
-    × (Told (Rest (behind p false) ∷ k) back ts → Told (More p ∷ k) back ts × Told (Later p ∷ k) back ts)
+    × (Told (Rest (after_statement p false) ∷ k) back ts → Told (More p ∷ k) back ts × Told (Later p ∷ k) back ts)
 as_block NoStmt p k back us = ((λ begun h. absurd begun), (λ h. (h, h)))
 as_block _ p k back us = ((λ begun h. h), (λ h. (h, h)))
 
@@ -230,10 +230,10 @@ mutual
       kept_quiet refl (list_told ss _ _ _ (rw here.plain refl) refl (λ last e. kept_quiet refl (λ ts'.
       let shares : Shares p.earlier (open_braces last) = rw (e, here.same) here.fits.2 in
       role_told AsActor (Is From ∷ Is Right ∷ last) s ts' (state_at (Word s ∷ Is From ∷ Is Right ∷ last))
-      (λ q. This (Is To) ∷ Receiver p.earlier q [] ∷ Rest (behind p false) ∷ k) _ _ refl refl refl refl (λ q g. rw (shares s) refl) (λ q g.
+      (λ q. This (Is To) ∷ Receiver p.earlier q [] ∷ Rest (after_statement p false) ∷ k) _ _ refl refl refl refl (λ q g. rw (shares s) refl) (λ q g.
       kept_quiet refl (receivers_told rs r (Is To ∷ Word s ∷ Is From ∷ Is Right ∷ last) _ p.earlier q [] _
       (record { receives = refl; ends = λ m. refl; is_sender = g; has = λ m q' f. refl; shares = shares }) refl (λ m end same ends.
-      stmts_told rest (behind p false) k braces (Is Semicolon ∷ Word m ∷ end) us is
+      stmts_told rest (after_statement p false) k braces (Is Semicolon ∷ Word m ∷ end) us is
       (here_behind p false braces _ refl (same ∙ e ∙ here.same) here.fits (sym ends) (λ x c. origin c)) next)))))))
   stmts_told (AChoice s f os rest) p k braces back us is here next = λ ts. let at = Word s ∷ Is At ∷ Is Choice ∷ back in
       let reaches = into p back (Is Open ∷ at) (λ x c. IntoChoice x s back c) (λ x c. origin c) here.reaches in
@@ -243,20 +243,20 @@ mutual
       (λ q g. rw (shares s) refl) (λ q g. opening f p (More p ∷ k) braces at _ is.0 here.same here.fits.0 here.fits.1 here.fits.2 here.fits.3 reaches
       (λ here'. stmts_told f (inside p) (More p ∷ k) (at ∷ braces) (Is Open ∷ at) _ is.1 here'
       (λ last e. others_told os rest p k braces at last us is.2 e here.fits reaches
-      (λ end same. stmts_told rest (behind p false) k braces (Is Close ∷ end) us is.3
+      (λ end same. stmts_told rest (after_statement p false) k braces (Is Close ∷ end) us is.3
       (here_behind p false braces (Is Close ∷ end) refl same here.fits refl (λ x c. origin c)) next))))))
   stmts_told (ARec m body rest) p k braces back us is here next = λ ts. let at = Word m ∷ Is Rec ∷ back in
       let q = inside_rec p m in judged back (Is Rec) ts (state_at back) _ _ p.ended false (sym here.ended) no_walk refl
-      (λ l l'. kept_name m refl refl (opening body q (Rest (behind p false) ∷ k) braces at _ is.0 here.same here.fits.0
+      (λ l l'. kept_name m refl refl (opening body q (Rest (after_statement p false) ∷ k) braces at _ is.0 here.same here.fits.0
       (ap (λ (z : List (List ℕ)). z ++ m ∷ []) here.fits.1) here.fits.2 here.fits.3 (into_rec p m back here.reaches)
-      (λ here'. stmts_told body (inside q) (Rest (behind p false) ∷ k) (at ∷ braces) (Is Open ∷ at) _ is.1 here'
-      (λ end e. stmts_told rest (behind p false) k braces (Is Close ∷ end) us is.2
+      (λ here'. stmts_told body (inside q) (Rest (after_statement p false) ∷ k) (at ∷ braces) (Is Open ∷ at) _ is.1 here'
+      (λ end e. stmts_told rest (after_statement p false) k braces (Is Close ∷ end) us is.2
       (here_behind p false braces (Is Close ∷ end) refl (ap (drop 1) e) here.fits refl (λ x c. origin c)) next))))
   stmts_told (AContinue m rest) p k braces back us is here next = λ ts. let at = Is Continue ∷ back in
       let recs : is_among m p.recs ≡ is_among m (recs_of (open_braces back)) = rw here.same (ap (is_among m) here.fits.1) in
       judged back (Is Continue) ts (state_at back) _ _ p.ended (is_open p ts) (sym here.ended) (guard p back ts here.reaches) refl
       (λ l l' ts'. rw recs (judged_name AsTarget false at m ts' (state_at at) _ _ refl refl refl
-      (λ f. kept_quiet refl (stmts_told rest (behind p true) k braces (Is Semicolon ∷ Word m ∷ at) us is
+      (λ f. kept_quiet refl (stmts_told rest (after_statement p true) k braces (Is Semicolon ∷ Word m ∷ at) us is
       (here_behind p true braces _ refl here.same here.fits refl (λ x c. origin c)) next))))
   stmts_told (APar f g os rest) p k braces back us is here next = λ ts. let at = Is Par ∷ back in
       let deep : nat_le 2 p.depth ≡ nat_le 2 (length (open_braces back)) = rw here.same (ap (nat_le 2) here.fits.0) in
@@ -272,18 +272,18 @@ mutual
       (lane_shares p braces (Is Close ∷ last) here.fits one) (λ x c. origin c)
       (λ here''. stmts_told g (inside (beside p (since_par and))) (Later p ∷ k) (and ∷ braces) (Is Open ∷ and) _ is.3 here''
       (λ last' e'. lanes_told os rest p k braces and last' us is.4 e' here.fits one
-      (λ end same. stmts_told rest (behind p false) k braces (Is Close ∷ end) us is.5
+      (λ end same. stmts_told rest (after_statement p false) k braces (Is Close ∷ end) us is.5
       (here_behind p false braces (Is Close ∷ end) refl same here.fits refl (λ x c. origin c)) next))))))))
   stmts_told (ADo m r rs rest) p k braces back us is here next = λ ts. let at = Is Left ∷ Word m ∷ Is Do ∷ back in
       judged back (Is Do) ts (state_at back) _ _ p.ended false (sym here.ended) no_walk refl (λ l l'.
       kept_called m (kept_quiet refl (arguments_told rs r at _ p.earlier [] _ (record { argues = refl; has = λ n q g. refl; shares = rw here.same here.fits.2 }) refl
-      (λ end same. kept_quiet refl (stmts_told rest (behind p false) k braces (Is Semicolon ∷ Is Right ∷ end) us is
+      (λ end same. kept_quiet refl (stmts_told rest (after_statement p false) k braces (Is Semicolon ∷ Is Right ∷ end) us is
       (here_behind p false braces _ refl (same ∙ here.same) here.fits refl (λ x c. origin c)) next)))))
 
   others_told : (os : Blocks) (b : Written) (p : Place) (k : List Item) (braces : List (List Symbol)) (first back us : List Symbol)
       → AreProper os → open_braces back ≡ first ∷ braces → Fits p braces → Reaches p (Is Open ∷ first)
       → ((end : List Symbol) → open_braces (Is Close ∷ end) ≡ braces
-      → Told (Rest (behind p false) ∷ k) (Is Close ∷ end) (stmts b (Is Close ∷ us)))
+      → Told (Rest (after_statement p false) ∷ k) (Is Close ∷ end) (stmts b (Is Close ∷ us)))
       → Told (More p ∷ k) (Is Close ∷ back) (blocks_behind Or os (stmts b (Is Close ∷ us)))
   others_told NoBlock b p k braces first back us are e fits reaches next =
       ((as_block b p k (Is Close ∷ back) us).1 (next back (ap (drop 1) e))).0
@@ -297,7 +297,7 @@ mutual
   lanes_told : (os : Blocks) (b : Written) (p : Place) (k : List Item) (braces : List (List Symbol)) (first back us : List Symbol)
       → AreProper os → open_braces back ≡ first ∷ braces → Fits p braces → p.depth ≡ 1
       → ((end : List Symbol) → open_braces (Is Close ∷ end) ≡ braces
-      → Told (Rest (behind p false) ∷ k) (Is Close ∷ end) (stmts b (Is Close ∷ us)))
+      → Told (Rest (after_statement p false) ∷ k) (Is Close ∷ end) (stmts b (Is Close ∷ us)))
       → Told (Later p ∷ k) (Is Close ∷ back) (blocks_behind And os (stmts b (Is Close ∷ us)))
   lanes_told NoBlock b p k braces first back us are e fits one next =
       ((as_block b p k (Is Close ∷ back) us).1 (next back (ap (drop 1) e))).1

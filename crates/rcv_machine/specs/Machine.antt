@@ -28,7 +28,7 @@ pub record Place : Type 0 where
   pub depth : ℕ  -- so many blocks are open
   pub recs : List (List ℕ)  -- the names of the enclosing recursions, the innermost last
   pub comes : ℕ  -- so many of the innermost have a walk from the start of their body to here without a message
-  pub ended : Bool  -- behind a `continue` of this block
+  pub ended : Bool  -- after a `continue` of this block
   pub earlier : Named  -- the roles of the earlier blocks, in a block of a par
 
 pub data Item : Type 0 where
@@ -80,8 +80,8 @@ pub data Outcome : Type 0 where
   Wrong : (fault : Fault) → Outcome
 
 -- After a statement no walk comes without a message.
-abbrev pub behind : Place → Bool → Place
-behind p ended = record { depth = p.depth; recs = p.recs; comes = 0; ended = ended; earlier = p.earlier }
+abbrev pub after_statement : Place → Bool → Place
+after_statement p ended = record { depth = p.depth; recs = p.recs; comes = 0; ended = ended; earlier = p.earlier }
 
 abbrev pub inside : Place → Place
 inside p = record { depth = p.depth + 1; recs = p.recs; comes = p.comes; ended = false; earlier = p.earlier }
@@ -174,16 +174,16 @@ is_open p _ = false
 -- the first symbol of a statement, with the symbols after it
 abbrev pub begins : State → Place → Symbol → List Symbol → List Item → Outcome
 begins s p (Word n) ts k =
-    unless p.ended AfterContinue (On s (This (Is Left) ∷ Sorts ∷ This (Is From) ∷ Sender p.earlier ∷ Rest (behind p false) ∷ k))
+    unless p.ended AfterContinue (On s (This (Is Left) ∷ Sorts ∷ This (Is From) ∷ Sender p.earlier ∷ Rest (after_statement p false) ∷ k))
 begins s p (Is Choice) ts k = unless p.ended AfterContinue (On s (This (Is At) ∷ Subject p.earlier ∷ Opening p ∷ More p ∷ k))
-begins s p (Is Rec) ts k = unless p.ended AfterContinue (On s (RecName p ∷ Rest (behind p false) ∷ k))
+begins s p (Is Rec) ts k = unless p.ended AfterContinue (On s (RecName p ∷ Rest (after_statement p false) ∷ k))
 begins s p (Is Continue) ts k =
-    unless p.ended AfterContinue (unless (is_open p ts) Unguarded (On s (AgainName p ∷ Rest (behind p true) ∷ k)))
+    unless p.ended AfterContinue (unless (is_open p ts) Unguarded (On s (AgainName p ∷ Rest (after_statement p true) ∷ k)))
 begins s p (Is Par) ts k =
     unless p.ended AfterContinue (unless (nat_le 2 p.depth || nat_le 2 (length s.protocols)) NotYet
     (On (record s { since = nobody }) (Lane p ∷ This (Is And) ∷ Lane p ∷ Later p ∷ k)))
 begins s p (Is Do) ts k =
-    unless p.ended AfterContinue (On s (AnyName ∷ This (Is Left) ∷ Argument p.earlier [] ∷ This (Is Semicolon) ∷ Rest (behind p false) ∷ k))
+    unless p.ended AfterContinue (On s (AnyName ∷ This (Is Left) ∷ Argument p.earlier [] ∷ This (Is Semicolon) ∷ Rest (after_statement p false) ∷ k))
 begins s p _ ts k = Wrong Token
 
 abbrev pub ends : State → Place → Symbol → List Symbol → List Item → Outcome
@@ -192,11 +192,11 @@ ends s p t ts k = begins s p t ts k
 
 abbrev pub branches : State → Place → Symbol → List Symbol → List Item → Outcome
 branches s p (Is Or) ts k = On s (Opening p ∷ More p ∷ k)
-branches s p t ts k = ends s (behind p false) t ts k
+branches s p t ts k = ends s (after_statement p false) t ts k
 
 abbrev pub later : State → Place → Symbol → List Symbol → List Item → Outcome
 later s p (Is And) ts k = On s (Lane p ∷ Later p ∷ k)
-later s p t ts k = ends s (behind p false) t ts k
+later s p t ts k = ends s (after_statement p false) t ts k
 
 -- in the protocol's own block
 abbrev pub outermost : Place

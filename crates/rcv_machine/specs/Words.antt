@@ -31,6 +31,6 @@ pub use Rattle.rcv_machine.specs.Machine.{MoreRoles, Sorts, MoreSorts, Subject, 
 pub use Rattle.rcv_machine.specs.Machine.{RecName, AgainName, Opening, First, Rest, More, Lane, Later}
 pub use Rattle.rcv_machine.specs.Machine.{Argument, MoreArguments, ProtocolName, MoreProtocols, argues, anew}
 pub use Rattle.rcv_machine.specs.Machine.{State, Outcome, On, Wrong, beside, later}
-pub use Rattle.rcv_machine.specs.Machine.{behind, unless, by_place, meets, is_open, begins, ends, branches, step}
+pub use Rattle.rcv_machine.specs.Machine.{after_statement, unless, by_place, meets, is_open, begins, ends, branches, step}
 pub use Rattle.rcv_machine.specs.Machine.{awaited, at_end, after, Answer, Taken, Refuses, answer, reading, known}
 pub use Rattle.rcv_machine.specs.Machine.{inside, inside_rec, receives, outermost, in_head, begin}

@@ -17,11 +17,11 @@ pub record End : Type 0 where
   pub rewound : ℕ
 
 -- What a post put, and what an inbox took.
-abbrev pub put : End → List Message
-put post = post.list
+abbrev pub posted : End → List Message
+posted post = post.list
 
-abbrev pub taken : End → List Message
-taken inbox = inbox.list
+abbrev pub fetched : End → List Message
+fetched inbox = inbox.list
 
 -- How many messages a post ever sent.
 abbrev pub through : End → ℕ

@@ -7,7 +7,7 @@ ghost use Rattle.rcv_ring.specs.Lists.{Begins};
 ghost use Rattle.rcv_ring.specs.Shown.{HasLooked};
 ghost use Rattle.rcv_mailbox.specs.Ends.{End, IsChannel, IsSamePlace, IsUncut, Knows, WasEmpty, ReceivesAgain};
 ghost use Rattle.rcv_mailbox.specs.Ends.{TakesFront};
-ghost use Rattle.rcv_mailbox.specs.Ends.{put, received, taken, through};
+ghost use Rattle.rcv_mailbox.specs.Ends.{posted, received, fetched, through};
 
 use crate::post::Post;
 use rcv_ring::Puller;
@@ -47,15 +47,15 @@ impl Inbox {
     /// found the channel empty, the answer is None, and nothing is received. It never waits, and takes no memory.
     pub fn receive(&mut self) -> Option<Message>
         requires { self.old.got < self.old.limit }
-        ensures some { IfSome result (λ m. slice_get (taken self.new) self.old.got ≡ Some m) }
+        ensures some { IfSome result (λ m. slice_get (fetched self.new) self.old.got ≡ Some m) }
         ensures got { IfSome result (λ _. self.new.got ≡ self.old.got + 1) }
         ensures again { ReceivesAgain self.old self.new }
         ensures front { IfSome result (λ m. TakesFront self.old self.new m) }
         ensures passes { IfSome result (λ m. CanPass self.old.base.points m) }
-        ensures all { IfNone result (self.old.got ≡ length (taken self.old)) }
-        ensures kept { IfNone result ((taken self.new ≡ taken self.old) × (self.new.got ≡ self.old.got)) }
+        ensures all { IfNone result (self.old.got ≡ length (fetched self.old)) }
+        ensures kept { IfNone result ((fetched self.new ≡ fetched self.old) × (self.new.got ≡ self.old.got)) }
         ensures empty { IfNone result (WasEmpty self.old self.new) }
-        ensures begins { Begins (taken self.old) (taken self.new) }
+        ensures begins { Begins (fetched self.old) (fetched self.new) }
         ensures looks { HasLooked self.old.base self.new.base }
         ensures same { IsUncut self.old self.new }
         ensures channel { (post : End) → IsChannel post self.old → IsChannel post self.new }
@@ -71,13 +71,13 @@ impl Inbox {
     /// in flight. It takes no memory.
     pub fn meet(&mut self, beside: &mut Post) -> u32
         requires { IsChannel beside.old self.old }
-        ensures begins { Begins (taken self.old) (put beside.old) }
-        ensures held { length (put beside.old) ≡ length (taken self.old) + result }
-        ensures few { (result ≤ self.old.base.room) × (length (put beside.old) ≤ self.old.limit) }
-        ensures lists { (taken self.new ≡ taken self.old) × (put beside.new ≡ put beside.old) }
+        ensures begins { Begins (fetched self.old) (posted beside.old) }
+        ensures held { length (posted beside.old) ≡ length (fetched self.old) + result }
+        ensures few { (result ≤ self.old.base.room) × (length (posted beside.old) ≤ self.old.limit) }
+        ensures lists { (fetched self.new ≡ fetched self.old) × (posted beside.new ≡ posted beside.old) }
         ensures got { (self.new.got ≡ self.old.got) × (beside.new.got ≡ beside.old.got) }
         ensures through { through beside.new ≡ through beside.old }
-        ensures known { Knows self.new (length (put beside.old)) × Knows beside.new (length (taken self.old)) }
+        ensures known { Knows self.new (length (posted beside.old)) × Knows beside.new (length (fetched self.old)) }
         ensures looks { (self.old.base.looks ≤ self.new.base.looks) × (beside.old.base.looks ≤ beside.new.base.looks) }
         ensures same { IsUncut self.old self.new × IsUncut beside.old beside.new }
         ensures channel { IsChannel beside.new self.new }
@@ -90,14 +90,14 @@ impl Inbox {
     pub fn rewind(&mut self, keep: u32, beside: &mut Post, drop_from: u32)
         requires channel { IsChannel beside.old self.old }
         requires keep { (keep ≤ self.old.got) × (keep ≤ drop_from) }
-        requires drop_from { drop_from ≤ length (put beside.old) }
-        ensures put { put beside.new ≡ first_of drop_from (put beside.old) }
-        ensures taken { taken self.new ≡ put beside.new }
+        requires drop_from { drop_from ≤ length (posted beside.old) }
+        ensures put { posted beside.new ≡ first_of drop_from (posted beside.old) }
+        ensures taken { fetched self.new ≡ posted beside.new }
         ensures got { self.new.got ≡ keep }
         ensures through { through beside.new ≡ through beside.old }
         ensures known { Knows self.new drop_from × Knows beside.new drop_from }
         ensures looks { (self.old.base.looks ≤ self.new.base.looks) × (beside.old.base.looks ≤ beside.new.base.looks) }
-        ensures dropped { self.new.dropped + drop_from ≡ self.old.dropped + length (put beside.old) }
+        ensures dropped { self.new.dropped + drop_from ≡ self.old.dropped + length (posted beside.old) }
         ensures rewound { self.new.rewound ≡ drop_from }
         ensures same { IsSamePlace self.old self.new × IsSamePlace beside.old beside.new }
         ensures channel { IsChannel beside.new self.new }
@@ -118,9 +118,9 @@ impl Inbox {
 
     // Gives the next message that was taken and isn't received.
     fn again(&mut self) -> Message
-        requires more { self.old.got < length (taken self.old) }
+        requires more { self.old.got < length (fetched self.old) }
         requires limit { self.old.got < self.old.limit }
-        ensures some { slice_get (taken self.new) self.old.got ≡ Some result }
+        ensures some { slice_get (fetched self.new) self.old.got ≡ Some result }
         ensures again { self.new ≡ received self.old (self.old.got + 1) }
         ensures passes { CanPass self.old.base.points result }
     {
@@ -132,11 +132,11 @@ impl Inbox {
     // Takes the front of the ring. All that was taken is received.
     fn front(&mut self) -> Option<Message>
         requires limit { self.old.got < self.old.limit }
-        requires all { self.old.got ≡ length (taken self.old) }
-        ensures some { IfSome result (λ m. taken self.new ≡ taken self.old ++ m ∷ []) }
+        requires all { self.old.got ≡ length (fetched self.old) }
+        ensures some { IfSome result (λ m. fetched self.new ≡ fetched self.old ++ m ∷ []) }
         ensures got { IfSome result (λ _. self.new.got ≡ self.old.got + 1) }
         ensures passes { IfSome result (λ m. CanPass self.old.base.points m) }
-        ensures kept { IfNone result ((taken self.new ≡ taken self.old) × (self.new.got ≡ self.old.got)) }
+        ensures kept { IfNone result ((fetched self.new ≡ fetched self.old) × (self.new.got ≡ self.old.got)) }
         ensures empty { IfNone result (WasEmpty self.old self.new) }
         ensures looks { HasLooked self.old.base self.new.base }
         ensures same { IsUncut self.old self.new }
@@ -163,10 +163,10 @@ impl Inbox {
     // Takes all that the ring holds, and receives none of it.
     fn take_all(&mut self, beside: &mut Post)
         requires { IsChannel beside.old self.old }
-        ensures lists { (taken self.new ≡ put beside.old) × (put beside.new ≡ put beside.old) }
+        ensures lists { (fetched self.new ≡ posted beside.old) × (posted beside.new ≡ posted beside.old) }
         ensures got { self.new.got ≡ self.old.got }
         ensures through { through beside.new ≡ through beside.old }
-        ensures known { Knows self.new (length (put beside.old)) × Knows beside.new (length (put beside.old)) }
+        ensures known { Knows self.new (length (posted beside.old)) × Knows beside.new (length (posted beside.old)) }
         ensures looks { (self.old.base.looks ≤ self.new.base.looks) × (beside.old.base.looks ≤ beside.new.base.looks) }
         ensures same { IsUncut self.old self.new × IsUncut beside.old beside.new }
         ensures channel { IsChannel beside.new self.new }
@@ -180,9 +180,9 @@ impl Inbox {
 
     // Takes the front of the ring, which is known to hold a message.
     fn take_one(&mut self)
-        requires more { length (taken self.old) + self.old.dropped < self.old.base.known }
-        requires room { length (taken self.old) < self.old.limit }
-        ensures one { length (taken self.new) ≡ length (taken self.old) + 1 }
+        requires more { length (fetched self.old) + self.old.dropped < self.old.base.known }
+        requires room { length (fetched self.old) < self.old.limit }
+        ensures one { length (fetched self.new) ≡ length (fetched self.old) + 1 }
         ensures looks { HasLooked self.old.base self.new.base }
         ensures got { self.new.got ≡ self.old.got }
         ensures same { IsUncut self.old self.new }
@@ -197,10 +197,10 @@ impl Inbox {
 
     // Drops what was taken after the first `drop_from` messages. The first `keep` of those stay received.
     fn cut(&mut self, keep: u32, drop_from: u32)
-        requires cut { (keep ≤ drop_from) × (drop_from ≤ length (taken self.old)) }
-        requires few { self.old.dropped + length (taken self.old) ≤ 2 ^ 62 }
-        ensures taken { taken self.new ≡ first_of drop_from (taken self.old) }
-        ensures dropped { self.new.dropped + drop_from ≡ self.old.dropped + length (taken self.old) }
+        requires cut { (keep ≤ drop_from) × (drop_from ≤ length (fetched self.old)) }
+        requires few { self.old.dropped + length (fetched self.old) ≤ 2 ^ 62 }
+        ensures taken { fetched self.new ≡ first_of drop_from (fetched self.old) }
+        ensures dropped { self.new.dropped + drop_from ≡ self.old.dropped + length (fetched self.old) }
         ensures got { self.new.got ≡ keep }
         ensures rewound { self.new.rewound ≡ drop_from }
         ensures same { (self.new.base ≡ self.old.base) × (self.new.limit ≡ self.old.limit) }

@@ -4,7 +4,7 @@ ghost use Rattle.std.specs.Prelude.{◌≡◌, ◌+◌, ◌^◌, ◌<◌, ◌≤
 ghost use Rattle.std.specs.Prelude.{take as first_of};
 ghost use Rattle.rcv_ring.specs.Points.{CanPass};
 ghost use Rattle.rcv_ring.specs.Shown.{HasLooked};
-ghost use Rattle.rcv_mailbox.specs.Ends.{End, IsChannel, IsSamePlace, IsUncut, WasFull, put, through};
+ghost use Rattle.rcv_mailbox.specs.Ends.{End, IsChannel, IsSamePlace, IsUncut, WasFull, posted, through};
 
 use rcv_ring::Pusher;
 use rcv_tree::event::Message;
@@ -45,11 +45,11 @@ impl Post {
     pub fn send(&mut self, message: Message) -> Result<(), Full>
         requires passes { CanPass self.old.base.points message }
         requires through { through self.old < 2 ^ 62 }
-        requires limit { length (put self.old) < self.old.limit }
-        ensures ok { OnOk result (put self.new ≡ put self.old ++ message ∷ []) }
+        requires limit { length (posted self.old) < self.old.limit }
+        ensures ok { OnOk result (posted self.new ≡ posted self.old ++ message ∷ []) }
         ensures through { OnOk result (through self.new ≡ through self.old + 1) }
         ensures err { IfErr result (λ full. full.0 ≡ message) }
-        ensures kept { OnErr result ((put self.new ≡ put self.old) × (through self.new ≡ through self.old)) }
+        ensures kept { OnErr result ((posted self.new ≡ posted self.old) × (through self.new ≡ through self.old)) }
         ensures full { OnErr result (WasFull self.old self.new) }
         ensures looks { HasLooked self.old.base self.new.base }
         ensures same { IsUncut self.old self.new }
@@ -78,10 +78,10 @@ impl Post {
 
     /// Drops what was put after so many of the first messages. The ring holds nothing.
     pub(crate) fn cut(&mut self, drop_from: u32)
-        requires { drop_from ≤ length (put self.old) }
-        ensures put { put self.new ≡ first_of drop_from (put self.old) }
-        ensures dropped { self.new.dropped + drop_from ≡ self.old.dropped + length (put self.old) }
-        ensures few { self.old.dropped + length (put self.old) ≤ 2 ^ 62 }
+        requires { drop_from ≤ length (posted self.old) }
+        ensures put { posted self.new ≡ first_of drop_from (posted self.old) }
+        ensures dropped { self.new.dropped + drop_from ≡ self.old.dropped + length (posted self.old) }
+        ensures few { self.old.dropped + length (posted self.old) ≤ 2 ^ 62 }
         ensures rewound { self.new.rewound ≡ drop_from }
         ensures same { (self.new.base ≡ self.old.base) × (self.new.limit ≡ self.old.limit) }
     {

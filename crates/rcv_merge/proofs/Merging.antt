@@ -12,7 +12,7 @@ use Rattle.rcv_theory.proofs.Stamps.{Among, among_at, at_among}
 use Rattle.rcv_model.proofs.Located.{item}
 use Rattle.rcv_model.proofs.Lists.{some_same}
 use Rattle.rcv_merge.specs.declared.round.Front.{Front}
-use Rattle.rcv_merge.specs.Merge.{lists_in, log_at, IsMergeOf, nobody, stamp_at, stamp_of, HasLeft, AreDone, AreWithin, IsFirst, AreStamps, AreStampsOf, AreDry, IsFront}
+use Rattle.rcv_merge.specs.Merge.{lent_logs, log_at, IsMergeOf, nobody, stamp_at, stamp_of, HasLeft, AreDone, AreWithin, IsFirst, AreStamps, AreStampsOf, AreDry, IsFront}
 
 abbrev placed_at : ℕ → ℕ → Timed → Placed
 placed_at role position timed = record { role = role; position = position; timed = timed }
@@ -325,9 +325,9 @@ first_are logs heads stamps n zeros e are = (are.0, λ r. ⊎_elim (λ lt. are.1
 pub eight_zeros : (r : ℕ) → slice_index (0 ∷ 0 ∷ 0 ∷ 0 ∷ 0 ∷ 0 ∷ 0 ∷ 0 ∷ []) r ≡ 0
 eight_zeros r = zeros_index 8 r
 
-pub lists_count : (logs : List (Bor (List Timed))) → length logs ≡ length (lists_in logs)
+pub lists_count : (logs : List (Bor (List Timed))) → length logs ≡ length (lent_logs logs)
 lists_count [] = refl
 lists_count (x ∷ xs) = let e = lists_count xs in omega (arith, e)
 
-pub lists_few : (logs : List (Bor (List Timed))) → length logs ≤ 8 → length (lists_in logs) ≤ 8
+pub lists_few : (logs : List (Bor (List Timed))) → length logs ≤ 8 → length (lent_logs logs) ≤ 8
 lists_few logs few = let e = lists_count logs in omega (arith, e, few)

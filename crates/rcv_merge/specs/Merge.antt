@@ -8,8 +8,8 @@ use Rattle.rcv_merge.specs.declared.round.Front.{Front}
 use Rattle.rcv_theory.specs.Round.{entries, Placed, IsByStamp, in_order}
 
 -- The logs as lists.
-abbrev pub lists_in : List (Bor (List Timed)) → List (List Timed)
-lists_in logs = map (λ (log : Bor (List Timed)). log.now) logs
+abbrev pub lent_logs : List (Bor (List Timed)) → List (List Timed)
+lent_logs logs = map (λ (log : Bor (List Timed)). log.now) logs
 
 -- The log of a role: a role without one has done nothing.
 abbrev pub log_at : List (List Timed) → ℕ → List Timed

@@ -4,7 +4,7 @@ ghost use Rattle.std.specs.Prelude.{◌≡◌, ◌<◌, ◌≤◌, ◌+◌, ◌^
 ghost use Rattle.std.specs.Prelude.{slice_get, slice_set};
 ghost use Rattle.std.specs.Prelude.{All, MatchOption, OnOk, None};
 ghost use Rattle.rcv_theory.specs.Round.{NeverFalls};
-ghost use Rattle.rcv_merge.specs.Merge.{lists_in, nobody, next_at, stamp_of, AreStamps, AreStampsOf, IsMergeOf, HasLeft};
+ghost use Rattle.rcv_merge.specs.Merge.{lent_logs, nobody, next_at, stamp_of, AreStamps, AreStampsOf, IsMergeOf, HasLeft};
 ghost use Rattle.rcv_merge.specs.Merge.{IsFront, IsFrontOf, AreDry, IsFirstOfBoth};
 
 use rcv_tree::entry::{Entry, Timed};
@@ -25,8 +25,8 @@ struct Front {
 /// in it. Fails if memory runs out.
 pub fn merge_round(logs: &[&[Timed]], merged: &mut Vec<Entry>) -> Result<(), AllocError>
     requires few { length logs.now ≤ 8 }
-    requires rise { All NeverFalls (lists_in logs.now) }
-    ensures { OnOk result (IsMergeOf (lists_in logs.now) merged.new.items) }
+    requires rise { All NeverFalls (lent_logs logs.now) }
+    ensures { OnOk result (IsMergeOf (lent_logs logs.now) merged.new.items) }
 {
     merged.clear();
     merged.reserve(count_of(logs))?;
@@ -70,7 +70,7 @@ fn entry_at(log: &[Timed], place: usize) -> Entry
 // The stamps of the first entries.
 fn first_stamps(logs: &[&[Timed]]) -> [Option<u64>; ROLES]
     requires { length logs.now ≤ 8 }
-    ensures { AreStampsOf (lists_in logs.now) (length logs.now) result }
+    ensures { AreStampsOf (lent_logs logs.now) (length logs.now) result }
 {
     let mut stamps = [None; ROLES];
     for role in 0..logs.len() {
@@ -87,11 +87,11 @@ fn take(
     role: usize,
 ) -> Entry
     requires role { (role < length logs.now) × (role < 8) }
-    requires left { HasLeft (lists_in logs.now) heads.old role }
-    requires stamps { AreStamps (lists_in logs.now) heads.old stamps.old }
+    requires left { HasLeft (lent_logs logs.now) heads.old role }
+    requires stamps { AreStamps (lent_logs logs.now) heads.old stamps.old }
     ensures heads { heads.new ≡ slice_set heads.old role (slice_index heads.old role + 1) }
-    ensures stamps { AreStamps (lists_in logs.now) heads.new stamps.new }
-    ensures entry { result ≡ (next_at (lists_in logs.now) heads.old role).step }
+    ensures stamps { AreStamps (lent_logs logs.now) heads.new stamps.new }
+    ensures entry { result ≡ (next_at (lent_logs logs.now) heads.old role).step }
 {
     let log = logs[role];
     let place = heads[role];

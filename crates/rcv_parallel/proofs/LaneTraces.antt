@@ -22,7 +22,7 @@ use Rattle.rcv_model.proofs.Text.{stmt_body-Message, stmt_body-Choice, stmt_body
 use Rattle.rcv_theory.proofs.BesideRounds.{legal_front}
 use Rattle.rcv_session.specs.Session.{SessionView, lines_of, net_for, rules_of}
 use Rattle.rcv_transparent.specs.Calm.{without_crash_lines, calm, IsBlindSession, IsDoneJournal}
-use Rattle.rcv_transparent.specs.Traces.{AreBeginnings, said_by, AreAlike, LeavesNoTrace}
+use Rattle.rcv_transparent.specs.Traces.{AreBeginnings, said_by, KeepTheSame, LeavesNoTrace}
 use Rattle.rcv_transparent.proofs.Beginnings.{kept_is_a_beginning, plans_leave_no_trace}
 use Rattle.rcv_transparent.proofs.Blocks.{block_from, blocks_from, block_says, blocks_say, protocol_of}
 use Rattle.rcv_transparent.proofs.Traceless.{crashes_leave_no_trace, calm_journals_complete}
@@ -147,10 +147,10 @@ calm_is_done =
     let law : OneJournal (rules_of (calm view)) no_trace.calm_journal no_trace.calm_journal = one_journal (rules_of (calm view)) no_trace.calm_journal no_trace.calm_journal in
     record { legal = law.legal no_trace.alone; done = no_trace.completed.1 }
 
-under_two_plans : AreAlike (net_for view) (reading (rules_of view) journal) (reading (rules_of (calm view)) no_trace.calm_journal)
+under_two_plans : KeepTheSame (net_for view) (reading (rules_of view) journal) (reading (rules_of (calm view)) no_trace.calm_journal)
 under_two_plans = plans_leave_no_trace view (without_crash_lines view.plan) journal no_trace.calm_journal is_blind is_done calm_is_done
 
-complete : IsCompleted (rules_of (calm view)) (reading (rules_of (calm view)) no_trace.calm_journal) × AreAlike (net_for view) (reading (rules_of view) journal) (reading (rules_of (calm view)) no_trace.calm_journal)
+complete : IsCompleted (rules_of (calm view)) (reading (rules_of (calm view)) no_trace.calm_journal) × KeepTheSame (net_for view) (reading (rules_of view) journal) (reading (rules_of (calm view)) no_trace.calm_journal)
 complete = calm_journals_complete view journal no_trace.calm_journal is_blind is_done calm_is_done.legal no_trace.completed.0
 
 -- where B is crashed, each role has kept a beginning of that already

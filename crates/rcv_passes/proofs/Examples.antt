@@ -1,7 +1,7 @@
 -- Two places that count their runs, and tools that are like each other where they are one number.
 use Prim.Native.Nat.{zero, suc}
 use Rattle.std.proofs.Common.{◌≡◌, ℕ, ◌+◌, ◌<◌, ◌≤◌, [], ◌∷◌, refl, arith, slice_index_or}
-use Rattle.rcv_passes.specs.Round.{AreAlike, AreLikeBefore, AreReady, HaveRun, HaveRunWithEach}
+use Rattle.rcv_passes.specs.Round.{AreOfOneKind, AreLikeBefore, AreReady, HaveRun, HaveRunWithEach}
 
 abbrev may_run : ℕ → Type 0
 may_run x = x ≤ 9
@@ -13,7 +13,7 @@ is_like t u = t ≡ u
 abbrev has_run : ℕ → ℕ → ℕ → Type 0
 has_run t x y = t + x ≤ y
 
-are_alike : AreAlike is_like (2 ∷ 2 ∷ [])
+are_alike : AreOfOneKind is_like (2 ∷ 2 ∷ [])
 are_alike zero zero d e li lj = refl
 are_alike zero (suc zero) d e li lj = refl
 are_alike (suc zero) zero d e li lj = refl

@@ -1,13 +1,13 @@
 -- What several workers make, each with a tool and a part of the places.
 use Rattle.std.proofs.Common.{◌≡◌, ◌+◌, ◌<◌, ◌≤◌, List, ◌++◌, length, refl, sym, subst, arith, length-append, slice_index_or}
-use Rattle.rcv_passes.specs.Round.{AreAlike, AreLikeBefore, HaveRun, HaveRunWithEach, HaveWorked}
+use Rattle.rcv_passes.specs.Round.{AreOfOneKind, AreLikeBefore, HaveRun, HaveRunWithEach, HaveWorked}
 use Rattle.rcv_passes.proofs.Lists.{in_front, behind, each_append}
 
 -- tools of one kind stay so
 pub stay_alike :
     {T : Type 0} (like : T → T → Type 0) (symmetric : (t u : T) → like t u → like u t)
     (transitive : (t u v : T) → like t u → like u v → like t v) (old new : List T)
-    → AreAlike like old → AreLikeBefore like old new → AreAlike like new
+    → AreOfOneKind like old → AreLikeBefore like old new → AreOfOneKind like new
 stay_alike like symmetric transitive old new alike before i j d e li lj =
     let ki : i < length old = omega (arith, before.0, li) in
     let kj : j < length old = omega (arith, before.0, lj) in
@@ -31,15 +31,15 @@ module _ {T P : Type 0} (like : T → T → Type 0) (ready : P → Type 0) (ran 
   -- two parts of the workers with two parts of the places
   pub workers_join :
       (tools front back front' back' : List T) (old some others some' others' : List P)
-      → tools ≡ front ++ back → old ≡ some ++ others → 1 ≤ length front → 1 ≤ length back → AreAlike like tools
+      → tools ≡ front ++ back → old ≡ some ++ others → 1 ≤ length front → 1 ≤ length back → AreOfOneKind like tools
       → HaveWorked like ready ran front front' some some' → HaveWorked like ready ran back back' others others'
       → HaveWorked like ready ran tools (front' ++ back') old (some' ++ others')
   workers_join tools front back front' back' old some others some' others' cut part fore aft alike one two =
       subst (λ z. HaveWorked like ready ran z (front' ++ back') old (some' ++ others')) (sym cut)
       (subst (λ z. HaveWorked like ready ran (front ++ back) (front' ++ back') z (some' ++ others')) (sym part) (tools_join, run_join))
     where
-      whole : AreAlike like (front ++ back)
-      whole = subst (λ z. AreAlike like z) cut alike
+      whole : AreOfOneKind like (front ++ back)
+      whole = subst (λ z. AreOfOneKind like z) cut alike
 
       tools_join : AreLikeBefore like (front ++ back) (front' ++ back')
       tools_join = (
@@ -58,13 +58,13 @@ module _ {T P : Type 0} (like : T → T → Type 0) (ready : P → Type 0) (ran 
   -- workers with the first part of the tools and all places
   pub crew_works :
       (reflexive : (t : T) → like t t) (tools crew rest crew' : List T) (old new : List P)
-      → tools ≡ crew ++ rest → 1 ≤ length crew → AreAlike like tools → HaveWorked like ready ran crew crew' old new
+      → tools ≡ crew ++ rest → 1 ≤ length crew → AreOfOneKind like tools → HaveWorked like ready ran crew crew' old new
       → HaveWorked like ready ran tools (crew' ++ rest) old new
   crew_works reflexive tools crew rest crew' old new cut least alike work =
       subst (λ z. HaveWorked like ready ran z (crew' ++ rest) old new) (sym cut) (tools_stay, all)
     where
-      whole : AreAlike like (crew ++ rest)
-      whole = subst (λ z. AreAlike like z) cut alike
+      whole : AreOfOneKind like (crew ++ rest)
+      whole = subst (λ z. AreOfOneKind like z) cut alike
 
       tools_stay : AreLikeBefore like (crew ++ rest) (crew' ++ rest)
       tools_stay = (

@@ -6,8 +6,8 @@ abbrev pub AreReady : {P : Type 0} → (P → Type 0) → List P → Type 0
 AreReady ready places = (i : ℕ) (d : _) → i < length places → ready (slice_index_or places i d)
 
 -- Any two of the tools are of one kind.
-abbrev pub AreAlike : {T : Type 0} → (T → T → Type 0) → List T → Type 0
-AreAlike like tools =
+abbrev pub AreOfOneKind : {T : Type 0} → (T → T → Type 0) → List T → Type 0
+AreOfOneKind like tools =
     (i j : ℕ) (d e : _) → i < length tools → j < length tools
     → like (slice_index_or tools i d) (slice_index_or tools j e)
 
@@ -41,7 +41,7 @@ HaveRunWithEach ready ran tools old new =
 
 -- There is a tool, the tools are of one kind, and each place may be run.
 abbrev pub CanBegin : {T P : Type 0} → (T → T → Type 0) → (P → Type 0) → List T → List P → Type 0
-CanBegin like ready tools places = (1 ≤ length tools) × AreAlike like tools × AreReady ready places
+CanBegin like ready tools places = (1 ≤ length tools) × AreOfOneKind like tools × AreReady ready places
 
 -- What workers make of their tools, which stay of their kinds, and of their places.
 abbrev pub HaveWorked : {T P : Type 0}

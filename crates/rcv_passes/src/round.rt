@@ -3,7 +3,7 @@
 ghost use Rattle.std.specs.Prelude.{◌≡◌, ◌≤◌, length};
 ghost use Rattle.std.specs.Thread.{IsSync};
 ghost use denote.Param.Send.{IsSend};
-ghost use Rattle.rcv_passes.specs.Round.{AreReady, AreAlike, HaveRunWithEach, AreLikeBefore, CanBegin, HaveWorked};
+ghost use Rattle.rcv_passes.specs.Round.{AreReady, AreOfOneKind, HaveRunWithEach, AreLikeBefore, CanBegin, HaveWorked};
 
 use crate::activity::Activity;
 use crate::board::Board;
@@ -28,11 +28,11 @@ pub fn run_round<R: Threads + Sync, C: Sync, T: Send, P: Place<T, C> + Send>(
 ) -> Activity
     requires least { 1 ≤ length tools.old }
     requires most { length tools.old ≤ 8 }
-    requires alike { AreAlike P.like tools.old }
+    requires alike { AreOfOneKind P.like tools.old }
     requires ready { AreReady P.ready places.old }
     ensures ran { HaveRunWithEach P.ready P.ran tools.old places.old places.new }
     ensures like { AreLikeBefore P.like tools.old tools.new }
-    ensures alike { AreAlike P.like tools.new }
+    ensures alike { AreOfOneKind P.like tools.new }
 {
     // Tell the proof so.
     tools_carry::<C, T, P>();

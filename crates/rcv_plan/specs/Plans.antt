@@ -23,7 +23,7 @@ pub record IsSilentOn (plan : List PlanLine) (r : ℕ) : Type 0 where
   pub crashes : crashes_in plan r ≡ []
   pub host : host_in plan r ≡ []
 
-pub record IsSettled (plan : List PlanLine) (rows : List Row) (limit room : ℕ) : Type 0 where
+pub record IsPlanMade (plan : List PlanLine) (rows : List Row) (limit room : ℕ) : Type 0 where
   pub fits : IsPlanFor (length rows) plan
   pub few : length rows ≤ 8
   pub each : (r : ℕ) (row : Row) → slice_get rows r ≡ Some row → IsRow plan r row

@@ -38,13 +38,13 @@ impl Model for Plan {
     ghost use Rattle.std.specs.Prelude.{List, map};
     ghost use Rattle.rcv_model.specs.Plan.{PlanLine};
     ghost use Rattle.rcv_plan.specs.Lines.{line_in};
-    ghost use Rattle.rcv_plan.specs.Plans.{IsSettled};
+    ghost use Rattle.rcv_plan.specs.Plans.{IsPlanMade};
 
     ghost Value = { List PlanLine };
 
     ghost view = { λ a. map line_in a.lines.items };
 
-    ghost invariant = { λ a. IsSettled (map line_in a.lines.items) a.rows.items a.limit a.room };
+    ghost invariant = { λ a. IsPlanMade (map line_in a.lines.items) a.rows.items a.limit a.room };
 }
 
 impl Plan {

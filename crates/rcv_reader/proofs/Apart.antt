@@ -7,7 +7,7 @@ use Rattle.rcv_tree.specs.Names.{name_at}
 use Rattle.rcv_model.specs.Text as trees
 use Rattle.rcv_model.specs.Places.{SingleMessage, HasEndOf, AreApart, HasLanesApart}
 use Rattle.rcv_model.specs.Places as places
-use Rattle.rcv_machine.specs.Words.{Written, NoStmt, AMessage, AChoice, ARec, AContinue, APar, ADo, Blocks, NoBlock, ABlock, or_first, role_at, roles_at, points, points_of, singles, tree_of, trees_of, IsDeclared, Named, nobody, with_role, Place, behind, beside, inside, inside_rec}
+use Rattle.rcv_machine.specs.Words.{Written, NoStmt, AMessage, AChoice, ARec, AContinue, APar, ADo, Blocks, NoBlock, ABlock, or_first, role_at, roles_at, points, points_of, singles, tree_of, trees_of, IsDeclared, Named, nobody, with_role, Place, after_statement, beside, inside, inside_rec}
 use Rattle.rcv_machine.proofs.Naming.{or_left}
 use Rattle.rcv_machine.proofs.Passing.{with_roles, named_by, named_by_all, AreTaken, Passes, PassAll, PassBeside}
 
@@ -54,17 +54,17 @@ module _ (later : Bool) (roles : List (List ℕ)) where
         → since m ≡ true → named_by since w m ≡ true
     stays n p NoStmt since m h deep is = is
     stays n p (AMessage label ss s r rs rest) since m h deep is =
-        stays (n + (1 + length rs)) (behind p false) rest _ m h.4 deep
+        stays (n + (1 + length rs)) (after_statement p false) rest _ m h.4 deep
         (stays_receivers (with_role since s) (r ∷ rs) m (named_too since s m is))
     stays n p (AChoice s f os rest) since m h deep is =
-        stays (n + (points f + points_of os)) (behind p false) rest _ m h.6 deep
+        stays (n + (points f + points_of os)) (after_statement p false) rest _ m h.6 deep
         (all_stay (n + points f) p os _ m h.5 deep (stays n (inside p) f _ m h.4 (deeper p.depth deep) (named_too since s m is)))
     stays n p (ARec x body rest) since m h deep is =
-        stays (n + points body) (behind p false) rest _ m h.3 deep
+        stays (n + points body) (after_statement p false) rest _ m h.3 deep
         (stays n (inside (inside_rec p x)) body since m h.2 (deeper p.depth deep) is)
-    stays n p (AContinue x rest) since m h deep is = stays n (behind p true) rest since m h.3 deep is
+    stays n p (AContinue x rest) since m h deep is = stays n (after_statement p true) rest since m h.3 deep is
     stays n p (APar f g os rest) since m h deep is = let outer = sym deep ∙ or_left (nat_le 2 p.depth) later h.1 in absurd cc
-    stays n p (ADo x r rs rest) since m h deep is = stays n (behind p false) rest _ m h.2 deep (stays_receivers since (r ∷ rs) m is)
+    stays n p (ADo x r rs rest) since m h deep is = stays n (after_statement p false) rest _ m h.2 deep (stays_receivers since (r ∷ rs) m is)
 
     pub all_stay : (n : ℕ) (p : Place) (os : Blocks) (since : Named) (m : List ℕ) → PassAll later roles n p os → nat_le 2 p.depth ≡ true
         → since m ≡ true → named_by_all since os m ≡ true
@@ -113,21 +113,21 @@ module _ (later : Bool) (roles : List (List ℕ)) where
         let sends = λ (a : role_at roles s ≡ q). stays_receivers from (r ∷ rs) (name q)
         (subst (λ (m : List ℕ). with_role since s m ≡ true) (its_name s q h.1 a) (named_last since s)) in
         let takes = λ (a : Among q (r ∷ rs)). receivers_named from p.earlier (role_at roles s) n [] (r ∷ rs) q h.3 a in
-        ⊎_elim (λ a. stays last (behind p false) rest _ (name q) h.4 deep (⊎_elim sends takes a))
-        (λ a. ends_named last (behind p false) rest _ q h.4 deep a) (ends_of label ss (role_at roles s) (r ∷ rs) n _ q e)
+        ⊎_elim (λ a. stays last (after_statement p false) rest _ (name q) h.4 deep (⊎_elim sends takes a))
+        (λ a. ends_named last (after_statement p false) rest _ q h.4 deep a) (ends_of label ss (role_at roles s) (r ∷ rs) n _ q e)
     ends_named n p (AChoice s f os rest) since q h deep e =
         let last = n + (points f + points_of os) in
-        ⊎_elim (λ a. stays last (behind p false) rest _ (name q) h.6 deep
+        ⊎_elim (λ a. stays last (after_statement p false) rest _ (name q) h.6 deep
         (⊎_elim (λ b. all_stay (n + points f) p os _ (name q) h.5 deep (ends_named n (inside p) f _ q h.4 (deeper p.depth deep) b))
         (λ b. all_named (n + points f) p os _ q h.5 deep b) (end_in q _ _ a)))
-        (λ a. ends_named last (behind p false) rest _ q h.6 deep a) (end_in q _ _ e)
+        (λ a. ends_named last (after_statement p false) rest _ q h.6 deep a) (end_in q _ _ e)
     ends_named n p (ARec x body rest) since q h deep e =
-        ⊎_elim (λ a. stays (n + points body) (behind p false) rest _ (name q) h.3 deep
+        ⊎_elim (λ a. stays (n + points body) (after_statement p false) rest _ (name q) h.3 deep
         (ends_named n (inside (inside_rec p x)) body since q h.2 (deeper p.depth deep) a))
-        (λ a. ends_named (n + points body) (behind p false) rest _ q h.3 deep a) (end_in q _ _ e)
-    ends_named n p (AContinue x rest) since q h deep e = ends_named n (behind p true) rest since q h.3 deep e
+        (λ a. ends_named (n + points body) (after_statement p false) rest _ q h.3 deep a) (end_in q _ _ e)
+    ends_named n p (AContinue x rest) since q h deep e = ends_named n (after_statement p true) rest since q h.3 deep e
     ends_named n p (APar f g os rest) since q h deep e = let outer = sym deep ∙ or_left (nat_le 2 p.depth) later h.1 in absurd cc
-    ends_named n p (ADo x r rs rest) since q h deep e = ends_named n (behind p false) rest _ q h.2 deep e
+    ends_named n p (ADo x r rs rest) since q h deep e = ends_named n (after_statement p false) rest _ q h.2 deep e
 
     all_named : (n : ℕ) (p : Place) (os : Blocks) (since : Named) (q : ℕ) → PassAll later roles n p os → nat_le 2 p.depth ≡ true
         → HasEndOf q (places.singles_of (trees_of roles n os)) → named_by_all since os (name q) ≡ true
@@ -145,18 +145,18 @@ module _ (later : Bool) (roles : List (List ℕ)) where
     ends_free n p (AMessage label ss s r rs rest) q h deep e =
         let sends = λ (a : role_at roles s ≡ q). subst (λ (m : List ℕ). p.earlier m ≡ false) (its_name s q h.1 a) h.2 in
         let takes = λ (a : Among q (r ∷ rs)). receivers_free p.earlier (role_at roles s) n [] (r ∷ rs) q h.3 a in
-        ⊎_elim (λ a. ⊎_elim sends takes a) (λ a. ends_free (n + (1 + length rs)) (behind p false) rest q h.4 deep a)
+        ⊎_elim (λ a. ⊎_elim sends takes a) (λ a. ends_free (n + (1 + length rs)) (after_statement p false) rest q h.4 deep a)
         (ends_of label ss (role_at roles s) (r ∷ rs) n _ q e)
     ends_free n p (AChoice s f os rest) q h deep e =
         ⊎_elim (λ a. ⊎_elim (λ b. ends_free n (inside p) f q h.4 (deeper p.depth deep) b)
         (λ b. all_free (n + points f) p os q h.5 deep b) (end_in q _ _ a))
-        (λ a. ends_free (n + (points f + points_of os)) (behind p false) rest q h.6 deep a) (end_in q _ _ e)
+        (λ a. ends_free (n + (points f + points_of os)) (after_statement p false) rest q h.6 deep a) (end_in q _ _ e)
     ends_free n p (ARec x body rest) q h deep e =
         ⊎_elim (λ a. ends_free n (inside (inside_rec p x)) body q h.2 (deeper p.depth deep) a)
-        (λ a. ends_free (n + points body) (behind p false) rest q h.3 deep a) (end_in q _ _ e)
-    ends_free n p (AContinue x rest) q h deep e = ends_free n (behind p true) rest q h.3 deep e
+        (λ a. ends_free (n + points body) (after_statement p false) rest q h.3 deep a) (end_in q _ _ e)
+    ends_free n p (AContinue x rest) q h deep e = ends_free n (after_statement p true) rest q h.3 deep e
     ends_free n p (APar f g os rest) q h deep e = let outer = sym deep ∙ or_left (nat_le 2 p.depth) later h.1 in absurd cc
-    ends_free n p (ADo x r rs rest) q h deep e = ends_free n (behind p false) rest q h.2 deep e
+    ends_free n p (ADo x r rs rest) q h deep e = ends_free n (after_statement p false) rest q h.2 deep e
 
     all_free : (n : ℕ) (p : Place) (os : Blocks) (q : ℕ) → PassAll later roles n p os → nat_le 2 p.depth ≡ true
         → HasEndOf q (places.singles_of (trees_of roles n os)) → p.earlier (name q) ≡ false
@@ -196,11 +196,11 @@ module _ (later : Bool) (roles : List (List ℕ)) where
   pub lanes_apart : (n : ℕ) (p : Place) (w : Written) → 1 ≤ p.depth → Passes later roles n p w → HasLanesApart (tree_of roles n w)
   lanes_apart n p NoStmt some h = tt
   lanes_apart n p (AMessage label ss s r rs rest) some h =
-      apart_behind label ss (role_at roles s) (r ∷ rs) n _ (lanes_apart (n + (1 + length rs)) (behind p false) rest some h.4)
-  lanes_apart n p (AChoice s f os rest) some h = lanes_apart (n + (points f + points_of os)) (behind p false) rest some h.6
-  lanes_apart n p (ARec x body rest) some h = lanes_apart (n + points body) (behind p false) rest some h.3
-  lanes_apart n p (AContinue x rest) some h = lanes_apart n (behind p true) rest some h.3
+      apart_behind label ss (role_at roles s) (r ∷ rs) n _ (lanes_apart (n + (1 + length rs)) (after_statement p false) rest some h.4)
+  lanes_apart n p (AChoice s f os rest) some h = lanes_apart (n + (points f + points_of os)) (after_statement p false) rest some h.6
+  lanes_apart n p (ARec x body rest) some h = lanes_apart (n + points body) (after_statement p false) rest some h.3
+  lanes_apart n p (AContinue x rest) some h = lanes_apart n (after_statement p true) rest some h.3
   lanes_apart n p (APar f g os rest) some h =
-      let more = lanes_apart (n + (points f + (points g + points_of os))) (behind p false) rest some h.3 in
+      let more = lanes_apart (n + (points f + (points g + points_of os))) (after_statement p false) rest some h.3 in
       (are_apart n p nobody (ABlock f (ABlock g os)) (h.2.0, h.2.1, (h.2.2, h.2.3, h.2.4)) some, more)
-  lanes_apart n p (ADo x r rs rest) some h = lanes_apart n (behind p false) rest some h.2
+  lanes_apart n p (ADo x r rs rest) some h = lanes_apart n (after_statement p false) rest some h.2

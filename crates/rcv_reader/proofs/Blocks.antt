@@ -9,7 +9,7 @@ use Rattle.rcv_tree.specs.declared.statement.Blocks.{Blocks}
 use Rattle.rcv_model.specs.Text as trees
 use Rattle.rcv_model.proofs.Text.{body_of_lem, bodies_of_lem, stmt_body-Message, stmt_body-Choice, stmt_body-Rec, stmt_body-Continue, stmt_body-Par}
 use Rattle.rcv_machine.specs.Words.{Sign, Open, Close, Or, And, Par, Choice, Rec, Continue, Left, Right, From, To, At, Semicolon, Symbol, Is, Word, Written, NoStmt, AMessage, AChoice, ARec, AContinue, APar, NoBlock, ABlock, stmts, sort_list, blocks_behind, IsBegun, or_first, place_of, role_at, points, points_of, singles, trees_of, MayReceive}
-use Rattle.rcv_machine.specs.Words.{Fault, AfterContinue, NotYet, Named, nobody, Place, Item, This, Subject, Opening, First, Rest, More, Lane, Later, State, Outcome, On, behind, beside, unless, after, answer, known}
+use Rattle.rcv_machine.specs.Words.{Fault, AfterContinue, NotYet, Named, nobody, Place, Item, This, Subject, Opening, First, Rest, More, Lane, Later, State, Outcome, On, after_statement, beside, unless, after, answer, known}
 use Rattle.rcv_syntax.specs.Grammar as grammar
 use Rattle.rcv_reader.specs.Descent.{Spot, Stop, Standing, at, back_at, within, named_in, answers, IsOver, place_of_spot, messages, in_front, branches_in_front, AreReceived, AreStmts, AreBlocks, Adds, Consumes, TakesSome, TakesAll, TakesBlock}
 use Rattle.rcv_reader.proofs.Stops.{halts_behind, goes_on}
@@ -136,13 +136,13 @@ pub statement : (r : Result Unit Stop) (ended : Bool) (p q new : Standing) (spot
     → p ≡ at q (t ∷ q.rest)
     → ((k : List Item) → answers (at q (t ∷ q.rest)) (First (place_of_spot q spot) ∷ k) ≡ answers q (item (over k)))
     → OnOk r (TakesSome q new (t ∷ []) block block')
-    → (place_of_spot q spot ≡ place_of_spot new spot → (k : List Item) → last (over k) ≡ Rest (behind (place_of_spot new spot) ended) ∷ k)
-    → Consumes r p new (λ k. First (place_of_spot p spot) ∷ k) (λ x k. Rest (behind (place_of_spot new spot) ended) ∷ k)
+    → (place_of_spot q spot ≡ place_of_spot new spot → (k : List Item) → last (over k) ≡ Rest (after_statement (place_of_spot new spot) ended) ∷ k)
+    → Consumes r p new (λ k. First (place_of_spot p spot) ∷ k) (λ x k. Rest (after_statement (place_of_spot new spot) ended) ∷ k)
 statement (Ok x) ended p q new spot t item over last block block' goes taken first takes same =
     let on = λ (k : List Item). first k ∙ goes.0 (over k) ∙ ap (answers new) (same (ap (λ (x : Standing). place_of_spot x spot) takes.0) k) in
     rw taken (on, omega (arith, goes.1))
 statement (Err e) ended p q new spot t item over last block block' goes taken first takes same =
-    halts_behind {X = Unit} (Err e) e p q new _ item over (λ x k. Rest (behind (place_of_spot new spot) ended) ∷ k) refl goes.0 (rw taken first)
+    halts_behind {X = Unit} (Err e) e p q new _ item over (λ x k. Rest (after_statement (place_of_spot new spot) ended) ∷ k) refl goes.0 (rw taken first)
 
 -- ---- statements, one after another
 
@@ -341,9 +341,9 @@ par_first old q new spot none bs b goes takes empty pushed lt e =
     let (kept, inner, opened, block, begun) = rw e at takes in
     let one : bs ≡ b ∷ [] = rw empty at pushed in
     let long = ap (λ (x : Standing). length x.rest) e in
-    let behind = λ (x : Standing) (k : List Item). This (Is And) ∷ from_next x spot k in
+    let after_statement = λ (x : Standing) (k : List Item). This (Is And) ∷ from_next x spot k in
     record {
-      goes = λ k. goes (behind old k) ∙ ap (λ (x : Standing). answers q (behind x k)) kept ∙ ap (λ (x : Standing). answers x (behind new k)) e;
+      goes = λ k. goes (after_statement old k) ∙ ap (λ (x : Standing). answers q (after_statement x k)) kept ∙ ap (λ (x : Standing). answers x (after_statement new k)) e;
       kept = kept;
       reads = λ m bodies next w. rw one (block_in_front And new.roles old.count new.count m _ bodies old.rest inner (Is And ∷ new.rest) next opened block begun w);
       some = (b, [], one);
@@ -409,14 +409,14 @@ par_start p q spot next k here begun still outer =
 
 -- A par was taken, of which the word stands first.
 pub par_statement : (r : Result Unit Stop) (ended : Bool) (p q new : Standing) (spot : Spot) (next : List Symbol)
-    → Consumes r q new (from_first q spot) (λ x k. Rest (behind (place_of_spot new spot) false) ∷ k)
+    → Consumes r q new (from_first q spot) (λ x k. Rest (after_statement (place_of_spot new spot) false) ∷ k)
     → p ≡ at p (Is Par ∷ next) → q ≡ back_at p p.count 0 next → spot.ended ≡ false
     → (nat_le 2 spot.depth || nat_le 2 (length p.protocols)) ≡ false → ended ≡ false
-    → Consumes r p new (λ k. First (place_of_spot p spot) ∷ k) (λ x k. Rest (behind (place_of_spot new spot) ended) ∷ k)
+    → Consumes r p new (λ k. First (place_of_spot p spot) ∷ k) (λ x k. Rest (after_statement (place_of_spot new spot) ended) ∷ k)
 par_statement (Ok x) ended p q new spot next goes here begun still outer same_end =
     let long = ap (λ (x : Standing). length x.rest) here in
     let same = ap (λ (x : Standing). length x.rest) begun in
     rw same_end (λ k. par_start p q spot next k here begun still outer ∙ goes.0 k, omega (arith, goes.1, long, same))
 par_statement (Err e) ended p q new spot next goes here begun still outer same_end =
     halts_behind {X = Unit} (Err e) e p q new _ (from_first q spot) (λ k. k)
-    (λ x k. Rest (behind (place_of_spot new spot) ended) ∷ k) refl goes.0 (λ k. par_start p q spot next k here begun still outer)
+    (λ x k. Rest (after_statement (place_of_spot new spot) ended) ∷ k) refl goes.0 (λ k. par_start p q spot next k here begun still outer)

@@ -1,7 +1,7 @@
 -- Where the parser stands, and what the machine says there.
 use Rattle.std.specs.Prelude.{◌≡◌, ℕ, ◌≤◌, Bool, false, List, [], ◌++◌, ◌∷◌, Option, Some, None}
 use Rattle.rcv_tree.specs.Bits.{has_bit}
-use Rattle.rcv_machine.specs.Words.{place_of, Named, Symbol, Is, IsNotNext, Sign, Right, Close, Or, And, Comma, Semicolon, Dot, Token, Item, This, AnyName, MoreModules, MoreRoles, Sorts, MoreSorts, MoreReceivers, MoreArguments, First, Rest, More, Later, Answer, Refuses, behind, answer, known}
+use Rattle.rcv_machine.specs.Words.{place_of, Named, Symbol, Is, IsNotNext, Sign, Right, Close, Or, And, Comma, Semicolon, Dot, Token, Item, This, AnyName, MoreModules, MoreRoles, Sorts, MoreSorts, MoreReceivers, MoreArguments, First, Rest, More, Later, Answer, Refuses, after_statement, answer, known}
 
 -- what the parser knows, and the symbols that are left to read
 pub record Standing : Type 0 where
@@ -60,8 +60,8 @@ going_on MoreSorts = (Some Comma, This (Is Right), [])
 going_on (MoreReceivers earlier sender before) = (Some Comma, This (Is Semicolon), [])
 going_on (MoreArguments earlier before) = (Some Comma, This (Is Right), [])
 going_on (Rest p) = (Some Close, First p, [])
-going_on (More p) = (Some Or, Rest (behind p false), [])
-going_on (Later p) = (Some And, Rest (behind p false), [])
+going_on (More p) = (Some Or, Rest (after_statement p false), [])
+going_on (Later p) = (Some And, Rest (after_statement p false), [])
 going_on i = (None, i, [])
 
 -- The sign isn't next.

@@ -15,7 +15,7 @@ use Rattle.rcv_journal.specs.Form.{IsFormedEntry, lines_of}
 use Rattle.rcv_lines.specs.Line.{EntryLine}
 use Rattle.rcv_lines.proofs.Splitting.{line_then}
 use Rattle.rcv_lines.proofs.Accepting.{all_end, says_one}
-use Rattle.rcv_told.specs.Told.{Terms, Remembered, start, told, told_from, told_after}
+use Rattle.rcv_told.specs.Told.{Terms, Remembered, nothing_told, told, told_from, told_after}
 use Rattle.rcv_retold.specs.Retold.{terms_for, MayBeRetold, IsRetoldFrom, IsRetold, IsFirstUntold}
 use Rattle.rcv_retold.specs.Closing.{states_text, IsClosing}
 use Rattle.rcv_retold.specs.Text.{AreFormed, line_of, entries_text, IsToldText, MayBegin, IsFirstWrong, IsFirstOther, BeginOtherwise}
@@ -233,7 +233,7 @@ module _ (setup : SessionView) (accepted : IsAcceptedProtocol setup.protocol) wh
           let same : lines begins.entries ++ lines_of is.closing ≡ lines (before ++ cut.here ∷ []) ++ begins.more = sym (told_lines begins.text begins.entries is) ∙ begins.begins ∙ ap (λ l. l ++ begins.more) upto in
           let on = go_on (before ++ cut.here ∷ []) begins.entries (lines_of is.closing) begins.more upto_formed is.formed (closing_otherwise setup _ is.closing is.closes) same in
           untold.wrong cut.here cut.there
-          (retold_at (terms_for setup) (start (terms_for setup).roles) before cut.here on.rest
+          (retold_at (terms_for setup) (nothing_told (terms_for setup).roles) before cut.here on.rest
           (subst (IsRetold (terms_for setup)) (on.whole ∙ append_assoc before (cut.here ∷ []) on.rest) is.retold))
 
       pub wrong_entry : IsFirstWrong setup text (k + 1)

@@ -9,7 +9,7 @@ use Rattle.rcv_model.proofs.Lists.{some_same}
 use Rattle.rcv_session.specs.Session.{SessionView, net_for, roles_of}
 use Rattle.rcv_journal.specs.Recorded.{bare}
 use Rattle.rcv_journal.specs.Form.{IsFormedEntry}
-use Rattle.rcv_told.specs.Told.{start}
+use Rattle.rcv_told.specs.Told.{nothing_told}
 use Rattle.rcv_dialogue.specs.declared.answer.RoleState.{RoleState}
 use Rattle.rcv_dialogue.specs.declared.answer.State.{State}
 use Rattle.rcv_dialogue.specs.declared.answer.State.TheVariants.{Done, Waits, Down}
@@ -53,28 +53,28 @@ module _ (s : SessionView) (is : HaveFirst s) where
   two : roles_of s ≡ 2
   two = ap length is.roles
 
-  waits_a : IsStateOf (net_for s) (start 2) 0 (stands 0 0 0 Waits)
+  waits_a : IsStateOf (net_for s) (nothing_told 2) 0 (stands 0 0 0 Waits)
   unfolding stands
   waits_a = record { role = refl; kept = refl; raw = refl; stands = (refl, λ over. over is.first is.a) }
 
-  waits_b : IsStateOf (net_for s) (start 2) 1 (stands 1 0 0 Waits)
+  waits_b : IsStateOf (net_for s) (nothing_told 2) 1 (stands 1 0 0 Waits)
   unfolding stands
   waits_b = record { role = refl; kept = refl; raw = refl; stands = (refl, λ over. over is.first is.b) }
 
-  each : (r : ℕ) (own : RoleState) → slice_get begun r ≡ Some own → IsStateOf (net_for s) (start 2) r own
+  each : (r : ℕ) (own : RoleState) → slice_get begun r ≡ Some own → IsStateOf (net_for s) (nothing_told 2) r own
   unfolding begun
-  each zero own there = subst (IsStateOf (net_for s) (start 2) 0) (some_same there) waits_a
-  each (suc zero) own there = subst (IsStateOf (net_for s) (start 2) 1) (some_same there) waits_b
+  each zero own there = subst (IsStateOf (net_for s) (nothing_told 2) 0) (some_same there) waits_a
+  each (suc zero) own there = subst (IsStateOf (net_for s) (nothing_told 2) 1) (some_same there) waits_b
   each (suc (suc r)) own there = absurd cc
 
   many : length begun ≡ 2
   unfolding begun
   many = refl
 
-  closes : IsClosing s.protocol (start (roles_of s)) text
+  closes : IsClosing s.protocol (nothing_told (roles_of s)) text
   closes = record {
     states = begun;
-    are = subst (λ n. AreStates (net_for s) n (start n) begun) (sym two) (record { all = many; each = each });
+    are = subst (λ n. AreStates (net_for s) n (nothing_told n) begun) (sym two) (record { all = many; each = each });
     is = its_text s.protocol is.roles;
   }
 
@@ -83,5 +83,5 @@ module _ (s : SessionView) (is : HaveFirst s) where
   told_before = record { formed = All-nil (IsFormedEntry (bare s.protocol)); retold = tt; closing = text; closes = closes; is_text = refl }
 
   -- and no other text
-  nothing_else : (other : List ℕ) → IsClosing s.protocol (start (roles_of s)) other → other ≡ text
-  nothing_else other is_other = one_closing s.protocol (start (roles_of s)) other text is_other closes
+  nothing_else : (other : List ℕ) → IsClosing s.protocol (nothing_told (roles_of s)) other → other ≡ text
+  nothing_else other is_other = one_closing s.protocol (nothing_told (roles_of s)) other text is_other closes

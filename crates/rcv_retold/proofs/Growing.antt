@@ -8,7 +8,7 @@ use Rattle.rcv_tree.specs.declared.entry.Entry.TheVariants.{Send, Recv, Crash, R
 use Rattle.rcv_model.specs.Journal.{numbers_at, numbers_behind}
 use Rattle.rcv_model.proofs.Lists.{some_same}
 use Rattle.rcv_model.proofs.Roles.{length_mapped}
-use Rattle.rcv_told.specs.Told.{Terms, Remembered, start, state_of, down_at, group_of, left_at, roles_in, MayBeTold, told_after, IsToldFrom, IsTold}
+use Rattle.rcv_told.specs.Told.{Terms, Remembered, nothing_told, state_of, down_at, group_of, left_at, roles_in, MayBeTold, told_after, IsToldFrom, IsTold}
 use Rattle.rcv_told.proofs.Telling.{down_there}
 use Rattle.rcv_fates.specs.Fates.{IsEventAt}
 use Rattle.rcv_fates.proofs.Clocks.{Ticks, Stamps, with_event, event_ticks, crash_ticks, recovery_ticks, IsOf}
@@ -17,7 +17,7 @@ use Rattle.rcv_fates.proofs.Clocks.{Ticks, Stamps, with_event, event_ticks, cras
 abbrev pub IsSized : Terms → Remembered → Type 0
 IsSized terms m = length m.roles ≡ terms.roles
 
-pub sized_first : (terms : Terms) → IsSized terms (start terms.roles)
+pub sized_first : (terms : Terms) → IsSized terms (nothing_told terms.roles)
 sized_first terms = length-replicate _ _
 
 module _ (terms : Terms) where
@@ -72,4 +72,4 @@ module _ (terms : Terms) where
       grow_from (told_after terms m x) journal i j d e (sized_after m x size) told.1 (omega (arith, lt)) first second same
 
   pub told_grow : (journal : List Entry) (i j : ℕ) (d e : Event) → IsTold terms journal → i < j → IsEventAt journal i d → IsEventAt journal j e → d.role ≡ e.role → d.stamp < e.stamp
-  told_grow journal i j d e told = grow_from (start terms.roles) journal i j d e (sized_first terms) told
+  told_grow journal i j d e told = grow_from (nothing_told terms.roles) journal i j d e (sized_first terms) told

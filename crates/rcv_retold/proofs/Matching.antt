@@ -16,7 +16,7 @@ use Rattle.rcv_ledger.specs.Logs.{with_event_of}
 use Rattle.rcv_told.specs.Told.{Terms, Remembered, group_of, made_of, left_at, HasFailed}
 use Rattle.rcv_guide.specs.declared.recovery.Recovery.{Recovery}
 use Rattle.rcv_guide.specs.Numbers.{with_crash}
-use Rattle.rcv_guide.specs.Guide.{GuideView, terms_of, IsAfter, with_event, with_numbers, sent, received, stamp_to_send, stamp_to_receive, listed_of, entry_of, IsFailureOf, HasRecovered, MayRecover}
+use Rattle.rcv_guide.specs.Guide.{GuideView, terms_of, IsAfter, with_event, with_numbers, sent, received, stamp_to_send, stamp_to_receive, listed_of, recovery_entry, IsFailureOf, HasRecovered, MayRecover}
 use Rattle.rcv_guide.proofs.Memories.{down_held}
 use Rattle.rcv_retold.specs.Retold.{news_for, GoesOn, Follows, IsTellable, IsUntold}
 use Rattle.rcv_retold.proofs.Refusing.{known}
@@ -121,9 +121,9 @@ one_failure terms m p saved c d k l u n few other a b = (ap (λ (x : ℕ). let s
 
 -- a recovery that is stated as it is
 module _ (old new : GuideView) (p : ℕ) (saved : List ℕ) (back : Recovery) (concerned : RoleSet) (kept : List ℕ) (undone : ℕ) where
-  pub recover_goes : back.concerned ≡ concerned → kept ≡ listed_of back → back.undone ≡ undone → IsAfter old new (entry_of p back) → HasRecovered old new p saved back → GoesOn old new (Recover p concerned kept undone)
+  pub recover_goes : back.concerned ≡ concerned → kept ≡ listed_of back → back.undone ≡ undone → IsAfter old new (recovery_entry p back) → HasRecovered old new p saved back → GoesOn old new (Recover p concerned kept undone)
   recover_goes same listed few after gone =
-      let all : entry_of p back ≡ Recover p concerned kept undone = ap (λ c. Recover p c (listed_of back) back.undone) same ∙ ap (λ k. Recover p concerned k back.undone) (sym listed) ∙ ap (Recover p concerned kept) few in
+      let all : recovery_entry p back ≡ Recover p concerned kept undone = ap (λ c. Recover p c (listed_of back) back.undone) same ∙ ap (λ k. Recover p concerned k back.undone) (sym listed) ∙ ap (Recover p concerned kept) few in
       let rest = gone.gone.rest in
       record {
         after = subst (IsAfter old new) all after;

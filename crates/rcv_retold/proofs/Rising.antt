@@ -10,7 +10,7 @@ use Rattle.rcv_tree.specs.declared.entry.Entry.TheVariants.{Send, Recv, Crash, R
 use Rattle.rcv_model.specs.Journal.{numbers_at, events_of}
 use Rattle.rcv_model.proofs.Lists.{some_same}
 use Rattle.rcv_session.specs.Session.{SessionView, roles_of}
-use Rattle.rcv_told.specs.Told.{Terms, Remembered, start, bound_at, roles_in, MayBeTold, told_after, told_from, told, IsToldFrom, IsTold}
+use Rattle.rcv_told.specs.Told.{Terms, Remembered, nothing_told, bound_at, roles_in, MayBeTold, told_after, told_from, told, IsToldFrom, IsTold}
 use Rattle.rcv_fates.specs.Fates.{IsAmong, IsEventAt, IsUndone}
 use Rattle.rcv_fates.proofs.Keeping.{among_either, among_less, kept_keeps, AllAre}
 use Rattle.rcv_fates.proofs.Rising.{Rising, own_grow, kept_own, place_of_among}
@@ -60,7 +60,7 @@ module _ (terms : Terms) where
   sorted_from m (x ∷ journal) size is sorted = sorted_from (told_after terms m x) journal (sized_after terms m x size) is.1 (sorted_after m x size is.0 sorted)
 
   pub told_rising : (journal : List Entry) → IsTold terms journal → Rising (told terms journal).held
-  told_rising journal is = sorted_from (start terms.roles) journal (sized_first terms) is (record { rising = tt; low = λ d i. absurd i })
+  told_rising journal is = sorted_from (nothing_told terms.roles) journal (sized_first terms) is (record { rising = tt; low = λ d i. absurd i })
 
 -- stamps of events
 stamp_here : (xs : List Event) (i : ℕ) (e : Event) → slice_get xs i ≡ Some e → slice_get (stamps_of xs) i ≡ Some e.stamp

@@ -10,7 +10,7 @@ use Rattle.rcv_model.specs.Run.{is_sent, puts_on, put_by, taken, put}
 use Rattle.rcv_model.proofs.Keeping.{message_of}
 use Rattle.rcv_model.proofs.Lists.{some_same}
 use Rattle.rcv_model.proofs.Queues.{From, from_of, put_message, put_by_true}
-use Rattle.rcv_told.specs.Told.{Terms, Remembered, start, bound_at, roles_in, IsRecv, standpoint, MayBeTold, told_after, told_from, told, IsToldFrom, IsTold}
+use Rattle.rcv_told.specs.Told.{Terms, Remembered, nothing_told, bound_at, roles_in, IsRecv, standpoint, MayBeTold, told_after, told_from, told, IsToldFrom, IsTold}
 use Rattle.rcv_fates.specs.Fates.{IsAmong, IsEventAt, IsMessage}
 use Rattle.rcv_fates.specs.Laws.{HasOneSend}
 use Rattle.rcv_fates.proofs.Keeping.{among_here, AllAre, all_less, all_more, kept_keeps}
@@ -32,7 +32,7 @@ module _ (terms : Terms) (Q : Event → Type 0) where
 
 -- each event that is held stands among the entries
 pub told_stands : (terms : Terms) (journal : List Entry) (e : Event) → IsAmong e (told terms journal).held → (i : ℕ) × IsEventAt journal i e
-told_stands terms journal = all_from terms (λ e. (i : ℕ) × IsEventAt journal i e) (start terms.roles) journal (λ i e at. (i, at)) (λ e i. absurd i)
+told_stands terms journal = all_from terms (λ e. (i : ℕ) × IsEventAt journal i e) (nothing_told terms.roles) journal (λ i e at. (i, at)) (λ e i. absurd i)
 
 -- the entry at a place might be told behind those before it
 told_at_from : (terms : Terms) (m : Remembered) (journal : List Entry) (t : ℕ) (x : Entry) → IsToldFrom terms m journal → slice_get journal t ≡ Some x → MayBeTold terms (told_from terms m (take t journal)) x
@@ -41,7 +41,7 @@ told_at_from terms m (y ∷ journal) zero x told at = subst (MayBeTold terms m) 
 told_at_from terms m (y ∷ journal) (suc t) x told at = told_at_from terms (told_after terms m y) journal t x told.1 at
 
 pub told_at : (terms : Terms) (journal : List Entry) (t : ℕ) (x : Entry) → IsTold terms journal → slice_get journal t ≡ Some x → MayBeTold terms (told terms (take t journal)) x
-told_at terms journal t x is at = told_at_from terms (start terms.roles) journal t x is at
+told_at terms journal t x is at = told_at_from terms (nothing_told terms.roles) journal t x is at
 
 module _ (terms : Terms) (journal : List Entry) (is : IsTold terms journal) (t : ℕ) (got : Event) (at : slice_get journal t ≡ Some (Recv got)) where
   may : IsRecv terms.net (standpoint terms.net (told terms (take t journal)) got.role) got

@@ -9,7 +9,7 @@ use Rattle.rcv_model.proofs.Ways.{next_in_text}
 use Rattle.rcv_accept.specs.Accepted.{IsAcceptedProtocol}
 use Rattle.rcv_session.specs.Session.{SessionView, text_of, roles_of, net_for}
 use Rattle.rcv_journal.specs.JournalText.{IsNamedEvent, IsNamed}
-use Rattle.rcv_told.specs.Told.{Terms, Remembered, start, told, told_from, told_after, MayBeTold, IsToldFrom, IsTold}
+use Rattle.rcv_told.specs.Told.{Terms, Remembered, nothing_told, told, told_from, told_after, MayBeTold, IsToldFrom, IsTold}
 use Rattle.rcv_fates.specs.Record.{IsSound}
 use Rattle.rcv_retold.specs.Retold.{terms_for, MayBeRetold, IsRetoldFrom}
 use Rattle.rcv_retold.specs.Laws.{RetoldIsTold}
@@ -21,7 +21,7 @@ sized_from terms m [] size = size
 sized_from terms m (x ∷ entries) size = sized_from terms (told_after terms m x) entries (sized_after terms m x size)
 
 pub sized : (terms : Terms) (entries : List Entry) → IsSized terms (told terms entries)
-sized terms entries = sized_from terms (start terms.roles) entries (sized_first terms)
+sized terms entries = sized_from terms (nothing_told terms.roles) entries (sized_first terms)
 
 module _ (setup : SessionView) (form : IsProper (net_for setup) (roles_of setup)) where
   at_next : (e : Event) (k : ℕ) → e.role < roles_of setup → IsNext (net_for setup) e.role k e.point → IsNamedEvent setup e
@@ -56,4 +56,4 @@ all_told terms m [] is = tt
 all_told terms m (e ∷ entries) is = (retold_may terms m e is.0, all_told terms (told_after terms m e) entries is.1)
 
 pub retold_is_told : RetoldIsTold
-retold_is_told terms entries is = all_told terms (start terms.roles) entries is
+retold_is_told terms entries is = all_told terms (nothing_told terms.roles) entries is

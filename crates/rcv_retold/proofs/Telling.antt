@@ -15,7 +15,7 @@ use Rattle.rcv_model.specs.Journal.{events_of}
 use Rattle.rcv_model.proofs.Lists.{some_same}
 use Rattle.rcv_session.specs.Session.{SessionView, roles_of}
 use Rattle.rcv_ledger.specs.Logs.{log_at, with_event_of}
-use Rattle.rcv_told.specs.Told.{Terms, Remembered, start, told, told_from, told_after, made}
+use Rattle.rcv_told.specs.Told.{Terms, Remembered, nothing_told, told, told_from, told_after, made}
 use Rattle.rcv_guide.specs.Guide.{GuideView, roles_of as guide_roles, terms_of, opened, HasRoom, IsMemory}
 use Rattle.rcv_guide.proofs.Memories.{many_held}
 use Rattle.rcv_guide.proofs.Starting.{memory_first}
@@ -94,10 +94,10 @@ still_seeds terms m (Crash p ∷ entries) = still_seeds terms (told_after terms 
 still_seeds terms m (Recover p c n u ∷ entries) = still_seeds terms (told_after terms m (Recover p c n u)) entries
 
 forgotten_none : (terms : Terms) (entries : List Entry) (r : ℕ) → slice_index (told terms entries).forgotten r ≡ 0
-forgotten_none terms entries r = ap (λ l. slice_index l r) (still_forgotten terms (start terms.roles) entries) ∙ no_number terms.roles r
+forgotten_none terms entries r = ap (λ l. slice_index l r) (still_forgotten terms (nothing_told terms.roles) entries) ∙ no_number terms.roles r
 
 seeds_none : (terms : Terms) (entries : List Entry) (r : ℕ) → slice_index (told terms entries).seeds r ≡ 0
-seeds_none terms entries r = ap (λ l. slice_index l r) (still_seeds terms (start terms.roles) entries) ∙ no_number terms.roles r
+seeds_none terms entries r = ap (λ l. slice_index l r) (still_seeds terms (nothing_told terms.roles) entries) ∙ no_number terms.roles r
 
 module _ (session : SessionView) (entries : List Entry) (k : ℕ) (old : GuideView) (at : IsAt session entries k old) where
   terms_are : terms_of old ≡ terms_for session
@@ -126,10 +126,10 @@ module _ (session : SessionView) (entries : List Entry) (k : ℕ) (old : GuideVi
     pub at_next : (new : GuideView) → IsTellable old e → GoesOn old new e → IsAt session entries (k + 1) new
     at_next new may goes = record {
       before = subst (IsRetold (terms_for session)) (sym (taken_next entries k e there))
-          (retold_more (terms_for session) (start (terms_for session).roles) (take k entries) e at.before
+          (retold_more (terms_for session) (nothing_told (terms_for session).roles) (take k entries) e at.before
           (subst (λ t. MayBeRetold t so_far e) terms_are (may so_far at.memory)));
       memory = subst (λ l. IsMemory new (told (terms_for session) l)) (sym (taken_next entries k e there))
-          (subst (IsMemory new) (sym (after_more (terms_for session) (start (terms_for session).roles) (take k entries) e))
+          (subst (IsMemory new) (sym (after_more (terms_for session) (nothing_told (terms_for session).roles) (take k entries) e))
           (subst (λ t. IsMemory new (told_after t so_far e)) terms_are (goes.after.memory so_far at.memory)));
       protocol = goes.protocol ∙ at.protocol;
       plan = goes.plan ∙ at.plan;

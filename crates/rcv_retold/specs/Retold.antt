@@ -9,7 +9,7 @@ use Rattle.rcv_model.specs.Journal.{events_of}
 use Rattle.rcv_model.specs.Plan.{host_in}
 use Rattle.rcv_session.specs.Session.{SessionView, roles_of, net_for}
 use Rattle.rcv_ledger.specs.Logs.{log_at, with_event_of}
-use Rattle.rcv_told.specs.Told.{Terms, Remembered, start, told, told_after, down_at, HasFailed, MayBeTold}
+use Rattle.rcv_told.specs.Told.{Terms, Remembered, nothing_told, told, told_after, down_at, HasFailed, MayBeTold}
 use Rattle.rcv_guide.specs.declared.news.News.{News}
 use Rattle.rcv_guide.specs.Numbers.{numbers_at}
 use Rattle.rcv_guide.specs.Guide.{GuideView, terms_of, IsMemory, IsAfter}
@@ -43,7 +43,7 @@ IsRetoldFrom terms m [] = Unit {0}
 IsRetoldFrom terms m (e ∷ entries) = MayBeRetold terms m e × IsRetoldFrom terms (told_after terms m e) entries
 
 abbrev pub IsRetold : Terms → List Entry → Type 0
-IsRetold terms entries = IsRetoldFrom terms (start terms.roles) entries
+IsRetold terms entries = IsRetoldFrom terms (nothing_told terms.roles) entries
 
 -- The entry with number k, counted from 0, is the first that may not be told as it stands.
 pub record IsFirstUntold (terms : Terms) (entries : List Entry) (k : ℕ) : Type 0 where

@@ -23,7 +23,7 @@ use Rattle.rcv_mailbox.specs.Ends.{End, new_end}
 use Rattle.rcv_fence.specs.Shown.{FenceId, Shown, fresh}
 use Rattle.rcv_role.specs.declared.poll.Poll.{Poll}
 use Rattle.rcv_role.specs.declared.poll.Stop.TheVariants as stops
-use Rattle.rcv_role.specs.Part.{PartView, IsReached, durable_of, first_lost, first_part, with_crash, gone_back, cut_back}
+use Rattle.rcv_role.specs.Part.{PartView, ReachesRole, durable_of, first_lost, first_part, with_crash, gone_back, cut_back}
 use Rattle.rcv_role.specs.Ends.{slot, IsSettledWith, HasPut, HasTaken}
 use Rattle.rcv_role.specs.Cell.{CellView}
 use Rattle.rcv_role.specs.Run.{IsFencedBy, LetsPass, AllPass, unmoved, EndsBy, Ran, signal, signal_of}
@@ -190,7 +190,7 @@ own_failure protocol = record {
   reaches = inl refl;
 }
 
-of_one_host : (protocol : Protocol) → IsReached (session protocol (HostLine (0 ∷ 1 ∷ []) ∷ [])) 1 2 0
+of_one_host : (protocol : Protocol) → ReachesRole (session protocol (HostLine (0 ∷ 1 ∷ []) ∷ [])) 1 2 0
 of_one_host protocol = inl refl
 
 -- Nobody fails where nothing is raised.
@@ -203,7 +203,7 @@ none_behind_the_pong before after (x ∷ w) z walk e now = walk.0
 none_behind_the_pong (y ∷ before) after [] z walk e now = let n = ap length e in omega (arith, length-append before (z ∷ after), n)
 none_behind_the_pong [] after [] z walk e now = ⊎_elim (λ f. omega (arith, f)) (λ none. none) (subst (λ n. IsIn 1 (marks ping (0 ∷ []) (n ∷ []))) (ap (λ l. get_or l 0 0) e) now)
 
-b_is_not_reached : (protocol : Protocol) → net_for (session protocol []) ≡ ping → IsReached (session protocol []) 0 2 1 → ⊥
+b_is_not_reached : (protocol : Protocol) → net_for (session protocol []) ≡ ping → ReachesRole (session protocol []) 0 2 1 → ⊥
 b_is_not_reached protocol is reached = ⊎_elim (λ f. absurd (cc)) (λ f. not_concerned (subst (λ net. IsConcerned net 0 2 1) is f.1)) reached
   where
     not_concerned : IsConcerned ping 0 2 1 → ⊥

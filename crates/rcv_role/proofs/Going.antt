@@ -11,7 +11,7 @@ use Rattle.rcv_theory.specs.Own.{IsOwnLog, own_through}
 use Rattle.rcv_session.specs.Session.{SessionView, roles_of, net_for, rules_of}
 use Rattle.rcv_mailbox.specs.Ends.{End, IsChannel}
 use Rattle.rcv_role.specs.declared.poll.Poll.TheVariants.{Crashed, Done, Tired}
-use Rattle.rcv_role.specs.Part.{PartView, Offers, IsBelow, HasNoStrangers, with_crash, entry_by, entry_of}
+use Rattle.rcv_role.specs.Part.{PartView, Offers, IsBelow, HasNoStrangers, with_crash, entry_by, entry_of_event}
 use Rattle.rcv_role.specs.Ends.{end_at, AreEnds}
 use Rattle.rcv_role.specs.Cell.{CellView, cell_of, IsSettled, Goes}
 use Rattle.rcv_role.specs.Poll.{IsDue, IsReady, Polled}
@@ -61,10 +61,10 @@ stays c settled strangers = record {
 abbrev IsOneEvent : PartView → Event → Entry → Type 0
 IsOneEvent p e x = IsOwnLog (rules_of p.setup) p.role p.own (record { stamp = e.stamp; step = x } ∷ []) × (own_event p.own e ≡ own_through p.own (record { stamp = e.stamp; step = x } ∷ []))
 
-pub one_send : (p : PartView) (e : Event) → e.role ≡ p.role → e.dir ≡ Sent → MayOwnSend (rules_of p.setup) p.own e → IsOneEvent p e (entry_of e)
+pub one_send : (p : PartView) (e : Event) → e.role ≡ p.role → e.dir ≡ Sent → MayOwnSend (rules_of p.setup) p.own e → IsOneEvent p e (entry_of_event e)
 one_send p e own dir may = subst (IsOneEvent p e) (sym (ap (λ d. entry_by d e) dir)) ((own, (refl, may), tt), refl)
 
-pub one_recv : (p : PartView) (e : Event) → e.role ≡ p.role → e.dir ≡ Got → MayOwnRecv (rules_of p.setup) p.own e → IsOneEvent p e (entry_of e)
+pub one_recv : (p : PartView) (e : Event) → e.role ≡ p.role → e.dir ≡ Got → MayOwnRecv (rules_of p.setup) p.own e → IsOneEvent p e (entry_of_event e)
 one_recv p e own dir may = subst (IsOneEvent p e) (sym (ap (λ d. entry_by d e) dir)) ((own, (refl, may), tt), refl)
 
 -- a part that has next points is ready

@@ -31,7 +31,7 @@ use Rattle.rcv_checkpoint.specs.declared.state.State.{State}
 use Rattle.rcv_checkpoint.specs.declared.changed.Changed.{Changed}
 use Rattle.rcv_checkpoint.specs.Changed.{IsChange}
 use Rattle.rcv_checkpoint.specs.Rows.{nowhere}
-use Rattle.rcv_checkpoint.specs.Tail.{TailView, made, place_of as place_in, Holds, final_vars, with_held, from_base, IsSaved, AreFrom}
+use Rattle.rcv_checkpoint.specs.Tail.{TailView, made, place_of as place_in, HasState, final_vars, with_held, from_base, IsSaved, AreFrom}
 use Rattle.rcv_checkpoint.proofs.TailStates.{top_from, same_from, more_from, fewer_from, forgotten_from}
 use Rattle.rcv_ledger.specs.Ledger.{state_behind}
 use Rattle.rcv_ledger.proofs.Lists.{get_taken, get_more, take_left, take_whole}
@@ -39,7 +39,7 @@ use Rattle.rcv_core.specs.Setup.{vars_by, vars_behind}
 use Rattle.rcv_core.proofs.Books.{two_ends, less_by, low_role}
 use Rattle.rcv_core.proofs.Pushing.{behind_told}
 use Rattle.rcv_core.proofs.Ranges.{ranges}
-use Rattle.rcv_role.specs.Part.{PartView, IsOwn, AreOwn, IsOwnSend, Offers, AllSends, AllRecvs, IsBelow, HasNoStrangers, HoldsStates, IsPart, IsNextSend, durable_of, state_at, with_crash, point_in}
+use Rattle.rcv_role.specs.Part.{PartView, IsOwn, AreOwn, IsOwnSend, Offers, AllSends, AllRecvs, IsBelow, HasNoStrangers, HoldsStates, IsPart, IsNextSend, durable_of, state_at, with_crash, point_there}
 
 abbrev pub IsPartOf : PartView → TailView → Type 0
 IsPartOf p tail = IsPart p.setup p.role p.own p.base p.held tail
@@ -410,7 +410,7 @@ module _ (v q : PartView) (tail : TailView) (is : v ≡ q) (part : IsPartOf v ta
   seen_final change vars running is = subst (λ l. IsChange change l vars) (sym (final_is q tail seen running)) is
 
   -- the states that are held
-  pub seen_holds : (count : ℕ) → tail.base ≤ count → count ≤ v.held → Holds tail count
+  pub seen_holds : (count : ℕ) → tail.base ≤ count → count ≤ v.held → HasState tail count
   seen_holds count from to = (from, let c = part.count_is in omega (arith, c, to))
 
   pub seen_vars : (count : ℕ) (x : State) → tail.base ≤ count → count ≤ v.held → slice_get tail.states (place_in tail count) ≡ Some x → x.vars ≡ vars_by q.setup q.role (take count q.own.events)
@@ -545,10 +545,10 @@ module _ (v q : PartView) (tail tail' : TailView) (is : v ≡ q) (part : IsPartO
 
 -- the states that are asked for are held
 module _ (v q : PartView) (tail : TailView) (is : v ≡ q) (part : IsPartOf v tail) where
-  pub crash_holds : (count : ℕ) → IsOwnDue (rules_of q.setup) q.role q.own → IsSaved tail count → Holds tail count
+  pub crash_holds : (count : ℕ) → IsOwnDue (rules_of q.setup) q.role q.own → IsSaved tail count → HasState tail count
   crash_holds count due saved = (from_saved v tail part (fields v q tail is part (λ p. p.own.numbers.crashed ≡ false) due.0) count saved, saved.within)
 
-  pub back_holds : (keep : ℕ) → q.base ≤ keep → keep ≤ q.held → Holds tail keep
+  pub back_holds : (keep : ℕ) → q.base ≤ keep → keep ≤ q.held → HasState tail keep
   back_holds keep from le =
       let b = part.base_is in
       let c = part.count_is in
@@ -556,7 +556,7 @@ module _ (v q : PartView) (tail : TailView) (is : v ≡ q) (part : IsPartOf v ta
       let high : keep ≤ v.held = fields v q tail is part (λ p. keep ≤ p.held) le in
       (omega (arith, b, low), omega (arith, c, high))
 
-  pub cut_holds : (keep count : ℕ) → count ≡ min keep v.held → q.base ≤ keep → Holds tail count
+  pub cut_holds : (keep count : ℕ) → count ≡ min keep v.held → q.base ≤ keep → HasState tail count
   cut_holds keep count least from =
       let b = part.base_is in
       let c = part.count_is in
@@ -564,7 +564,7 @@ module _ (v q : PartView) (tail : TailView) (is : v ≡ q) (part : IsPartOf v ta
       let low : v.base ≤ keep = fields v q tail is part (λ p. p.base ≤ keep) from in
       (omega (arith, b, low, h, least), omega (arith, c, least))
 
-  pub line_holds : (line : ℕ) → q.base ≤ line → line ≤ durable_of q → Holds tail line
+  pub line_holds : (line : ℕ) → q.base ≤ line → line ≤ durable_of q → HasState tail line
   line_holds line above saved =
       let b = part.base_is in
       let c = part.count_is in
@@ -580,10 +580,10 @@ module _ (v q : PartView) (tail : TailView) (is : v ≡ q) (part : IsPartOf v ta
       (part_forgot v tail part line (fields v q tail is part (λ p. (k : ℕ) × (k * (rules_of p.setup).every p.role ≡ line)) step) (fields v q tail is part (λ p. p.base ≤ line) above) (fields v q tail is part (λ p. line ≤ durable_of p) saved))
 
 -- the events of a part are at points that a set can hold
-pub event_point : (v q : PartView) (tail : TailView) (n : ℕ) (o : Option ℕ) → v ≡ q → IsPartOf v tail → o ≡ point_in (slice_get q.own.events n) → IfSome o IsPoint
+pub event_point : (v q : PartView) (tail : TailView) (n : ℕ) (o : Option ℕ) → v ≡ q → IsPartOf v tail → o ≡ point_there (slice_get q.own.events n) → IfSome o IsPoint
 event_point v q tail n o is part e = subst (λ (x : Option ℕ). IfSome x IsPoint) (sym e) (go (slice_get q.own.events n) refl)
   where
-    go : (x : Option Event) → slice_get q.own.events n ≡ x → IfSome (point_in x) IsPoint
+    go : (x : Option Event) → slice_get q.own.events n ≡ x → IfSome (point_there x) IsPoint
     go None at = tt
     go (Some e) at =
         let kept = seen v q tail is part in

@@ -15,7 +15,7 @@ use Rattle.rcv_session.specs.Session.{SessionView, text_of, roles_of, net_for}
 use Rattle.rcv_tables.specs.Rows.{TableView, rows_at, IsTable}
 use Rattle.rcv_tables.specs.Starts.{IsOwnPoint}
 use Rattle.rcv_tables.specs.Told.{TellsConcerned}
-use Rattle.rcv_role.specs.Part.{IsReached}
+use Rattle.rcv_role.specs.Part.{ReachesRole}
 
 -- the ends of each point of the text are declared
 module _ (setup : SessionView) (accepted : IsAcceptedProtocol setup.protocol) (n : ℕ) where
@@ -66,10 +66,10 @@ pub none_if : (setup : SessionView) (q n r : ℕ) (b : Bool) → IsTrue b ↔ Is
 none_if setup q n r b own f = ((λ t. absurd (cc)), λ c. absurd (let t = own.1 c.0 in cc))
 
 -- the bit of the plan's set
-pub of_group : (setup : SessionView) (q n r set : ℕ) (b : Bool) → IsGroup setup.plan q set → r < 8 → b ≡ has_bit set r → b ≡ true → IsTrue true ↔ IsReached setup q n r
+pub of_group : (setup : SessionView) (q n r set : ℕ) (b : Bool) → IsGroup setup.plan q set → r < 8 → b ≡ has_bit set r → b ≡ true → IsTrue true ↔ ReachesRole setup q n r
 of_group setup q n r set b group low e t = ((λ u. inl (sym (group r low) ∙ sym e ∙ t)), λ x. refl)
 
-pub else_concerned : (setup : SessionView) (q n r set : ℕ) (b c : Bool) → IsGroup setup.plan q set → r < 8 → b ≡ has_bit set r → b ≡ false → IsTrue c ↔ (IsOwnPoint (net_for setup) q n × IsConcerned (net_for setup) q n r) → IsTrue c ↔ IsReached setup q n r
+pub else_concerned : (setup : SessionView) (q n r set : ℕ) (b c : Bool) → IsGroup setup.plan q set → r < 8 → b ≡ has_bit set r → b ≡ false → IsTrue c ↔ (IsOwnPoint (net_for setup) q n × IsConcerned (net_for setup) q n r) → IsTrue c ↔ ReachesRole setup q n r
 else_concerned setup q n r set b c group low e f is = (
   (λ t. inr (is.0 t)),
   λ x. ⊎_elim (λ g. absurd (let h = sym f ∙ e ∙ group r low ∙ g in cc)) (λ y. is.1 y) x,

@@ -17,7 +17,7 @@ use Rattle.rcv_ring.specs.Points.{HasPoint, CanPass}
 use Rattle.rcv_mailbox.specs.Ends.{End, IsChannel}
 use Rattle.rcv_session.specs.Session.{roles_of, net_for, rules_of}
 use Rattle.rcv_role.specs.declared.poll.Poll.TheVariants.{Moved, Waiting}
-use Rattle.rcv_role.specs.Part.{PartView, IsOwn, IsRecvOf, Offers, AllRecvs, IsBelow, HasNoStrangers, with_event, entry_of}
+use Rattle.rcv_role.specs.Part.{PartView, IsOwn, IsRecvOf, Offers, AllRecvs, IsBelow, HasNoStrangers, with_event, entry_of_event}
 use Rattle.rcv_role.specs.Ends.{slot, end_at, IsInboxFrom, AreEnds, IsSettledWith, HasReceived, HasTaken, OthersStay}
 use Rattle.rcv_role.specs.Cell.{CellView, cell_of, IsSettled, Goes}
 use Rattle.rcv_role.specs.Poll.{IsDue, FoundEmpty, EndsOfRecv, Polled}
@@ -99,9 +99,9 @@ module _ (p : PartView) (posts inboxes inboxes' : List End) (from : ℕ) (ends :
       of : (net_for p.setup).sender e.point ≡ from
       of = ap (λ (y : Message). (net_for p.setup).sender y.point) own.message ∙ sender
 
-  recv_moves : (m : Message) (e : Event) → HasNoStrangers p → IsRecvOf p m e → (net_for p.setup).sender m.point ≡ from → MayOwnRecv (rules_of p.setup) p.own e → ((d : End) → HasReceived (end_at inboxes p.role from d) (end_at inboxes' p.role from d) (Some m)) → Goes (cell_of p posts inboxes) (cell_of (with_event p e (entry_of e)) posts inboxes')
+  recv_moves : (m : Message) (e : Event) → HasNoStrangers p → IsRecvOf p m e → (net_for p.setup).sender m.point ≡ from → MayOwnRecv (rules_of p.setup) p.own e → ((d : End) → HasReceived (end_at inboxes p.role from d) (end_at inboxes' p.role from d) (Some m)) → Goes (cell_of p posts inboxes) (cell_of (with_event p e (entry_of_event e)) posts inboxes')
   recv_moves m e strangers own sender may received = record {
-    more = record { stamp = e.stamp; step = entry_of e } ∷ [];
+    more = record { stamp = e.stamp; step = entry_of_event e } ∷ [];
     setup = refl;
     role = refl;
     base = refl;
@@ -185,7 +185,7 @@ module _ (p : PartView) (posts inboxes : List End) (q : CellView) (from role at 
     pub received_ends : AreEnds (rules_of p.setup) p.role posts inboxes'
     received_ends = ends_received p posts inboxes inboxes' from ends within froms.declared froms.apart else' o received'
 
-    pub received_ends_more : (p' : PartView) (e : Event) → p' ≡ with_event p e (entry_of e) → AreEnds (rules_of p'.setup) p'.role posts inboxes'
+    pub received_ends_more : (p' : PartView) (e : Event) → p' ≡ with_event p e (entry_of_event e) → AreEnds (rules_of p'.setup) p'.role posts inboxes'
     received_ends_more p' e f = subst (λ (z : PartView). AreEnds (rules_of z.setup) z.role posts inboxes') (sym f) received_ends
 
     pub received_waits : o ≡ None → HasNoStrangers p → Goes q (cell_of p posts inboxes')
@@ -222,15 +222,15 @@ module _ (p : PartView) (posts inboxes : List End) (q : CellView) (from role at 
             partner = λ g. ((λ f. froms.apart (sym sender ∙ f)), subst (λ n. n < roles_of p.setup) (sym sender) froms.declared);
           }
 
-      pub received_moves : (p' : PartView) (e : Event) → p' ≡ with_event p e (entry_of e) → HasNoStrangers p → IsRecvOf p m e → MayOwnRecv (rules_of p.setup) p.own e → Goes q (cell_of p' posts inboxes')
+      pub received_moves : (p' : PartView) (e : Event) → p' ≡ with_event p e (entry_of_event e) → HasNoStrangers p → IsRecvOf p m e → MayOwnRecv (rules_of p.setup) p.own e → Goes q (cell_of p' posts inboxes')
       received_moves p' e g strangers own may = subst (λ c. Goes c (cell_of p' posts inboxes')) is (subst (λ z. Goes (cell_of p posts inboxes) (cell_of z posts inboxes')) (sym g) (recv_moves p posts inboxes inboxes' from ends within froms.declared froms.apart else' m e strangers own message_sender may (λ x. subst (HasReceived (end_at inboxes p.role from x) (end_at inboxes' p.role from x)) some (received' x))))
 
-      pub received_moved : (IsDue q.part → ⊥) → Offers q.part zs → zs ≢ [] → IsBelow q.part → (p' : PartView) (e : Event) → p' ≡ with_event p e (entry_of e) → IsRecvOf p m e → Polled q (cell_of p' posts inboxes') Moved
+      pub received_moved : (IsDue q.part → ⊥) → Offers q.part zs → zs ≢ [] → IsBelow q.part → (p' : PartView) (e : Event) → p' ≡ with_event p e (entry_of_event e) → IsRecvOf p m e → Polled q (cell_of p' posts inboxes') Moved
       received_moved calm offers next below p' e g own = (
         ready q.part zs calm offers next below,
         record {
           event = e;
-          part = g ∙ ap (λ (c : CellView). with_event c.part e (entry_of e)) is;
+          part = g ∙ ap (λ (c : CellView). with_event c.part e (entry_of_event e)) is;
           sent = λ f. absurd (not_both e.dir f own.dir);
           got = λ f. subst (λ c. EndsOfRecv c (cell_of p' posts inboxes') e) is (ends_of_recv p posts inboxes inboxes' from ends within froms.declared froms.apart else' m e p' own message_sender (λ x. subst (HasReceived (end_at inboxes p.role from x) (end_at inboxes' p.role from x)) some (received' x)));
         },

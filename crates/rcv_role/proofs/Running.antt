@@ -8,7 +8,7 @@ use Rattle.rcv_session.specs.Session.{SessionView}
 use Rattle.rcv_role.specs.declared.poll.Poll.{Poll}
 use Rattle.rcv_role.specs.declared.poll.Poll.TheVariants as polls
 use Rattle.rcv_role.specs.declared.poll.Stop.TheVariants as stops
-use Rattle.rcv_role.specs.Part.{PartView, HasNoStrangers, IsReached}
+use Rattle.rcv_role.specs.Part.{PartView, HasNoStrangers, ReachesRole}
 use Rattle.rcv_mailbox.specs.Ends.{End}
 use Rattle.rcv_role.specs.Cell.{CellView, cell_of, IsSettled, Goes}
 use Rattle.rcv_role.specs.Poll.{Polled}
@@ -29,17 +29,17 @@ same_pair w r n q m a b =
 pub none_fenced : (p : PartView) (w : ℕ) → w ≡ 0 → IsTrue false ↔ IsFencedBy p w
 none_fenced p w e = ((λ t. absurd (cc)), λ f. absurd (let g = f.pair.code_is in omega (arith, e, g)))
 
-pub some_fenced : (p : PartView) (w q n : ℕ) (b : Bool) → IsPairOf w q n → IsTrue b ↔ IsReached p.setup q n p.role → IsTrue b ↔ IsFencedBy p w
+pub some_fenced : (p : PartView) (w q n : ℕ) (b : Bool) → IsPairOf w q n → IsTrue b ↔ ReachesRole p.setup q n p.role → IsTrue b ↔ IsFencedBy p w
 some_fenced p w q n b pair is = (
   (λ t. record { role = q; point = n; pair = pair; reaches = is.0 t }),
   λ f.
       let same = same_pair w f.role f.point q n f.pair pair in
-      is.1 (subst (λ (z : ℕ × ℕ). IsReached p.setup z.0 z.1 p.role) (λ i. (same.0 i, same.1 i)) f.reaches),
+      is.1 (subst (λ (z : ℕ × ℕ). ReachesRole p.setup z.0 z.1 p.role) (λ i. (same.0 i, same.1 i)) f.reaches),
 )
 
 -- the same of a cell as contracts see it
-pub seen_fenced : (p : PartView) (c : CellView) (posts inboxes : List End) (w q n : ℕ) (b : Bool) → cell_of p posts inboxes ≡ c → IsTrue b ↔ IsReached p.setup q n p.role → IsPairOf w q n → IsTrue b ↔ IsFencedBy c.part w
-seen_fenced p c posts inboxes w q n b is reached pair = some_fenced c.part w q n b pair (subst (λ (x : CellView). IsTrue b ↔ IsReached x.part.setup q n x.part.role) is reached)
+pub seen_fenced : (p : PartView) (c : CellView) (posts inboxes : List End) (w q n : ℕ) (b : Bool) → cell_of p posts inboxes ≡ c → IsTrue b ↔ ReachesRole p.setup q n p.role → IsPairOf w q n → IsTrue b ↔ IsFencedBy c.part w
+seen_fenced p c posts inboxes w q n b is reached pair = some_fenced c.part w q n b pair (subst (λ (x : CellView). IsTrue b ↔ ReachesRole x.part.setup q n x.part.role) is reached)
 
 -- no look yet, and one look more
 none_yet : (p : PartView) (seen : List ℕ) → AllPass p seen seen 0
@@ -83,7 +83,7 @@ still_fenced a b w g f = record {
   role = f.role;
   point = f.point;
   pair = f.pair;
-  reaches = subst (λ (z : SessionView × ℕ). IsReached z.0 f.role f.point z.1) (λ i. (sym g.setup i, sym g.role i)) f.reaches;
+  reaches = subst (λ (z : SessionView × ℕ). ReachesRole z.0 f.role f.point z.1) (λ i. (sym g.setup i, sym g.role i)) f.reaches;
 }
 
 was_fenced : (a b : CellView) (w : ℕ) → Goes a b → IsFencedBy b.part w → IsFencedBy a.part w
@@ -91,7 +91,7 @@ was_fenced a b w g f = record {
   role = f.role;
   point = f.point;
   pair = f.pair;
-  reaches = subst (λ (z : SessionView × ℕ). IsReached z.0 f.role f.point z.1) (λ i. (g.setup i, g.role i)) f.reaches;
+  reaches = subst (λ (z : SessionView × ℕ). ReachesRole z.0 f.role f.point z.1) (λ i. (g.setup i, g.role i)) f.reaches;
 }
 
 module _ (a b : CellView) (watch w w2 : Shown) (k turns : ℕ) (fenced : Bool) (so : IsRunning a b watch w k) (in_turn : k < turns) (fence : w2.fence ≡ w.fence) (looks : w2.looks ≡ w.looks + 1) (raised : w2.raised ≡ w.raised) (seen : w2.seen ≡ w.seen ++ w2.last ∷ []) (tells : IsTrue fenced ↔ IsFencedBy b.part w2.last) where

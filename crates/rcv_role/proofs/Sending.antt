@@ -13,7 +13,7 @@ use Rattle.rcv_ring.specs.Points.{HasPoint, CanPass}
 use Rattle.rcv_mailbox.specs.Ends.{End, through, IsChannel, WasFull}
 use Rattle.rcv_session.specs.Session.{roles_of, net_for, rules_of}
 use Rattle.rcv_role.specs.declared.poll.Poll.TheVariants.{Moved, Waiting}
-use Rattle.rcv_role.specs.Part.{PartView, IsOwn, IsOwnSend, IsNextSend, Offers, IsBelow, HasNoStrangers, with_event, entry_of}
+use Rattle.rcv_role.specs.Part.{PartView, IsOwn, IsOwnSend, IsNextSend, Offers, IsBelow, HasNoStrangers, with_event, entry_of_event}
 use Rattle.rcv_role.specs.Ends.{slot, end_at, IsPostTo, AreEnds, IsSettledWith, HasSent, HasPut, OthersStay}
 use Rattle.rcv_role.specs.Cell.{CellView, cell_of, IsSettled, Goes}
 use Rattle.rcv_role.specs.Poll.{IsDue, OnePost, FoundFull, EndsOfSend, Polled}
@@ -67,9 +67,9 @@ module _ (p : PartView) (posts posts' inboxes : List End) (e : Event) (to : ℕ)
     inboxes = λ q d x lt n h. h;
   }
 
-  send_moves : HasNoStrangers p → MayOwnSend (rules_of p.setup) p.own e → ((d : End) → HasSent (end_at posts p.role to d) (end_at posts' p.role to d) (message_sent e) true) → Goes (cell_of p posts inboxes) (cell_of (with_event p e (entry_of e)) posts' inboxes)
+  send_moves : HasNoStrangers p → MayOwnSend (rules_of p.setup) p.own e → ((d : End) → HasSent (end_at posts p.role to d) (end_at posts' p.role to d) (message_sent e) true) → Goes (cell_of p posts inboxes) (cell_of (with_event p e (entry_of_event e)) posts' inboxes)
   send_moves strangers may sent = record {
-    more = record { stamp = e.stamp; step = entry_of e } ∷ [];
+    more = record { stamp = e.stamp; step = entry_of_event e } ∷ [];
     setup = refl;
     role = refl;
     base = refl;
@@ -189,7 +189,7 @@ module _ (was p : PartView) (posts inboxes : List End) (q : CellView) (e : Event
     pub sent_ends : AreEnds (rules_of p.setup) p.role posts' inboxes
     sent_ends = ends_sent p posts posts' inboxes e to ends inside own to_is others' ok sent'
 
-    pub sent_ends_more : (p' : PartView) → p' ≡ with_event p e (entry_of e) → AreEnds (rules_of p'.setup) p'.role posts' inboxes
+    pub sent_ends_more : (p' : PartView) → p' ≡ with_event p e (entry_of_event e) → AreEnds (rules_of p'.setup) p'.role posts' inboxes
     sent_ends_more p' f = subst (λ (z : PartView). AreEnds (rules_of z.setup) z.role posts' inboxes) (sym f) sent_ends
 
     module _ (zs : List ℕ) (calm : IsDue q.part → ⊥) (offers : Offers q.part zs) (some : zs ≢ []) (below : IsBelow q.part) where
@@ -206,15 +206,15 @@ module _ (was p : PartView) (posts inboxes : List End) (q : CellView) (e : Event
         ap (λ (c : CellView). c.part) is,
       )
 
-      pub sent_moves : ok ≡ true → (p' : PartView) → p' ≡ with_event p e (entry_of e) → HasNoStrangers was → Goes q (cell_of p' posts' inboxes)
+      pub sent_moves : ok ≡ true → (p' : PartView) → p' ≡ with_event p e (entry_of_event e) → HasNoStrangers was → Goes q (cell_of p' posts' inboxes)
       sent_moves f p' g strangers = subst (λ c. Goes c (cell_of p' posts' inboxes)) is (subst (λ z. Goes (cell_of p posts inboxes) (cell_of z posts' inboxes)) (sym g) (send_moves p posts posts' inboxes e to ends inside own to_is others' (strangers_none strangers) next.may (λ d. subst (HasSent (end_at posts p.role to d) (end_at posts' p.role to d) (message_sent e)) f (sent' d))))
 
-      pub sent_moved : ok ≡ true → (p' : PartView) → p' ≡ with_event p e (entry_of e) → Polled q (cell_of p' posts' inboxes) Moved
+      pub sent_moved : ok ≡ true → (p' : PartView) → p' ≡ with_event p e (entry_of_event e) → Polled q (cell_of p' posts' inboxes) Moved
       sent_moved f p' g = (
         ready q.part zs calm offers some below,
         record {
           event = e;
-          part = g ∙ ap (λ (c : CellView). with_event c.part e (entry_of e)) is;
+          part = g ∙ ap (λ (c : CellView). with_event c.part e (entry_of_event e)) is;
           sent = λ d. subst (λ c. EndsOfSend c (cell_of p' posts' inboxes) e) is (ends_of_send p posts posts' inboxes e to ends inside own to_is others' p' (λ d. subst (HasSent (end_at posts p.role to d) (end_at posts' p.role to d) (message_sent e)) f (sent' d)));
           got = λ d. absurd (no_recv p posts posts' inboxes e to ends inside own to_is others' d);
         },

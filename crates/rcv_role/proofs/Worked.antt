@@ -24,7 +24,7 @@ use Rattle.rcv_ring.specs.Shown.{RingId}
 use Rattle.rcv_ring.specs.Shown as rings
 use Rattle.rcv_mailbox.specs.Ends.{End, IsChannel, new_end}
 use Rattle.rcv_role.specs.declared.poll.Poll.TheVariants.{Moved, Waiting}
-use Rattle.rcv_role.specs.Part.{PartView, IsNextSend, first_own, first_part, own_by, with_event, entry_of}
+use Rattle.rcv_role.specs.Part.{PartView, IsNextSend, first_own, first_part, own_by, with_event, entry_of_event}
 use Rattle.rcv_role.specs.Ends.{end_at, IsPostTo, IsInboxFrom, AreEnds, IsSettledWith, HasPut, OthersStay}
 use Rattle.rcv_role.specs.Cell.{CellView, cell_of, Goes}
 use Rattle.rcv_role.specs.Poll.{IsReady, OnePost, FoundEmpty, Polled}
@@ -73,7 +73,7 @@ abbrev a_before : Protocol → RingId → RingId → CellView
 a_before protocol to from = cell_of (first_part (session protocol) 0) (there to ∷ []) (back from ∷ [])
 
 abbrev a_behind : Protocol → RingId → RingId → CellView
-a_behind protocol to from = cell_of (with_event (first_part (session protocol) 0) the_event (entry_of the_event)) (there_sent to ∷ []) (back from ∷ [])
+a_behind protocol to from = cell_of (with_event (first_part (session protocol) 0) the_event (entry_of_event the_event)) (there_sent to ∷ []) (back from ∷ [])
 
 abbrev b_before : Protocol → RingId → RingId → CellView
 b_before protocol to from = cell_of (first_part (session protocol) 1) (back to ∷ []) (there from ∷ [])
@@ -174,7 +174,7 @@ module _ (protocol : Protocol) (is : net_for (session protocol) ≡ single) (two
   -- A goes on by that Send
   a_goes : Goes (a_before protocol to from) (a_behind protocol to from)
   a_goes = record {
-    more = record { stamp = 1; step = entry_of the_event } ∷ [];
+    more = record { stamp = 1; step = entry_of_event the_event } ∷ [];
     setup = refl;
     role = refl;
     base = refl;
@@ -194,7 +194,7 @@ module _ (protocol : Protocol) (is : net_for (session protocol) ≡ single) (two
       channel x h = record { ring = h.ring; dropped_is = h.dropped_is; rewound_is = h.rewound_is; limit_is = h.limit_is; first = refl }
 
   -- and by nothing that it doesn't log
-  not_unlogged : Goes (a_before protocol to from) (record (a_behind protocol to from) { part = record (with_event (first_part (session protocol) 0) the_event (entry_of the_event)) { log = [] } }) → ⊥
+  not_unlogged : Goes (a_before protocol to from) (record (a_behind protocol to from) { part = record (with_event (first_part (session protocol) 0) the_event (entry_of_event the_event)) { log = [] } }) → ⊥
   not_unlogged goes = none goes.more goes.log goes.own
     where
       none : (more : List Timed) → [] ≡ more → own_by (the_event ∷ []) (up 1 0 0 1) ≡ own_through first_own more → ⊥

@@ -86,8 +86,8 @@ abbrev pub entry_by : Dir → Event → Entry
 entry_by Sent e = Send e
 entry_by Got e = Recv e
 
-abbrev pub entry_of : Event → Entry
-entry_of e = entry_by e.dir e
+abbrev pub entry_of_event : Event → Entry
+entry_of_event e = entry_by e.dir e
 
 -- The part after one event more; and after a crash, which leaves the saved states alone.
 abbrev pub with_event : PartView → Event → Entry → PartView
@@ -182,16 +182,16 @@ abbrev pub cut_back : PartView → ℕ → ℕ → PartView
 cut_back p keep clock = record p { own = own_back p.own keep false clock; held = min keep p.held }
 
 -- The point of an event, if there is one.
-abbrev pub point_in : Option Event → Option ℕ
-point_in None = None
-point_in (Some e) = Some e.point
+abbrev pub point_there : Option Event → Option ℕ
+point_there None = None
+point_there (Some e) = Some e.point
 
 -- The point of the first event that the role hasn't saved; none if it has saved all.
 abbrev pub first_lost : PartView → Option ℕ
-first_lost p = point_in (slice_get p.own.events (durable_of p))
+first_lost p = point_there (slice_get p.own.events (durable_of p))
 
 -- If role q fails and goes back to point n, it reaches role r: r is of q's group, or n is a point of q, and it concerns r.
-abbrev pub IsReached : SessionView → ℕ → ℕ → ℕ → Type 0
-IsReached setup q n r =
+abbrev pub ReachesRole : SessionView → ℕ → ℕ → ℕ → Type 0
+ReachesRole setup q n r =
     (is_listed (group_of (rules_of setup) q) r ≡ true)
     ⊎ (IsOwnPoint (net_for setup) q n × IsConcerned (net_for setup) q n r)

@@ -8,7 +8,7 @@ use Rattle.rcv_session.specs.Session.{net_for, rules_of}
 use Rattle.rcv_mailbox.specs.Ends.{End, WasFull, WasEmpty}
 use Rattle.rcv_role.specs.declared.poll.Poll.{Poll}
 use Rattle.rcv_role.specs.declared.poll.Poll.TheVariants.{Crashed, Done, Tired, Moved, Waiting}
-use Rattle.rcv_role.specs.Part.{PartView, Offers, AllSends, AllRecvs, IsBelow, with_event, with_crash, entry_of}
+use Rattle.rcv_role.specs.Part.{PartView, Offers, AllSends, AllRecvs, IsBelow, with_event, with_crash, entry_of_event}
 use Rattle.rcv_role.specs.Ends.{slot, end_at, HasPut, HasTaken, OthersStay}
 use Rattle.rcv_role.specs.Cell.{CellView, cell_of}
 
@@ -85,7 +85,7 @@ pub record EndsOfRecv (old new : CellView) (e : Event) : Type 0 where
 -- The role made one step, a Send or a Recv.
 pub record HasStepped (old new : CellView) : Type 0 where
   pub event : Event
-  pub part : new.part ≡ with_event old.part event (entry_of event)
+  pub part : new.part ≡ with_event old.part event (entry_of_event event)
   pub sent : event.dir ≡ Sent → EndsOfSend old new event
   pub got : event.dir ≡ Got → EndsOfRecv old new event
 

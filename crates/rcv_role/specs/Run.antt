@@ -7,7 +7,7 @@ use Rattle.rcv_role.specs.declared.poll.Poll.{Poll}
 use Rattle.rcv_role.specs.declared.poll.Poll.TheVariants as polls
 use Rattle.rcv_role.specs.declared.poll.Stop.{Stop}
 use Rattle.rcv_role.specs.declared.poll.Stop.TheVariants.{Waiting, Done, Crashed, Tired, Spent, Fenced}
-use Rattle.rcv_role.specs.Part.{PartView, IsReached, first_lost}
+use Rattle.rcv_role.specs.Part.{PartView, ReachesRole, first_lost}
 use Rattle.rcv_role.specs.Cell.{CellView}
 use Rattle.rcv_role.specs.Poll.{Polled}
 
@@ -16,7 +16,7 @@ pub record IsFencedBy (p : PartView) (word : ℕ) : Type 0 where
   pub role : ℕ
   pub point : ℕ
   pub pair : IsPairOf word role point
-  pub reaches : IsReached p.setup role point p.role
+  pub reaches : ReachesRole p.setup role point p.role
 
 -- The word lets the role go on.
 abbrev pub LetsPass : PartView → ℕ → Type 0

@@ -26,18 +26,18 @@ abbrev pub loses : Recovery → ℕ → Bool
 loses recovery role = is_some (slice_index_or recovery.firsts role None)
 
 -- The point of the entry at a place; 0, which is the start, if the entry is no event or there is none.
-abbrev pub point_of : Entry → ℕ
-point_of (Send event) = event.point
-point_of (Recv event) = event.point
-point_of (Crash role) = 0
-point_of (Recover role concerned keeps removed) = 0
+abbrev pub entry_point : Entry → ℕ
+entry_point (Send event) = event.point
+entry_point (Recv event) = event.point
+entry_point (Crash role) = 0
+entry_point (Recover role concerned keeps removed) = 0
 
-abbrev pub point_in : Option Entry → ℕ
-point_in (Some entry) = point_of entry
-point_in None = 0
+abbrev pub entry_point_or_none : Option Entry → ℕ
+entry_point_or_none (Some entry) = entry_point entry
+entry_point_or_none None = 0
 
 abbrev pub point_at : List Entry → Option ℕ → ℕ
-point_at entries (Some place) = point_in (slice_get entries place)
+point_at entries (Some place) = entry_point_or_none (slice_get entries place)
 point_at entries None = 0
 
 -- The point of the last event that a role keeps.

@@ -5,7 +5,7 @@ ghost use Rattle.std.specs.Prelude.{◌≡◌, ◌↔◌, ◌<◌, [], ◌∷◌
 ghost use Rattle.rcv_session.specs.Session.{roles_of};
 ghost use Rattle.rcv_scene.specs.Seen.{drawn_in};
 ghost use Rattle.rcv_scene.specs.Grid.{grid_of, scene_of};
-ghost use Rattle.rcv_scene.specs.Recoveries.{loses, verb, pill_look, return_look, point_of, point_in, last_point, IsReturnText, NamesAll, first_words, IsNextText};
+ghost use Rattle.rcv_scene.specs.Recoveries.{loses, verb, pill_look, return_look, entry_point, entry_point_or_none, last_point, IsReturnText, NamesAll, first_words, IsNextText};
 ghost use Rattle.rcv_scene.specs.Recoveries.{IsAtPlace, AddsNumber, AddsPillTexts, AddsPill, AddsRole, AddsRoles, AddsWho, AddsRecover};
 
 use crate::cast::next_at;
@@ -231,8 +231,8 @@ fn return_text(
 }
 
 // The point of an event; 0 for another entry.
-fn point_of(entry: &Entry) -> u16
-    ensures { result ≡ point_of entry.now }
+fn entry_point(entry: &Entry) -> u16
+    ensures { result ≡ entry_point entry.now }
 {
     match entry {
         Entry::Send(event) => event.point.0,
@@ -244,10 +244,10 @@ fn point_of(entry: &Entry) -> u16
 
 // The point of the entry at a place; 0 if there is none.
 fn point_at(layout: &Layout<'_>, at: u32) -> u16
-    ensures { result ≡ point_in (slice_get layout.now.entries.now at) }
+    ensures { result ≡ entry_point_or_none (slice_get layout.now.entries.now at) }
 {
     match layout.entry_at(at) {
-        Some(entry) => point_of(entry),
+        Some(entry) => entry_point(entry),
         None => 0,
     }
 }

@@ -20,7 +20,7 @@ use Rattle.rcv_mailbox.specs.Ends.{End, Knows, IsChannel, WasFull, WasEmpty}
 use Rattle.rcv_session.specs.Session.{SessionView, roles_of, net_for, rules_of}
 use Rattle.rcv_role.specs.declared.poll.Poll.{Poll}
 use Rattle.rcv_role.specs.declared.poll.Poll.TheVariants as polls
-use Rattle.rcv_role.specs.Part.{PartView, Offers, IsBelow, entry_by, entry_of}
+use Rattle.rcv_role.specs.Part.{PartView, Offers, IsBelow, entry_by, entry_of_event}
 use Rattle.rcv_role.specs.Ends.{end_at}
 use Rattle.rcv_role.specs.Cell.{CellView}
 use Rattle.rcv_role.specs.Poll.{IsDue, FoundFull, FoundEmpty, OnePost, OneInbox, receiver_at, Polled, HasStepped}
@@ -115,10 +115,10 @@ module _ (c c' : CellView) (none : c.part.log ≡ []) (was : WasPolled c c') whe
   moves polls.Moved p calm zs next some below full empty = p.1
 
   -- what it logged
-  log_is : (step : HasStepped c c') → c'.part.log ≡ timed step.event (entry_of step.event) ∷ []
-  log_is step = ap (λ (p : PartView). p.log) step.part ∙ ap (λ l. l ++ timed step.event (entry_of step.event) ∷ []) none
+  log_is : (step : HasStepped c c') → c'.part.log ≡ timed step.event (entry_of_event step.event) ∷ []
+  log_is step = ap (λ (p : PartView). p.log) step.part ∙ ap (λ l. l ++ timed step.event (entry_of_event step.event) ∷ []) none
 
-  more_is : (step : HasStepped c c') → was.goes.more ≡ timed step.event (entry_of step.event) ∷ []
+  more_is : (step : HasStepped c c') → was.goes.more ≡ timed step.event (entry_of_event step.event) ∷ []
   more_is step = sym (was.goes.log ∙ ap (λ l. l ++ was.goes.more) none) ∙ log_is step
 
   made_by : (step : HasStepped c c') (dir : Dir) → step.event.dir ≡ dir → IsOwnLog (rules_of c.part.setup) c.part.role c.part.own (timed step.event (entry_by dir step.event) ∷ [])
@@ -204,7 +204,7 @@ module _ (c c' : CellView) (s : State) (e : Event) (none : c.part.log ≡ []) (w
   pub send_made : HasMade c c' ((net_for c.part.setup).sender e.point) ((net_for c.part.setup).receiver e.point)
   send_made = record {
     time = sent.event.stamp;
-    entry = entry_of sent.event;
+    entry = entry_of_event sent.event;
     log = log_is c c' none was sent;
     ends = inl (sym (sends_all e.point may_send.among), sent_ends sent sent.event.dir refl);
   }
@@ -284,7 +284,7 @@ module _ (c c' : CellView) (s : State) (e : Event) (none : c.part.log ≡ []) (w
   pub recv_made : HasMade c c' ((net_for c.part.setup).sender e.point) ((net_for c.part.setup).receiver e.point)
   recv_made = record {
     time = got.event.stamp;
-    entry = entry_of got.event;
+    entry = entry_of_event got.event;
     log = log_is c c' none was got;
     ends = inr (sym ((can.may.own.receives e.point can.may.among).0 ∙ can.role), got_ends got got.event.dir refl);
   }

@@ -14,7 +14,7 @@ use Rattle.rcv_model.proofs.Marks.{mark_here, mark_cases, mark_keeps}
 use Rattle.rcv_model.proofs.Walks.{lane_front}
 use Rattle.rcv_accept.proofs.Rows.{read_at}
 use Rattle.rcv_tables.specs.Line.{HasLine, line, IsLaneMarkedAt}
-use Rattle.rcv_tables.specs.Ahead.{IsAhead, offered_here, behind_one, Holds, IsEnd, AreEnds}
+use Rattle.rcv_tables.specs.Ahead.{IsAhead, offered_here, behind_one, HoldsRoles, IsEnd, AreEnds}
 use Rattle.rcv_tables.specs.Wanted.{IsWanted, HasSender}
 use Rattle.rcv_tables.specs.Sets.{has_at, IsExact, AreAll}
 use Rattle.rcv_tables.specs.Starts.{AreFirstMarks, IsOwnPoint}
@@ -94,7 +94,7 @@ all_at net rows bits row all le wanted is =
     subst (λ b. IsExact net b row.items) back (all.each (255 - bits) row (read_at rows (255 - bits) row (omega (arith, long)) is) (subst (IsWanted net) (sym back) wanted))
 
 -- the roles that are marked behind a start have points
-ends_behind : (net : Net) (bits p n : ℕ) → 1 ≤ n → n ≤ net.count → IsOf net p n → Holds bits (mark net (p ∷ []) n) → AreEnds net bits
+ends_behind : (net : Net) (bits p n : ℕ) → 1 ≤ n → n ≤ net.count → IsOf net p n → HoldsRoles bits (mark net (p ∷ []) n) → AreEnds net bits
 ends_behind net bits p n first last own holds r low t = go (mark_cases net (p ∷ []) n r ((holds r low).0 t))
   where
     go : IsIn r (p ∷ []) ⊎ ((r ≡ net.receiver n) × IsIn (net.sender n) (p ∷ [])) → IsEnd net net.count r
@@ -102,7 +102,7 @@ ends_behind net bits p n first last own holds r low t = go (mark_cases net (p �
     go (inr a) = (n, first, last, inr (sym a.0))
 
 -- and a start leads to their set
-pub wanted_behind : (net : Net) (bits p n : ℕ) → p < 8 → 1 ≤ n → n ≤ net.count → IsOf net p n → Holds bits (mark net (p ∷ []) n) → IsWanted net bits
+pub wanted_behind : (net : Net) (bits p n : ℕ) → p < 8 → 1 ≤ n → n ≤ net.count → IsOf net p n → HoldsRoles bits (mark net (p ∷ []) n) → IsWanted net bits
 wanted_behind net bits p n role first last own holds = record {
   ends = ends_behind net bits p n first last own holds;
   first = p;
@@ -118,7 +118,7 @@ wanted_behind net bits p n role first last own holds = record {
     go r (inr a) = ⊎_elim (λ e. inr (p, role, here, (n, first, last, e, sym a.0))) (λ none. absurd none) a.1
 
 -- what is first marked behind a point that the role sends, or receives
-module _ (net : Net) (bits p n : ℕ) (row : List PointSet) (old : List ℕ) (exact : IsExact net bits row) (holds : Holds bits (mark net (p ∷ []) n)) (low : n ≤ net.count) (read : (z : ℕ) → has_point old z ≡ has_at row n z) where
+module _ (net : Net) (bits p n : ℕ) (row : List PointSet) (old : List ℕ) (exact : IsExact net bits row) (holds : HoldsRoles bits (mark net (p ∷ []) n)) (low : n ≤ net.count) (read : (z : ℕ) → has_point old z ≡ has_at row n z) where
   pub marks_got : (net.sender n ≡ p → ⊥) → AreFirstMarks net p n old
   marks_got other z point = (
     λ t. inr ((exact.each (mark net (p ∷ []) n) holds n z low point).0 (sym (read z) ∙ t)),

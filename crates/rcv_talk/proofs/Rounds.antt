@@ -16,7 +16,7 @@ use Rattle.rcv_talk.specs.declared.answers.Next.TheVariants.{More, Ended}
 use Rattle.rcv_talk.specs.Answering.{AnswersHeld}
 use Rattle.rcv_talk.specs.Around.{Around}
 use Rattle.rcv_talk.specs.Dialogue.{GoOn, SaysEnd}
-use Rattle.rcv_talk.specs.Talking.{AnswersSome, Ends, FailsToRead, HasAnswered, HasEnded, HasFailed, HasRead, HasTalked, IsOver, IsRound, SinkIsCalm, Talks, TalksOn, TalksToLine, TalksToSourceEnd, Tells, TellsOn, WaitsForMore}
+use Rattle.rcv_talk.specs.Talking.{AnswersSome, Ends, FailsToRead, HasAnswered, HasEnded, HasFailed, HasRead, HasTalked, IsOver, IsExchange, SinkIsCalm, Talks, TalksOn, TalksToLine, TalksToSourceEnd, Tells, TellsOn, WaitsForMore}
 use Rattle.rcv_talk.proofs.Telling.{ends_behind, on_both, on_more, same_go_on, tells_both, tells_more, tells_none}
 use Rattle.std.proofs.lemmas.List.Elements.{All-append}
 
@@ -417,7 +417,7 @@ all_of old new bytes w w' f f' pipe all a on = record {
 }
 
 pub answers_then : (old new : SessionView) (bytes : List ℕ) (r r' : Option (List ℕ)) (g g' s s' : ℕ) (w w' : Option (List ℕ)) (f f' : ℕ) (pipe after : PipeView) (all : Bool) (result : Result ⊤ Status)
-    → (a : HasAnswered old bytes w w' f f' new pipe all) → all ≡ true → s ≤ s' → WaitsForMore a.rest r r' g g' s s' after result → IsRound old bytes (act r r' g g' s s' w w' f f') new after result
+    → (a : HasAnswered old bytes w w' f f' new pipe all) → all ≡ true → s ≤ s' → WaitsForMore a.rest r r' g g' s s' after result → IsExchange old bytes (act r r' g g' s s' w w' f f') new after result
 answers_then old new bytes r r' g g' s s' w w' f f' pipe after all (Ok _) a on later more =
     reads_on old new bytes r r' g g' s s' w w' f f' pipe (all_of old new bytes w w' f f' pipe all a on) after more
 answers_then old new bytes r r' g g' s s' w w' f f' pipe after all (Err status) a on later more =
@@ -425,6 +425,6 @@ answers_then old new bytes r r' g g' s s' w w' f f' pipe after all (Err status) 
 
 -- Answering ends it.
 pub answers_stop : (old new : SessionView) (bytes : List ℕ) (r : Option (List ℕ)) (g s : ℕ) (w w' : Option (List ℕ)) (f f' : ℕ) (pipe : PipeView) (status : Status) (result : Result ⊤ Status)
-    → result ≡ Err status → f ≤ f' → AnswersSome old bytes w w' f f' new pipe (Err status) → IsRound old bytes (act r r g g s s w w' f f') new pipe result
+    → result ≡ Err status → f ≤ f' → AnswersSome old bytes w w' f f' new pipe (Err status) → IsExchange old bytes (act r r g g s s w w' f f') new pipe result
 answers_stop old new bytes r g s w w' f f' pipe status result is later a =
-    subst (λ (x : Result ⊤ Status). IsRound old bytes (act r r g g s s w w' f f') new pipe x) (sym is) (answers_end old new bytes r g s w w' f f' pipe status later a)
+    subst (λ (x : Result ⊤ Status). IsExchange old bytes (act r r g g s s w w' f f') new pipe x) (sym is) (answers_end old new bytes r g s w w' f f' pipe status later a)

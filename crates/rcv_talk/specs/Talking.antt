@@ -186,6 +186,6 @@ pub record TalksOn (old : SessionView) (waiting : List ℕ) (call : Around) (new
   pub source : SourceIsCalm call
   pub sink : SinkIsCalm call output
 
-abbrev pub IsRound : SessionView → List ℕ → Around → SessionView → PipeView → Result ⊤ Status → Type 0
-IsRound old waiting call new pipe (Ok _) = TalksOn old waiting call new pipe
-IsRound old waiting call new pipe (Err status) = Talks old waiting call status
+abbrev pub IsExchange : SessionView → List ℕ → Around → SessionView → PipeView → Result ⊤ Status → Type 0
+IsExchange old waiting call new pipe (Ok _) = TalksOn old waiting call new pipe
+IsExchange old waiting call new pipe (Err status) = Talks old waiting call status

@@ -4,7 +4,7 @@ ghost use Rattle.std.specs.Prelude.{◌≤◌, ℕ, List};
 ghost use Rattle.rcv_pipe.specs.Feeds.{HasNoFeed};
 ghost use Rattle.rcv_pipe.specs.Pipe.{Waits};
 ghost use Rattle.rcv_talk.specs.Around.{around};
-ghost use Rattle.rcv_talk.specs.Talking.{Ends, AnswersSome, WaitsForMore, IsRound, Talks};
+ghost use Rattle.rcv_talk.specs.Talking.{Ends, AnswersSome, WaitsForMore, IsExchange, Talks};
 
 use crate::answers::{Next, answer_held};
 use crate::status::Status;
@@ -74,7 +74,7 @@ fn round<S: Source, K: Sink>(
     sink: &mut K,
 ) -> Result<(), Status>
     ensures says { (bytes : List ℕ) → Waits pipe.old bytes
-        → IsRound session.old bytes
+        → IsExchange session.old bytes
         (around S.rest S.given S.faults source.old source.new K.written K.faults sink.old sink.new)
         session.new pipe.new result }
 {

@@ -21,7 +21,7 @@ use Rattle.rcv_model.proofs.Roles.{set_keeps}
 use Rattle.rcv_model.proofs.Ways.{point_is_next, ends_declared}
 use Rattle.std.specs.List.{cons_option}
 use Rattle.std.proofs.lemmas.List.Elements.{filter_map-append}
-use Rattle.rcv_told.specs.Told.{Terms, Remembered, start, down_at, standpoint, IsSend, IsRecv, after_event, told_after, told_from, IsToldFrom}
+use Rattle.rcv_told.specs.Told.{Terms, Remembered, nothing_told, down_at, standpoint, IsSend, IsRecv, after_event, told_after, told_from, IsToldFrom}
 use Rattle.rcv_told.specs.Laws.{AreAccepted}
 use Rattle.rcv_told.proofs.Telling.{ForgotNothing, down_here, nothing_after, at_start, place_is}
 use Rattle.rcv_tightness.proofs.Turns.{IsTurn, AreInTurn, acts_in_turn, all_taken, turns_join}
@@ -46,7 +46,7 @@ module _ (terms : Terms) (known : AreAccepted terms) where
     pub up : (r : ℕ) → r < terms.roles → (numbers_at m.roles r).crashed ≡ false
     pub turns : AreInTurn terms.net u m.held
 
-  pub up_at_start : IsUp (start terms.roles) []
+  pub up_at_start : IsUp (nothing_told terms.roles) []
   up_at_start = record { nothing = at_start terms.roles; up = starts_up terms.roles; turns = tt }
 
   pub is_up : (m : Remembered) (u : List ℕ) (r : ℕ) → IsUp m u → r < terms.roles → down_at m r ≡ Some false

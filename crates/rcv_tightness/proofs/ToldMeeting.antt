@@ -15,10 +15,10 @@ use Rattle.rcv_model.specs.TableLaws.{IsForeseen}
 use Rattle.rcv_model.specs.Undo.{Kept, is_stopped, is_starved, keep_one, keep_from, keep_within, bound_of}
 use Rattle.rcv_model.proofs.Roles.{set_here}
 use Rattle.rcv_model.proofs.Scanning.{lose, hold}
-use Rattle.rcv_told.specs.Told.{Terms, Remembered, start, down_at, told, told_from, told_after, made, made_of, group_of, bound_at, HasFailed, IsTold, IsToldFrom}
+use Rattle.rcv_told.specs.Told.{Terms, Remembered, nothing_told, down_at, told, told_from, told_after, made, made_of, group_of, bound_at, HasFailed, IsTold, IsToldFrom}
 use Rattle.rcv_told.specs.Laws.{AreAccepted}
 use Rattle.rcv_told.proofs.Failing.{left_is, held_is, made_is, losers_restart_by_the_table}
-use Rattle.rcv_told.proofs.Telling.{ForgotNothing, down_here, nothing_after, Holds}
+use Rattle.rcv_told.proofs.Telling.{ForgotNothing, down_here, nothing_after, HoldsTold}
 use Rattle.rcv_tightness.specs.Met.{LosesFrom}
 use Rattle.rcv_tightness.specs.Laws.{MayFail, IsNextAfterKept}
 use Rattle.rcv_tightness.specs.Told.{with_failure, IsMetInTold, MayFailInTold}
@@ -59,18 +59,18 @@ module _ (terms : Terms) (p n q z : ℕ) (may : MayFailInTold terms p n) where
     walk : IsWalk terms.net 0 way
     walk = to_n.1 (rest_of terms.net p n q z r) (walk_of terms.net p n q z r)
 
-    t : Tells terms known (start terms.roles) [] way
-    t = tells terms known (start terms.roles) [] way (up_at_start terms known) walk
+    t : Tells terms known (nothing_told terms.roles) [] way
+    t = tells terms known (nothing_told terms.roles) [] way (up_at_start terms known) walk
 
     -- what is remembered before the crash, and after it
     abbrev before : Remembered
-    before = told_from terms (start terms.roles) t.entries
+    before = told_from terms (nothing_told terms.roles) t.entries
 
     abbrev down : Remembered
     down = told_after terms before (Crash p)
 
     is_down : told terms (t.entries ++ Crash p ∷ []) ≡ down
-    is_down = told_join terms (start terms.roles) t.entries (Crash p ∷ [])
+    is_down = told_join terms (nothing_told terms.roles) t.entries (Crash p ∷ [])
 
     g : GoesBack terms.net (group_of terms p) p n q z before.held
     g = goes_back terms.net terms.roles (group_of terms p) p n q z may_fail r to_n.0 before.held walk t.up.turns
@@ -81,7 +81,7 @@ module _ (terms : Terms) (p n q z : ℕ) (may : MayFailInTold terms p n) where
     nothing : ForgotNothing terms.roles down
     nothing = nothing_after terms before (Crash p) t.up.nothing
 
-    holds : Holds terms known down
+    holds : HoldsTold terms known down
     holds = record { nothing = nothing; run = (way, run) }
 
     abbrev set : RoleSet
@@ -110,11 +110,11 @@ module _ (terms : Terms) (p n q z : ℕ) (may : MayFailInTold terms p n) where
 
     are_told : IsTold terms (with_failure t.entries p set keeps takes)
     are_told =
-        are_told_join terms (start terms.roles) t.entries (Crash p ∷ (Recover p set keeps takes ∷ [])) t.are_told
+        are_told_join terms (nothing_told terms.roles) t.entries (Crash p ∷ (Recover p set keeps takes ∷ [])) t.are_told
         (is_up terms known before way p t.up declared, ((has_crashed, (g.has_saved, failed)), tt))
 
     recovered : told terms (with_failure t.entries p set keeps takes) ≡ told_after terms down (Recover p set keeps takes)
-    recovered = told_join terms (start terms.roles) t.entries (Crash p ∷ (Recover p set keeps takes ∷ []))
+    recovered = told_join terms (nothing_told terms.roles) t.entries (Crash p ∷ (Recover p set keeps takes ∷ []))
 
     next : IsNextAfterKept terms.net down.held (bound_of (group_of terms p) g.has_saved down.held) q z
     next = (first_undone_is_next terms.net down.held (bound_of (group_of terms p) g.has_saved down.held) q z run.queued).0 g.back
@@ -162,13 +162,13 @@ module _ (terms : Terms) (p n q z : ℕ) (may : MayFailInTold terms p n) where
 
       are_front : IsTold terms (met.entries ++ Crash p ∷ [])
       are_front =
-          are_told_front terms (start terms.roles) (met.entries ++ Crash p ∷ []) (Recover p met.concerned met.kept met.undone ∷ [])
+          are_told_front terms (nothing_told terms.roles) (met.entries ++ Crash p ∷ []) (Recover p met.concerned met.kept met.undone ∷ [])
           (subst (IsTold terms) (sym whole) met.are_told)
 
       last : told terms (with_failure met.entries p met.concerned met.kept met.undone) ≡ told_after terms (told terms (met.entries ++ Crash p ∷ []))
           (Recover p met.concerned met.kept met.undone)
       last = ap (told terms) (sym whole)
-          ∙ told_join terms (start terms.roles) (met.entries ++ Crash p ∷ []) (Recover p met.concerned met.kept met.undone ∷ [])
+          ∙ told_join terms (nothing_told terms.roles) (met.entries ++ Crash p ∷ []) (Recover p met.concerned met.kept met.undone ∷ [])
 
       foreseen_ : IsForeseen terms.net (group_of terms p) met.saved (told terms (met.entries ++ Crash p ∷ [])).held q met.own.point
       foreseen_ =

@@ -21,7 +21,7 @@ use Rattle.rcv_model.proofs.NextLists.{in_filter, of_filter, in_range, from_in}
 use Rattle.rcv_model.proofs.Scanning.{among, is_member, acts_same}
 use Rattle.rcv_told.specs.Told.{Terms, Remembered, roles_in, group_of, held_of, bound_at, left_at, made, made_of, IsConcernedWhere, HasFailed, told, told_after}
 use Rattle.rcv_told.specs.Laws.{AreAccepted, LeavesLatestCut, FailuresLeaveTheLatestCut, BystandersKeepAll, LosersRestartByTheTable}
-use Rattle.rcv_told.proofs.Telling.{ForgotNothing, Holds, holds_after}
+use Rattle.rcv_told.proofs.Telling.{ForgotNothing, HoldsTold, holds_after}
 use Rattle.rcv_told.proofs.Cutting.{same_cut}
 use Rattle.rcv_told.proofs.LatestCuts.{latest_cut}
 
@@ -76,7 +76,7 @@ no_acts net roles h q proper run le = ⊎_elim some (λ few. omega (arith, few))
         w.own)
 
 -- a failure of p
-module _ (terms : Terms) (known : AreAccepted terms) (m : Remembered) (holds : Holds terms known m) (p : ℕ) (saved : ℕ → ℕ)
+module _ (terms : Terms) (known : AreAccepted terms) (m : Remembered) (holds : HoldsTold terms known m) (p : ℕ) (saved : ℕ → ℕ)
     (concerned : RoleSet) (kept : List ℕ) (undone : ℕ) (failed : HasFailed terms m p saved concerned kept undone) where
   abbrev pub left : List Event
   left = left_at terms.net m (group_of terms p) saved

@@ -23,10 +23,10 @@ use Rattle.rcv_model.proofs.NextLists.{lists_exist}
 use Rattle.rcv_model.proofs.Recovering.{listed as concerned_listed}
 use Rattle.rcv_model.proofs.Roles.{place_is, set_here, set_else, set_keeps, mapped_alike, mapped_keeps, greatest_same}
 use Rattle.rcv_model.proofs.Scanning.{among}
-use Rattle.rcv_told.specs.Told.{Terms, Remembered, start, state_of, down_at, roles_in, group_of, held_of, left_at, MayBeTold, IsToldFrom, after_crash, told_after, told_from, told, made_of, IsConcernedWhere}
+use Rattle.rcv_told.specs.Told.{Terms, Remembered, nothing_told, state_of, down_at, roles_in, group_of, held_of, left_at, MayBeTold, IsToldFrom, after_crash, told_after, told_from, told, made_of, IsConcernedWhere}
 use Rattle.rcv_told.specs.Hindsight.{IsBySteps, FailsBySteps, FailBySteps}
 use Rattle.rcv_told.specs.Laws.{AreAccepted, ToldJournalsAreLegal}
-use Rattle.rcv_told.proofs.Telling.{Holds, holds_first, holds_one, down_there, declared, next_at, all_sent, all_received}
+use Rattle.rcv_told.proofs.Telling.{HoldsTold, holds_first, holds_one, down_there, declared, next_at, all_sent, all_received}
 use Rattle.rcv_told.proofs.Failing.{held_is, made_is, left_is, listed_of, of_listed}
 use Rattle.rcv_told.proofs.ReadOff.{sent_at, crashes_at, IsAhead, was_ahead, not_told_at, told_at, line_reached, inside, raw_grows, raw_from, lines_above}
 
@@ -81,7 +81,7 @@ module _ (terms : Terms) (known : AreAccepted terms) (every : ℕ → ℕ) (limi
   -- a role that tells something has no crash before it
   not_due : (m m' : Remembered) (es : List Entry) (r : ℕ)
       → reached (numbers_at m.roles r).raw (lines r) ≡ (numbers_at m.roles r).crashes + reached (numbers_at m.roles r).raw (coming m' es r)
-      → Holds terms known m' → IsToldFrom terms m' es → (numbers_at m.roles r).raw < (numbers_at m'.roles r).raw
+      → HoldsTold terms known m' → IsToldFrom terms m' es → (numbers_at m.roles r).raw < (numbers_at m'.roles r).raw
       → IsDue rules (state_of m) r → ⊥
   not_due m m' es r count holds are lt due =
       let none = lines_above terms known m' es r (numbers_at m.roles r).raw holds are lt in
@@ -91,7 +91,7 @@ module _ (terms : Terms) (known : AreAccepted terms) (every : ℕ → ℕ) (limi
   -- so it may make a step
   free : (m : Remembered) (e : Event) (es : List Entry) (entry : Entry)
       → (told_after terms m entry).roles ≡ slice_set m.roles e.role (advanced (numbers_at m.roles e.role) e.stamp)
-      → Holds terms known m → MayBeTold terms m entry → IsToldFrom terms (told_after terms m entry) es
+      → HoldsTold terms known m → MayBeTold terms m entry → IsToldFrom terms (told_after terms m entry) es
       → down_at m e.role ≡ Some false
       → reached (numbers_at m.roles e.role).raw (lines e.role)
       ≡ (numbers_at m.roles e.role).crashes + reached (numbers_at m.roles e.role).raw (coming (told_after terms m entry) es e.role)
@@ -121,7 +121,7 @@ module _ (terms : Terms) (known : AreAccepted terms) (every : ℕ → ℕ) (limi
       ∙ ap (λ b. cond b (Some e) (sent_at terms (told_after terms m (Send e)) es e.role (length (acts e.role m.held)) (numbers_at m.roles e.role).attempt))
       (told_at m e)
 
-  may_send : (m : Remembered) (e : Event) (es : List Entry) → Holds terms known m → Foretells m (Send e ∷ es)
+  may_send : (m : Remembered) (e : Event) (es : List Entry) → HoldsTold terms known m → Foretells m (Send e ∷ es)
       → IsToldFrom terms m (Send e ∷ es) → May rules (state_of m) (Send e)
   may_send m e es holds ahead are =
       let may = are.0 in
@@ -143,7 +143,7 @@ module _ (terms : Terms) (known : AreAccepted terms) (every : ℕ → ℕ) (limi
         sent = may.sent;
       }
 
-  may_recv : (m : Remembered) (e : Event) (es : List Entry) → Holds terms known m → Foretells m (Recv e ∷ es)
+  may_recv : (m : Remembered) (e : Event) (es : List Entry) → HoldsTold terms known m → Foretells m (Recv e ∷ es)
       → IsToldFrom terms m (Recv e ∷ es) → May rules (state_of m) (Recv e)
   may_recv m e es holds ahead are =
       let may = are.0 in
@@ -168,7 +168,7 @@ module _ (terms : Terms) (known : AreAccepted terms) (every : ℕ → ℕ) (limi
         front = may.front;
       }
 
-  may_crash : (m : Remembered) (p : ℕ) (es : List Entry) → Holds terms known m → Foretells m (Crash p ∷ es)
+  may_crash : (m : Remembered) (p : ℕ) (es : List Entry) → HoldsTold terms known m → Foretells m (Crash p ∷ es)
       → IsToldFrom terms m (Crash p ∷ es) → May rules (state_of m) (Crash p)
   may_crash m p es holds ahead are = (declared terms known m p holds.nothing are.0, ((down_there m.roles p false are.0).1, due))
     where
@@ -185,7 +185,7 @@ module _ (terms : Terms) (known : AreAccepted terms) (every : ℕ → ℕ) (limi
       due = let count = ahead.crashed p (numbers_at m.roles p).raw (omega arith) in omega (arith, count, line)
 
   -- a failure by steps
-  module _ (m : Remembered) (holds : Holds terms known m) (p : ℕ) (concerned : RoleSet) (kept : List ℕ) (undone : ℕ)
+  module _ (m : Remembered) (holds : HoldsTold terms known m) (p : ℕ) (concerned : RoleSet) (kept : List ℕ) (undone : ℕ)
       (steps : IsBySteps terms every m p concerned kept undone) where
     abbrev left : List Event
     left = left_at terms.net m (group_of terms p) steps.saved
@@ -274,7 +274,7 @@ module _ (terms : Terms) (known : AreAccepted terms) (every : ℕ → ℕ) (limi
             ∙ ap (λ b. at_clock (cond b (greatest (is_listed (roles_in concerned)) 0 m.roles + 1) n.clock) (0 + i) n) (alike (0 + i) (few i lt))
 
   -- the next entry may come
-  may_come : (m : Remembered) (e : Entry) (es : List Entry) → Holds terms known m → Foretells m (e ∷ es)
+  may_come : (m : Remembered) (e : Entry) (es : List Entry) → HoldsTold terms known m → Foretells m (e ∷ es)
       → IsToldFrom terms m (e ∷ es) → FailsBySteps terms every m e → May rules (state_of m) e
   may_come m (Send e) es holds ahead are steps = may_send m e es holds ahead are
   may_come m (Recv e) es holds ahead are steps = may_recv m e es holds ahead are
@@ -282,7 +282,7 @@ module _ (terms : Terms) (known : AreAccepted terms) (every : ℕ → ℕ) (limi
   may_come m (Recover p concerned kept undone) es holds ahead are steps = may_recover m holds p concerned kept undone steps are.0.0
 
   -- and leaves what it leaves of what was told
-  after_is : (m : Remembered) (e : Entry) → Holds terms known m → FailsBySteps terms every m e
+  after_is : (m : Remembered) (e : Entry) → HoldsTold terms known m → FailsBySteps terms every m e
       → after rules (state_of m) e ≡ state_of (told_after terms m e)
   after_is m (Send e) holds steps = refl
   after_is m (Recv e) holds steps = refl
@@ -293,7 +293,7 @@ module _ (terms : Terms) (known : AreAccepted terms) (every : ℕ → ℕ) (limi
   lines_left : (m : Remembered) (e : Event) (entry : Entry) (es : List Entry)
       → (told_after terms m entry).roles ≡ slice_set m.roles e.role (advanced (numbers_at m.roles e.role) e.stamp)
       → ((r : ℕ) → coming m (entry ∷ es) r ≡ coming (told_after terms m entry) es r)
-      → Holds terms known m → MayBeTold terms m entry → Foretells m (entry ∷ es) → (r x : ℕ) → (numbers_at (told_after terms m entry).roles r).raw ≤ x
+      → HoldsTold terms known m → MayBeTold terms m entry → Foretells m (entry ∷ es) → (r x : ℕ) → (numbers_at (told_after terms m entry).roles r).raw ≤ x
       → reached x (lines r) ≡ (numbers_at (told_after terms m entry).roles r).crashes + reached x (coming (told_after terms m entry) es r)
   lines_left m e entry es set same holds may ahead r x le =
       let up = raw_grows terms known m entry r holds may in
@@ -304,7 +304,7 @@ module _ (terms : Terms) (known : AreAccepted terms) (every : ℕ → ℕ) (limi
       omega (arith, count, crashes, ap (reached x) (same r))
 
   -- what is to be told later
-  foretells_on : (m : Remembered) (e : Entry) (es : List Entry) → Holds terms known m → MayBeTold terms m e
+  foretells_on : (m : Remembered) (e : Entry) (es : List Entry) → HoldsTold terms known m → MayBeTold terms m e
       → Foretells m (e ∷ es) → Foretells (told_after terms m e) es
   foretells_on m (Send e) es holds may ahead = record {
     sends = λ r n a lt x.
@@ -357,7 +357,7 @@ module _ (terms : Terms) (known : AreAccepted terms) (every : ℕ → ℕ) (limi
     low = ahead.low;
   }
 
-  legal_from : (m : Remembered) (es : List Entry) → Holds terms known m → Foretells m es → IsToldFrom terms m es
+  legal_from : (m : Remembered) (es : List Entry) → HoldsTold terms known m → Foretells m es → IsToldFrom terms m es
       → FailBySteps terms every m es → IsLegalFrom rules (state_of m) es
   legal_from m [] holds ahead are steps = tt
   legal_from m (e ∷ es) holds ahead are steps =
@@ -368,7 +368,7 @@ module _ (terms : Terms) (known : AreAccepted terms) (every : ℕ → ℕ) (limi
         subst (λ s. IsLegalFrom rules s es) (sym (after_is m e holds steps.0)) ih,
       )
 
-  same_from : (m : Remembered) (front back : List Entry) → Holds terms known m → IsToldFrom terms m (front ++ back)
+  same_from : (m : Remembered) (front back : List Entry) → HoldsTold terms known m → IsToldFrom terms m (front ++ back)
       → FailBySteps terms every m (front ++ back)
       → reading_from rules (state_of m) front ≡ state_of (told_from terms m front)
   same_from m [] back holds are steps = refl
@@ -378,12 +378,12 @@ module _ (terms : Terms) (known : AreAccepted terms) (every : ℕ → ℕ) (limi
 
 -- what is read off what was told from the start
 abbrev found_in : Terms → List Entry → ℕ → ℕ → ℕ → Option Event
-found_in terms entries = sent_at terms (start terms.roles) entries
+found_in terms entries = sent_at terms (nothing_told terms.roles) entries
 
 abbrev lines_in : Terms → List Entry → ℕ → List ℕ
-lines_in terms entries = crashes_at terms (start terms.roles) entries
+lines_in terms entries = crashes_at terms (nothing_told terms.roles) entries
 
-no_crashes : (roles r : ℕ) → (numbers_at (start roles).roles r).crashes ≡ 0
+no_crashes : (roles r : ℕ) → (numbers_at (nothing_told roles).roles r).crashes ≡ 0
 no_crashes roles r = ⊎_elim
     (λ lt. ap (λ (x : Numbers). x.crashes) (get_or-replicate roles r fresh nobody lt))
     (λ le. ap (λ (x : Numbers). x.crashes) (get_or_past (replicate roles fresh) r nobody (subst (λ l. l ≤ r) (sym (length-replicate roles fresh)) le)))
@@ -391,7 +391,7 @@ no_crashes roles r = ⊎_elim
 
 foretold : (terms : Terms) (known : AreAccepted terms) (every : ℕ → ℕ) (limit : ℕ) (entries : List Entry)
     → ((r : ℕ) → (numbers_at (told terms entries).roles r).raw ≤ limit)
-    → Foretells terms known every limit (found_in terms entries) (lines_in terms entries) (start terms.roles) entries
+    → Foretells terms known every limit (found_in terms entries) (lines_in terms entries) (nothing_told terms.roles) entries
 foretold terms known every limit entries low = record {
   sends = λ r n a lt x. refl;
   crashed = λ r x le. omega (arith, no_crashes terms.roles r);
@@ -410,9 +410,9 @@ told_journals_are_legal terms every limit entries known are steps low =
       limit_is = refl;
       legal =
           let ahead = foretold terms known every limit entries low in
-          legal_from terms known every limit (found_in terms entries) (lines_in terms entries) (start terms.roles) entries
+          legal_from terms known every limit (found_in terms entries) (lines_in terms entries) (nothing_told terms.roles) entries
           holds ahead are steps;
       same = λ front back f.
-          same_from terms known every limit (found_in terms entries) (lines_in terms entries) (start terms.roles) front back holds
-          (subst (IsToldFrom terms (start terms.roles)) (sym f) are) (subst (FailBySteps terms every (start terms.roles)) (sym f) steps);
+          same_from terms known every limit (found_in terms entries) (lines_in terms entries) (nothing_told terms.roles) front back holds
+          (subst (IsToldFrom terms (nothing_told terms.roles)) (sym f) are) (subst (FailBySteps terms every (nothing_told terms.roles)) (sym f) steps);
     }

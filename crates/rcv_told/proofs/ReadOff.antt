@@ -16,7 +16,7 @@ use Rattle.rcv_model.proofs.Parts.{acts_own}
 use Rattle.rcv_model.proofs.Roles.{set_here, set_else, set_keeps, mapped_at, mapped_keeps}
 use Rattle.rcv_told.specs.Told.{Terms, Remembered, state_of, roles_in, group_of, left_at, MayBeTold, IsToldFrom, after_event, told_after, told_from}
 use Rattle.rcv_told.specs.Laws.{AreAccepted}
-use Rattle.rcv_told.proofs.Telling.{Holds, holds_one, declared}
+use Rattle.rcv_told.proofs.Telling.{HoldsTold, holds_one, declared}
 
 -- the event is the one that role r tells in its attempt a where it has n events
 abbrev pub is_told_at : Remembered → Event → ℕ → ℕ → ℕ → Bool
@@ -144,11 +144,11 @@ line_above x y xs lt =
 
 module _ (terms : Terms) (known : AreAccepted terms) where
   -- a role that tells has numbers
-  pub inside : (m : Remembered) (r : ℕ) → Holds terms known m → r < terms.roles → r < length m.roles
+  pub inside : (m : Remembered) (r : ℕ) → HoldsTold terms known m → r < terms.roles → r < length m.roles
   inside m r holds lt = subst (λ n. r < n) (sym holds.nothing.numbers) lt
 
   -- raw counts never fall
-  pub raw_grows : (m : Remembered) (e : Entry) (r : ℕ) → Holds terms known m → MayBeTold terms m e
+  pub raw_grows : (m : Remembered) (e : Entry) (r : ℕ) → HoldsTold terms known m → MayBeTold terms m e
       → (numbers_at m.roles r).raw ≤ (numbers_at (told_after terms m e).roles r).raw
   raw_grows m (Send e) r holds may = raw_more m.roles e.role r e.stamp (inside m e.role holds (declared terms known m e.role holds.nothing may.up))
   raw_grows m (Recv e) r holds may = raw_more m.roles e.role r e.stamp (inside m e.role holds (declared terms known m e.role holds.nothing may.up))
@@ -157,7 +157,7 @@ module _ (terms : Terms) (known : AreAccepted terms) where
       let left = left_at terms.net m (roles_in concerned) (slice_index kept) in
       omega (arith, mapped_keeps (λ (x : Numbers). x.raw) (numbers_behind (state_of m) (group_of terms p) (roles_in concerned) left) (λ i x. refl) 0 r m.roles)
 
-  pub raw_from : (m : Remembered) (es : List Entry) (r : ℕ) → Holds terms known m → IsToldFrom terms m es
+  pub raw_from : (m : Remembered) (es : List Entry) (r : ℕ) → HoldsTold terms known m → IsToldFrom terms m es
       → (numbers_at m.roles r).raw ≤ (numbers_at (told_from terms m es).roles r).raw
   raw_from m [] r holds are = omega arith
   raw_from m (e ∷ es) r holds are =
@@ -166,7 +166,7 @@ module _ (terms : Terms) (known : AreAccepted terms) where
       omega (arith, here', ih)
 
   -- crash lines that are still to come are at the raw count or above
-  pub lines_above : (m : Remembered) (es : List Entry) (r x : ℕ) → Holds terms known m → IsToldFrom terms m es → x < (numbers_at m.roles r).raw
+  pub lines_above : (m : Remembered) (es : List Entry) (r x : ℕ) → HoldsTold terms known m → IsToldFrom terms m es → x < (numbers_at m.roles r).raw
       → count_by (λ n. nat_le n x) (crashes_at terms m es r) ≡ 0
   lines_above m [] r x holds are lt = refl
   lines_above m (Send e ∷ es) r x holds are lt =

@@ -18,7 +18,7 @@ use Rattle.rcv_model.proofs.Parts.{cut}
 use Rattle.rcv_model.proofs.Roles.{length_mapped}
 use Rattle.rcv_model.proofs.Steps.{recv_keeps, send_keeps}
 use Rattle.rcv_model.proofs.Ways.{stands}
-use Rattle.rcv_told.specs.Told.{Terms, Remembered, start, state_of, down_of, place, standpoint, IsSend, IsRecv, MayBeTold, roles_in, bound_at, left_at, group_of, told_after, told_from, told, IsToldFrom, IsTold}
+use Rattle.rcv_told.specs.Told.{Terms, Remembered, nothing_told, state_of, down_of, place, standpoint, IsSend, IsRecv, MayBeTold, roles_in, bound_at, left_at, group_of, told_after, told_from, told, IsToldFrom, IsTold}
 use Rattle.rcv_told.specs.Laws.{AreAccepted, ToldEventsKeepRuns}
 
 -- whether a role is down is known of those that have numbers
@@ -43,7 +43,7 @@ none_at n r = ⊎_elim
     (λ le. get_or_past (replicate n 0) r 0 (subst (λ l. l ≤ r) (sym (length-replicate n 0)) le))
     (cases_lt r n)
 
-pub at_start : (roles : ℕ) → ForgotNothing roles (start roles)
+pub at_start : (roles : ℕ) → ForgotNothing roles (nothing_told roles)
 at_start roles = record { seeds = none_at roles; forgotten = none_at roles; points = none_at roles; numbers = length-replicate _ _ }
 
 module _ (terms : Terms) where
@@ -123,15 +123,15 @@ module _ (terms : Terms) (known : AreAccepted terms) where
       (run.0, keep_is_run terms.net (bound_at m (roles_in concerned) (slice_index kept)) run.0 m.held run.1)
 
   -- what holds after each thing that is told
-  pub record Holds (m : Remembered) : Type 0 where
+  pub record HoldsTold (m : Remembered) : Type 0 where
     pub nothing : ForgotNothing terms.roles m
     pub run : IsRun terms.net m.held
 
-  pub holds_one : (m : Remembered) (e : Entry) → Holds m → MayBeTold terms m e → Holds (told_after terms m e)
+  pub holds_one : (m : Remembered) (e : Entry) → HoldsTold m → MayBeTold terms m e → HoldsTold (told_after terms m e)
   holds_one m e holds may = record { nothing = nothing_after terms m e holds.nothing; run = told_keeps m e holds.nothing holds.run may }
 
-  pub holds_from : (m : Remembered) (front back entries : List Entry) → Holds m → IsToldFrom terms m entries → front ++ back ≡ entries
-      → Holds (told_from terms m front)
+  pub holds_from : (m : Remembered) (front back entries : List Entry) → HoldsTold m → IsToldFrom terms m entries → front ++ back ≡ entries
+      → HoldsTold (told_from terms m front)
   holds_from m [] back entries holds are f = holds
   holds_from m (e ∷ front) back [] holds are f = absurd (cc)
   holds_from m (e ∷ front) back (d ∷ entries) holds are f =
@@ -141,17 +141,17 @@ module _ (terms : Terms) (known : AreAccepted terms) where
       let later : IsToldFrom terms (told_after terms m e) entries = subst (λ x. IsToldFrom terms (told_after terms m x) entries) g are.1 in
       holds_from (told_after terms m e) front back entries (holds_one m e holds may) later rest
 
-  pub holds_first : Holds (start terms.roles)
+  pub holds_first : HoldsTold (nothing_told terms.roles)
   holds_first = record {
     nothing = at_start terms.roles;
     run = ([], record { walk = tt; parts = λ r. (_, refl); queued = queued_nil terms.net });
   }
 
-  pub holds_within : (entries front back : List Entry) → IsTold terms entries → front ++ back ≡ entries → Holds (told terms front)
+  pub holds_within : (entries front back : List Entry) → IsTold terms entries → front ++ back ≡ entries → HoldsTold (told terms front)
   holds_within entries front back are f =
-      holds_from (start terms.roles) front back entries holds_first are f
+      holds_from (nothing_told terms.roles) front back entries holds_first are f
 
-  pub holds_after : (entries : List Entry) → IsTold terms entries → Holds (told terms entries)
+  pub holds_after : (entries : List Entry) → IsTold terms entries → HoldsTold (told terms entries)
   holds_after entries are = holds_within entries entries [] are (append-nil entries)
 
 -- told events keep runs

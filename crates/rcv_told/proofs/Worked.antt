@@ -15,7 +15,7 @@ use Rattle.rcv_model.proofs.Journals.{below_8}
 use Rattle.rcv_model.proofs.Ping.{ping_proper, ping_accepted, begin, middle, next_at}
 use Rattle.rcv_model.proofs.Roles.{up, down}
 use Rattle.rcv_model.proofs.Scanning.{among, is_member}
-use Rattle.rcv_told.specs.Told.{Terms, Remembered, start, told, held_of, made, made_of, left_at, IsConcernedWhere, HasFailed, MayBeTold, IsTold}
+use Rattle.rcv_told.specs.Told.{Terms, Remembered, nothing_told, told, held_of, made, made_of, left_at, IsConcernedWhere, HasFailed, MayBeTold, IsTold}
 use Rattle.rcv_told.specs.Hindsight.{FailBySteps, IsLegalInHindsight}
 use Rattle.rcv_told.specs.Laws.{AreAccepted}
 use Rattle.rcv_told.proofs.Telling.{none_at}
@@ -109,7 +109,7 @@ second_point : (r : ℕ) → r < 2 → IsNext terms.net r 1 2
 second_point r lt = next_at r 1 lt middle (λ e. omega (arith, e))
 
 -- all of it may be told
-may_send : MayBeTold terms (start 2) (send 0 1 1)
+may_send : MayBeTold terms (nothing_told 2) (send 0 1 1)
 may_send = record { up = refl; next = first_point 0 (omega arith); sends = refl; is_send = refl; stamp = refl; sent = refl }
 
 may_receive : MayBeTold terms (told terms (send 0 1 1 ∷ [])) (recv 1 1 2 1)
@@ -128,7 +128,7 @@ told_with_none : IsTold terms with_none
 told_with_none = (may_send, (may_receive, (may_answer, (refl, ((refl, (λ q. 0, fails_with_none)), (may_again, tt))))))
 
 -- where each role saves a state each hundred events, role 1 has saved none: so that is a legal journal in hindsight
-by_hundred : FailBySteps terms (λ r. 100) (start 2) with_none
+by_hundred : FailBySteps terms (λ r. 100) (nothing_told 2) with_none
 by_hundred = (tt, (tt, (tt, (tt, (record { byte = omega arith; saved = λ q. 0; multiple = multiple; failed = fails_with_none }, (tt, tt))))))
   where
     multiple : (q : ℕ) → is_listed (1 ∷ []) q ≡ true → 0 ≡ made before q / 100 * 100

@@ -11,7 +11,7 @@ use Rattle.rcv_model.specs.Journal.{numbers_at}
 use Rattle.rcv_model.specs.Next.{IsAccepted, IsProper}
 use Rattle.rcv_model.specs.TableLaws.{IsForeseen}
 use Rattle.rcv_model.specs.Undo.{IsLatestCut, IsUndoing, picked}
-use Rattle.rcv_told.specs.Told.{Terms, Remembered, start, told, told_after, told_from, made, group_of, bound_at, HasFailed, MayBeTold, IsTold, IsToldFrom}
+use Rattle.rcv_told.specs.Told.{Terms, Remembered, nothing_told, told, told_after, told_from, made, group_of, bound_at, HasFailed, MayBeTold, IsTold, IsToldFrom}
 use Rattle.rcv_told.specs.Hindsight.{FailBySteps, IsLegalInHindsight}
 use Rattle.rcv_told.specs.Forgetting.{IsShorter, MayBeToldAbove, AreToldAbove}
 
@@ -82,5 +82,5 @@ ForgettingAddsUp =
 abbrev pub ToldJournalsAreLegal : Type 0
 ToldJournalsAreLegal =
     (terms : Terms) (every : ℕ → ℕ) (limit : ℕ) (entries : List Entry) → AreAccepted terms → IsTold terms entries
-    → FailBySteps terms every (start terms.roles) entries → ((r : ℕ) → (numbers_at (told terms entries).roles r).raw ≤ limit)
+    → FailBySteps terms every (nothing_told terms.roles) entries → ((r : ℕ) → (numbers_at (told terms entries).roles r).raw ≤ limit)
     → IsLegalInHindsight terms every limit entries

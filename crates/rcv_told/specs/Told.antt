@@ -39,8 +39,8 @@ pub record Remembered : Type 0 where
   pub roles : List Numbers
 
 -- Before the first event.
-abbrev pub start : ℕ → Remembered
-start roles =
+abbrev pub nothing_told : ℕ → Remembered
+nothing_told roles =
     record {
       held = [];
       seeds = replicate roles 0;
@@ -183,7 +183,7 @@ told_from terms m (e ∷ told) = told_from terms (told_after terms m e) told
 
 -- If nothing is ever forgotten, from the start on.
 abbrev pub told : Terms → List Entry → Remembered
-told terms entries = told_from terms (start terms.roles) entries
+told terms entries = told_from terms (nothing_told terms.roles) entries
 
 -- Each of these may be told after those before it.
 abbrev pub IsToldFrom : Terms → Remembered → List Entry → Type 0
@@ -191,4 +191,4 @@ IsToldFrom terms m [] = Unit {0}
 IsToldFrom terms m (e ∷ entries) = MayBeTold terms m e × IsToldFrom terms (told_after terms m e) entries
 
 abbrev pub IsTold : Terms → List Entry → Type 0
-IsTold terms entries = IsToldFrom terms (start terms.roles) entries
+IsTold terms entries = IsToldFrom terms (nothing_told terms.roles) entries

@@ -5,14 +5,14 @@ use Rattle.rcv_input.specs.Input.{IsTaken}
 use Rattle.rcv_words.specs.Commands.{CommandView, Run, RunMany}
 use Rattle.rcv_top.specs.declared.status.Status.{Status}
 use Rattle.rcv_top.specs.Commands.{text_for}
-use Rattle.rcv_top.specs.Running.{IsRunOf}
+use Rattle.rcv_top.specs.Running.{IsSessionRun}
 use Rattle.rcv_top.specs.Many.{AreWritten, IsRunOfMany}
 use Rattle.rcv_top.specs.Outcome.{IsAnswer, usage, too_long, answered, refused, made, replayed}
 use Rattle.rcv_top.specs.Laws.{HasEnded, OutcomesAreRuns, OutcomesAreManyRuns}
 use Rattle.rcv_top.proofs.Asking.{one_command}
 
 run_of : (workers : ℕ) (json : Bool) (input : List ℕ) (status : Status) (bytes : List ℕ) → HasEnded status → IsAnswer (Run workers json) input status bytes
-    → (session : SessionView) × IsTaken input session × IsRunOf workers json session status bytes
+    → (session : SessionView) × IsTaken input session × IsSessionRun workers json session status bytes
 run_of workers json input status bytes ended (refused whole refusal first) = absurd (⊎_elim (λ e. cc) (λ e. cc) ended)
 run_of workers json input status bytes ended (made session taken makes) = (session, taken, makes)
 run_of workers json input status bytes ended (replayed is answer) = absurd cc

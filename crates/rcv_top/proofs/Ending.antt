@@ -21,7 +21,7 @@ use Rattle.rcv_journal.proofs.LinesExist.{lines_from, are_lines}
 use Rattle.rcv_top.specs.declared.status.Status.TheVariants.{Completed, Limited}
 use Rattle.rcv_top.specs.declared.status.Status.{Status}
 use Rattle.rcv_journal.specs.Json.{json_text}
-use Rattle.rcv_top.specs.Running.{CanRun, IsJournalOf, EndsAs, all_done, at_limit, IsRunOf}
+use Rattle.rcv_top.specs.Running.{CanRun, IsJournalOf, EndsAs, all_done, at_limit, IsSessionRun}
 use Rattle.rcv_jobs.specs.Texts.{IsWritten}
 use Rattle.rcv_top.specs.Generating.{kept_in, IsSummaryRun}
 use Rattle.rcv_gen.specs.Summary.{summary_text}
@@ -88,7 +88,7 @@ journal_of : (session : SessionView) (can : CanRun session) (end : IsEnd session
 journal_of session can end = journals_are_legal session end.journal can end.legal end.final
 
 -- what one thread makes of it
-pub run_exists : (json : Bool) (session : SessionView) → CanRun session → (status : Status) × (bytes : List ℕ) × IsRunOf 1 json session status bytes
+pub run_exists : (json : Bool) (session : SessionView) → CanRun session → (status : Status) × (bytes : List ℕ) × IsSessionRun 1 json session status bytes
 run_exists json session can =
     let end = end_by session can in
     let bytes = written json session end.journal end.lines end.are_lines in (

@@ -38,7 +38,7 @@ use Rattle.rcv_top.specs.Commands.{AskForSeveral, AskForSource}
 use Rattle.rcv_top.specs.Generating.{IsSummaryRun}
 use Rattle.rcv_top.specs.Lining.{line_text, IsLineRun}
 use Rattle.rcv_top.specs.Laws.{HasOutcome}
-use Rattle.rcv_top.specs.Running.{IsRunOf}
+use Rattle.rcv_top.specs.Running.{IsSessionRun}
 use Rattle.rcv_top.specs.Recovering.{IsTableText, accepted_as}
 use Rattle.rcv_top.specs.Headline.{IsHeadline}
 use Rattle.rcv_top.specs.Outcome.{most_bytes, IsOutcome, answered, made}
@@ -133,21 +133,21 @@ printable : IsPrintable protocol
 printable = read_is_printable input (parts_of input).protocol tokens protocol [] cut is_read
 
 -- its session comes to an end, and its journal is what the headline says
-ended : (status : Status) × (bytes : List ℕ) × IsRunOf 1 false session status bytes
+ended : (status : Status) × (bytes : List ℕ) × IsSessionRun 1 false session status bytes
 ended = sessions_end false input session taken
 
 headline : IsHeadline (rules_of session) ended.2.journal
 headline = ended.2.is_journal.headline
 
 -- so it is where the first role crashes, and both fail
-crashed : (status : Status) × (bytes : List ℕ) × IsRunOf 1 false planned.session status bytes
+crashed : (status : Status) × (bytes : List ℕ) × IsSessionRun 1 false planned.session status bytes
 crashed = sessions_end false planned.input planned.session planned.is_taken
 
 headline_of_crashes : IsHeadline (rules_of planned.session) crashed.2.journal
 headline_of_crashes = crashed.2.is_journal.headline
 
 -- it may be written as JSON, in one way
-in_json : (status : Status) × (bytes : List ℕ) × IsRunOf 1 true session status bytes
+in_json : (status : Status) × (bytes : List ℕ) × IsSessionRun 1 true session status bytes
 in_json = sessions_end true input session taken
 
 same_json : in_json.1 ≡ in_json.1

@@ -15,7 +15,7 @@ use Rattle.rcv_words.specs.Commands.{CommandView, Run, RunMany, Check, Project, 
 use Rattle.rcv_words.proofs.Deciding.{command_or_none}
 use Rattle.rcv_top.specs.Commands.{WorksOnSource, TakesWhole, text_for}
 use Rattle.rcv_gen.proofs.Lengths.{generated_fits}
-use Rattle.rcv_top.specs.Running.{IsRunOf}
+use Rattle.rcv_top.specs.Running.{IsSessionRun}
 use Rattle.rcv_top.specs.Outcome.{most_bytes, usage_line, IsAnswer, Makes, usage, too_long, answered, refused, made, replayed}
 use Rattle.rcv_replay.specs.declared.replayed.Replayed.{Replayed}
 use Rattle.rcv_replay.specs.declared.replayed.Replayed.TheVariants as replays
@@ -32,7 +32,7 @@ use Rattle.rcv_top.proofs.TableTexts.{table_exists}
 -- ---- what a command makes
 
 -- the journal of one thread is one that any number of workers may make
-run_some : (workers : ℕ) (json : Bool) (session : SessionView) → (status : Status) × (bytes : List ℕ) × IsRunOf 1 json session status bytes → (status : Status) × (bytes : List ℕ) × IsRunOf workers json session status bytes
+run_some : (workers : ℕ) (json : Bool) (session : SessionView) → (status : Status) × (bytes : List ℕ) × IsSessionRun 1 json session status bytes → (status : Status) × (bytes : List ℕ) × IsSessionRun workers json session status bytes
 run_some workers json session run = (run.0, run.1, record { journal = run.2.journal; is_journal = run.2.is_journal; ends = run.2.ends; written = run.2.written; alone = λ one. run.2.alone refl })
 
 makes_some : (input : List ℕ) (session : SessionView) (command : CommandView) → TakesWhole command → IsTaken input session → (status : Status) × (bytes : List ℕ) × Makes session command status bytes

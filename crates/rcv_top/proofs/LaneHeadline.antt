@@ -17,7 +17,7 @@ use Rattle.rcv_parallel.proofs.LaneSession as lanes
 use Rattle.rcv_parallel.proofs.LaneTraces.{view, same_rules, is_blind, is_done}
 use Rattle.rcv_top.specs.declared.status.Status.TheVariants.{Completed}
 use Rattle.rcv_top.specs.Headline.{IsHeadline}
-use Rattle.rcv_top.specs.Running.{all_done, CanRun, IsRunOf}
+use Rattle.rcv_top.specs.Running.{all_done, CanRun, IsSessionRun}
 use Rattle.rcv_jobs.specs.Texts.{IsWritten}
 use Rattle.rcv_top.proofs.Headlines.{headline_by, journals_are_legal}
 use Rattle.rcv_top.proofs.Ending.{has_text}
@@ -59,7 +59,7 @@ can : CanRun view
 can = record { accepted = lawful; room = is_blind.room }
 
 -- some two workers may write it
-run : IsRunOf 2 false view Completed text.0
+run : IsSessionRun 2 false view Completed text.0
 run = record {
   journal = lanes.journal;
   is_journal = journals_are_legal view lanes.journal can is_done.legal (subst (λ (x : Rules). IsFinal x (reading x lanes.journal)) (sym same_rules) lanes.final);

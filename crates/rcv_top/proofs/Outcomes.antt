@@ -29,7 +29,7 @@ use Rattle.rcv_tables.proofs.OneText.{one_table_text}
 use Rattle.rcv_top.specs.declared.status.Status.{Status}
 use Rattle.rcv_top.specs.Projection.{IsProjection}
 use Rattle.rcv_top.specs.Recovering.{accepted_as, IsTableText}
-use Rattle.rcv_top.specs.Running.{IsRunOf}
+use Rattle.rcv_top.specs.Running.{IsSessionRun}
 use Rattle.rcv_top.specs.Generating.{kept_in, IsSummaryOf, IsSummaryRun}
 use Rattle.rcv_top.specs.Lining.{line_text as stable_text, IsLineBehind, IsLineOf, IsLineRun}
 use Rattle.rcv_top.specs.Outcome.{most_bytes, Makes, IsAsked, IsAnswer, usage, too_long, answered, refused, made, replayed}
@@ -194,8 +194,8 @@ is_for_one words Replay few command = tt
 is_for_one words Line few command = tt
 
 -- one worker is one
-by_one : (workers : ℕ) (json : Bool) (session : SessionView) (status : Status) (bytes : List ℕ) → workers ≡ 1 → IsRunOf workers json session status bytes → IsRunOf 1 json session status bytes
-by_one workers json session status bytes one = subst (λ (n : ℕ). IsRunOf n json session status bytes) one
+by_one : (workers : ℕ) (json : Bool) (session : SessionView) (status : Status) (bytes : List ℕ) → workers ≡ 1 → IsSessionRun workers json session status bytes → IsSessionRun 1 json session status bytes
+by_one workers json session status bytes one = subst (λ (n : ℕ). IsSessionRun n json session status bytes) one
 
 -- what a command makes of two sessions that say the same
 one_making : (s t : SessionView) (command : CommandView) (a b : Status) (x y : List ℕ) → IsForOne command → IsAcceptedProtocol t.protocol → AreSame s t → Makes s command a x → Makes t command b y → (a ≡ b) × (x ≡ y)

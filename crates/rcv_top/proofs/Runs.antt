@@ -17,7 +17,7 @@ use Rattle.rcv_json.proofs.OneJson.{one_json}
 use Rattle.rcv_top.specs.declared.status.Status.{Status}
 use Rattle.rcv_top.specs.declared.status.Status.TheVariants.{Completed, Limited}
 use Rattle.rcv_jobs.specs.Texts.{IsWritten, EndsWell, IsAloneText}
-use Rattle.rcv_top.specs.Running.{CanRun, EndsAs, all_done, at_limit, IsRunOf}
+use Rattle.rcv_top.specs.Running.{CanRun, EndsAs, all_done, at_limit, IsSessionRun}
 use Rattle.rcv_top.specs.Many.{OneRun, IsOneRun}
 use Rattle.rcv_top.specs.Sharing.{IsJobRun}
 use Rattle.rcv_top.proofs.Headlines.{journals_are_legal}
@@ -87,11 +87,11 @@ pub record OneThreadText (json : Bool) (session : SessionView) (status : Status)
   pub ends : EndsAs (rules_of session) (reading (rules_of session) journal) status
   pub written : IsWritten json session journal bytes
 
-pub text_of : (json : Bool) (session : SessionView) (status : Status) (bytes : List ℕ) → IsRunOf 1 json session status bytes → OneThreadText json session status bytes
+pub text_of : (json : Bool) (session : SessionView) (status : Status) (bytes : List ℕ) → IsSessionRun 1 json session status bytes → OneThreadText json session status bytes
 text_of json session status bytes run = record { journal = run.journal; alone = run.alone refl; ends = run.ends; written = run.written }
 
 -- of one session it is that of the other
-pub text_moves : (json : Bool) (s t : SessionView) (a : Status) (x : List ℕ) → AreSame s t → IsRunOf 1 json s a x → OneThreadText json t a x
+pub text_moves : (json : Bool) (s t : SessionView) (a : Status) (x : List ℕ) → AreSame s t → IsSessionRun 1 json s a x → OneThreadText json t a x
 text_moves json s t a x same run = record {
   journal = run.journal;
   alone = subst (λ (r : Rules). IsOneThread r run.journal) rules (run.alone refl);
@@ -115,5 +115,5 @@ one_text_run json t a b x y lawful run other = (same_end (rules_of t) (reading (
     written : IsWritten json t other.journal x
     written = subst (λ (es : List Entry). IsWritten json t es x) journals run.written
 
-pub one_run : (json : Bool) (s t : SessionView) (a b : Status) (x y : List ℕ) → IsAcceptedProtocol t.protocol → AreSame s t → IsRunOf 1 json s a x → IsRunOf 1 json t b y → (a ≡ b) × (x ≡ y)
+pub one_run : (json : Bool) (s t : SessionView) (a b : Status) (x y : List ℕ) → IsAcceptedProtocol t.protocol → AreSame s t → IsSessionRun 1 json s a x → IsSessionRun 1 json t b y → (a ≡ b) × (x ≡ y)
 one_run json s t a b x y lawful same run other = one_text_run json t a b x y lawful (text_moves json s t a x same run) (text_of json t b y other)

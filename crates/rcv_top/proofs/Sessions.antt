@@ -18,7 +18,7 @@ use Rattle.rcv_top.specs.Finishing.{EndsSo, FinishesAs}
 use Rattle.rcv_top.specs.declared.status.Status.TheVariants as statuses
 use Rattle.rcv_top.specs.declared.status.Status.{Status}
 use Rattle.rcv_top.specs.declared.output.Output.{Output}
-use Rattle.rcv_top.specs.Running.{CanRun, IsRunOf}
+use Rattle.rcv_top.specs.Running.{CanRun, IsSessionRun}
 use Rattle.rcv_top.specs.Generating.{IsSummaryOf, IsSummaryRun}
 use Rattle.rcv_top.specs.Lining.{IsLineOf, IsLineRun}
 use Rattle.rcv_replay.specs.declared.replayed.Replayed.{Replayed}
@@ -42,7 +42,7 @@ ended session first last empty ends = record { journal = here.more; is = here.ad
     here = subst (λ (b : BookView). EndsAlone b last) empty ends
 
 -- what workers brought to its end
-pub run_of : (workers : ℕ) (json : Bool) (session : SessionView) (first : BookView) (status : Status) (bytes : List ℕ) → CanRun session → first ≡ record { setup = session; entries = [] } → FinishesAs workers json first status bytes → IsRunOf workers json session status bytes
+pub run_of : (workers : ℕ) (json : Bool) (session : SessionView) (first : BookView) (status : Status) (bytes : List ℕ) → CanRun session → first ≡ record { setup = session; entries = [] } → FinishesAs workers json first status bytes → IsSessionRun workers json session status bytes
 run_of workers json session first status bytes can empty done = record {
   journal = done.last.entries;
   is_journal = journals_are_legal session done.last.entries can held.legal held.final;
@@ -61,7 +61,7 @@ run_of workers json session first status bytes can empty done = record {
 
 -- the same of a session's book
 pub ran : (workers : ℕ) (json : Bool) (session : SessionView) (first : SuperView) → CanRun session → first ≡ new_session session
-    → (status : Status) (bytes : List ℕ) → FinishesAs workers json first.book status bytes → IsRunOf workers json session status bytes
+    → (status : Status) (bytes : List ℕ) → FinishesAs workers json first.book status bytes → IsSessionRun workers json session status bytes
 ran workers json session first can empty status bytes = run_of workers json session first.book status bytes can (ap (λ (v : SuperView). v.book) empty)
 
 -- the summary of what a book alone brought to its end

@@ -27,7 +27,7 @@ use Rattle.rcv_transparent.specs.Calm.{calm, ReadsNoAttempt, IsDoneJournal}
 use Rattle.rcv_transparent.specs.Traces.{LeavesNoTrace}
 use Rattle.rcv_top.specs.declared.status.Status.{Status}
 use Rattle.rcv_top.specs.declared.status.Status.TheVariants.{Completed}
-use Rattle.rcv_top.specs.Running.{all_done, CanRun, IsRunOf}
+use Rattle.rcv_top.specs.Running.{all_done, CanRun, IsSessionRun}
 use Rattle.rcv_jobs.specs.Texts.{IsWritten}
 use Rattle.rcv_top.specs.Laws.{CompletesBlind}
 use Rattle.rcv_top.proofs.Ending.{has_text}
@@ -102,7 +102,7 @@ pub can : CanRun session
 can = (taken_sessions_can_run input session is_taken).0
 
 -- some two workers may write it
-run : IsRunOf 2 false session Completed text.0
+run : IsSessionRun 2 false session Completed text.0
 run = record {
   journal = journal;
   is_journal = journals_are_legal session journal can is_done.legal (subst (λ (x : Rules). IsFinal x (reading x journal)) (sym same_rules) final);
@@ -125,5 +125,5 @@ pub completes : CompletesBlind session journal
 completes = record { can = can; blind = blind; done = is_done }
 
 -- four workers complete the session without the crash line, too
-by_four : (status : Status) (bytes : List ℕ) → IsRunOf 4 false (calm session) status bytes → status ≡ Completed
+by_four : (status : Status) (bytes : List ℕ) → IsSessionRun 4 false (calm session) status bytes → status ≡ Completed
 by_four status bytes run = calm_sessions_complete session journal completes 4 false status bytes run

@@ -15,7 +15,7 @@ use Rattle.rcv_input.proofs.Planned.{input, session, is_taken}
 use Rattle.rcv_input.proofs.Worked.{one, its_body}
 use Rattle.rcv_later.specs.Later.{later}
 use Rattle.rcv_transparent.specs.Calm.{IsDoneJournal}
-use Rattle.rcv_transparent.specs.Traces.{AreAlike}
+use Rattle.rcv_transparent.specs.Traces.{KeepTheSame}
 use Rattle.rcv_top.specs.Headline.{IsHeadline}
 use Rattle.rcv_top.specs.Running.{CanRun, IsJournalOf}
 use Rattle.rcv_top.specs.Laws.{CompletesBlind}
@@ -76,5 +76,5 @@ completes = record { can = can; blind = blind; done = is_done }
 first_completes : CompletesBlind (later session 0) unseen.journal
 first_completes = unseen.completes
 
-alike : AreAlike (net_for session) (reading (rules_of (later session 0)) unseen.journal) (reading (rules_of (later session 1)) journal)
+alike : KeepTheSame (net_for session) (reading (rules_of (later session 0)) unseen.journal) (reading (rules_of (later session 1)) journal)
 alike = sessions_keep_alike session 0 1 unseen.journal journal first_completes completes

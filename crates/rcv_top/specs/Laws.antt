@@ -6,13 +6,13 @@ use Rattle.rcv_model.specs.Journal.{reading, IsLegal}
 use Rattle.rcv_model.specs.Final.{IsFinal}
 use Rattle.rcv_input.specs.Input.{IsTaken}
 use Rattle.rcv_transparent.specs.Calm.{calm, ReadsNoAttempt, IsDoneJournal}
-use Rattle.rcv_transparent.specs.Traces.{AreAlike}
+use Rattle.rcv_transparent.specs.Traces.{KeepTheSame}
 use Rattle.rcv_later.specs.Later.{later}
 use Rattle.rcv_top.specs.declared.status.Status.{Status}
 use Rattle.rcv_top.specs.declared.status.Status.TheVariants.{Completed, Limited}
 use Rattle.rcv_words.specs.Commands.{Run, RunMany, IsCommand}
 use Rattle.rcv_top.specs.Commands.{AskForSeveral}
-use Rattle.rcv_top.specs.Running.{CanRun, IsJournalOf, IsRunOf}
+use Rattle.rcv_top.specs.Running.{CanRun, IsJournalOf, IsSessionRun}
 use Rattle.rcv_top.specs.Many.{AreWritten}
 use Rattle.rcv_top.specs.Outcome.{most_bytes, IsOutcome}
 
@@ -46,7 +46,7 @@ abbrev pub OutcomesAreRuns : Type 0
 OutcomesAreRuns =
     (words : List (List ℕ)) (input : List ℕ) (workers : ℕ) (json : Bool) (status : Status) (bytes : List ℕ)
     → IsCommand words (Run workers json) → HasEnded status → IsOutcome words input status bytes
-    → (session : SessionView) × IsTaken input session × IsRunOf workers json session status bytes
+    → (session : SessionView) × IsTaken input session × IsSessionRun workers json session status bytes
 
 -- With `--sessions` it is the journals of so many sessions, which aren't too much.
 abbrev pub OutcomesAreManyRuns : Type 0
@@ -76,7 +76,7 @@ pub record CompletesBlind (session : SessionView) (journal : List Entry) : Type 
 abbrev pub CalmSessionsComplete : Type 0
 CalmSessionsComplete =
     (session : SessionView) (journal : List Entry) → CompletesBlind session journal
-    → (workers : ℕ) (json : Bool) (status : Status) (bytes : List ℕ) → IsRunOf workers json (calm session) status bytes
+    → (workers : ℕ) (json : Bool) (status : Status) (bytes : List ℕ) → IsSessionRun workers json (calm session) status bytes
     → status ≡ Completed
 
 -- If two of several sessions, i and k, do so, they keep the same, however far apart their crashes are: each role did the same, and each
@@ -85,13 +85,13 @@ abbrev pub SessionsKeepAlike : Type 0
 SessionsKeepAlike =
     (session : SessionView) (i k : ℕ) (first second : List Entry)
     → CompletesBlind (later session i) first → CompletesBlind (later session k) second
-    → AreAlike (net_for session) (reading (rules_of (later session i)) first) (reading (rules_of (later session k)) second)
+    → KeepTheSame (net_for session) (reading (rules_of (later session i)) first) (reading (rules_of (later session k)) second)
 
 -- The session of each input that is taken comes to its end: all roles are done, or some role is at the limit.
 abbrev pub SessionsEnd : Type 0
 SessionsEnd =
     (json : Bool) (input : List ℕ) (session : SessionView) → IsTaken input session
-    → (status : Status) × (bytes : List ℕ) × IsRunOf 1 json session status bytes
+    → (status : Status) × (bytes : List ℕ) × IsSessionRun 1 json session status bytes
 
 -- If what `check` wrote has at most as many bytes as an input may have, `check` writes the same bytes when it reads them.
 abbrev pub ChecksStay : Type 0

@@ -8,7 +8,7 @@ use Rattle.rcv_joined.specs.Joined.{joined}
 use Rattle.rcv_later.specs.Later.{later}
 use Rattle.rcv_top.specs.declared.status.Status.{Status}
 use Rattle.rcv_top.specs.declared.status.Status.TheVariants.{Completed, Refused, Limited}
-use Rattle.rcv_top.specs.Running.{IsRunOf}
+use Rattle.rcv_top.specs.Running.{IsSessionRun}
 
 -- How one of several sessions ended, and its journal as it is written.
 pub record OneRun : Type 0 where
@@ -17,7 +17,7 @@ pub record OneRun : Type 0 where
 
 -- It is what one worker makes of this session.
 abbrev pub IsOneRun : Bool → SessionView → OneRun → Type 0
-IsOneRun json session run = IsRunOf 1 json session run.status run.bytes
+IsOneRun json session run = IsSessionRun 1 json session run.status run.bytes
 
 -- These are the runs of so many sessions, in order: run i, counted from 0, is that of session i, in which each crash line
 -- has a count that is i more.

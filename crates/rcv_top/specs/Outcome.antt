@@ -15,7 +15,7 @@ use Rattle.rcv_top.specs.Projection.{IsProjection}
 use Rattle.rcv_top.specs.Recovering.{IsTableText}
 use Rattle.rcv_top.specs.Replaying.{IsReplayAnswer}
 use Rattle.rcv_top.specs.Lining.{IsLineRun}
-use Rattle.rcv_top.specs.Running.{IsRunOf}
+use Rattle.rcv_top.specs.Running.{IsSessionRun}
 use Rattle.rcv_top.specs.Many.{IsRunOfMany}
 
 -- The number of a status, with which the process ends.
@@ -47,7 +47,7 @@ pub record IsAsked (words : List (List ℕ)) (command : CommandView) (input : Li
 -- the workers; the canonical text of its protocol; what the role of a name does; the recovery table; the summary of a generated session; or
 -- the stable line at the end of the journal of one thread. `replay` makes nothing of it alone.
 abbrev pub Makes : SessionView → CommandView → Status → List ℕ → Type 0
-Makes session (Run workers json) status bytes = IsRunOf workers json session status bytes
+Makes session (Run workers json) status bytes = IsSessionRun workers json session status bytes
 Makes session (RunMany sessions workers json) status bytes = IsRunOfMany sessions json session status bytes
 Makes session Check status bytes = (status ≡ Completed) × (bytes ≡ canonical session.protocol)
 Makes session (Project name) status bytes = IsProjection session.protocol name status bytes

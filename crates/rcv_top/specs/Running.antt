@@ -30,7 +30,7 @@ pub data EndsAs (rules : Rules) (s : State) : Status → Type 0 where
 
 -- What so many workers make of a session: its journal, which ends with this status, as JSON or as text. One worker makes the
 -- journal that one thread makes.
-pub record IsRunOf (workers : ℕ) (json : Bool) (session : SessionView) (status : Status) (bytes : List ℕ) : Type 0 where
+pub record IsSessionRun (workers : ℕ) (json : Bool) (session : SessionView) (status : Status) (bytes : List ℕ) : Type 0 where
   pub journal : List Entry
   pub is_journal : IsJournalOf session journal
   pub ends : EndsAs (rules_of session) (reading (rules_of session) journal) status

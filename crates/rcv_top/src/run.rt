@@ -7,7 +7,7 @@ ghost use Rattle.rcv_plan.specs.Lines.{IsPlanned};
 ghost use Rattle.rcv_core.specs.Book.{state_of, IsAtEnd};
 ghost use Rattle.rcv_model.specs.Journal.{IsLegal};
 ghost use Rattle.rcv_top.specs.Finishing.{EndsSo, FinishesAs};
-ghost use Rattle.rcv_top.specs.Running.{CanRun, EndsAs, IsRunOf};
+ghost use Rattle.rcv_top.specs.Running.{CanRun, EndsAs, IsSessionRun};
 ghost use Rattle.rcv_top.specs.Writing.{Writes};
 
 use crate::output::write;
@@ -44,7 +44,7 @@ pub fn run<R: Threads + Sync, K: Sink, G: Gate + Sync>(
     requires can_run { CanRun
         (record { protocol = taken.accepted.protocol; scripts = taken.scripts.lines; plan = taken.plan }) }
     ensures later { K.faults sink.old ≤ K.faults sink.new }
-    ensures runs { Writes (IsRunOf workers json
+    ensures runs { Writes (IsSessionRun workers json
         (record { protocol = taken.accepted.protocol; scripts = taken.scripts.lines; plan = taken.plan }))
         (K.written sink.old) (K.written sink.new) (K.faults sink.old) (K.faults sink.new) result }
 {
@@ -67,7 +67,7 @@ fn run_setup<R: Threads + Sync, K: Sink, G: Gate + Sync>(
     requires most { workers ≤ 8 }
     requires can_run { CanRun setup.now }
     ensures later { K.faults sink.old ≤ K.faults sink.new }
-    ensures runs { Writes (IsRunOf workers json setup.now)
+    ensures runs { Writes (IsSessionRun workers json setup.now)
         (K.written sink.old) (K.written sink.new) (K.faults sink.old) (K.faults sink.new) result }
 {
     let mut session = Session::new(alloc, setup)?;

@@ -7,7 +7,7 @@ ghost use Rattle.rcv_syntax.specs.Symbols.{Is, Word};
 ghost use Rattle.rcv_machine.specs.Machine.{Place, Item, This, Subject};
 ghost use Rattle.rcv_machine.specs.Machine.{RecName, AgainName, Opening};
 ghost use Rattle.rcv_machine.specs.Machine.{First, Rest, More, Lane, Later};
-ghost use Rattle.rcv_machine.specs.Machine.{Refuses, inside, behind, is_open};
+ghost use Rattle.rcv_machine.specs.Machine.{Refuses, inside, after_statement, is_open};
 ghost use Rattle.rcv_reader.specs.Standing.{at, back_at, within, named_in, answers};
 ghost use Rattle.rcv_reader.specs.Descent.{Takes, Consumes, TakesSome};
 ghost use Rattle.rcv_reader.specs.Descent.{TakesAll, TakesBlock, place_at, place_of_spot};
@@ -137,7 +137,7 @@ impl<'a> Parser<'a> {
         requires comes { spot.comes ≤ length self.old.recs }
         ensures goes { let p = place_of_spot self.old spot in
             Consumes result self.old self.new (λ k. This (Is Sign.At) ∷ Subject p.earlier ∷ Opening p ∷ More p ∷ k)
-            (λ x k. Rest (behind (place_of_spot self.new spot) false) ∷ k) }
+            (λ x k. Rest (after_statement (place_of_spot self.new spot) false) ∷ k) }
         ensures read { OnOk result (TakesSome self.old self.new (Is Sign.Choice ∷ [])
             (statements block.old) (statements block.new)) }
     {
@@ -172,7 +172,7 @@ impl<'a> Parser<'a> {
     fn par(&mut self, alloc: Global, spot: Spot, block: &mut Block) -> Result<(), Stop>
         ensures goes { let p = place_of_spot self.old spot in
             Consumes result self.old self.new (λ k. Lane p ∷ This (Is Sign.And) ∷ Lane p ∷ Later p ∷ k)
-            (λ x k. Rest (behind (place_of_spot self.new spot) false) ∷ k) }
+            (λ x k. Rest (after_statement (place_of_spot self.new spot) false) ∷ k) }
         ensures read { OnOk result (TakesSome self.old self.new (Is Sign.Par ∷ [])
             (statements block.old) (statements block.new)) }
     {

@@ -5,7 +5,7 @@ ghost use Rattle.rcv_checkpoint.specs.Changed.{IsChange};
 ghost use Rattle.rcv_checkpoint.specs.Tail.{made, final_vars, with_held};
 ghost use Rattle.rcv_ledger.specs.Ledger.{state_behind};
 ghost use Rattle.rcv_core.specs.Setup.{vars_by};
-ghost use Rattle.rcv_role.specs.Part.{IsOwn, IsBelow, with_event, entry_of};
+ghost use Rattle.rcv_role.specs.Part.{IsOwn, IsBelow, with_event, entry_of_event};
 
 use crate::cell::LOG;
 use crate::part::Part;
@@ -29,7 +29,7 @@ impl<'a> Part<'a> {
         requires own { IsOwn self.old.setup self.old.role event.now }
         requires below { IsBelow self.old }
         requires log { length self.old.log < LOG }
-        ensures { self.new ≡ with_event self.old event.now (entry_of event.now) }
+        ensures { self.new ≡ with_event self.old event.now (entry_of_event event.now) }
     {
         let _limit = self.setup.limit();
         let behind = self.behind(event);
@@ -40,7 +40,7 @@ impl<'a> Part<'a> {
         self.events.push_reserved(*event);
         self.log.push_reserved(Timed {
             stamp: event.stamp,
-            step: entry_of(event),
+            step: entry_of_event(event),
         });
         self.chosen = None;
     }
@@ -84,8 +84,8 @@ fn place_behind(event: &Event) -> u16
 }
 
 // The entry of an event.
-fn entry_of(event: &Event) -> Entry
-    ensures { result ≡ entry_of event.now }
+fn entry_of_event(event: &Event) -> Entry
+    ensures { result ≡ entry_of_event event.now }
 {
     match event.dir {
         Dir::Sent => Entry::Send(*event),

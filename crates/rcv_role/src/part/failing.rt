@@ -4,7 +4,7 @@ ghost use Rattle.std.specs.Prelude.{◌≡◌, ◌<◌, length, slice_get, IfSom
 ghost use Rattle.rcv_tree.specs.Bits.{IsPoint};
 ghost use Rattle.rcv_model.specs.Journal.{IsOwnDue};
 ghost use Rattle.rcv_session.specs.Session.{rules_of};
-ghost use Rattle.rcv_role.specs.Part.{with_crash, first_lost, point_in};
+ghost use Rattle.rcv_role.specs.Part.{with_crash, first_lost, point_there};
 
 use crate::cell::LOG;
 use crate::part::Part;
@@ -43,7 +43,7 @@ impl<'a> Part<'a> {
 
     // The point of an event, if the role made so many.
     fn point_at(&self, at: usize) -> Option<Point>
-        ensures { result ≡ point_in (slice_get self.now.own.events at) }
+        ensures { result ≡ point_there (slice_get self.now.own.events at) }
     {
         match self.events.as_slice().get(at) {
             Some(event) => Some(event.point),

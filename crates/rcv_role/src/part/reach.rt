@@ -5,7 +5,7 @@ ghost use Rattle.rcv_tree.specs.Bits.{IsPoint};
 ghost use Rattle.rcv_tables.specs.Starts.{IsOwnPoint};
 ghost use Rattle.rcv_model.specs.Table.{IsConcerned};
 ghost use Rattle.rcv_session.specs.Session.{net_for};
-ghost use Rattle.rcv_role.specs.Part.{IsReached};
+ghost use Rattle.rcv_role.specs.Part.{ReachesRole};
 
 use crate::part::Part;
 use rcv_tree::point::Point;
@@ -16,7 +16,7 @@ impl<'a> Part<'a> {
     pub fn is_reached(&self, role: RoleId, point: Point) -> bool
         requires role { role < 8 }
         requires point { IsPoint point }
-        ensures { IsTrue result ↔ IsReached self.now.setup role point self.now.role }
+        ensures { IsTrue result ↔ ReachesRole self.now.setup role point self.now.role }
     {
         if self.setup.plan().group(role).has(self.role) {
             return true;

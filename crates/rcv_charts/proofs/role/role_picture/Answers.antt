@@ -10,7 +10,7 @@ use Rattle.rcv_points.proofs.Whole.{same_net}
 use Rattle.rcv_accept.specs.Accepted.{net_for, text_of, roles_of}
 use Rattle.rcv_project.specs.Act.{AreInText}
 use Rattle.rcv_charts.specs.States.{StateView, next_in}
-use Rattle.rcv_charts.specs.Wires.{Holds, AreClosed}
+use Rattle.rcv_charts.specs.Wires.{HavePlace, AreClosed}
 use Rattle.rcv_charts.specs.Machine.{ShowsStates}
 use Rattle.rcv_charts.specs.Titles.{titled_of}
 use Rattle.rcv_charts.proofs.Together.{are_states, closed}
@@ -31,7 +31,7 @@ states_picture-requires-clause-closed c =
     let items = c.in_ok-states.states.items in
     let form = proper (text_of accepted) (roles_of accepted) c.protocol.ensures.accepted.form in
     subst (λ (xs : List StateView). AreClosed xs) (sym c.as_slice.ensures.value)
-    (All-from_recursion (λ (s : StateView). All (Holds items) (next_in s.act)) items (closed (net_for accepted) (roles_of accepted) c.args.local.now.role form items items c.in_ok-states.ensures.each_once c.in_ok-states.ensures.each))
+    (All-from_recursion (λ (s : StateView). All (HavePlace items) (next_in s.act)) items (closed (net_for accepted) (roles_of accepted) c.args.local.now.role form items items c.in_ok-states.ensures.each_once c.in_ok-states.ensures.each))
 
 pub returns : goal.returns
 returns c =

@@ -1,7 +1,7 @@
 -- From all events down to what the failed roles may keep, and then until no channel owes.
 use Rattle.std.proofs.Common.{sym, subst, arith}
 use Rattle.rcv_points.specs.Follow.{net_in}
-use Rattle.rcv_depend.specs.Keeps.{bound_of}
+use Rattle.rcv_depend.specs.Keeps.{ceiling_of}
 use Rattle.rcv_depend.specs.Cuts.{IsAbove}
 use Rattle.rcv_depend.proofs.Keeping.{IsLow, low_less, lower_less, start_above, lose_above, kept_now}
 use Rattle.rcv_depend.proofs.cut.cut.Goals as goal
@@ -10,7 +10,7 @@ pub loop-role-init : goal.loop-role-init
 loop-role-init g c = (
   c.all-counted.ensures.counted,
   λ r lt t. absurd (omega (arith, lt)),
-  start_above (net_in c.args.points.now) (g.L.EventLogs.logs c.args.logs.now) (bound_of c.args.keeps.now) c.all-counted.result.counts c.all-counted.ensures.counts,
+  start_above (net_in c.args.points.now) (g.L.EventLogs.logs c.args.logs.now) (ceiling_of c.args.keeps.now) c.all-counted.result.counts c.all-counted.ensures.counts,
 )
 
 pub lower-requires-clause-sound : goal.lower-requires-clause-sound
@@ -33,7 +33,7 @@ loop-counted-preserved g c =
     let more = c.loop-counted-test.true in (
       c.lower.ensures.counted,
       subst (λ cs. IsLow c.args.keeps.now cs role) (sym c.lower.ensures.counts) (low_less c.args.keeps.now counts _ role (lower_less counts role) c.loop-counted.invariant.1),
-      subst (IsAbove net logs (bound_of c.args.keeps.now)) (sym c.lower.ensures.counts) (lose_above net logs c.args.keeps.now counts role (omega (arith, lt, len, few, eight)) c.loop-counted.invariant.2 c.in-Some.ensures.0 (omega (arith, keep, more))),
+      subst (IsAbove net logs (ceiling_of c.args.keeps.now)) (sym c.lower.ensures.counts) (lose_above net logs c.args.keeps.now counts role (omega (arith, lt, len, few, eight)) c.loop-counted.invariant.2 c.in-Some.ensures.0 (omega (arith, keep, more))),
     )
 
 pub returns : goal.returns
@@ -42,5 +42,5 @@ returns g c =
     let len = c.roles-role-end.ensures in
     kept_now (net_in c.args.points.now) (g.L.EventLogs.logs c.args.logs.now) c.args.keeps.now c.settle.new.self c.loop-role.role (omega (arith, lt, len)) c.settle.ensures.counted
     (low_less c.args.keeps.now c.loop-role.counted.counts c.settle.new.self.counts c.loop-role.role c.settle.ensures.low c.loop-role.invariant.1)
-    (c.settle.ensures.above (bound_of c.args.keeps.now) c.loop-role.invariant.2)
+    (c.settle.ensures.above (ceiling_of c.args.keeps.now) c.loop-role.invariant.2)
     c.settle.ensures.even

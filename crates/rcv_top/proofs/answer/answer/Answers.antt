@@ -14,7 +14,7 @@ use Rattle.rcv_top.specs.Replaying.{IsReplayAnswer}
 use Rattle.rcv_top.specs.declared.status.Status.{Status}
 use Rattle.rcv_top.specs.declared.status.Status.TheVariants as statuses
 use Rattle.rcv_top.specs.Many.{IsRunOfMany}
-use Rattle.rcv_top.specs.Running.{IsRunOf}
+use Rattle.rcv_top.specs.Running.{IsSessionRun}
 use Rattle.rcv_top.specs.Outcome.{IsAnswer, made, replayed}
 use Rattle.rcv_top.specs.Projection.{IsProjection}
 use Rattle.rcv_top.specs.Writing.{Writes}
@@ -62,7 +62,7 @@ returns-in-Run-clause-answers g c =
     let session : SessionView = record { protocol = c.in-Ok.taken.accepted.protocol; scripts = c.in-Ok.taken.scripts.lines; plan = c.in-Ok.taken.plan } in
     as_asked c.args.command.now _ c.args.input.now (g.K.Sink.written c.args.sink.now) (g.K.Sink.written c.run.new.sink) (g.K.Sink.faults c.args.sink.now) (g.K.Sink.faults c.run.new.sink) c.run.result c.in-Run.is
     (widen (g.K.Sink.written c.args.sink.now) (g.K.Sink.written c.run.new.sink) (g.K.Sink.faults c.args.sink.now) (g.K.Sink.faults c.run.new.sink)
-    (IsRunOf c.in-Run.workers c.in-Run.json session) (IsAnswer (Run c.in-Run.workers c.in-Run.json) c.args.input.now) c.run.result
+    (IsSessionRun c.in-Run.workers c.in-Run.json session) (IsAnswer (Run c.in-Run.workers c.in-Run.json) c.args.input.now) c.run.result
     (λ status bytes ran. made session c.in-Ok.ensures.taken ran) c.run.ensures.runs)
 
 pub run_many-requires-clause-few : goal.run_many-requires-clause-few

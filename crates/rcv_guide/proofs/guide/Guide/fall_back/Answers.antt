@@ -4,7 +4,7 @@ use Rattle.rcv_model.specs.Net.{Net}
 use Rattle.rcv_model.specs.Text.{body_of}
 use Rattle.rcv_points.proofs.Whole.{same_net}
 use Rattle.rcv_ledger.specs.Ledger.{MayCut, IsCutTo}
-use Rattle.rcv_guide.specs.Guide.{GuideView, guide_of, MayRecover, AreLeft, IsFailureOf, HasGoneBack, IsAfter, entry_of, IsGuide}
+use Rattle.rcv_guide.specs.Guide.{GuideView, guide_of, MayRecover, AreLeft, IsFailureOf, HasGoneBack, IsAfter, recovery_entry, IsGuide}
 use Rattle.rcv_guide.proofs.Guides.{few_roles, low}
 use Rattle.rcv_guide.proofs.Returning.{gone_view, may_cut, log_cut, guide_cut, after_cut, few_attempts, few_clocks}
 use Rattle.rcv_guide.proofs.Memories.{declared_by}
@@ -44,5 +44,5 @@ returns-clause-told c =
 
 pub returns-clause-after : goal.returns-clause-after
 returns-clause-after c =
-    subst (λ (g : GuideView). IsAfter g (guide_of c.self.inside.accepted.protocol c.self.inside.plan c.cut_to.new.self c.go_back.new.numbers.items c.self.inside.room (c.self.inside.told + 1)) (entry_of c.args.role c.args.back.now)) c.self.view_is
-    (subst (λ (n : GuideView). IsAfter (guide_of c.self.inside.accepted.protocol c.self.inside.plan c.self.inside.ledger c.self.inside.numbers.items c.self.inside.room c.self.inside.told) n (entry_of c.args.role c.args.back.now)) (sym (gone_view c.self.inside.accepted.protocol c.self.inside.plan c.self.inside.ledger c.cut_to.new.self c.self.inside.numbers.items c.go_back.new.numbers.items c.self.inside.room c.self.inside.told c.cut_to.ensures.entries)) (after_cut c.self.invariant c.args.role c.group-group.result.0 c.args.saved.now (subst (λ (g : GuideView). MayRecover g c.args.role c.args.saved.now) (sym c.self.view_is) c.requires.may) c.group-group.ensures c.args.left.now (subst (λ (g : GuideView). AreLeft g c.args.role c.args.saved.now c.args.left.now) (sym c.self.view_is) c.requires.left) c.args.back.now (subst (λ (g : GuideView). IsFailureOf g c.args.role c.args.saved.now c.args.back.now) (sym c.self.view_is) c.requires.back) c.cut_to.new.self c.go_back.new.numbers.items (subst (λ (net : Net). IsCutTo net c.self.inside.ledger c.cut_to.new.self c.args.left.now) (same_net (body_of c.self.inside.accepted.protocol.body) _ c.points.result.now c.self.invariant.protocol.form c.points.ensures) c.cut_to.ensures) c.go_back.ensures))
+    subst (λ (g : GuideView). IsAfter g (guide_of c.self.inside.accepted.protocol c.self.inside.plan c.cut_to.new.self c.go_back.new.numbers.items c.self.inside.room (c.self.inside.told + 1)) (recovery_entry c.args.role c.args.back.now)) c.self.view_is
+    (subst (λ (n : GuideView). IsAfter (guide_of c.self.inside.accepted.protocol c.self.inside.plan c.self.inside.ledger c.self.inside.numbers.items c.self.inside.room c.self.inside.told) n (recovery_entry c.args.role c.args.back.now)) (sym (gone_view c.self.inside.accepted.protocol c.self.inside.plan c.self.inside.ledger c.cut_to.new.self c.self.inside.numbers.items c.go_back.new.numbers.items c.self.inside.room c.self.inside.told c.cut_to.ensures.entries)) (after_cut c.self.invariant c.args.role c.group-group.result.0 c.args.saved.now (subst (λ (g : GuideView). MayRecover g c.args.role c.args.saved.now) (sym c.self.view_is) c.requires.may) c.group-group.ensures c.args.left.now (subst (λ (g : GuideView). AreLeft g c.args.role c.args.saved.now c.args.left.now) (sym c.self.view_is) c.requires.left) c.args.back.now (subst (λ (g : GuideView). IsFailureOf g c.args.role c.args.saved.now c.args.back.now) (sym c.self.view_is) c.requires.back) c.cut_to.new.self c.go_back.new.numbers.items (subst (λ (net : Net). IsCutTo net c.self.inside.ledger c.cut_to.new.self c.args.left.now) (same_net (body_of c.self.inside.accepted.protocol.body) _ c.points.result.now c.self.invariant.protocol.form c.points.ensures) c.cut_to.ensures) c.go_back.ensures))

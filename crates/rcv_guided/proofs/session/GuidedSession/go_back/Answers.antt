@@ -1,7 +1,7 @@
 -- The role and its group go back.
 use Rattle.std.proofs.Common.{◌≤◌, true, ◌∷◌, [], subst, sym, arith}
 use Rattle.std.specs.Prelude.{slice_index}
-use Rattle.rcv_guide.specs.Guide.{roles_of, MayRecover, entry_of}
+use Rattle.rcv_guide.specs.Guide.{roles_of, MayRecover, recovery_entry}
 use Rattle.rcv_guide.proofs.Memories.{declared_by}
 use Rattle.rcv_guided.specs.Session.{SessionView}
 use Rattle.rcv_guided.specs.Histories.{GoesOnBy}
@@ -50,6 +50,6 @@ returns-clause-still c =
 
 pub returns-clause-history : goal.returns-clause-history
 returns-clause-history c =
-    subst (λ (s : SessionView). GoesOnBy s (entry_of c.args.role c.in-Ok.recovery ∷ []) (record { guide = c.tell_recovered.new.self; saves = c.cut.new.saves; incarnations = c.raise.new.incarnations.items; restored = c.self.inside.restored })) c.self.view_is
+    subst (λ (s : SessionView). GoesOnBy s (recovery_entry c.args.role c.in-Ok.recovery ∷ []) (record { guide = c.tell_recovered.new.self; saves = c.cut.new.saves; incarnations = c.raise.new.incarnations.items; restored = c.self.inside.restored })) c.self.view_is
     (goes_on (record { guide = c.self.inside.guide; saves = c.self.inside.saves; incarnations = c.self.inside.incarnations.items; restored = c.self.inside.restored }) c.tell_recovered.new.self c.cut.new.saves c.raise.new.incarnations.items
-    c.args.role c.args.saved.now c.in-Ok.recovery c.roles-roles.ensures.memory c.in-Ok.ensures.back c.in-Ok.ensures.gone (entry_of c.args.role c.in-Ok.recovery) c.in-Ok.ensures.after)
+    c.args.role c.args.saved.now c.in-Ok.recovery c.roles-roles.ensures.memory c.in-Ok.ensures.back c.in-Ok.ensures.gone (recovery_entry c.args.role c.in-Ok.recovery) c.in-Ok.ensures.after)

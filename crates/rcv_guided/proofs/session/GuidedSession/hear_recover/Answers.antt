@@ -4,7 +4,7 @@ use Rattle.std.specs.Prelude.{IsTrue, slice_index}
 use Rattle.std.specs.List.{filter, range_with_len}
 use Rattle.std.proofs.lemmas.List.Elements.{All-same}
 use Rattle.rcv_tree.specs.Bits.{has_bit}
-use Rattle.rcv_guide.specs.Guide.{HasMemory, IsFailureOf, entry_of}
+use Rattle.rcv_guide.specs.Guide.{HasMemory, IsFailureOf, recovery_entry}
 use Rattle.rcv_dialogue.specs.declared.answer.Answer.TheVariants as answer
 use Rattle.rcv_dialogue.specs.declared.answer.Cause.TheVariants as cause
 use Rattle.rcv_dialogue.specs.declared.few.Failed.{Failed}
@@ -93,6 +93,6 @@ returns-clause-says c =
     (c.is_stated_as.ensures.0 yes)
     (subst (λ r. GoesBack r c.saved-saved.result c.args.self.now c.go_back-recovery.result c.go_back-recovery.new.self) first c.go_back-recovery.ensures.back)
     c.go_back-recovery.ensures.still
-    (subst (λ r. GoesOnBy c.args.self.now (entry_of r c.go_back-recovery.result ∷ []) c.go_back-recovery.new.self) first c.go_back-recovery.ensures.history)
+    (subst (λ r. GoesOnBy c.args.self.now (recovery_entry r c.go_back-recovery.result ∷ []) c.go_back-recovery.new.self) first c.go_back-recovery.ensures.history)
     (one_taken [] c.go_back-recovery.result c.nothing-taken.result c.add.new.self (none_taken c.nothing-taken.result c.nothing-taken.ensures.undone c.nothing-taken.ensures.concerned) c.add.ensures.undone c.add.ensures.concerned)
     c.say_taken.ensures

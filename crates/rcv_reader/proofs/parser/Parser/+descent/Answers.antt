@@ -1,6 +1,6 @@
 use Rattle.std.proofs.Common.{[], ◌∷◌, false, true, refl, sym, ap, subst, ◌∙◌, arith}
 use Rattle.std.proofs.lemmas.Grind.{common_steps}
-use Rattle.rcv_machine.specs.Words.{At, Left, Semicolon, From, Choice, Rec, Continue, Do, Place, Is, Word, This, AnyName, Argument, Sorts, Sender, Subject, RecName, AgainName, Opening, Rest, More, behind}
+use Rattle.rcv_machine.specs.Words.{At, Left, Semicolon, From, Choice, Rec, Continue, Do, Place, Is, Word, This, AnyName, Argument, Sorts, Sender, Subject, RecName, AgainName, Opening, Rest, More, after_statement}
 use Rattle.rcv_reader.specs.Descent.{Standing, named_in, place_of_spot}
 use Rattle.rcv_reader.proofs.Blocks.{rec_read, choice_next, choice_read, IsBeside, lane_opens, par_first, par_next, par_read, par_statement, block_read, stmts_next, statement}
 use Rattle.rcv_reader.proofs.parser.Parser.+descent.Goals as goal
@@ -55,10 +55,10 @@ stmt-returns-in-Some-Word-default-clause-goes t c =
     let arm = c.in-Some-Word-default in
     let new = c.go_to.new.self in
     statement _ c.args.spot.now.ended c.args.self.now new c.message.new.self c.args.spot.now (Word arm.label.now)
-    (λ k. This (Is Left) ∷ Sorts ∷ This (Is From) ∷ Sender (named_in new.roles c.args.spot.now.earlier.0) ∷ k) (λ k. Rest (behind (place_of_spot new c.args.spot.now) false) ∷ k)
+    (λ k. This (Is Left) ∷ Sorts ∷ This (Is From) ∷ Sender (named_in new.roles c.args.spot.now.earlier.0) ∷ k) (λ k. Rest (after_statement (place_of_spot new c.args.spot.now) false) ∷ k)
     (λ k. k) _ _ c.message.ensures.goes (c.go_to.ensures.taken _ (rw arm.field-0-0-is at arm.ensures.some))
     (λ k. rw c.if-here.false refl) c.message.ensures.read
-    (λ e k. rw c.if-here.false (ap (λ (x : Place). Rest (behind x false) ∷ k) e))
+    (λ e k. rw c.if-here.false (ap (λ (x : Place). Rest (after_statement x false) ∷ k) e))
 
 pub stmt-returns-in-Some-Is-Choice-default-clause-goes : goal.stmt-returns-in-Some-Is-Choice-default-clause-goes
 stmt-returns-in-Some-Is-Choice-default-clause-goes t c =
@@ -66,7 +66,7 @@ stmt-returns-in-Some-Is-Choice-default-clause-goes t c =
     let new = c.go_to-in-Some-Is-Choice-default.new.self in
     let p = place_of_spot new c.args.spot.now in
     statement _ c.args.spot.now.ended c.args.self.now new c.choice.new.self c.args.spot.now (Is Choice) (λ k. This (Is At) ∷ Subject p.earlier ∷ Opening p ∷ More p ∷ k) (λ k. k)
-    (λ k. Rest (behind (place_of_spot c.choice.new.self c.args.spot.now) false) ∷ k) _ _ c.choice.ensures.goes
+    (λ k. Rest (after_statement (place_of_spot c.choice.new.self c.args.spot.now) false) ∷ k) _ _ c.choice.ensures.goes
     (c.go_to-in-Some-Is-Choice-default.ensures.taken _ (rw (arm.field-0-0-is, arm.field-0-0-0-is) at arm.ensures.some))
     (λ k. rw c.if-here.false refl) c.choice.ensures.read (λ e k. rw c.if-here.false refl)
 
@@ -75,19 +75,19 @@ stmt-returns-in-Some-Is-Rec-default-clause-goes t c =
     let arm = c.in-Some-Is-Rec-default in
     let new = c.go_to-in-Some-Is-Rec-default.new.self in
     let p = place_of_spot new c.args.spot.now in
-    statement _ c.args.spot.now.ended c.args.self.now new c.recursion.new.self c.args.spot.now (Is Rec) (λ k. RecName p ∷ k) (λ k. Rest (behind p false) ∷ k)
+    statement _ c.args.spot.now.ended c.args.self.now new c.recursion.new.self c.args.spot.now (Is Rec) (λ k. RecName p ∷ k) (λ k. Rest (after_statement p false) ∷ k)
     (λ k. k) _ _ c.recursion.ensures.goes (c.go_to-in-Some-Is-Rec-default.ensures.taken _ (rw (arm.field-0-0-is, arm.field-0-0-0-is) at arm.ensures.some))
     (λ k. rw c.if-here.false refl) c.recursion.ensures.read
-    (λ e k. rw c.if-here.false (ap (λ (x : Place). Rest (behind x false) ∷ k) e))
+    (λ e k. rw c.if-here.false (ap (λ (x : Place). Rest (after_statement x false) ∷ k) e))
 
 pub stmt-returns-else-is_unguarded-clause-goes : goal.stmt-returns-else-is_unguarded-clause-goes
 stmt-returns-else-is_unguarded-clause-goes t c =
     let arm = c.in-Some-Is-Continue-default in
     let new = c.go_to-in-Some-Is-Continue-default.new.self in
     let p = place_of_spot new c.args.spot.now in
-    statement _ true c.args.self.now new c.again.new.self c.args.spot.now (Is Continue) (λ k. AgainName p ∷ k) (λ k. Rest (behind p true) ∷ k)
+    statement _ true c.args.self.now new c.again.new.self c.args.spot.now (Is Continue) (λ k. AgainName p ∷ k) (λ k. Rest (after_statement p true) ∷ k)
     (λ k. k) _ _ c.again.ensures.goes (c.go_to-in-Some-Is-Continue-default.ensures.taken _ (rw (arm.field-0-0-is, arm.field-0-0-0-is) at arm.ensures.some))
-    (λ k. grind (arith, common_steps)) c.again.ensures.read (λ e k. ap (λ (x : Place). Rest (behind x true) ∷ k) e)
+    (λ k. grind (arith, common_steps)) c.again.ensures.read (λ e k. ap (λ (x : Place). Rest (after_statement x true) ∷ k) e)
 
 pub stmt-returns-else-is_inner-clause-goes : goal.stmt-returns-else-is_inner-clause-goes
 stmt-returns-else-is_inner-clause-goes t c =
@@ -102,7 +102,7 @@ stmt-returns-in-Some-Is-Do-default-clause-goes t c =
     let new = c.go_to-in-Some-Is-Do-default.new.self in
     let p = place_of_spot new c.args.spot.now in
     statement _ c.args.spot.now.ended c.args.self.now new c.call.new.self c.args.spot.now (Is Do)
-    (λ k. AnyName ∷ This (Is Left) ∷ Argument p.earlier [] ∷ This (Is Semicolon) ∷ k) (λ k. Rest (behind p false) ∷ k)
+    (λ k. AnyName ∷ This (Is Left) ∷ Argument p.earlier [] ∷ This (Is Semicolon) ∷ k) (λ k. Rest (after_statement p false) ∷ k)
     (λ k. k) _ _ c.call.ensures.goes (c.go_to-in-Some-Is-Do-default.ensures.taken _ (rw (arm.field-0-0-is, arm.field-0-0-0-is) at arm.ensures.some))
     (λ k. rw c.if-here.false refl) c.call.ensures.read
-    (λ e k. rw c.if-here.false (ap (λ (x : Place). Rest (behind x false) ∷ k) e))
+    (λ e k. rw c.if-here.false (ap (λ (x : Place). Rest (after_statement x false) ∷ k) e))
