@@ -44,10 +44,6 @@ turned false false = refl
 pub hosted_so_far : (lines : List PlanLine) (qs : List ℕ) (p : ℕ) → is_hosted p (lines ++ HostLine qs ∷ []) ≡ (is_listed qs p || is_hosted p lines)
 hosted_so_far lines qs p = list_any-append (is_host p) lines (HostLine qs ∷ []) ∙ turned (is_hosted p lines) (is_listed qs p)
 
-pub backward_append : (xs ys back : List Symbol) → backward (xs ++ ys) back ≡ backward ys (backward xs back)
-backward_append [] ys back = refl
-backward_append (x ∷ xs) ys back = backward_append xs ys (x ∷ back)
-
 pub free_append : (roles : List (List ℕ)) (back xs ys left : List Symbol) → AllFree roles back xs (ys ++ left) → AllFree roles (backward xs back) ys left → AllFree roles back (xs ++ ys) left
 free_append roles back [] ys left a b = b
 free_append roles back (x ∷ xs) ys left a b = (subst (λ (z : List Symbol). NoneAt roles back x z) (sym (append_assoc xs ys left)) a.0, free_append roles (x ∷ back) xs ys left a.1 b)
