@@ -121,7 +121,6 @@ no_crash m p n (HostLine qs ∷ lines) f w = no_crash m p n lines (All-tail (IsR
 
 -- ---- where an item stops, and its first word
 
-
 pub free_append : (roles : List (List ℕ)) (back xs ys left : List Symbol) → AllFree roles back xs (ys ++ left) → AllFree roles (backward xs back) ys left → AllFree roles back (xs ++ ys) left
 free_append roles back [] ys left a b = b
 free_append roles back (x ∷ xs) ys left a b = (subst (λ (z : List Symbol). NoneAt roles back x z) (sym (append_assoc xs ys left)) a.0, free_append roles (x ∷ back) xs ys left a.1 b)
