@@ -4,3 +4,4 @@ pub mod Parts
 pub mod Laws
 pub mod Seen
 pub mod Symbols
+pub mod Refusing

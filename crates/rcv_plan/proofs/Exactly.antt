@@ -3,6 +3,7 @@ use Rattle.std.proofs.Common.{◌≡◌, ℕ, true, false, List, [], ◌∷◌, 
 use Rattle.std.specs.Prelude.{codes, map, Err}
 use Rattle.std.proofs.lemmas.List.{map-append}
 use Rattle.rcv_model.specs.Plan.{PlanLine}
+use Rattle.rcv_lexer.proofs.Refusing.{backward_append}
 use Rattle.rcv_plan.specs.declared.sign.Sign.{Sign}
 use Rattle.rcv_plan.specs.declared.sign.Sign.TheVariants.{Equals, Comma}
 use Rattle.rcv_plan.specs.Symbols.{Symbol, Word, Is}
@@ -18,7 +19,7 @@ use Rattle.rcv_plan.specs.Codes.{is_between}
 use Rattle.rcv_plan.specs.Refusing.{code_of, backward, HoldsAt, IsFree, IsFirst, IsRead, Ends}
 use Rattle.rcv_plan.specs.Items.{KnownView, Step, Takes, Stops, Goes, next_item}
 use Rattle.rcv_plan.proofs.Fresh.{Fresh, fresh}
-use Rattle.rcv_plan.proofs.Telling.{has, NoneAt, AllFree, Speaks, Knows, Tells, TakesItem, StopsAt, Completes, Allowed, backward_append, free_append}
+use Rattle.rcv_plan.proofs.Telling.{has, NoneAt, AllFree, Speaks, Knows, Tells, TakesItem, StopsAt, Completes, Allowed, free_append}
 use Rattle.rcv_plan.proofs.Items.{item_tells}
 use Rattle.rcv_plan.proofs.Crashes.{none_once, once_more}
 

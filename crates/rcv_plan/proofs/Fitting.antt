@@ -7,6 +7,7 @@ use Rattle.std.specs.List.{All}
 use Rattle.std.proofs.lemmas.List.Elements.{All-nil, All-cons}
 use Rattle.rcv_tree.specs.Names.{place_of}
 use Rattle.rcv_model.specs.Plan.{PlanLine, CrashLine, HostLine}
+use Rattle.rcv_lexer.proofs.Refusing.{backward_append}
 use Rattle.rcv_plan.specs.declared.sign.Sign.TheVariants.{Equals, Comma}
 use Rattle.rcv_plan.specs.Symbols.{Symbol, Word, Number, Is}
 use Rattle.rcv_plan.specs.declared.fault.Fault.TheVariants.{Role, Twice, Range}
@@ -15,7 +16,7 @@ use Rattle.rcv_plan.specs.Grammar.{Written, WrittenEvery, WrittenCrash, WrittenL
 use Rattle.rcv_plan.specs.Codes.{is_between, with_role, lines_before, is_unknown, is_repeated, is_out_of_range, within}
 use Rattle.rcv_plan.specs.Refusing.{backward, IsFree, IsRead}
 use Rattle.rcv_plan.proofs.Fresh.{Fresh, fresh}
-use Rattle.rcv_plan.proofs.Telling.{declared, in_range, backward_append}
+use Rattle.rcv_plan.proofs.Telling.{declared, in_range}
 use Rattle.rcv_plan.proofs.Hosting.{last_grows, Behind, grown}
 
 -- ---- where no code holds

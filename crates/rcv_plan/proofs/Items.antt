@@ -4,6 +4,7 @@ use Rattle.std.specs.Prelude.{◌&&◌, ◌||◌, codes, cond, map}
 use Rattle.std.specs.List.{All}
 use Rattle.std.specs.Str.{bytes_eq}
 use Rattle.rcv_model.specs.Plan.{PlanLine, HostLine}
+use Rattle.rcv_lexer.proofs.Refusing.{backward_append}
 use Rattle.rcv_plan.specs.declared.sign.Sign.{Sign}
 use Rattle.rcv_plan.specs.declared.sign.Sign.TheVariants.{Equals, Comma, Foreign}
 use Rattle.rcv_plan.specs.Symbols.{Symbol, Word, Number, Is, Text}
@@ -14,7 +15,7 @@ use Rattle.rcv_plan.specs.Grammar.{WrittenEvery, WrittenCrash, WrittenLimit, Wri
 use Rattle.rcv_plan.specs.Codes.{is_among, with_role, lines_before, hosts_before, is_second}
 use Rattle.rcv_plan.specs.Items.{KnownView, Step, Takes, Stops, goes_on, with_host, next_sign, next_member, next_members, host_roles, every_line, crash_line, limit_line, room_line, host_line, line_by, next_item, is_first_word}
 use Rattle.rcv_plan.proofs.Fresh.{Fresh}
-use Rattle.rcv_plan.proofs.Telling.{has, NoneAt, AllFree, Speaks, Knows, Tells, StopsAt, Completes, Allowed, fits_more, backward_append, free_append, stops, first_free, every_tells, crash_tells, limit_tells, room_tells}
+use Rattle.rcv_plan.proofs.Telling.{has, NoneAt, AllFree, Speaks, Knows, Tells, StopsAt, Completes, Allowed, fits_more, free_append, stops, first_free, every_tells, crash_tells, limit_tells, room_tells}
 use Rattle.rcv_plan.proofs.Hosting.{same_bytes, IsWordAt, TellsRole, role_tells, TellsRoles, Behind, free_comma, roles_tell, last_grows, hosted_so_far}
 use Rattle.std.proofs.lemmas.List.Elements.{All-push}
 

@@ -5,6 +5,7 @@ use Rattle.std.specs.Prelude.{◌&&◌, ◌||◌, ◌==◌, not, codes, cond, Op
 use Rattle.rcv_tree.specs.Names.{place_of}
 use Rattle.rcv_tree.proofs.Naming.{is_named}
 use Rattle.rcv_model.specs.Plan.{PlanLine, EveryLine, CrashLine, LimitLine, RoomLine, HostLine}
+use Rattle.rcv_lexer.proofs.Refusing.{backward_append}
 use Rattle.rcv_plan.specs.declared.sign.Sign.{Sign}
 use Rattle.rcv_plan.specs.Symbols.{Symbol, Word, Number, Is, Text, is_comma, is_equals}
 use Rattle.rcv_plan.specs.declared.fault.Fault.{Fault}
@@ -119,10 +120,6 @@ no_crash m p n (RoomLine c ∷ lines) f w = no_crash m p n lines (All-tail (IsRe
 no_crash m p n (HostLine qs ∷ lines) f w = no_crash m p n lines (All-tail (IsReadLine m) (HostLine qs) lines f) w
 
 -- ---- where an item stops, and its first word
-
-pub backward_append : (xs ys back : List Symbol) → backward (xs ++ ys) back ≡ backward ys (backward xs back)
-backward_append [] ys back = refl
-backward_append (x ∷ xs) ys back = backward_append xs ys (x ∷ back)
 
 pub free_append : (roles : List (List ℕ)) (back xs ys left : List Symbol) → AllFree roles back xs (ys ++ left) → AllFree roles (backward xs back) ys left → AllFree roles back (xs ++ ys) left
 free_append roles back [] ys left a b = b

@@ -1,7 +1,9 @@
 -- Which plans are read, and where one is refused: at the first symbol, or at the end, at which a code holds, with the
 -- least one.
-use Rattle.std.specs.Prelude.{◌≡◌, ℕ, ◌<◌, List, [], ◌∷◌, ◌++◌, length, map}
+use Rattle.std.specs.Prelude.{◌≡◌, ℕ, List, [], ◌∷◌, ◌++◌, length, map}
 use Rattle.rcv_tree.specs.declared.refusal.Refusal.TheVariants as refusals
+use Rattle.rcv_lexer.specs.Refusing as table
+pub use Rattle.rcv_lexer.specs.Refusing.{backward}
 use Rattle.rcv_lexer.specs.declared.token.Token.{Token}
 use Rattle.rcv_tree.specs.declared.refusal.TextError.{TextError}
 use Rattle.rcv_tree.specs.declared.refusal.TextError.TheVariants as errors
@@ -20,11 +22,6 @@ code_of faults.Role = 41
 code_of faults.Twice = 42
 code_of faults.Range = 43
 
--- the symbols, the nearest first, in front of those before them
-abbrev pub backward : List Symbol → List Symbol → List Symbol
-backward [] back = back
-backward (t ∷ ts) back = backward ts (t ∷ back)
-
 -- The code holds here: front stands before, and left begins with the symbol at which the code holds; at the end nothing is left.
 -- Code 40 holds at a symbol that the grammar doesn't have there, and at the end of what isn't whole. No other code holds at the
 -- end.
@@ -36,16 +33,11 @@ HoldsAt roles f front (t ∷ ts) = Holds roles f (backward front []) t ts
 
 -- no code holds at any symbol, nor at the end
 abbrev pub IsFree : List (List ℕ) → List Symbol → Type 0
-IsFree roles symbols = (f : Fault) (front left : List Symbol) → symbols ≡ front ++ left → HoldsAt roles f front left → ⊥
+IsFree roles symbols = table.IsFree (HoldsAt roles) symbols
 
--- The code holds at the first of what is left, no lesser code does, and no code holds before.
-pub record IsFirst (roles : List (List ℕ)) (symbols : List Symbol) (f : Fault) (left : List Symbol) : Type 0 where
-  pub front : List Symbol
-  pub cut : symbols ≡ front ++ left
-  pub holds : HoldsAt roles f front left
-  pub least : (g : Fault) → code_of g < code_of f → HoldsAt roles g front left → ⊥
-  pub first : (g : Fault) (before : List Symbol) (t : Symbol) (others : List Symbol) → front ≡ before ++ t ∷ others
-      → HoldsAt roles g before (t ∷ others ++ left) → ⊥
+-- the first of the table's codes, which holds at what is left
+abbrev pub IsFirst : List (List ℕ) → List Symbol → Fault → List Symbol → Type 0
+IsFirst roles symbols f left = table.IsFirst code_of (HoldsAt roles) symbols f left
 
 -- The grammar derives the list, no code holds in it, and these are the lines that its items say, in order.
 pub record IsRead (roles : List (List ℕ)) (symbols : List Symbol) (lines : List PlanLine) : Type 0 where

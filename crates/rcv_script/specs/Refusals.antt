@@ -1,7 +1,9 @@
 -- Which scripts are read, and where they are refused: at the first symbol, or at the end, at which a code holds, with the
 -- least one.
-use Rattle.std.specs.Prelude.{◌≡◌, ℕ, ◌<◌, List, [], ◌∷◌, ◌++◌, length}
+use Rattle.std.specs.Prelude.{◌≡◌, ℕ, List, [], ◌∷◌, ◌++◌, length}
 use Rattle.rcv_tree.specs.declared.refusal.Refusal.TheVariants as refusals
+use Rattle.rcv_lexer.specs.Refusing as table
+pub use Rattle.rcv_lexer.specs.Refusing.{backward}
 use Rattle.rcv_lexer.specs.declared.token.Token.{Token}
 use Rattle.rcv_tree.specs.declared.refusal.TextError.{TextError}
 use Rattle.rcv_tree.specs.declared.refusal.TextError.TheVariants as errors
@@ -24,11 +26,6 @@ code_of faults.AttemptInState = 34
 code_of faults.NoPayload = 35
 code_of faults.TooMany = 36
 
--- the symbols, the nearest first, in front of those before them
-abbrev pub backward : List Symbol → List Symbol → List Symbol
-backward [] back = back
-backward (t ∷ ts) back = backward ts (t ∷ back)
-
 -- The code holds at the symbol with which left begins, if front stands before it; at the end nothing is left. Code 30 is at a
 -- symbol that the grammar doesn't have there, and at the end of what isn't whole. No other code is at the end.
 abbrev pub HoldsAt : List (List ℕ) → List PointView → Fault → List Symbol → List Symbol → Type 0
@@ -39,18 +36,11 @@ HoldsAt roles messages f front (t ∷ ts) = Holds roles messages f (backward fro
 
 -- no code holds at any symbol, nor at the end
 abbrev pub IsFree : List (List ℕ) → List PointView → List Symbol → Type 0
-IsFree roles messages symbols =
-    (f : Fault) (front left : List Symbol) → symbols ≡ front ++ left → HoldsAt roles messages f front left → ⊥
+IsFree roles messages symbols = table.IsFree (HoldsAt roles messages) symbols
 
--- The code holds at the first of what is left, no lesser code does, and no code holds before.
-pub record IsFirst (roles : List (List ℕ)) (messages : List PointView) (symbols : List Symbol) (f : Fault) (left : List Symbol)
-    : Type 0 where
-  pub front : List Symbol
-  pub cut : symbols ≡ front ++ left
-  pub holds : HoldsAt roles messages f front left
-  pub least : (g : Fault) → code_of g < code_of f → HoldsAt roles messages g front left → ⊥
-  pub first : (g : Fault) (before : List Symbol) (t : Symbol) (others : List Symbol) → front ≡ before ++ t ∷ others
-      → HoldsAt roles messages g before (t ∷ others ++ left) → ⊥
+-- the first of the table's codes, which holds at what is left
+abbrev pub IsFirst : List (List ℕ) → List PointView → List Symbol → Fault → List Symbol → Type 0
+IsFirst roles messages symbols f left = table.IsFirst code_of (HoldsAt roles messages) symbols f left
 
 -- The grammar derives the symbols, no code holds in them, and this is what they say, role by role.
 pub record AreRead (roles : List (List ℕ)) (messages : List PointView) (symbols : List Symbol) (scripts : List (List Line)) : Type 0 where
