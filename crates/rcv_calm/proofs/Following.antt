@@ -2,13 +2,14 @@
 use Rattle.std.proofs.Common.{◌≡◌, ℕ, Bool, true, false, cond, List, [], ◌∷◌, ◌++◌, Option, Some, None, refl, sym, subst}
 use Rattle.std.specs.Prelude.{◌||◌, codes}
 use Rattle.rcv_tree.specs.Bits.{is_listed}
+use Rattle.rcv_tree.specs.Names.{place_of}
 use Rattle.rcv_model.specs.Plan.{EveryLine, CrashLine, LimitLine, RoomLine}
 use Rattle.rcv_plan.specs.declared.sign.Sign.TheVariants.{Equals, Comma}
 use Rattle.rcv_plan.specs.declared.fault.Fault.{Fault}
 use Rattle.rcv_plan.specs.declared.fault.Fault.TheVariants.{Twice, Range}
 use Rattle.rcv_plan.specs.Symbols.{Symbol, Word, Number, Is}
 use Rattle.rcv_plan.specs.Lines.{has_crash, is_hosted}
-use Rattle.rcv_plan.specs.Grammar.{Written, WrittenEvery, WrittenCrash, WrittenLimit, WrittenRoom, WrittenHost, more_roles, item_text, plan_text, place_of}
+use Rattle.rcv_plan.specs.Grammar.{Written, WrittenEvery, WrittenCrash, WrittenLimit, WrittenRoom, WrittenHost, more_roles, item_text, plan_text}
 use Rattle.rcv_plan.specs.Codes.{is_among, is_second, within}
 use Rattle.rcv_plan.specs.Items.{KnownView, Step, Takes, Stops, goes_on, found, unhosted, with_line, with_host, next_name, next_number, next_count, next_role, next_sign, next_member, next_members, host_roles, every_line, limit_line, room_line, next_item}
 

@@ -1,6 +1,7 @@
 -- A document with a `<` in its text, and bytes that are none, since nothing closes a `<` in them.
-use Rattle.std.proofs.Common.{◌≡◌, ◌∙◌, inl, inr, ℕ, ◌+◌, ◌≤◌, List, [], ◌∷◌, ◌++◌, refl, sym, ap, subst, arith}
+use Rattle.std.proofs.Common.{◌≡◌, ◌∙◌, inl, inr, ℕ, zero, suc, ◌+◌, ◌-◌, ◌<◌, ◌≤◌, lit≤, List, [], ◌∷◌, ◌++◌, length, refl, sym, ap, subst, arith}
 use Rattle.std.specs.Prelude.{Bool, true, false, cond, ◌==◌, codes, sum_by}
+use Rattle.std.specs.Borrow.{Bor}
 use Rattle.std.proofs.lemmas.Bool.Decides.{nat_tests}
 use Rattle.std.proofs.lemmas.List.Sums.{sum_by-append}
 use Rattle.std.specs.Char.{is_ascii_alphabetic}
@@ -10,6 +11,7 @@ use Rattle.rcv_picture.specs.WellFormed.{is_name_byte, are_name_bytes, is_name, 
 use Rattle.rcv_picture.specs.WellFormed.{IsValue, EndOfValue, ByteOfValue, EntityOfValue, AreAttributes, NoAttribute, OneAttribute}
 use Rattle.rcv_picture.specs.WellFormed.{IsContent, EndOfContent, ByteOfContent, EntityOfContent, ElementOfContent, IsElement, OneTag, TwoTags}
 use Rattle.rcv_picture.specs.Laws.{is_proper}
+use Rattle.rcv_picture.specs.Names.{cut_words, IsShortened, as_it_is, too_long, is_seam_at, IsLineEnd, at_seam, AreLinesOf, one_line, more_lines}
 use Rattle.rcv_picture.proofs.Spelling.{and_left, and_right, well_formed}
 
 -- an element with an attribute and a text
@@ -154,3 +156,42 @@ mutual
 -- three `<` and two `>`
 a_bare_mark : IsDocument (codes "<a><</a>") → ⊥
 a_bare_mark document = omega (arith, element_bound document)
+
+-- A name of 17 letters is cut to 16; one of three letters isn't cut.
+long_name : IsShortened 16 (codes "abcdefghijklmnopq") (cut_words (codes "abcdefghij") (codes "mnopq"))
+long_name =
+    too_long (lit≤ tt)
+    (record { front = codes "abcdefghij"; middle = codes "kl"; back = codes "mnopq"; whole = refl; letters = refl; third = refl; is = refl })
+
+short_name : IsShortened 16 (codes "pay") (codes "p") → ⊥
+short_name (as_it_is few is) = absurd cc
+short_name (too_long long cut) = absurd (omega (arith, long))
+
+-- A name may be broken after `_`, and before a capital letter after a small one.
+seams : (is_seam_at (codes "front_desk") 6 ≡ true) × (is_seam_at (codes "frontDesk") 5 ≡ true) × (is_seam_at (codes "frontDesk") 6 ≡ false)
+seams = (refl, refl, refl)
+
+-- A name of 15 letters stands in two lines; one of two letters doesn't.
+abbrev desk : List ℕ
+desk = codes "storefront_Desk"
+
+no_later_seam : (more : ℕ) → more < 3 → is_seam_at desk (more + 12) ≡ false
+no_later_seam zero few = refl
+no_later_seam (suc zero) few = refl
+no_later_seam (suc (suc zero)) few = refl
+no_later_seam (suc (suc (suc more))) few = absurd (omega (arith, few))
+
+desk_ends : IsLineEnd desk 11
+desk_ends =
+    at_seam (lit≤ tt) (lit≤ tt) refl
+    (λ letters after before.
+    let there : (letters - 12) + 12 ≡ letters = omega (arith, after) in
+    subst (λ (n : ℕ). is_seam_at desk n ≡ false) there (no_later_seam (letters - 12) (omega (arith, after, before))))
+
+two_lines : (first second : Bor (List ℕ)) → first.now ≡ codes "storefront_" → second.now ≡ codes "Desk" → AreLinesOf desk (first ∷ second ∷ [])
+two_lines first second is after =
+    more_lines desk (codes "Desk") first (second ∷ []) (lit≤ tt) (ap (λ (t : List ℕ). t ++ codes "Desk") is)
+    (subst (λ (t : List ℕ). IsLineEnd desk (length t)) (sym is) desk_ends) (one_line (codes "Desk") second (lit≤ tt) after)
+
+two_lines_of_two : (first second : Bor (List ℕ)) → AreLinesOf (codes "me") (first ∷ second ∷ []) → ⊥
+two_lines_of_two first second (more_lines name rest line lines long cut end are) = absurd (omega (arith, long))

@@ -6,12 +6,15 @@ ghost use Rattle.rcv_picture.specs.Size.{PicturesAreShort};
 
 pub mod group;
 mod groups;
+pub mod letters;
 pub mod look;
 mod markup;
+pub mod name_lines;
 pub mod picture;
 pub mod pixels;
 pub mod shape;
 mod shapes;
+pub mod short_name;
 mod style;
 mod text;
 

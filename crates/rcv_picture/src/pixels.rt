@@ -39,6 +39,11 @@ impl Mul<u32> for Pixels {
 }
 
 impl Pixels {
+    /// So many pixels, or as many as fit.
+    pub fn of(count: usize) -> Pixels {
+        Pixels(u32::try_from(count).unwrap_or(u32::MAX))
+    }
+
     /// Half of it, rounded down.
     pub fn half(self) -> Pixels {
         Pixels(self.0 / 2)

@@ -2,7 +2,6 @@
 use Prim.Native.Nat.{zero, suc}
 use Rattle.std.proofs.Common.{◌≡◌, ℕ, ◌+◌, ◌<◌, ◌≤◌, ◌^◌, List, [], ◌∷◌, ◌++◌, length, take, drop, refl, sym, ◌∙◌, ap, subst, ◌⊎◌, inl, inr, ⊎_elim, arith}
 use Rattle.rcv_tree.specs.declared.entry.Entry.{Entry}
-use Rattle.rcv_tree.specs.declared.entry.Entry.TheVariants.{Send, Recv}
 use Rattle.rcv_tree.specs.declared.entry.Timed.{Timed}
 use Rattle.rcv_tree.specs.declared.event.Event.{Event}
 use Rattle.rcv_tree.specs.declared.event.Message.{Message}

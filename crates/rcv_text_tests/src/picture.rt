@@ -16,7 +16,7 @@ const BEFORE: &[u8] =
 <desc></desc>
 <style>";
 
-const BEHIND: &[u8] = b"</style>
+const AFTER: &[u8] = b"</style>
 <defs><marker id=\"tip\" viewBox=\"0 0 14 14\" refX=\"13\" refY=\"7\" markerWidth=\"7\" markerHeight=\"7\" \
 markerUnits=\"userSpaceOnUse\" orient=\"auto\"><path class=\"tip\" d=\"M 0 0 L 14 7 L 0 14 Z\"/></marker>\
 <marker id=\"tip-undone\" viewBox=\"0 0 14 14\" refX=\"13\" refY=\"7\" markerWidth=\"7\" markerHeight=\"7\" \
@@ -123,6 +123,6 @@ fn shapes_and_groups_are_written(rt: HostRuntime) -> Result<(), Fail> {
     let text = picture_text(rt.alloc(), &picture)?;
     let text = text.as_slice();
     assert!(rt; text.starts_with(BEFORE));
-    assert!(rt; text.ends_with(BEHIND));
+    assert!(rt; text.ends_with(AFTER));
     Ok(())
 }

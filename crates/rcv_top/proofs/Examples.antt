@@ -1,8 +1,8 @@
 -- Words that are commands. And each law has something to speak of: applied to the input that rcv_input's worked case takes.
-use Rattle.std.proofs.Common.{◌≡◌, ℕ, true, false, codes, ◌<◌, ◌≤◌, List, [], ◌∷◌, length, refl, ap, arith}
+use Rattle.std.proofs.Common.{◌≡◌, ℕ, true, false, codes, ◌<◌, ◌≤◌, List, [], ◌∷◌, length, refl, ap, inl, inr, arith}
 use Rattle.std.specs.Prelude.{◌↔◌, slice_index}
 use Rattle.std.specs.Fmt.{digits}
-use Rattle.rcv_session.specs.Session.{rules_of}
+use Rattle.rcv_session.specs.Session.{SessionView, rules_of}
 use Rattle.rcv_accept.specs.Accepted.{IsAcceptedProtocol, net_for}
 use Rattle.rcv_lexer.specs.Parts.{parts_of}
 use Rattle.rcv_syntax.specs.Grammar.{spelling}
@@ -16,7 +16,7 @@ use Rattle.rcv_grammar.proofs.Printables.{read_is_printable}
 use Rattle.rcv_printer.specs.CanonicalText.{canonical, body_text, inner}
 use Rattle.rcv_printer.specs.Laws.{IsReadAs}
 use Rattle.rcv_printer.proofs.ReadBack.{reads_back, stays}
-use Rattle.rcv_model.specs.Journal.{reading}
+use Rattle.rcv_model.specs.Journal.{Rules, State, reading}
 use Rattle.rcv_model.specs.Final.{AreDone}
 use Rattle.rcv_journal.specs.JournalText.{AreNamed, last_line}
 use Rattle.rcv_journal.proofs.Named.{legal_is_named}
@@ -25,6 +25,7 @@ use Rattle.rcv_project.specs.LocalText.{IsTextOf}
 use Rattle.rcv_project.proofs.OneText.{roles_have_one_text}
 use Rattle.rcv_tables.specs.TableText.{table_text}
 use Rattle.rcv_tables.proofs.OneText.{one_table_text}
+use Rattle.rcv_input.specs.Input.{IsTaken}
 use Rattle.rcv_input.proofs.Planned as planned
 use Rattle.rcv_input.proofs.Worked.{input, symbols, tokens, cut, protocol, its_body, is_read, session, taken}
 use Rattle.rcv_top.specs.declared.status.Status.{Status}
@@ -37,12 +38,13 @@ use Rattle.rcv_words.specs.Commands.{Run, Check, Project, Gen, Line, IsCommand, 
 use Rattle.rcv_top.specs.Commands.{AskForSeveral, AskForSource}
 use Rattle.rcv_top.specs.Generating.{IsSummaryRun}
 use Rattle.rcv_top.specs.Lining.{line_text, IsLineRun}
-use Rattle.rcv_top.specs.Laws.{HasOutcome}
-use Rattle.rcv_top.specs.Running.{IsSessionRun}
+use Rattle.rcv_top.specs.Laws.{HasEnded, HasOutcome}
+use Rattle.rcv_top.specs.Running.{EndsAs, all_done, at_limit, IsSessionRun}
 use Rattle.rcv_top.specs.Recovering.{IsTableText, accepted_as}
 use Rattle.rcv_top.specs.Headline.{IsHeadline}
 use Rattle.rcv_top.specs.Outcome.{most_bytes, IsOutcome, answered, made}
 use Rattle.rcv_top.proofs.Asking.{one_command, check_command, gen_asks}
+use Rattle.rcv_top.proofs.Asked.{outcomes_are_runs}
 use Rattle.rcv_top.proofs.Again.{checks_stay}
 use Rattle.rcv_top.proofs.Ending.{sessions_end, summary_exists, line_exists}
 use Rattle.rcv_top.proofs.Existing.{outcomes_exist}
@@ -138,6 +140,19 @@ ended = sessions_end false input session taken
 
 headline : IsHeadline (rules_of session) ended.2.journal
 headline = ended.2.is_journal.headline
+
+-- `run` answers that, and what it answers is the run of one worker on a session that the input is taken as
+ran : IsOutcome (codes "run" ∷ []) input ended.0 ended.1
+ran = answered (Run 1 false) (record { words_are = alone; short = omega arith }) (made session taken ended.2)
+
+has_ended : (rules : Rules) (s : State) (status : Status) → EndsAs rules s status → HasEnded status
+has_ended rules s status (all_done done) = inl refl
+has_ended rules s status (at_limit limit) = inr refl
+
+is_run : (s : SessionView) × IsTaken input s × IsSessionRun 1 false s ended.0 ended.1
+is_run =
+    outcomes_are_runs (codes "run" ∷ []) input 1 false ended.0 ended.1 alone
+    (has_ended (rules_of session) (reading (rules_of session) ended.2.journal) ended.0 ended.2.ends) ran
 
 -- so it is where the first role crashes, and both fail
 crashed : (status : Status) × (bytes : List ℕ) × IsSessionRun 1 false planned.session status bytes

@@ -1,17 +1,22 @@
 -- Several sessions: the words for them, what is too much, how they end in all, and what is written.
-use Rattle.std.proofs.Common.{◌≡◌, ℕ, false, codes, List, [], ◌∷◌, length, refl, ⊎_elim, arith}
+use Rattle.std.proofs.Common.{◌≡◌, ℕ, Bool, true, false, codes, List, [], ◌∷◌, length, refl, sym, subst, inl, inr, ⊎_elim, arith}
+use Rattle.std.specs.Prelude.{if◌then◌else◌}
+use Rattle.std.specs.List.{list_any}
 use Rattle.std.specs.Fmt.{digits}
 use Rattle.clap.proofs.OnLiterals.{clap_on_literals}
 use Rattle.rcv_model.specs.Plan.{LimitLine}
 use Rattle.rcv_session.specs.Session.{SessionView}
+use Rattle.rcv_input.specs.Input.{IsTaken}
 use Rattle.rcv_input.proofs.Worked.{input, protocol, session, taken}
 use Rattle.rcv_joined.specs.Joined.{joined}
 use Rattle.rcv_words.specs.Commands.{Run, RunMany, IsCommand}
 use Rattle.rcv_top.specs.declared.status.Status.{Status}
 use Rattle.rcv_top.specs.declared.status.Status.TheVariants.{Completed, Limited}
 use Rattle.rcv_top.specs.Commands.{AskForSeveral}
-use Rattle.rcv_top.specs.Many.{OneRun, ended_as, texts_of, IsTooMuch, IsManyRun, AreWritten, IsRunOfMany}
-use Rattle.rcv_top.specs.Laws.{HasOutcome}
+use Rattle.rcv_top.specs.Many.{OneRun, is_limited, ended_as, texts_of, IsTooMuch, IsManyRun, AreWritten, IsRunOfMany}
+use Rattle.rcv_top.specs.Outcome.{IsOutcome, answered, made}
+use Rattle.rcv_top.specs.Laws.{HasEnded, HasOutcome}
+use Rattle.rcv_top.proofs.Asked.{outcomes_are_many_runs}
 use Rattle.rcv_top.proofs.Existing.{outcomes_exist}
 use Rattle.rcv_top.proofs.Workers.{one_each, workers_decide_nothing}
 use Rattle.rcv_top.proofs.ManyExist.{many_some}
@@ -91,6 +96,20 @@ come = many_some 2 false input session taken
 
 written : AreWritten 2 false session come.0 come.1
 written = ⊎_elim (λ refused. absurd (let much = refused.too_much in omega (arith, much))) (λ fits. fits) come.2
+
+-- `run --sessions 2` answers that, and what it answers is the journals of two sessions of what the input is taken as
+ran : IsOutcome (with_sessions (codes "2")) input come.0 come.1
+ran = answered (RunMany 2 1 false) (record { words_are = two; short = omega arith }) (made session taken come.2)
+
+either : (limited : Bool) → HasEnded (if limited then Limited else Completed)
+either true = inr refl
+either false = inl refl
+
+ended : HasEnded come.0
+ended = subst HasEnded (sym written.many_run.status_is) (either (list_any is_limited written.many_run.runs))
+
+are_runs : (s : SessionView) × IsTaken input s × AreWritten 2 false s come.0 come.1
+are_runs = outcomes_are_many_runs (with_sessions (codes "2")) input 2 1 false come.0 come.1 two ended ran
 
 -- nothing is no journal of theirs
 not_nothing : (status : Status) → IsManyRun 2 false session status [] → ⊥

@@ -9,10 +9,10 @@ use Rattle.rcv_model.specs.Form.{HasForm}
 use Rattle.rcv_model.specs.Net.{Net, HasOneLane}
 use Rattle.rcv_model.specs.Next.{IsProper}
 use Rattle.rcv_model.specs.Places.{net_of}
-use Rattle.rcv_model.specs.Plan.{session_rules}
+use Rattle.rcv_model.specs.Plan.{RoomLine, session_rules}
 use Rattle.rcv_model.specs.Run.{acts}
 use Rattle.rcv_model.specs.Journal.{Rules, State, start, after, place, reading, concerned_in, kept_by, May, IsLegal}
-use Rattle.rcv_model.specs.Final.{IsFinal, AreDone}
+use Rattle.rcv_model.specs.Final.{IsActOf, IsFinal, AreDone}
 use Rattle.rcv_model.proofs.Cases.{says, hears, recover}
 use Rattle.rcv_model.proofs.Checked.{next_by, send_by, recv_by}
 use Rattle.rcv_model.proofs.Forms.{proper}
@@ -20,14 +20,14 @@ use Rattle.rcv_model.proofs.Journals.{below_8}
 use Rattle.rcv_model.proofs.OneLane.{one_lane, one_ends}
 use Rattle.rcv_model.proofs.Recovering.{may_recover}
 use Rattle.rcv_model.proofs.Stepping.{final_by}
-use Rattle.rcv_session.specs.Session.{lines_of, rules_of}
+use Rattle.rcv_session.specs.Session.{SessionView, lines_of, rules_of}
 use Rattle.rcv_input.proofs.Planned.{input, session, is_taken}
 use Rattle.rcv_input.proofs.Worked.{one, its_body}
 use Rattle.rcv_transparent.specs.Calm.{calm, ReadsNoAttempt, IsDoneJournal}
 use Rattle.rcv_transparent.specs.Traces.{LeavesNoTrace}
 use Rattle.rcv_top.specs.declared.status.Status.{Status}
 use Rattle.rcv_top.specs.declared.status.Status.TheVariants.{Completed}
-use Rattle.rcv_top.specs.Running.{all_done, CanRun, IsSessionRun}
+use Rattle.rcv_top.specs.Running.{all_done, CanRun, IsJournalOf, IsSessionRun}
 use Rattle.rcv_jobs.specs.Texts.{IsWritten}
 use Rattle.rcv_top.specs.Laws.{CompletesBlind}
 use Rattle.rcv_top.proofs.Ending.{has_text}
@@ -100,6 +100,22 @@ is_done = record {
 
 pub can : CanRun session
 can = (taken_sessions_can_run input session is_taken).0
+
+-- with channels that hold no message it can't
+abbrev without_room : SessionView
+without_room = record session { plan = RoomLine 0 ∷ [] }
+
+cannot : CanRun without_room → ⊥
+cannot can = let room = can.room in omega (arith, room)
+
+-- at first A can send, so the empty journal isn't a journal of a session that ran to its end
+acts_first : IsActOf rules s0 0 (Send (says 0 1 0 1))
+acts_first = (refl, send_by rules net_one s0 (says 0 1 0 1) refl refl refl refl refl refl refl, omega arith)
+
+not_empty : IsJournalOf session [] → ⊥
+not_empty is =
+    let ended : IsFinal rules (reading rules []) = subst (λ (x : Rules). IsFinal x (reading x [])) same_rules is.headline.final in
+    ended.none_acts 0 (omega arith) (Send (says 0 1 0 1), acts_first)
 
 -- some two workers may write it
 run : IsSessionRun 2 false session Completed text.0

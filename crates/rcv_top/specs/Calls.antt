@@ -25,7 +25,9 @@ pub record Around : Type 0 where
   pub write_faults_after : ℕ
 
 -- What these functions tell of a source (its bytes, its count of given ones and its faults) and of a sink, before and after.
-abbrev pub around : {S K : Type 0} → (S → Option (List ℕ)) → (S → ℕ) → (S → ℕ) → S → S → (K → Option (List ℕ)) → (K → ℕ) → K → K → Around
+abbrev pub around : {S K : Type 0}
+    → (rest : S → Option (List ℕ)) (given read_faults : S → ℕ) (source source_after : S)
+    → (written : K → Option (List ℕ)) (write_faults : K → ℕ) (sink sink_after : K) → Around
 around rest given read_faults source source_after written write_faults sink sink_after =
     record {
       rest_before = rest source;

@@ -5,6 +5,7 @@ use Rattle.std.proofs.vec.Vec.TheSendSync as vec
 use Rattle.rcv_tree.proofs.entry.Timed.TheSendSync as timed
 use Rattle.rcv_tree.proofs.event.Event.TheSendSync as event
 use Rattle.rcv_tree.proofs.role.RoleId.TheSendSync as role
+use Rattle.rcv_tree.proofs.numbers.Numbers.TheSendSync as numbers
 use Rattle.rcv_checkpoint.proofs.tail.Tail.TheSendSync as tail
 use Rattle.rcv_mailbox.proofs.post.Post.TheSendSync as post
 use Rattle.rcv_mailbox.proofs.inbox.Inbox.TheSendSync as inbox
@@ -27,4 +28,4 @@ returns-clause-watched g c =
 
 pub run_round-requires-send-P : goal.run_round-requires-send-P
 run_round-requires-send-P g c κs within =
-    search (std.crosses, vec.the_send, timed.the_send, event.the_send, role.the_send, tail.the_send, post.the_send, inbox.the_send, setup_sync, sendable) depth 60 fits 20000
+    search (std.crosses, vec.the_send, timed.the_send, event.the_send, role.the_send, numbers.the_send, tail.the_send, post.the_send, inbox.the_send, setup_sync, sendable) depth 60 fits 20000
