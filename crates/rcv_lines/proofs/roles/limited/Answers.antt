@@ -1,5 +1,5 @@
 -- The first field, and the names behind it.
-use Rattle.std.proofs.Common.{◌≡◌, ◌==◌, ℕ, Bool, false, true≢false, List, length, Bor, Vec, Global, ap, map, subst, sym, eq-eqb}
+use Rattle.std.proofs.Common.{◌≡◌, ◌∙◌, ◌==◌, ℕ, Bool, false, true≢false, List, length, Bor, Vec, Global, ap, map, subst, sym, eq-eqb}
 use Rattle.std.specs.Prelude.{IfOk, IfSome}
 use Rattle.rcv_tree.specs.declared.protocol.Protocol.{Protocol}
 use Rattle.rcv_tree.specs.Names.{name_at}
