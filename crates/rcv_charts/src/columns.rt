@@ -1,8 +1,9 @@
 // A column for each role, with its name as the heading.
 
-use crate::letters::{HEAD, lines, pixels, widest};
 use crate::shapes::middle_text;
+use rcv_picture::letters::{Letters, width_of};
 use rcv_picture::look::Look;
+use rcv_picture::name_lines::lines_of_name;
 use rcv_picture::pixels::Pixels;
 use rcv_picture::shape::Shape;
 use rcv_tree::name::Names;
@@ -12,16 +13,10 @@ use std::alloc::{AllocError, Global};
 /// A protocol has at most so many roles.
 pub const ROLES: usize = 8;
 
-/// A name in lines.
+/// The headings of the roles, in order: the lines of each name.
 #[derive(Drop)]
-pub struct Heading {
-    pub lines: Vec<Vec<u8>>,
-}
-
-/// The headings of the roles, in order.
-#[derive(Drop)]
-pub struct Headings {
-    items: Vec<Heading>,
+pub struct Headings<'a> {
+    items: Vec<Vec<&'a [u8]>>,
 }
 
 /// Columns beside each other: where the first starts, and how wide each is.
@@ -70,14 +65,12 @@ impl Columns {
     }
 }
 
-impl Headings {
+impl<'a> Headings<'a> {
     /// The headings of these roles. Fails if memory runs out.
-    pub fn of(alloc: Global, roles: &Names) -> Result<Headings, AllocError> {
+    pub fn of(alloc: Global, roles: &'a Names) -> Result<Headings<'a>, AllocError> {
         let mut items = Vec::new(alloc);
         for name in roles.as_slice() {
-            items.push(Heading {
-                lines: lines(alloc, name.as_slice())?,
-            })?;
+            items.push(lines_of_name(alloc, name.as_slice())?)?;
         }
         Ok(Headings { items })
     }
@@ -85,8 +78,10 @@ impl Headings {
     /// The width of the widest.
     pub fn width(&self) -> Pixels {
         let mut most = Pixels(0);
-        for heading in self.items.as_slice() {
-            most = most.max(widest(heading.lines.as_slice(), HEAD));
+        for lines in self.items.as_slice() {
+            for line in lines.as_slice() {
+                most = most.max(width_of(line, Letters::Head));
+            }
         }
         most
     }
@@ -94,16 +89,16 @@ impl Headings {
     /// How high they are.
     pub fn height(&self) -> Pixels {
         let mut most = 0;
-        for heading in self.items.as_slice() {
-            most = heading.lines.len().max(most);
+        for lines in self.items.as_slice() {
+            most = lines.len().max(most);
         }
-        pixels(most) * 15 + Pixels(8)
+        Pixels::of(most) * 15 + Pixels(8)
     }
 
     /// The lines of the heading of a role.
-    pub fn lines(&self, role: RoleId) -> &[Vec<u8>] {
+    pub fn lines(&self, role: RoleId) -> &[&'a [u8]] {
         match self.items.get(role.0 as usize) {
-            Some(heading) => heading.lines.as_slice(),
+            Some(lines) => lines.as_slice(),
             None => &[],
         }
     }
@@ -122,7 +117,7 @@ impl Headings {
         let mut y = top;
         for line in self.lines(role) {
             y = y + Pixels(15);
-            let words = Vec::from_slice(alloc, line.as_slice())?;
+            let words = Vec::from_slice(alloc, line)?;
             shapes.push(middle_text(x, y, look, words))?;
         }
         Ok(())
