@@ -1,9 +1,9 @@
 -- A label that is made to fit is shown so.
-use Rattle.std.proofs.Common.{◌≡◌, ℕ, Bool, true, false, ◌+◌, ◌-◌, List, ◌++◌, length, take, drop, sym, ◌∙◌, ap, arith, append_assoc, length-append}
+use Rattle.std.proofs.Common.{◌≡◌, ℕ, Bool, true, false, ◌-◌, List, ◌++◌, length, take, drop, sym, ◌∙◌, ap, arith, append_assoc, length-append}
 use Rattle.std.specs.Prelude.{nat_lt, if◌then◌else◌}
 use Rattle.std.proofs.lemmas.Bool.Decides.{nat_tests}
 use Rattle.std.proofs.Math.Seq.{take-append_seam, drop-append_seam}
-use Rattle.rcv_picture.specs.Names.{ellipsis, cut_words, IsShortened, as_it_is, too_long}
+use Rattle.rcv_picture.specs.Names.{ellipsis, IsShortened, as_it_is, too_long}
 use Rattle.rcv_charts.specs.StateTitles.{shown_label}
 
 abbrev shown_if : List ℕ → Bool → List ℕ

@@ -13,10 +13,12 @@ use std::alloc::{AllocError, Global};
 /// A protocol has at most so many roles.
 pub const ROLES: usize = 8;
 
-/// The headings of the roles, in order: the lines of each name.
-#[derive(Drop)]
+/// The headings of roles, which are their names in lines: how wide the widest is, and how high they are.
+#[derive(Clone, Copy, Drop)]
 pub struct Headings<'a> {
-    items: Vec<Vec<&'a [u8]>>,
+    roles: &'a Names,
+    pub width: Pixels,
+    pub height: Pixels,
 }
 
 /// Columns beside each other: where the first starts, and how wide each is.
@@ -68,39 +70,25 @@ impl Columns {
 impl<'a> Headings<'a> {
     /// The headings of these roles. Fails if memory runs out.
     pub fn of(alloc: Global, roles: &'a Names) -> Result<Headings<'a>, AllocError> {
-        let mut items = Vec::new(alloc);
-        for name in roles.as_slice() {
-            items.push(lines_of_name(alloc, name.as_slice())?)?;
-        }
-        Ok(Headings { items })
-    }
-
-    /// The width of the widest.
-    pub fn width(&self) -> Pixels {
-        let mut most = Pixels(0);
-        for lines in self.items.as_slice() {
-            for line in lines.as_slice() {
-                most = most.max(width_of(line, Letters::Head));
-            }
-        }
-        most
-    }
-
-    /// How high they are.
-    pub fn height(&self) -> Pixels {
+        let mut width = Pixels(0);
         let mut most = 0;
-        for lines in self.items.as_slice() {
+        for name in roles.as_slice() {
+            let lines = lines_of_name(alloc, name.as_slice())?;
+            for line in lines.as_slice() {
+                width = width.max(width_of(line, Letters::Head));
+            }
             most = lines.len().max(most);
         }
-        Pixels::of(most) * 15 + Pixels(8)
+        Ok(Headings {
+            roles,
+            width,
+            height: Pixels::of(most) * 15 + Pixels(8),
+        })
     }
 
-    /// The lines of the heading of a role.
-    pub fn lines(&self, role: RoleId) -> &[&'a [u8]] {
-        match self.items.get(role.0 as usize) {
-            Some(lines) => lines.as_slice(),
-            None => &[],
-        }
+    /// The lines of the heading of a role. Fails if memory runs out.
+    pub fn lines(&self, alloc: Global, role: RoleId) -> Result<Vec<&'a [u8]>, AllocError> {
+        lines_of_name(alloc, self.roles.name(role))
     }
 
     /// Adds the shapes of the heading of a role, below this line. Fails if memory runs out.
@@ -115,7 +103,7 @@ impl<'a> Headings<'a> {
     ) -> Result<(), AllocError> {
         let x = columns.middle(role);
         let mut y = top;
-        for line in self.lines(role) {
+        for line in self.lines(alloc, role)?.as_slice() {
             y = y + Pixels(15);
             let words = Vec::from_slice(alloc, line)?;
             shapes.push(middle_text(x, y, look, words))?;

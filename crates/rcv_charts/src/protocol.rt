@@ -50,7 +50,7 @@ fn description_of(extent: &Extent) -> &[u8] {
 // Where the columns stand: right of each frame and each way back, and so wide that each label has room. A gap between lanes
 // has room for the frames of both.
 fn columns_of(headings: &Headings<'_>, extent: &Extent) -> Columns {
-    let width = (headings.width() + Pixels(20))
+    let width = (headings.width + Pixels(20))
         .max(extent.label + Pixels(44))
         .max(Pixels(120));
     let back = extent.deepest + extent.again + Pixels(30) - width.half();
@@ -77,7 +77,7 @@ fn draw_roles(
     roles: u8,
     end: Pixels,
 ) -> Result<(), AllocError> {
-    let height = headings.height() + Pixels(2);
+    let height = headings.height + Pixels(2);
     for number in 0..roles {
         let role = RoleId(number);
         let x = columns.middle(role);
@@ -168,7 +168,7 @@ pub fn protocol_picture(
         left: Pixels(0),
         right: wide,
     };
-    let drawing = drawn(&chart, protocol, TOP + headings.height() + Pixels(4))?;
+    let drawing = drawn(&chart, protocol, TOP + headings.height + Pixels(4))?;
     let mut ground = Vec::new(alloc);
     draw_roles(
         alloc,

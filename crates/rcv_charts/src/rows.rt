@@ -243,9 +243,10 @@ fn draw_heading(
         };
         headings.draw(alloc, &mut shapes, columns, other, top + Pixels(2), look)?;
     }
-    draw_name(alloc, &mut shapes, headings.lines(role), top + Pixels(2))?;
+    let lines = headings.lines(alloc, role)?;
+    draw_name(alloc, &mut shapes, lines.as_slice(), top + Pixels(2))?;
     drawing.put_all_below(shapes)?;
-    drawing.skip(headings.height() + Pixels(2));
+    drawing.skip(headings.height + Pixels(2));
     Ok(())
 }
 

@@ -35,8 +35,8 @@ fn columns_of(
     points: &Points,
     headings: &Headings<'_>,
 ) -> Result<Columns, AllocError> {
-    let mut deeds = headings.width() + width_of(b" fails at", Letters::Head);
-    let mut cells = (headings.width() + Pixels(16)).max(Pixels(96));
+    let mut deeds = headings.width + width_of(b" fails at", Letters::Head);
+    let mut cells = (headings.width + Pixels(16)).max(Pixels(96));
     for before in 0..points.count() {
         let point = Point(before + 1);
         for role in [points.sender(point), points.receiver(point)] {
