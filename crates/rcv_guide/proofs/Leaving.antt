@@ -197,7 +197,7 @@ module _ {g : GuideView} {table : TableView} {ledger : LedgerView} (kept : IsGui
       not_in q le (inr f) = f
 
       -- so the bounds agree up to what there is
-      same_bound : (keeps : Keeps) → AreKeeps g.numbers g.logs group saved keeps → (q : ℕ) → min (keeping.bound_of keeps m.held q) (length (acts q m.held)) ≡ min (bound_at m (group_of (terms_of g) p) (slice_index saved) q) (length (acts q m.held))
+      same_bound : (keeps : Keeps) → AreKeeps g.numbers g.logs group saved keeps → (q : ℕ) → min (keeping.ceiling_of keeps m.held q) (length (acts q m.held)) ≡ min (bound_at m (group_of (terms_of g) p) (slice_index saved) q) (length (acts q m.held))
       same_bound keeps are q = ⊎_elim
           (λ lt.
           let here : keeping.fails keeps q ≡ has_bit group q = ap (λ b. b && has_bit keeps.failed.0 q) (below q lt) ∙ ap (λ set. has_bit set q) are.group_is in
@@ -228,10 +228,10 @@ module _ {g : GuideView} {table : TableView} {ledger : LedgerView} (kept : IsGui
               ap (λ b. min (cond b (slice_index keeps.keep q) (length (acts q m.held))) (length (acts q m.held))) e
               ∙ sym (ap (λ b. min (cond b (held_of m (slice_index saved) q) (length (acts q m.held))) (length (acts q m.held))) e)
 
-      pub counts_told : (keeps : Keeps) (counts : List ℕ) → AreKeeps g.numbers g.logs group saved keeps → IsKeptOf (net_for g) g.logs (keeping.bound_of keeps) counts → (q : ℕ) → slice_index counts q ≡ length (acts q (left_in g m p saved))
+      pub counts_told : (keeps : Keeps) (counts : List ℕ) → AreKeeps g.numbers g.logs group saved keeps → IsKeptOf (net_for g) g.logs (keeping.ceiling_of keeps) counts → (q : ℕ) → slice_index counts q ≡ length (acts q (left_in g m p saved))
       counts_told keeps counts are cut q =
           cut m.held (logs_are m is) q
-          ∙ same_counts (net_for g) (keeping.bound_of keeps m.held) (bound_at m (group_of (terms_of g) p) (slice_index saved)) m.held is.queued (same_bound keeps are) q
+          ∙ same_counts (net_for g) (keeping.ceiling_of keeps m.held) (bound_at m (group_of (terms_of g) p) (slice_index saved)) m.held is.queued (same_bound keeps are) q
 
       -- what is left begins what there was
       pub left_begins : (q : ℕ) → IsPrefix (events_of q (left_in g m p saved)) (events_of q m.held)
@@ -312,7 +312,7 @@ module _ {g : GuideView} {table : TableView} {ledger : LedgerView} (kept : IsGui
           (told (net_for g) (roles_of g) kept.table_is (starts_fit keeps starts are starts_are)) q lt
 
       -- and so is the whole answer
-      module _ (keeps : Keeps) (left starts : List ℕ) (back : Recovery) (are : AreKeeps g.numbers g.logs group saved keeps) (cut : IsKeptOf (net_for g) g.logs (keeping.bound_of keeps) left) (starts_are : AreStartsOf g.logs keeps starts) (told : TellsFailure table group starts back.concerned.0) (made : AreMade g.numbers left back.kept) (undone : back.undone + within_counts g.logs left ≡ all_events g.logs) where
+      module _ (keeps : Keeps) (left starts : List ℕ) (back : Recovery) (are : AreKeeps g.numbers g.logs group saved keeps) (cut : IsKeptOf (net_for g) g.logs (keeping.ceiling_of keeps) left) (starts_are : AreStartsOf g.logs keeps starts) (told : TellsFailure table group starts back.concerned.0) (made : AreMade g.numbers left back.kept) (undone : back.undone + within_counts g.logs left ≡ all_events g.logs) where
         count_at : (q : ℕ) → slice_index back.kept q ≡ made_of m (left_in g m p saved) q
         count_at q = ⊎_elim
             (λ lt.
@@ -375,11 +375,11 @@ module _ {g : GuideView} {table : TableView} {ledger : LedgerView} (kept : IsGui
         let told = kept.told in
         (omega (arith, seeds, own, behind, a), omega (arith, forgotten, made, raw, told, a, b, c))
 
-    pub is_failure : (keeps : Keeps) (left starts : List ℕ) (back : Recovery) → AreKeeps g.numbers g.logs group saved keeps → IsKeptOf (net_for g) g.logs (keeping.bound_of keeps) left → AreStartsOf g.logs keeps starts → TellsFailure table group starts back.concerned.0 → AreMade g.numbers left back.kept → back.undone + within_counts g.logs left ≡ all_events g.logs → IsFailureOf g p saved back
+    pub is_failure : (keeps : Keeps) (left starts : List ℕ) (back : Recovery) → AreKeeps g.numbers g.logs group saved keeps → IsKeptOf (net_for g) g.logs (keeping.ceiling_of keeps) left → AreStartsOf g.logs keeps starts → TellsFailure table group starts back.concerned.0 → AreMade g.numbers left back.kept → back.undone + within_counts g.logs left ≡ all_events g.logs → IsFailureOf g p saved back
     is_failure keeps left starts back are cut starts_are told made undone = record {
       tells = λ m is. tells_left m is keeps left starts back are cut starts_are told made undone;
       failed = λ m is. has_failed m is keeps left starts back are cut starts_are told made undone;
     }
 
-    pub are_left : (keeps : Keeps) (left : List ℕ) → AreKeeps g.numbers g.logs group saved keeps → IsKeptOf (net_for g) g.logs (keeping.bound_of keeps) left → AreLeft g p saved left
+    pub are_left : (keeps : Keeps) (left : List ℕ) → AreKeeps g.numbers g.logs group saved keeps → IsKeptOf (net_for g) g.logs (keeping.ceiling_of keeps) left → AreLeft g p saved left
     are_left keeps left are cut m is q = counts_told m is keeps left are cut q

@@ -19,7 +19,7 @@ use Rattle.rcv_tables.specs.Rows.{TableView}
 use Rattle.rcv_ledger.specs.Channels.{ChannelView, channel_at, HasFront}
 use Rattle.rcv_ledger.specs.Logs.{log_at}
 use Rattle.rcv_ledger.specs.Ledger as ledgers
-use Rattle.rcv_ledger.specs.Ledger.{LedgerView, stack_at, with_send, with_recv, behind_event, state_behind, HasRoomToSend}
+use Rattle.rcv_ledger.specs.Ledger.{LedgerView, with_send, with_recv, behind_event, state_behind, HasRoomToSend}
 use Rattle.rcv_ledger.specs.Laws.{IsMore}
 use Rattle.rcv_ledger.proofs.Holding.{sends_hold, recvs_hold}
 use Rattle.rcv_told.specs.Told.{IsSend, IsRecv}

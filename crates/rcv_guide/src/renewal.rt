@@ -1,16 +1,15 @@
 // Forgetting: a new ledger replaces the old one, and holds what stays.
 
 ghost use Rattle.std.specs.Prelude.{◌≡◌, ℕ, ◌+◌, ◌-◌, ◌<◌, ◌≤◌, ◌^◌, ◌==◌, if◌then◌else◌, pos, replicate, length, take};
-ghost use Rattle.std.specs.Prelude.{nat_le, slice_get, slice_index, slice_set, IfOk, IsOk, OnOk, MatchOption, Some};
+ghost use Rattle.std.specs.Prelude.{slice_get, slice_index, slice_set, IfOk, IsOk, OnOk, MatchOption, Some};
 ghost use Rattle.rcv_tree.specs.declared.event.Dir.TheVariants.{Sent, Got};
-ghost use Rattle.rcv_model.specs.Run.{is_sent, takes_on, put, taken};
+ghost use Rattle.rcv_model.specs.Run.{takes_on, put, taken};
 ghost use Rattle.rcv_points.specs.Follow.{net_in};
 ghost use Rattle.rcv_checkpoint.specs.Stack.{held, last_vars};
 ghost use Rattle.rcv_depend.specs.Logs.{between, IsSound, AreSound};
 ghost use Rattle.rcv_ledger.specs.Channels.{channel_at, HasFront};
 ghost use Rattle.rcv_ledger.specs.Logs.{log_at};
 ghost use Rattle.rcv_ledger.specs.Ledger.{stack_at, IsStart};
-ghost use Rattle.rcv_depend.specs.Cuts.{put_within};
 ghost use Rattle.rcv_guide.specs.Numbers.{numbers_at};
 ghost use Rattle.rcv_tree.specs.Events.{point_or_none};
 ghost use Rattle.rcv_guide.specs.Renewal.{AreOrdered, AreEnds, MayEnd, AreReceived, stays, with_one};

@@ -1,8 +1,8 @@
 -- The closing lines: one at most is the first wrong one, and how they are compared.
-use Rattle.std.proofs.Common.{◌≡◌, ℕ, ◌<◌, ◌↔◌, zero, suc, Bool, true, false, cond, Some, List, [], ◌∷◌, ◌++◌, take, map, refl, sym, ◌∙◌, ap, subst, ⊎_elim, arith}
+use Rattle.std.proofs.Common.{◌≡◌, ℕ, ◌<◌, ◌↔◌, suc, Bool, true, false, cond, Some, List, [], ◌∷◌, ◌++◌, take, refl, sym, ◌∙◌, ap, subst, ⊎_elim, arith}
 use Rattle.std.specs.Prelude.{slice_get, length}
 use Rattle.std.proofs.lemmas.Bool.{cases_lt}
-use Rattle.std.proofs.lemmas.Option.{none-some, same_Some, slice_get_within}
+use Rattle.std.proofs.lemmas.Option.{same_Some}
 use Rattle.rcv_model.specs.Journal.{Rules, State}
 use Rattle.rcv_model.specs.Final.{IsFinal, IsCompleted, IsLimited, AreDone, HasOneAtLimit}
 use Rattle.rcv_model.proofs.Located.{item}

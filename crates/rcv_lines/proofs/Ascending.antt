@@ -2,9 +2,9 @@
 use Rattle.std.proofs.Common.{◌≡◌, ◌∙◌, ◌+◌, ◌-◌, ◌<◌, ◌≤◌, ℕ, List, length, get_or, Some, sym, ap, subst, arith}
 use Rattle.std.specs.List.{slice_get}
 use Rattle.std.proofs.lemmas.Option.{slice_get_within, get_or_from_slice_get, slice_get-get_or}
--- Each is below the next where it is so for all places.
 use Rattle.rcv_journal.specs.Form.{IsAscending}
 
+-- Each is below the next where it is so for all places.
 pub ascend : (xs : List ℕ) (n : ℕ) → length xs ≤ n → ((k : ℕ) → k + 1 < n → get_or xs k 0 < get_or xs (k + 1) 0) → IsAscending xs
 ascend xs n end all = λ k a b at-a at-b.
     let inside = slice_get_within xs (k + 1) b at-b in

@@ -1,11 +1,10 @@
 -- The text of a session that came to its end is read as its entries, its lines of roles and those at the limit.
-use Rattle.std.proofs.Common.{◌≡◌, ◌∙◌, ◌<◌, ◌≤◌, ◌^◌, ℕ, zero, suc, Bool, true, false, cond, List, [], ◌∷◌, ◌++◌, All, Some, map, flat_map, slice_get, get_or, refl, sym, ap, ap₂, subst, ⊎_elim, arith, append-nil, codes}
+use Rattle.std.proofs.Common.{◌≡◌, ◌∙◌, ◌<◌, ◌≤◌, ℕ, zero, suc, Bool, true, false, cond, List, [], ◌∷◌, ◌++◌, All, Some, map, flat_map, slice_get, get_or, refl, sym, ap, ap₂, subst, ⊎_elim, arith, append-nil, codes}
 use Rattle.std.specs.List.{list_all}
-use Rattle.std.proofs.lemmas.Option.{none-some, same_Some, slice_get-get_or, slice_get_within}
+use Rattle.std.proofs.lemmas.Option.{none-some, same_Some, slice_get-get_or}
 use Rattle.std.proofs.lemmas.Grind.{flat_map-append}
 use Rattle.std.proofs.lemmas.List.Elements.{All-cons, All-head, All-tail}
-use Rattle.rcv_model.specs.Act.{IsDone}
-use Rattle.rcv_model.specs.Journal.{Rules, State, reading}
+use Rattle.rcv_model.specs.Journal.{State, reading}
 use Rattle.rcv_model.specs.Final.{AreDone, HasOneAtLimit}
 use Rattle.rcv_model.specs.Numbers.{IsBounded}
 use Rattle.rcv_model.proofs.Choosing.{chosen_in}
@@ -15,10 +14,8 @@ use Rattle.rcv_model.proofs.Numbers.{bounded}
 use Rattle.rcv_session.specs.Session.{SessionView, text_of, roles_of, net_for, lines_of, rules_of}
 use Rattle.rcv_core.proofs.Ranges.{ranges}
 use Rattle.rcv_journal.specs.declared.line.RoleLine.{RoleLine}
-use Rattle.rcv_journal.specs.declared.line.RoleWord.{RoleWord}
-use Rattle.rcv_journal.specs.declared.line.RoleWord.TheVariants.{Done, Limit, Waits}
 use Rattle.rcv_journal.specs.JournalText.{entry_line, role_line, is_done, is_limit, limit_text, last_line, name_of}
-use Rattle.rcv_journal.specs.Lines.{IsWordOf, AreLinesOf, limited_in}
+use Rattle.rcv_journal.specs.Lines.{AreLinesOf, limited_in}
 use Rattle.rcv_journal.proofs.Limited.{all_done, one_left}
 use Rattle.rcv_journal.proofs.OneText.{completed_is_written}
 use Rattle.rcv_journal.specs.Recorded.{JournalView, bare}

@@ -1,7 +1,6 @@
 -- A replay is legal exactly where the text is that of a legal and final journal.
 use Rattle.std.proofs.Common.{◌≡◌, ◌∙◌, ℕ, Bool, true, false, cond, List, [], ◌∷◌, ◌++◌, length, map, flat_map, refl, sym, ap, ap₂, subst, inl, inr, ⊎_elim, ◌⊎◌, append_assoc, append-nil}
 use Rattle.std.specs.Prelude.{◌==◌}
-use Rattle.std.specs.List.{filter}
 use Rattle.std.proofs.lemmas.Option.{none-some, same_Some}
 use Rattle.std.proofs.lemmas.Grind.{flat_map-append}
 use Rattle.rcv_tree.specs.declared.entry.Entry.{Entry}
@@ -19,12 +18,12 @@ use Rattle.rcv_core.proofs.Ranges.{ranges}
 use Rattle.rcv_input.specs.Input.{IsTaken}
 use Rattle.rcv_input.proofs.Once.{one_answer}
 use Rattle.rcv_journal.specs.declared.line.RoleLine.{RoleLine}
-use Rattle.rcv_journal.specs.JournalText.{entry_line, role_line, is_limit, last_line}
+use Rattle.rcv_journal.specs.JournalText.{entry_line, role_line, last_line}
 use Rattle.rcv_journal.specs.Lines.{AreLinesOf, limited_in}
 use Rattle.rcv_journal.specs.Recorded.{JournalView, bare}
 use Rattle.rcv_journal.specs.Form as form
 use Rattle.rcv_journal.specs.Form.{Spells, end_line, journal_lines}
-use Rattle.rcv_judge.specs.Closing.{Closes, ClosesRight}
+use Rattle.rcv_judge.specs.Closing.{ClosesRight}
 use Rattle.rcv_judge.proofs.Closings.{closed_completed, closed_limited}
 use Rattle.rcv_lines.proofs.Splitting.{goes_on}
 use Rattle.rcv_lines.proofs.FinalTexts.{done_end, limit_end, joined}

@@ -1,5 +1,5 @@
 -- What is said of a journal is the same for two sessions whose texts, scripts and plans say the same.
-use Rattle.std.proofs.Common.{◌≡◌, ℕ, ◌<◌, ◌≤◌, ◌^◌, List, [], ◌∷◌, ◌++◌, length, map, take, flat_map, codes, refl, inl, inr, sym, ◌∙◌, ap, ap₂, subst, ⊎_elim, ◌-◌}
+use Rattle.std.proofs.Common.{◌≡◌, ℕ, ◌<◌, ◌≤◌, List, [], ◌∷◌, ◌++◌, length, map, take, flat_map, codes, refl, inl, inr, sym, ◌∙◌, ap, ap₂, subst, ⊎_elim, ◌-◌}
 use Rattle.std.specs.List.{All}
 use Rattle.std.specs.Prelude.{slice_index_or}
 use Rattle.std.proofs.lemmas.List.Elements.{All-nil, All-cons, All-head, All-tail}

@@ -51,24 +51,24 @@ made-requires-clause-few c =
     omega (arith, a, b, d)
 
 pub made-requires-clause-seeds : goal.made-requires-clause-seeds
-made-requires-clause-seeds c r lt = (made_fits c.self.invariant c.args.role c.group-group.result.0 c.args.saved.now (subst (λ (g : GuideView). MayRecover g c.args.role c.args.saved.now) (sym c.self.view_is) c.requires) c.group-group.ensures c.cut-left.result (are_left c.self.invariant c.args.role c.group-group.result.0 c.args.saved.now (subst (λ (g : GuideView). MayRecover g c.args.role c.args.saved.now) (sym c.self.view_is) c.requires) c.group-group.ensures c.keeps-keeps.result c.cut-left.result (subst (λ (n : List Numbers). AreKeeps n c.self.inside.ledger.logs c.group-group.result.0 c.args.saved.now c.keeps-keeps.result) c.as_slice.ensures.value c.keeps-keeps.ensures) (subst (λ (net : Net). IsKeptOf net c.self.inside.ledger.logs (keeping.bound_of c.keeps-keeps.result) c.cut-left.result) (same_net (body_of c.self.inside.accepted.protocol.body) _ c.points.result.now c.self.invariant.protocol.form c.points.ensures) c.cut-left.ensures)) c.as_slice-2.result.now c.as_slice-2.ensures.value r lt).0
+made-requires-clause-seeds c r lt = (made_fits c.self.invariant c.args.role c.group-group.result.0 c.args.saved.now (subst (λ (g : GuideView). MayRecover g c.args.role c.args.saved.now) (sym c.self.view_is) c.requires) c.group-group.ensures c.cut-left.result (are_left c.self.invariant c.args.role c.group-group.result.0 c.args.saved.now (subst (λ (g : GuideView). MayRecover g c.args.role c.args.saved.now) (sym c.self.view_is) c.requires) c.group-group.ensures c.keeps-keeps.result c.cut-left.result (subst (λ (n : List Numbers). AreKeeps n c.self.inside.ledger.logs c.group-group.result.0 c.args.saved.now c.keeps-keeps.result) c.as_slice.ensures.value c.keeps-keeps.ensures) (subst (λ (net : Net). IsKeptOf net c.self.inside.ledger.logs (keeping.ceiling_of c.keeps-keeps.result) c.cut-left.result) (same_net (body_of c.self.inside.accepted.protocol.body) _ c.points.result.now c.self.invariant.protocol.form c.points.ensures) c.cut-left.ensures)) c.as_slice-2.result.now c.as_slice-2.ensures.value r lt).0
 
 pub made-requires-clause-fits : goal.made-requires-clause-fits
-made-requires-clause-fits c r lt = (made_fits c.self.invariant c.args.role c.group-group.result.0 c.args.saved.now (subst (λ (g : GuideView). MayRecover g c.args.role c.args.saved.now) (sym c.self.view_is) c.requires) c.group-group.ensures c.cut-left.result (are_left c.self.invariant c.args.role c.group-group.result.0 c.args.saved.now (subst (λ (g : GuideView). MayRecover g c.args.role c.args.saved.now) (sym c.self.view_is) c.requires) c.group-group.ensures c.keeps-keeps.result c.cut-left.result (subst (λ (n : List Numbers). AreKeeps n c.self.inside.ledger.logs c.group-group.result.0 c.args.saved.now c.keeps-keeps.result) c.as_slice.ensures.value c.keeps-keeps.ensures) (subst (λ (net : Net). IsKeptOf net c.self.inside.ledger.logs (keeping.bound_of c.keeps-keeps.result) c.cut-left.result) (same_net (body_of c.self.inside.accepted.protocol.body) _ c.points.result.now c.self.invariant.protocol.form c.points.ensures) c.cut-left.ensures)) c.as_slice-2.result.now c.as_slice-2.ensures.value r lt).1
+made-requires-clause-fits c r lt = (made_fits c.self.invariant c.args.role c.group-group.result.0 c.args.saved.now (subst (λ (g : GuideView). MayRecover g c.args.role c.args.saved.now) (sym c.self.view_is) c.requires) c.group-group.ensures c.cut-left.result (are_left c.self.invariant c.args.role c.group-group.result.0 c.args.saved.now (subst (λ (g : GuideView). MayRecover g c.args.role c.args.saved.now) (sym c.self.view_is) c.requires) c.group-group.ensures c.keeps-keeps.result c.cut-left.result (subst (λ (n : List Numbers). AreKeeps n c.self.inside.ledger.logs c.group-group.result.0 c.args.saved.now c.keeps-keeps.result) c.as_slice.ensures.value c.keeps-keeps.ensures) (subst (λ (net : Net). IsKeptOf net c.self.inside.ledger.logs (keeping.ceiling_of c.keeps-keeps.result) c.cut-left.result) (same_net (body_of c.self.inside.accepted.protocol.body) _ c.points.result.now c.self.invariant.protocol.form c.points.ensures) c.cut-left.ensures)) c.as_slice-2.result.now c.as_slice-2.ensures.value r lt).1
 
 pub undone-requires-clause-logs : goal.undone-requires-clause-logs
 undone-requires-clause-logs c = no_group c.self.invariant
 
 pub undone-requires-clause-counts : goal.undone-requires-clause-counts
-undone-requires-clause-counts c = counts_within c.self.invariant c.args.role c.group-group.result.0 c.args.saved.now (subst (λ (g : GuideView). MayRecover g c.args.role c.args.saved.now) (sym c.self.view_is) c.requires) c.group-group.ensures c.cut-left.result (are_left c.self.invariant c.args.role c.group-group.result.0 c.args.saved.now (subst (λ (g : GuideView). MayRecover g c.args.role c.args.saved.now) (sym c.self.view_is) c.requires) c.group-group.ensures c.keeps-keeps.result c.cut-left.result (subst (λ (n : List Numbers). AreKeeps n c.self.inside.ledger.logs c.group-group.result.0 c.args.saved.now c.keeps-keeps.result) c.as_slice.ensures.value c.keeps-keeps.ensures) (subst (λ (net : Net). IsKeptOf net c.self.inside.ledger.logs (keeping.bound_of c.keeps-keeps.result) c.cut-left.result) (same_net (body_of c.self.inside.accepted.protocol.body) _ c.points.result.now c.self.invariant.protocol.form c.points.ensures) c.cut-left.ensures))
+undone-requires-clause-counts c = counts_within c.self.invariant c.args.role c.group-group.result.0 c.args.saved.now (subst (λ (g : GuideView). MayRecover g c.args.role c.args.saved.now) (sym c.self.view_is) c.requires) c.group-group.ensures c.cut-left.result (are_left c.self.invariant c.args.role c.group-group.result.0 c.args.saved.now (subst (λ (g : GuideView). MayRecover g c.args.role c.args.saved.now) (sym c.self.view_is) c.requires) c.group-group.ensures c.keeps-keeps.result c.cut-left.result (subst (λ (n : List Numbers). AreKeeps n c.self.inside.ledger.logs c.group-group.result.0 c.args.saved.now c.keeps-keeps.result) c.as_slice.ensures.value c.keeps-keeps.ensures) (subst (λ (net : Net). IsKeptOf net c.self.inside.ledger.logs (keeping.ceiling_of c.keeps-keeps.result) c.cut-left.result) (same_net (body_of c.self.inside.accepted.protocol.body) _ c.points.result.now c.self.invariant.protocol.form c.points.ensures) c.cut-left.ensures))
 
 pub undone-requires-clause-few : goal.undone-requires-clause-few
 undone-requires-clause-few c = let a = few_all c.self.invariant in omega (arith, a)
 
 pub returns-clause-left : goal.returns-clause-left
-returns-clause-left c = subst (λ (g : GuideView). AreLeft g c.args.role c.args.saved.now c.cut-left.result) c.self.view_is (are_left c.self.invariant c.args.role c.group-group.result.0 c.args.saved.now (subst (λ (g : GuideView). MayRecover g c.args.role c.args.saved.now) (sym c.self.view_is) c.requires) c.group-group.ensures c.keeps-keeps.result c.cut-left.result (subst (λ (n : List Numbers). AreKeeps n c.self.inside.ledger.logs c.group-group.result.0 c.args.saved.now c.keeps-keeps.result) c.as_slice.ensures.value c.keeps-keeps.ensures) (subst (λ (net : Net). IsKeptOf net c.self.inside.ledger.logs (keeping.bound_of c.keeps-keeps.result) c.cut-left.result) (same_net (body_of c.self.inside.accepted.protocol.body) _ c.points.result.now c.self.invariant.protocol.form c.points.ensures) c.cut-left.ensures))
+returns-clause-left c = subst (λ (g : GuideView). AreLeft g c.args.role c.args.saved.now c.cut-left.result) c.self.view_is (are_left c.self.invariant c.args.role c.group-group.result.0 c.args.saved.now (subst (λ (g : GuideView). MayRecover g c.args.role c.args.saved.now) (sym c.self.view_is) c.requires) c.group-group.ensures c.keeps-keeps.result c.cut-left.result (subst (λ (n : List Numbers). AreKeeps n c.self.inside.ledger.logs c.group-group.result.0 c.args.saved.now c.keeps-keeps.result) c.as_slice.ensures.value c.keeps-keeps.ensures) (subst (λ (net : Net). IsKeptOf net c.self.inside.ledger.logs (keeping.ceiling_of c.keeps-keeps.result) c.cut-left.result) (same_net (body_of c.self.inside.accepted.protocol.body) _ c.points.result.now c.self.invariant.protocol.form c.points.ensures) c.cut-left.ensures))
 
 pub returns-clause-failure : goal.returns-clause-failure
 returns-clause-failure c =
     subst (λ (g : GuideView). IsFailureOf g c.args.role c.args.saved.now (record { concerned = c.concerned_many.result; kept = c.made.result; undone = c.undone.result })) c.self.view_is
-    (is_failure c.self.invariant c.args.role c.group-group.result.0 c.args.saved.now (subst (λ (g : GuideView). MayRecover g c.args.role c.args.saved.now) (sym c.self.view_is) c.requires) c.group-group.ensures c.keeps-keeps.result c.cut-left.result c.starts-starts.result (record { concerned = c.concerned_many.result; kept = c.made.result; undone = c.undone.result }) (subst (λ (n : List Numbers). AreKeeps n c.self.inside.ledger.logs c.group-group.result.0 c.args.saved.now c.keeps-keeps.result) c.as_slice.ensures.value c.keeps-keeps.ensures) (subst (λ (net : Net). IsKeptOf net c.self.inside.ledger.logs (keeping.bound_of c.keeps-keeps.result) c.cut-left.result) (same_net (body_of c.self.inside.accepted.protocol.body) _ c.points.result.now c.self.invariant.protocol.form c.points.ensures) c.cut-left.ensures) c.starts-starts.ensures c.concerned_many.ensures (subst (λ (n : List Numbers). AreMade n c.cut-left.result c.made.result) c.as_slice-2.ensures.value c.made.ensures) c.undone.ensures)
+    (is_failure c.self.invariant c.args.role c.group-group.result.0 c.args.saved.now (subst (λ (g : GuideView). MayRecover g c.args.role c.args.saved.now) (sym c.self.view_is) c.requires) c.group-group.ensures c.keeps-keeps.result c.cut-left.result c.starts-starts.result (record { concerned = c.concerned_many.result; kept = c.made.result; undone = c.undone.result }) (subst (λ (n : List Numbers). AreKeeps n c.self.inside.ledger.logs c.group-group.result.0 c.args.saved.now c.keeps-keeps.result) c.as_slice.ensures.value c.keeps-keeps.ensures) (subst (λ (net : Net). IsKeptOf net c.self.inside.ledger.logs (keeping.ceiling_of c.keeps-keeps.result) c.cut-left.result) (same_net (body_of c.self.inside.accepted.protocol.body) _ c.points.result.now c.self.invariant.protocol.form c.points.ensures) c.cut-left.ensures) c.starts-starts.ensures c.concerned_many.ensures (subst (λ (n : List Numbers). AreMade n c.cut-left.result c.made.result) c.as_slice-2.ensures.value c.made.ensures) c.undone.ensures)
