@@ -1,4 +1,5 @@
 mod Counted
+pub mod Cutting
 mod Examples
 mod Growth
 mod Holding

@@ -3,6 +3,7 @@ use Rattle.std.specs.Prelude.{◌≡◌, ℕ, ◌-◌, nat_lt, if◌then◌else�
 use Rattle.std.specs.List.{join_by}
 use Rattle.rcv_tree.specs.Names.{name_at}
 use Rattle.rcv_picture.specs.declared.group.Group.{Group}
+use Rattle.rcv_picture.specs.Names.{ellipsis}
 use Rattle.rcv_model.specs.Net.{Net}
 use Rattle.rcv_project.specs.Act.{ActView, Sending, Receiving, Ended}
 use Rattle.rcv_charts.specs.States.{StateView, next_in}
@@ -20,7 +21,7 @@ act_word Ended = codes "done"
 
 -- A label as it is shown: a long one by its first ten bytes, three dots and its last five.
 abbrev pub shown_label : List ℕ → List ℕ
-shown_label label = if nat_lt 16 (length label) then take 10 label ++ (226 ∷ 128 ∷ 166 ∷ []) ++ drop (length label - 5) label else label
+shown_label label = if nat_lt 16 (length label) then take 10 label ++ ellipsis ++ drop (length label - 5) label else label
 
 -- A step of a state: `3 ! pack to Store`, or `2 ? order from Buyer`.
 abbrev pub step_text : List (List ℕ) → Net → ActView → ℕ → List ℕ

@@ -11,11 +11,12 @@ ghost use Rattle.rcv_tree.specs.Lists.{lists_in};
 ghost use Rattle.rcv_charts.specs.Titles.{has_title, is_titled, texts_in};
 
 use crate::drawing::{Drawing, titled};
-use crate::letters::{HEAD as HEAD_LETTER, PLAIN, cut, widest, width};
 use crate::shapes::{end_text, line, rect, text};
 use crate::stand::{Frame, HEAD, STEP, frame_of};
 use crate::states::State;
+use crate::words::{cut, widest};
 use rcv_picture::group::Group;
+use rcv_picture::letters::{Letters, width_of};
 use rcv_picture::look::Look;
 use rcv_picture::pixels::{Pixels, place};
 use rcv_picture::shape::Shape;
@@ -105,14 +106,14 @@ fn steps_of(source: &Source<'_>, state: &State) -> Result<Vec<Vec<u8>>, AllocErr
 }
 
 /// How wide the box of each of these states is. Fails if memory runs out.
-pub fn width_of(source: &Source<'_>, states: &[State]) -> Result<Pixels, AllocError>
+pub fn boxes_width(source: &Source<'_>, states: &[State]) -> Result<Pixels, AllocError>
     requires { All (λ (state : StateView). AreInText (net_in source.now.points.now) (next_in state.act)) states.now }
 {
     let mut most = Pixels(120);
     for state in states {
         let head = head_of(source.alloc, state)?;
-        most = most.max(width(head.as_slice(), HEAD_LETTER) + Pixels(40));
-        most = most.max(widest(steps_of(source, state)?.as_slice(), PLAIN));
+        most = most.max(width_of(head.as_slice(), Letters::Head) + Pixels(40));
+        most = most.max(widest(steps_of(source, state)?.as_slice(), Letters::Plain));
     }
     Ok(most + Pixels(28))
 }

@@ -1,8 +1,9 @@
 // A column for each role, with its name as the heading.
 
-use crate::letters::{HEAD, lines, pixels, widest};
 use crate::shapes::middle_text;
+use rcv_picture::letters::{Letters, width_of};
 use rcv_picture::look::Look;
+use rcv_picture::name_lines::lines_of_name;
 use rcv_picture::pixels::Pixels;
 use rcv_picture::shape::Shape;
 use rcv_tree::name::Names;
@@ -12,16 +13,12 @@ use std::alloc::{AllocError, Global};
 /// A protocol has at most so many roles.
 pub const ROLES: usize = 8;
 
-/// A name in lines.
-#[derive(Drop)]
-pub struct Heading {
-    pub lines: Vec<Vec<u8>>,
-}
-
-/// The headings of the roles, in order.
-#[derive(Drop)]
-pub struct Headings {
-    items: Vec<Heading>,
+/// The headings of roles, which are their names in lines: how wide the widest is, and how high they are.
+#[derive(Clone, Copy, Drop)]
+pub struct Headings<'a> {
+    roles: &'a Names,
+    pub width: Pixels,
+    pub height: Pixels,
 }
 
 /// Columns beside each other: where the first starts, and how wide each is.
@@ -70,42 +67,28 @@ impl Columns {
     }
 }
 
-impl Headings {
+impl<'a> Headings<'a> {
     /// The headings of these roles. Fails if memory runs out.
-    pub fn of(alloc: Global, roles: &Names) -> Result<Headings, AllocError> {
-        let mut items = Vec::new(alloc);
-        for name in roles.as_slice() {
-            items.push(Heading {
-                lines: lines(alloc, name.as_slice())?,
-            })?;
-        }
-        Ok(Headings { items })
-    }
-
-    /// The width of the widest.
-    pub fn width(&self) -> Pixels {
-        let mut most = Pixels(0);
-        for heading in self.items.as_slice() {
-            most = most.max(widest(heading.lines.as_slice(), HEAD));
-        }
-        most
-    }
-
-    /// How high they are.
-    pub fn height(&self) -> Pixels {
+    pub fn of(alloc: Global, roles: &'a Names) -> Result<Headings<'a>, AllocError> {
+        let mut width = Pixels(0);
         let mut most = 0;
-        for heading in self.items.as_slice() {
-            most = heading.lines.len().max(most);
+        for name in roles.as_slice() {
+            let lines = lines_of_name(alloc, name.as_slice())?;
+            for line in lines.as_slice() {
+                width = width.max(width_of(line, Letters::Head));
+            }
+            most = lines.len().max(most);
         }
-        pixels(most) * 15 + Pixels(8)
+        Ok(Headings {
+            roles,
+            width,
+            height: Pixels::of(most) * 15 + Pixels(8),
+        })
     }
 
-    /// The lines of the heading of a role.
-    pub fn lines(&self, role: RoleId) -> &[Vec<u8>] {
-        match self.items.get(role.0 as usize) {
-            Some(heading) => heading.lines.as_slice(),
-            None => &[],
-        }
+    /// The lines of the heading of a role. Fails if memory runs out.
+    pub fn lines(&self, alloc: Global, role: RoleId) -> Result<Vec<&'a [u8]>, AllocError> {
+        lines_of_name(alloc, self.roles.name(role))
     }
 
     /// Adds the shapes of the heading of a role, below this line. Fails if memory runs out.
@@ -120,9 +103,9 @@ impl Headings {
     ) -> Result<(), AllocError> {
         let x = columns.middle(role);
         let mut y = top;
-        for line in self.lines(role) {
+        for line in self.lines(alloc, role)?.as_slice() {
             y = y + Pixels(15);
-            let words = Vec::from_slice(alloc, line.as_slice())?;
+            let words = Vec::from_slice(alloc, line)?;
             shapes.push(middle_text(x, y, look, words))?;
         }
         Ok(())

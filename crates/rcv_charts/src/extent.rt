@@ -3,10 +3,10 @@
 use crate::beside::{Span, are_apart};
 use crate::calls::Calls;
 use crate::columns::ROLES;
-use crate::letters::{PLAIN, width};
 use crate::messages::Message;
-use crate::words::Notes;
+use crate::notes::Notes;
 use rcv_module::Called;
+use rcv_picture::letters::{Letters, width_of};
 use rcv_picture::pixels::Pixels;
 use rcv_tree::name::Names;
 use rcv_tree::statement::{Block, Blocks, Stmt};
@@ -46,7 +46,7 @@ pub struct Extent {
 
 /// How wide the tag of a frame is.
 pub fn tag_width(tag: &[u8]) -> Pixels {
-    width(tag, PLAIN) + Pixels(16)
+    width_of(tag, Letters::Plain) + Pixels(16)
 }
 
 impl Within {
@@ -101,7 +101,7 @@ impl Extent {
     // Takes a message into account.
     fn message(&mut self, message: &Message<'_>) -> Result<(), AllocError> {
         let shown = message.shown(self.alloc)?;
-        self.label = self.label.max(width(shown.as_slice(), PLAIN));
+        self.label = self.label.max(width_of(shown.as_slice(), Letters::Plain));
         if let Some(whole) = message.whole_if_cut(self.alloc)? {
             self.notes.add(self.alloc, message.point, whole.as_slice())?;
         }
@@ -110,7 +110,7 @@ impl Extent {
 
     // Takes a tag of so many letters into account.
     fn tag(&mut self, inset: Pixels, words: &[u8], more: &[u8]) {
-        let tag = tag_width(words) + width(more, PLAIN) + Pixels(8);
+        let tag = tag_width(words) + width_of(more, Letters::Plain) + Pixels(8);
         self.tags = self.tags.max(inset * 2 + tag);
     }
 
@@ -206,7 +206,8 @@ impl Extent {
                 self.block(roles, calls, within.in_frame(), body)
             }
             Stmt::Continue { name } => {
-                let words = width(b"again ", PLAIN) + width(name.as_slice(), PLAIN);
+                let words = width_of(b"again ", Letters::Plain)
+                    + width_of(name.as_slice(), Letters::Plain);
                 self.again = self.again.max(words);
                 Ok(())
             }

@@ -7,8 +7,8 @@ ghost use Rattle.rcv_charts.specs.Chart.{AddsOne, first_upper, first_lower, uppe
 
 use crate::columns::Columns;
 use crate::drawing::{Drawing, titled};
-use crate::letters::{cut, is_cut};
 use crate::shapes::{circle, end_text, line, middle_text, text};
+use crate::words::{cut, is_cut};
 use rcv_picture::group::Group;
 use rcv_picture::look::Look;
 use rcv_picture::pixels::{At, Pixels};

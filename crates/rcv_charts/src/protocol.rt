@@ -11,11 +11,11 @@ use crate::columns::{Columns, Headings};
 use crate::drawing::Drawing;
 use crate::extent::{Extent, INSET, Within};
 use crate::frames::Chart;
-use crate::letters::{BIG, width};
 use crate::sequence::draw_block;
 use crate::shapes::{line, rect, text};
 use crate::words::joined;
 use rcv_module::Origins;
+use rcv_picture::letters::{Letters, width_of};
 use rcv_picture::look::Look;
 use rcv_picture::picture::Picture;
 use rcv_picture::pixels::{Pixels, place};
@@ -49,8 +49,8 @@ fn description_of(extent: &Extent) -> &[u8] {
 
 // Where the columns stand: right of each frame and each way back, and so wide that each label has room. A gap between lanes
 // has room for the frames of both.
-fn columns_of(headings: &Headings, extent: &Extent) -> Columns {
-    let width = (headings.width() + Pixels(20))
+fn columns_of(headings: &Headings<'_>, extent: &Extent) -> Columns {
+    let width = (headings.width + Pixels(20))
         .max(extent.label + Pixels(44))
         .max(Pixels(120));
     let back = extent.deepest + extent.again + Pixels(30) - width.half();
@@ -72,12 +72,12 @@ fn columns_of(headings: &Headings, extent: &Extent) -> Columns {
 fn draw_roles(
     alloc: Global,
     shapes: &mut Vec<Shape>,
-    headings: &Headings,
+    headings: &Headings<'_>,
     columns: Columns,
     roles: u8,
     end: Pixels,
 ) -> Result<(), AllocError> {
-    let height = headings.height() + Pixels(2);
+    let height = headings.height + Pixels(2);
     for number in 0..roles {
         let role = RoleId(number);
         let x = columns.middle(role);
@@ -105,7 +105,7 @@ fn drawn(chart: &Chart<'_>, protocol: &Protocol, top: Pixels) -> Result<Drawing,
 fn wide_of(roles: u8, columns: Columns, extent: &Extent, title: &[u8]) -> Pixels {
     let end = columns.start(RoleId(roles)) + Pixels(24) + extent.deepest;
     end.max(extent.tags)
-        .max(MARGIN * 2 + width(title, BIG))
+        .max(MARGIN * 2 + width_of(title, Letters::Big))
         .max(MARGIN * 2 + extent.notes.width())
 }
 
@@ -168,7 +168,7 @@ pub fn protocol_picture(
         left: Pixels(0),
         right: wide,
     };
-    let drawing = drawn(&chart, protocol, TOP + headings.height() + Pixels(4))?;
+    let drawing = drawn(&chart, protocol, TOP + headings.height + Pixels(4))?;
     let mut ground = Vec::new(alloc);
     draw_roles(
         alloc,

@@ -11,16 +11,17 @@ ghost use Rattle.rcv_charts.specs.Wires.{AreClosed, AreWires};
 ghost use Rattle.rcv_charts.specs.Machine.{ShowsStates, IsMachine};
 ghost use Rattle.rcv_charts.specs.Titles.{titled_of};
 
-use crate::boxes::{Source, draw_boxes, width_of};
+use crate::boxes::{Source, boxes_width, draw_boxes};
 use crate::drawing::Drawing;
-use crate::letters::{BIG, width};
+use crate::notes::Notes;
 use crate::shapes::text;
 use crate::stand::{Frame, frames_of};
 use crate::states::{State, states_of};
 use crate::ways::Ways;
 use crate::wires::{Wire, wires_of};
-use crate::words::{Notes, joined};
+use crate::words::joined;
 use rcv_accept::accepted::Accepted;
+use rcv_picture::letters::{Letters, width_of};
 use rcv_picture::look::Look;
 use rcv_picture::picture::Picture;
 use rcv_picture::pixels::Pixels;
@@ -104,7 +105,7 @@ fn finished(
     notes.draw(alloc, &mut ground, MARGIN, drawing.down() + Pixels(4))?;
     drawing.skip(notes.height() + Pixels(20));
     let wide = wide
-        .max(MARGIN + width(title, BIG))
+        .max(MARGIN + width_of(title, Letters::Big))
         .max(MARGIN + notes.width());
     let whole = joined(alloc, b"Machine of ", title)?;
     let hint = Vec::from_slice(alloc, HINT)?;
@@ -131,7 +132,7 @@ fn states_picture(
     let wires = wires_of(alloc, states)?;
     let frames = frames_of(alloc, states, Pixels(56))?;
     let ways = Ways::of(alloc, frames.as_slice(), wires.as_slice())?;
-    let wide = width_of(&source, states)?;
+    let wide = boxes_width(&source, states)?;
     let left = MARGIN + ways.left();
     let drawing = drawn(
         &source,

@@ -9,10 +9,9 @@ ghost use Rattle.rcv_charts.specs.RowTitles.{row_title, start_titles, role_title
 
 use crate::columns::{Columns, Headings};
 use crate::drawing::{Drawing, titled};
-use crate::letters::{cut, pixels};
 use crate::row_title::row_title;
 use crate::shapes::{line, middle_text, rect, text};
-use crate::words::{joined, label, owns, point_label};
+use crate::words::{cut, joined, label, owns, point_label};
 use rcv_accept::accepted::Accepted;
 use rcv_picture::look::Look;
 use rcv_picture::pixels::{Pixels, place};
@@ -77,7 +76,7 @@ fn draw_restarts(
         (Look::LostPill, Look::Lost)
     };
     let corner = place(columns.start(role) + Pixels(5), top + Pixels(2));
-    let height = pixels(restarts.len()) * 16 + Pixels(4);
+    let height = Pixels::of(restarts.len()) * 16 + Pixels(4);
     shapes.push(rect(corner, columns.width - Pixels(10), height, 7, pill))?;
     let mut y = top + Pixels(15);
     for point in restarts {
@@ -99,7 +98,7 @@ fn row_height(table: &Table, role: RoleId, point: Point, roles: u8) -> Pixels
     for number in 0..roles {
         most = table.restarts(role, point, RoleId(number)).len().max(most);
     }
-    pixels(most) * 16 + Pixels(8)
+    Pixels::of(most) * 16 + Pixels(8)
 }
 
 // Adds the cells of a start: where each concerned role restarts, and a line for each that goes on. Fails if memory runs
@@ -223,7 +222,7 @@ fn draw_start(
 fn draw_heading(
     alloc: Global,
     drawing: &mut Drawing,
-    headings: &Headings,
+    headings: &Headings<'_>,
     columns: Columns,
     roles: u8,
     role: RoleId,
@@ -244,9 +243,10 @@ fn draw_heading(
         };
         headings.draw(alloc, &mut shapes, columns, other, top + Pixels(2), look)?;
     }
-    draw_name(alloc, &mut shapes, headings.lines(role), top + Pixels(2))?;
+    let lines = headings.lines(alloc, role)?;
+    draw_name(alloc, &mut shapes, lines.as_slice(), top + Pixels(2))?;
     drawing.put_all_below(shapes)?;
-    drawing.skip(headings.height() + Pixels(2));
+    drawing.skip(headings.height + Pixels(2));
     Ok(())
 }
 
@@ -254,7 +254,7 @@ fn draw_heading(
 fn draw_name(
     alloc: Global,
     shapes: &mut Vec<Shape>,
-    lines: &[Vec<u8>],
+    lines: &[&[u8]],
     top: Pixels,
 ) -> Result<(), AllocError> {
     let mut y = top;
@@ -263,7 +263,7 @@ fn draw_name(
         y = y + Pixels(15);
         left = left.saturating_sub(1);
         let more: &[u8] = if left == 0 { b" fails at" } else { b"" };
-        let words = joined(alloc, line.as_slice(), more)?;
+        let words = joined(alloc, line, more)?;
         shapes.push(text(MARGIN, y, Look::Failed, words))?;
     }
     Ok(())
@@ -312,7 +312,7 @@ fn draw_role(
     accepted: &Accepted,
     points: &Points,
     table: &Table,
-    headings: &Headings,
+    headings: &Headings<'_>,
     columns: Columns,
     role: RoleId,
 ) -> Result<(), AllocError>
@@ -335,7 +335,7 @@ pub fn draw_rows(
     accepted: &Accepted,
     points: &Points,
     table: &Table,
-    headings: &Headings,
+    headings: &Headings<'_>,
     columns: Columns,
 ) -> Result<(), AllocError>
     requires few { roles_of accepted.now ≤ 8 }

@@ -1,6 +1,5 @@
 // Where the boxes of a machine stand.
 
-use crate::letters::pixels;
 use crate::states::State;
 use rcv_picture::pixels::Pixels;
 use std::alloc::{AllocError, Global};
@@ -26,7 +25,7 @@ fn height(state: &State) -> Pixels {
     if steps == 0 {
         HEAD
     } else {
-        HEAD + pixels(steps) * 20 + Pixels(6)
+        HEAD + Pixels::of(steps) * 20 + Pixels(6)
     }
 }
 

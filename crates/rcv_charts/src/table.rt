@@ -9,11 +9,12 @@ ghost use Rattle.rcv_charts.specs.Titles.{titles_in, titles_of};
 
 use crate::columns::{Columns, Headings};
 use crate::drawing::Drawing;
-use crate::letters::{BIG, HEAD, PLAIN, SMALL, width};
+use crate::notes::Notes;
 use crate::rows::{MARGIN, deed, draw_rows};
 use crate::shapes::{line, rect, text};
-use crate::words::{Notes, joined, point_label};
+use crate::words::{joined, point_label};
 use rcv_accept::accepted::Accepted;
+use rcv_picture::letters::{Letters, width_of};
 use rcv_picture::look::Look;
 use rcv_picture::picture::Picture;
 use rcv_picture::pixels::{Pixels, place};
@@ -32,18 +33,18 @@ fn columns_of(
     alloc: Global,
     accepted: &Accepted,
     points: &Points,
-    headings: &Headings,
+    headings: &Headings<'_>,
 ) -> Result<Columns, AllocError> {
-    let mut deeds = headings.width() + width(b" fails at", HEAD);
-    let mut cells = (headings.width() + Pixels(16)).max(Pixels(96));
+    let mut deeds = headings.width + width_of(b" fails at", Letters::Head);
+    let mut cells = (headings.width + Pixels(16)).max(Pixels(96));
     for before in 0..points.count() {
         let point = Point(before + 1);
         for role in [points.sender(point), points.receiver(point)] {
             let words = deed(alloc, accepted, points, role, point)?;
-            deeds = deeds.max(width(words.as_slice(), PLAIN) + Pixels(14));
+            deeds = deeds.max(width_of(words.as_slice(), Letters::Plain) + Pixels(14));
         }
         let words = point_label(alloc, points, point)?;
-        cells = cells.max(width(words.as_slice(), PLAIN) + Pixels(26));
+        cells = cells.max(width_of(words.as_slice(), Letters::Plain) + Pixels(26));
     }
     Ok(Columns::close(MARGIN + deeds + Pixels(20), cells))
 }
@@ -83,7 +84,7 @@ fn drawn(
     accepted: &Accepted,
     points: &Points,
     table: &Table,
-    headings: &Headings,
+    headings: &Headings<'_>,
     columns: Columns,
 ) -> Result<Drawing, AllocError>
     requires few { roles_of accepted.now ≤ 8 }
@@ -119,8 +120,8 @@ fn finished(
     let title = joined(alloc, name, b": who goes back when a role fails")?;
     let wide = right
         .max(Pixels(380))
-        .max(MARGIN + width(title.as_slice(), BIG))
-        .max(MARGIN + width(HINT, SMALL))
+        .max(MARGIN + width_of(title.as_slice(), Letters::Big))
+        .max(MARGIN + width_of(HINT, Letters::Small))
         .max(MARGIN + notes.width());
     let mut ground = Vec::new(alloc);
     ground.push(text(MARGIN, Pixels(26), Look::Big, title))?;

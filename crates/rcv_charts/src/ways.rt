@@ -8,7 +8,6 @@ ghost use Rattle.rcv_charts.specs.Titles.{has_title, is_titled};
 use crate::boxes::write_title;
 use crate::drawing::{Drawing, titled};
 use crate::lanes::Lanes;
-use crate::letters::pixels;
 use crate::shapes::{circle, path};
 use crate::stand::{Frame, HEAD, STEP, frame_of};
 use crate::states::State;
@@ -33,7 +32,7 @@ impl Way {
         let from = frame_of(frames, wire.from);
         let to = frame_of(frames, wire.to);
         Way {
-            start: from.top + HEAD + pixels(wire.step) * 20 + STEP.half(),
+            start: from.top + HEAD + Pixels::of(wire.step) * 20 + STEP.half(),
             end: to.top + HEAD.half(),
             is_back: to.top <= from.top,
         }
@@ -113,11 +112,11 @@ impl Ways {
 
     /// How much room they need on the left, and on the right.
     pub fn left(&self) -> Pixels {
-        pixels(self.back.count()) * 12 + Pixels(14)
+        Pixels::of(self.back.count()) * 12 + Pixels(14)
     }
 
     pub fn right(&self) -> Pixels {
-        pixels(self.forth.count()) * 12 + Pixels(14)
+        Pixels::of(self.forth.count()) * 12 + Pixels(14)
     }
 
     // The way of the wire with this number, beside boxes between these edges. Fails if memory runs out.
@@ -136,7 +135,7 @@ impl Ways {
         ensures titled { IfOk result (λ group. IsTrue (has_title group)) }
     {
         let lane = self.lanes.get(number).copied().unwrap_or(0);
-        let away = pixels(lane) * 12 + Pixels(16);
+        let away = Pixels::of(lane) * 12 + Pixels(16);
         let way = Way::of(frames, wire);
         let (edge, x, look) = if way.is_back {
             (left, left - away, Look::WireAgain)

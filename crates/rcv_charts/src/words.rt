@@ -1,14 +1,13 @@
-// Words that several pictures have: labels of points, and notes at the foot.
+// Words that several pictures have: labels of points, and how they are shown.
 
-ghost use Rattle.std.specs.Prelude.{◌≡◌, ◌≤◌, length};
+ghost use Rattle.std.specs.Prelude.{◌≡◌, ◌≤◌, length, IfOk};
 ghost use Rattle.rcv_points.specs.Follow.{net_in};
 ghost use Rattle.rcv_tables.specs.TableText.{is_own};
+ghost use Rattle.rcv_charts.specs.StateTitles.{shown_label};
 
-use crate::letters::{SMALL, cut, is_cut, pieces, pixels, widest};
-use crate::shapes::text;
-use rcv_picture::look::Look;
+use rcv_picture::letters::{Letters, width_of};
 use rcv_picture::pixels::Pixels;
-use rcv_picture::shape::Shape;
+use rcv_picture::short_name::{LABEL, shortened};
 use rcv_points::points::Points;
 use rcv_text::writer::Writer;
 use rcv_tree::point::Point;
@@ -33,6 +32,20 @@ pub fn label(points: &Points, point: Point) -> &[u8] {
     }
 }
 
+/// Whether a label is cut.
+pub fn is_cut(label: &[u8]) -> bool {
+    label.len() > LABEL
+}
+
+/// A label as it is shown: a long one as its first ten letters, three dots and its last five. Fails if memory runs out.
+#[tactic(auto, using(crate::proofs::Cutting::is_shown))]
+pub fn cut(alloc: Global, label: &[u8]) -> Result<Vec<u8>, AllocError>
+    ensures { IfOk result (λ shown. shown.items ≡ shown_label label.now) }
+{
+    let shown = shortened(alloc, label, LABEL)?;
+    Ok(shown)
+}
+
 /// A point with its label, as it is shown. Fails if memory runs out.
 pub fn point_label(alloc: Global, points: &Points, point: Point) -> Result<Vec<u8>, AllocError> {
     let mut words = Writer::new(alloc);
@@ -49,71 +62,11 @@ pub fn joined(alloc: Global, first: &[u8], second: &[u8]) -> Result<Vec<u8>, All
     Ok(words)
 }
 
-/// Lines at the foot of a picture.
-#[derive(Drop)]
-pub struct Notes {
-    lines: Vec<Vec<u8>>,
-}
-
-impl Notes {
-    /// No lines. It takes no memory.
-    pub fn new(alloc: Global) -> Notes {
-        Notes {
-            lines: Vec::new(alloc),
-        }
+/// The width of the widest of these texts.
+pub fn widest(texts: &[Vec<u8>], kind: Letters) -> Pixels {
+    let mut most = Pixels(0);
+    for text in texts {
+        most = most.max(width_of(text.as_slice(), kind));
     }
-
-    /// Adds a line with a point and the words that stand after it, in full. Fails if memory runs out.
-    pub fn add(&mut self, alloc: Global, point: Point, words: &[u8]) -> Result<(), AllocError> {
-        let mut line = Writer::new(alloc);
-        line.word(b"point ")?;
-        line.number(point.0)?;
-        line.word(b": ")?;
-        line.word(words)?;
-        for piece in pieces(alloc, line.finish().as_slice())? {
-            self.lines.push(piece)?;
-        }
-        Ok(())
-    }
-
-    /// Adds the label of a point if it is cut elsewhere. Fails if memory runs out.
-    pub fn add_cut(
-        &mut self,
-        alloc: Global,
-        points: &Points,
-        point: Point,
-    ) -> Result<(), AllocError> {
-        let whole = label(points, point);
-        if is_cut(whole) {
-            self.add(alloc, point, whole)?;
-        }
-        Ok(())
-    }
-
-    /// The width of the widest line.
-    pub fn width(&self) -> Pixels {
-        widest(self.lines.as_slice(), SMALL)
-    }
-
-    /// How high they are.
-    pub fn height(&self) -> Pixels {
-        pixels(self.lines.len()) * 14
-    }
-
-    /// Adds the shapes of the lines, below this. Fails if memory runs out.
-    pub fn draw(
-        &self,
-        alloc: Global,
-        shapes: &mut Vec<Shape>,
-        x: Pixels,
-        top: Pixels,
-    ) -> Result<(), AllocError> {
-        let mut y = top;
-        for line in self.lines.as_slice() {
-            y = y + Pixels(14);
-            let words = Vec::from_slice(alloc, line.as_slice())?;
-            shapes.push(text(x, y, Look::Note, words))?;
-        }
-        Ok(())
-    }
+    most
 }

@@ -11,7 +11,7 @@ use Rattle.rcv_picture.specs.declared.pixels.Pixels.{Pixels}
 use Rattle.rcv_picture.specs.declared.look.Look.TheVariants as looks
 use Rattle.rcv_picture.specs.declared.shape.Anchor.TheVariants.{Start, Middle}
 use Rattle.rcv_scene.specs.Seen.{Seen, Stroke, Frame, Disc, Way, Words, pixels, at, is_mark, marks, cross}
-use Rattle.rcv_scene.specs.Wording.{cut_words, IsCut, IsShortened, as_it_is, too_long}
+use Rattle.rcv_picture.specs.Names.{IsShortened, as_it_is, too_long}
 use Rattle.rcv_scene.specs.Grid.{Scene}
 use Rattle.rcv_scene.specs.Heads.{AreLines, NoLine, NextLine, IsHost, no_host, on_host}
 use Rattle.rcv_scene.specs.Labels.{IsLabelText, IsBeside, to_right, to_left, IsStrike, struck, not_struck}
@@ -60,16 +60,6 @@ two_named =
 
 none_left : IsNextText [] (codes "nothing left")
 none_left = nothing_left refl refl
-
--- A name of 17 letters is cut to 16; a name of three isn't cut.
-long_name : IsShortened 16 (codes "abcdefghijklmnopq") (cut_words (codes "abcdefghij") (codes "mnopq"))
-long_name =
-    too_long (lit≤ tt)
-    (record { front = codes "abcdefghij"; middle = codes "kl"; back = codes "mnopq"; whole = refl; letters = refl; is = refl })
-
-short_name : IsShortened 16 (codes "pay") (codes "p") → ⊥
-short_name (as_it_is few is) = absurd cc
-short_name (too_long long cut) = absurd (omega (arith, long))
 
 -- A name in two lines, one under the other.
 two_lines : AreLines (pixels 118) (pixels 62) (codes "storefront") (pixels 92)

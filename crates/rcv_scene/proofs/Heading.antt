@@ -11,10 +11,10 @@ use Rattle.rcv_picture.specs.declared.shape.Anchor.TheVariants.{Middle}
 use Rattle.rcv_picture.specs.declared.group.Group.{Group}
 use Rattle.rcv_scene.specs.Seen.{Seen, Frame, Words, seen, at, further, back}
 use Rattle.rcv_scene.specs.Grid.{Grid, column}
-use Rattle.rcv_scene.specs.Wording.{joined}
+use Rattle.rcv_picture.specs.Names.{joined}
 use Rattle.rcv_scene.specs.Feet.{AddsGroup}
 use Rattle.rcv_scene.specs.Heads.{AreLines, NoLine, NextLine, AddsLines, IsHost, no_host, on_host, AddsHostName, AddsHost, AddsHead, AreHeads, Title, NextHead, HasHeads}
-use Rattle.rcv_scene.proofs.Naming.{joined_more}
+use Rattle.rcv_picture.proofs.Naming.{joined_more}
 
 pub no_lines : (x top : Pixels) (old : List Seen) → AddsLines x top [] top old old
 no_lines x top old = record { lines = []; is = sym (append-nil old); right = NoLine }

@@ -4,7 +4,7 @@ use Rattle.std.specs.Fmt.{signed_decimal}
 use Rattle.rcv_tree.specs.declared.event.Event.{Event}
 use Rattle.rcv_tree.specs.declared.event.Dir.{Dir}
 use Rattle.rcv_points.specs.Follow.{PointView, PointsView, message_at, no_message}
-use Rattle.rcv_scene.specs.Wording.{IsShortened}
+use Rattle.rcv_picture.specs.Names.{IsShortened}
 use Rattle.rcv_picture.specs.declared.pixels.Pixels.{Pixels}
 use Rattle.rcv_picture.specs.declared.pixels.At.{At}
 use Rattle.rcv_picture.specs.declared.look.Look.{Look}

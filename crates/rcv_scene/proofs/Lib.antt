@@ -1,5 +1,4 @@
 pub mod Lines
-pub mod Naming
 pub mod Labelling
 pub mod Places
 pub mod Telling

@@ -8,7 +8,7 @@ use Rattle.rcv_picture.specs.declared.look.Look.{Look}
 use Rattle.rcv_picture.specs.declared.look.Look.TheVariants as looks
 use Rattle.rcv_picture.specs.declared.shape.Anchor.{Anchor}
 use Rattle.rcv_picture.specs.declared.shape.Anchor.TheVariants.{Start, End}
-use Rattle.rcv_scene.specs.Wording.{IsShortened}
+use Rattle.rcv_picture.specs.Names.{IsShortened}
 use Rattle.rcv_scene.specs.Seen.{Seen, Stroke, Words, at, further, back}
 use Rattle.rcv_scene.specs.Grid.{Scene, column}
 use Rattle.rcv_scene.specs.Wires.{again_at}

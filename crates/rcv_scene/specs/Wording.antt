@@ -1,6 +1,5 @@
--- The texts of pieces, and names that are made to fit.
-use Rattle.std.specs.Prelude.{◌≡◌, ℕ, Bool, ◌+◌, ◌<◌, ◌≤◌, ◌==◌, ◌&&◌, List, [], ◌∷◌, ◌++◌, length, flat_map, if◌then◌else◌, codes, decimal}
-use Rattle.std.specs.Borrow.{Bor}
+-- The texts of pieces.
+use Rattle.std.specs.Prelude.{◌≡◌, ℕ, Bool, ◌+◌, ◌==◌, ◌&&◌, List, ◌++◌, flat_map, if◌then◌else◌, codes, decimal}
 use Rattle.std.specs.Fmt.{signed_decimal}
 use Rattle.rcv_scene.specs.declared.wording.Piece.{Piece}
 use Rattle.rcv_scene.specs.declared.wording.Piece.TheVariants.{Word, Number, Place, Count, Value}
@@ -15,32 +14,6 @@ piece_text (Value value) = signed_decimal value
 
 abbrev pub pieces_text : List Piece → List ℕ
 pieces_text pieces = flat_map piece_text pieces
-
--- These texts put together, one after another.
-abbrev pub joined : List (Bor (List ℕ)) → List ℕ
-joined texts = flat_map (λ t. t.now) texts
-
--- `…`
-abbrev pub ellipsis : List ℕ
-ellipsis = 226 ∷ 128 ∷ 166 ∷ []
-
--- A front, `…`, and an end.
-abbrev pub cut_words : List ℕ → List ℕ → List ℕ
-cut_words front back = front ++ ellipsis ++ back
-
--- A name that is too long is cut: a front of it, `…`, and an end of it, and so many letters in all.
-pub record IsCut (most : ℕ) (name text : List ℕ) : Type 0 where
-  pub front : List ℕ
-  pub middle : List ℕ
-  pub back : List ℕ
-  pub whole : name ≡ front ++ (middle ++ back)
-  pub letters : length front + 1 + length back ≡ most
-  pub is : text ≡ cut_words front back
-
--- A name made to fit: as it is if it has at most so many letters, else cut.
-pub data IsShortened (most : ℕ) (name text : List ℕ) : Type 0 where
-  as_it_is : length name ≤ most → text ≡ name → IsShortened most name text
-  too_long : most < length name → IsCut most name text → IsShortened most name text
 
 -- A number with a word. The word is another one unless the number is 1.
 abbrev pub counted : ℕ → List ℕ → List ℕ → List ℕ

@@ -11,7 +11,7 @@ use crate::layout::{ENTRY_ROW, Layout};
 use crate::routes::{Routes, Side};
 use crate::shapes::Label;
 use crate::spans::{at, back, further};
-use crate::text_width::{Letters, width_of};
+use rcv_picture::letters::{Letters, width_of};
 use rcv_picture::look::Look;
 use rcv_picture::pixels::{At, Pixels};
 use rcv_picture::shape::Anchor;

@@ -6,7 +6,6 @@ ghost use Rattle.rcv_scene.specs.Grid.{column, grid_of};
 ghost use Rattle.rcv_scene.specs.Feet.{end_look, end_word, kept_words, foot_texts, AddsFoot, AreFeet};
 
 use crate::ends::{End, RoleEnd};
-use crate::label_text::LABEL;
 use crate::layout::{FOOT, Layout};
 use crate::shapes::Shapes;
 use crate::spans::{at, further};
@@ -14,6 +13,7 @@ use crate::wording::{Piece, text_of};
 use rcv_picture::look::Look;
 use rcv_picture::pixels::{Pixels, place};
 use rcv_picture::shape::{Anchor, Shape};
+use rcv_picture::short_name::LABEL;
 use rcv_tree::role::RoleId;
 use std::alloc::{AllocError, Global};
 

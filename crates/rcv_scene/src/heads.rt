@@ -4,18 +4,20 @@ ghost use Rattle.std.specs.Prelude.{◌≡◌, ◌<◌, ◌++◌, codes, IfOk, O
 ghost use Rattle.rcv_session.specs.Session.{roles_of};
 ghost use Rattle.rcv_journal.specs.JournalText.{name_of};
 ghost use Rattle.rcv_scene.specs.Seen.{further, seen, drawn_in};
-ghost use Rattle.rcv_scene.specs.Wording.{joined};
+ghost use Rattle.rcv_picture.specs.Names.{joined};
 ghost use Rattle.rcv_scene.specs.Grid.{grid_of};
 ghost use Rattle.rcv_scene.specs.Heads.{AddsLines, AddsHostName, AddsHost, AddsHead, AreHeads};
 
 use crate::layout::Layout;
 use crate::shapes::Shapes;
 use crate::spans::{at, back, further};
-use crate::wording::{Piece, lines_of_name, shortened, text_of};
+use crate::wording::{Piece, text_of};
 use rcv_journal::name::name_of;
 use rcv_picture::look::Look;
+use rcv_picture::name_lines::lines_of_name;
 use rcv_picture::pixels::{At, Pixels, place};
 use rcv_picture::shape::{Anchor, Shape};
+use rcv_picture::short_name::shortened;
 use rcv_tree::role::RoleId;
 use std::alloc::{AllocError, Global};
 

@@ -5,14 +5,12 @@ ghost use Rattle.std.specs.Fmt.{signed_decimal};
 ghost use Rattle.rcv_points.specs.Follow.{message_at, no_message};
 ghost use Rattle.rcv_scene.specs.Labels.{IsLabelText};
 
-use crate::wording::{Piece, shortened, text_of};
+use crate::wording::{Piece, text_of};
+use rcv_picture::short_name::{LABEL, shortened};
 use rcv_points::points::Points;
 use rcv_tree::event::Event;
 use rcv_tree::point::Point;
 use std::alloc::{AllocError, Global};
-
-/// A label of more letters is shortened, and stands at the foot in full.
-pub const LABEL: usize = 16;
 
 // The point, if the text has it.
 #[tactic(auto, using(crate::proofs::Labelling::none_at_start, crate::proofs::Labelling::none_past_end))]

@@ -7,13 +7,15 @@ ghost use Rattle.rcv_scene.specs.Grid.{AreBeside, AreBelow, IsBelow, PutsAt, IsL
 
 use crate::cast::{Cast, Role};
 use crate::ends::{End, RoleEnd};
-use crate::label_text::{LABEL, text_of_label};
+use crate::label_text::text_of_label;
 use crate::notes::width_of_notes;
-use crate::text_width::{Letters, wide, width_of};
-use crate::wording::{Piece, lines_of_name, shortened, text_of};
+use crate::wording::{Piece, text_of};
 use rcv_core::setup::Setup;
 use rcv_picture::group::Says;
+use rcv_picture::letters::{Letters, wide, width_of};
+use rcv_picture::name_lines::lines_of_name;
 use rcv_picture::pixels::Pixels;
+use rcv_picture::short_name::{LABEL, shortened};
 use rcv_story::story::Story;
 use rcv_tree::entry::Entry;
 use rcv_tree::event::Event;
@@ -99,8 +101,8 @@ const MARK_WIDTH: u64 = 40;
 const HALF_ROW: u64 = 10;
 
 // How many digits a number has.
-fn digits(number: u32) -> u32 {
-    let mut digits: u32 = 1;
+fn digits(number: u32) -> usize {
+    let mut digits: usize = 1;
     let mut rest = number;
     for _ in 0..9 {
         if rest >= 10 {

@@ -2,7 +2,7 @@
 
 use crate::layout::Layout;
 use crate::shapes::Shapes;
-use crate::text_width::{Letters, width_of};
+use rcv_picture::letters::{Letters, width_of};
 use rcv_picture::look::Look;
 use rcv_picture::pixels::{At, Pixels, place};
 use rcv_picture::shape::{Anchor, Shape};

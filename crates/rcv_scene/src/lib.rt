@@ -25,7 +25,6 @@ mod returns;
 mod routes;
 mod shapes;
 mod spans;
-mod text_width;
 mod wires;
 mod wording;
 

@@ -4,10 +4,11 @@ ghost use Rattle.std.specs.Prelude.{◌≡◌, ◌-◌, IfOk};
 ghost use Rattle.rcv_scene.specs.Wording.{counted, SaysRecovers, undone_words, entries_words, is_calm, crash_words, failure_words};
 
 use crate::cast::Cast;
-use crate::text_width::{Letters, width_of};
-use crate::wording::{Piece, shortened, text_of};
+use crate::wording::{Piece, text_of};
 use rcv_picture::group::{Counts, Says};
+use rcv_picture::letters::{Letters, width_of};
 use rcv_picture::pixels::Pixels;
+use rcv_picture::short_name::shortened;
 use rcv_tree::entry::Entry;
 use std::alloc::{AllocError, Global};
 

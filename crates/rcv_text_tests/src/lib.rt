@@ -11,6 +11,8 @@ mod explain;
 #[cfg(test)]
 mod heat;
 #[cfg(test)]
+mod letters;
+#[cfg(test)]
 mod listing;
 #[cfg(test)]
 mod losses;

@@ -1,7 +1,7 @@
 -- The lines so far.
 use Rattle.std.proofs.Common.{take}
 use Rattle.rcv_scene.specs.Seen.{drawn_in}
-use Rattle.rcv_scene.specs.Wording.{joined}
+use Rattle.rcv_picture.specs.Names.{joined}
 use Rattle.rcv_scene.specs.Heads.{AddsLines}
 use Rattle.rcv_scene.proofs.heads.add_lines.Given as goal
 
