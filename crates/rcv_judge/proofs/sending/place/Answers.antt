@@ -1,10 +1,16 @@
--- The point of the last event.
+-- The point of the last event; 0 if there is none.
 use Rattle.std.proofs.Common.{◌≡◌, ◌+◌, ◌-◌, length, sym, ◌∙◌, ap, arith}
 use Rattle.rcv_tree.specs.declared.event.Event.{Event}
 use Rattle.rcv_model.specs.Run.{acts}
 use Rattle.rcv_core.specs.Book.{state_of}
-use Rattle.rcv_judge.proofs.Sends.{place_there}
+use Rattle.rcv_judge.proofs.Sends.{place_there, place_at_first}
 use Rattle.rcv_judge.proofs.sending.place.Goals as goal
+
+pub returns-then-count-eq0 : goal.returns-then-count-eq0
+returns-then-count-eq0 c =
+    let none = c.if-count-eq0.true in
+    let size : 0 ≡ length (acts c.args.role (state_of c.args.book.now).kept) = omega (arith, none, c.kept-count.ensures) in
+    sym (place_at_first (state_of c.args.book.now) c.args.role size)
 
 pub returns : goal.returns
 returns c =
