@@ -10,6 +10,7 @@ pub mod Besides
 pub mod Behind
 mod Crossing
 mod Ending
+mod InOrder
 mod OneEntry
 mod Polling
 mod Stepping

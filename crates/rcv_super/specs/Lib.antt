@@ -2,6 +2,7 @@ pub mod Bases
 pub mod Super
 pub mod Steps
 pub mod Rounds
+pub mod InOrder
 pub mod Turn
 pub mod Finish
 pub mod OneStep

@@ -3,15 +3,14 @@
 ghost use Rattle.std.specs.Prelude.{◌≡◌, ◌⊎◌, ◌≤◌, ◌<◌, false, length, All, OnOk, OnErr};
 ghost use Rattle.rcv_model.specs.Final.{IsCrashed};
 ghost use Rattle.rcv_core.specs.Book.{state_of};
-ghost use Rattle.rcv_fence.specs.Shown.{with_raised};
 ghost use Rattle.rcv_cells.specs.Home.{AreHome, SameBases};
 ghost use Rattle.rcv_cells.specs.Running.{AreWatched, IsLowered, MayRun, HalfHasRun};
 ghost use Rattle.rcv_rollback.specs.Back.{CanGoBack, HaveGoneBack};
 ghost use Rattle.rcv_super.specs.Super.{HasWatches};
-ghost use Rattle.rcv_super.specs.Bases.{AreBased};
 ghost use Rattle.rcv_super.specs.Beside.{IsIdle, AreIdle, ArePartedBehind, HaveMerged};
 ghost use Rattle.rcv_super.specs.Steps.{HasRecovered};
 ghost use Rattle.rcv_super.specs.Rounds.{HasRecoveredBeside};
+ghost use Rattle.rcv_super.specs.InOrder.{IsInOrder, StaysInOrder};
 
 use crate::known::{concerned_by, know_all};
 use rcv_cells::house::{Crew, House};
@@ -153,14 +152,10 @@ pub fn recover_beside<'a, G: Gate + Sync, R: Threads + Sync>(
     house: &mut House<'a>,
     role: RoleId,
 ) -> Result<(), AllocError>
-    requires least { 2 ≤ crew.now.workers }
-    requires most { crew.now.workers ≤ 8 }
-    requires watched { HasWatches house.old.watch house.old.watches.items }
-    requires home { AreHome house.old.book house.old.lanes.items }
-    requires based { AreBased house.old.book house.old.lanes.items }
+    requires workers { (2 ≤ crew.now.workers) × (crew.now.workers ≤ 8) }
+    requires order { IsInOrder house.old }
     requires crashed { IsCrashed (state_of house.old.book) role }
-    ensures home { OnOk result (AreHome house.new.book house.new.lanes.items) }
-    ensures bases { OnOk result (SameBases house.old.lanes.items house.new.lanes.items) }
+    ensures order { OnOk result (StaysInOrder house.old house.new) }
     ensures recovered { OnOk result (HasRecoveredBeside house.old.book house.new.book role) }
     ensures failed { OnErr result ((house.new.book ≡ house.old.book)
         ⊎ HasRecovered house.old.book house.new.book role) }

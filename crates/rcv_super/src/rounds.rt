@@ -4,12 +4,12 @@ ghost use Rattle.std.specs.Prelude.{◌≡◌, ◌≤◌, OnOk, OnErr};
 ghost use Rattle.rcv_model.specs.Final.{IsCrashed};
 ghost use Rattle.rcv_session.specs.Session.{roles_of};
 ghost use Rattle.rcv_core.specs.Book.{state_of, IsAtEnd, HasMore};
-ghost use Rattle.rcv_cells.specs.Home.{AreHome, HaveBases, SameBases};
-ghost use Rattle.rcv_super.specs.Super.{HasWatches, Stands};
-ghost use Rattle.rcv_super.specs.Bases.{IsStableIn, AreBased};
-ghost use Rattle.rcv_alone.specs.Steps.{HasStepped};
-ghost use Rattle.rcv_super.specs.Steps.{HasGoneOn, HasRecovered};
-ghost use Rattle.rcv_super.specs.Rounds.{NoneIsCrashed, HasGoneRound, HasGoneTogether, HasRecoveredAtMost};
+ghost use Rattle.rcv_cells.specs.Home.{AreHome, HaveBases};
+ghost use Rattle.rcv_super.specs.Super.{Stands};
+ghost use Rattle.rcv_super.specs.Bases.{IsStableIn};
+ghost use Rattle.rcv_super.specs.Steps.{HasRecovered};
+ghost use Rattle.rcv_super.specs.Rounds.{HasGoneRound};
+ghost use Rattle.rcv_super.specs.InOrder.{CanTurn, IsInOrder, IsInOrderAt, StaysInOrder, HasMadeTurn, HasFailed};
 
 use crate::alone::bring_home;
 use crate::beside::recover_beside;
@@ -33,20 +33,11 @@ pub fn go<'a, G: Gate + Sync, R: Threads + Sync>(
     at: Whereabouts,
     line: &[u32; 8],
 ) -> Result<(), AllocError>
-    requires least { 1 ≤ crew.now.workers }
-    requires most { crew.now.workers ≤ 8 }
-    requires watched { HasWatches house.old.watch house.old.watches.items }
-    requires stands { Stands at house.old.book line.now house.old.lanes.items }
-    requires stable { IsStableIn house.old.book line.now }
-    requires more { HasMore house.old.book }
-    ensures home { OnOk result (AreHome house.new.book house.new.lanes.items) }
-    ensures bases { OnOk result (HaveBases (roles_of house.new.book.setup) line.now house.new.lanes.items) }
-    ensures watched { OnOk result (HasWatches house.new.watch house.new.watches.items) }
-    ensures gone_on { OnOk result (HasGoneOn house.old.book house.new.book) }
-    ensures alone { OnOk result (crew.now.workers ≡ 1 → HasStepped house.old.book house.new.book) }
-    ensures together { OnOk result (2 ≤ crew.now.workers → HasGoneTogether house.old.book house.new.book) }
-    ensures failed { OnErr result (HasRecoveredAtMost house.old.book house.new.book) }
-    ensures same { OnErr result (crew.now.workers ≡ 1 → house.new.book ≡ house.old.book) }
+    requires workers { (1 ≤ crew.now.workers) × (crew.now.workers ≤ 8) }
+    requires can { CanTurn at line.now house.old }
+    ensures order { OnOk result (IsInOrderAt line.now house.new) }
+    ensures turned { OnOk result (HasMadeTurn crew.now.workers house.old.book house.new.book) }
+    ensures failed { OnErr result (HasFailed crew.now.workers house.old.book house.new.book) }
 {
     bring_home(crew.alloc, &mut house.book, &mut house.lanes, at, line)?;
     if crew.workers == 1 {
@@ -86,18 +77,12 @@ fn go_on<'a, G: Gate + Sync, R: Threads + Sync>(
     house: &mut House<'a>,
     sharing: &mut Sharing,
 ) -> Result<(), AllocError>
-    requires least { 2 ≤ crew.now.workers }
-    requires most { crew.now.workers ≤ 8 }
-    requires watched { HasWatches house.old.watch house.old.watches.items }
-    requires home { AreHome house.old.book house.old.lanes.items }
-    requires based { AreBased house.old.book house.old.lanes.items }
+    requires workers { (2 ≤ crew.now.workers) × (crew.now.workers ≤ 8) }
+    requires order { IsInOrder house.old }
     requires more { HasMore house.old.book }
-    ensures home { OnOk result (AreHome house.new.book house.new.lanes.items) }
-    ensures bases { OnOk result (SameBases house.old.lanes.items house.new.lanes.items) }
-    ensures watched { OnOk result (HasWatches house.new.watch house.new.watches.items) }
-    ensures gone_on { OnOk result (HasGoneOn house.old.book house.new.book) }
-    ensures together { OnOk result (HasGoneTogether house.old.book house.new.book) }
-    ensures failed { OnErr result (HasRecoveredAtMost house.old.book house.new.book) }
+    ensures order { OnOk result (StaysInOrder house.old house.new) }
+    ensures turned { OnOk result (HasMadeTurn crew.now.workers house.old.book house.new.book) }
+    ensures failed { OnErr result (HasFailed crew.now.workers house.old.book house.new.book) }
 {
     match house.book.first_crashed() {
         Some(role) => recover_beside(crew, house, role),
@@ -110,15 +95,10 @@ fn round_or_step<'a, G: Gate + Sync, R: Threads + Sync>(
     house: &mut House<'a>,
     sharing: &mut Sharing,
 ) -> Result<(), AllocError>
-    requires least { 2 ≤ crew.now.workers }
-    requires most { crew.now.workers ≤ 8 }
-    requires watched { HasWatches house.old.watch house.old.watches.items }
-    requires home { AreHome house.old.book house.old.lanes.items }
-    requires based { AreBased house.old.book house.old.lanes.items }
+    requires workers { (2 ≤ crew.now.workers) × (crew.now.workers ≤ 8) }
+    requires order { IsInOrder house.old }
     requires more { HasMore house.old.book }
-    ensures home { OnOk result (AreHome house.new.book house.new.lanes.items) }
-    ensures bases { OnOk result (SameBases house.old.lanes.items house.new.lanes.items) }
-    ensures watched { OnOk result (HasWatches house.new.watch house.new.watches.items) }
+    ensures order { OnOk result (StaysInOrder house.old house.new) }
     ensures round { OnOk result (HasGoneRound house.old.book house.new.book) }
     ensures same { OnErr result (house.new.book ≡ house.old.book) }
 {

@@ -3,12 +3,11 @@ use Rattle.std.proofs.Common.{◌≡◌, rules, false, List, refl, sym, subst, a
 use Rattle.rcv_role.specs.Cell.{CellView}
 use Rattle.rcv_super.specs.declared.session.Turn.TheVariants.{Completed, Limited}
 use Rattle.rcv_super.specs.declared.whereabouts.Whereabouts.TheVariants as places
-use Rattle.rcv_session.specs.Session.{roles_of}
 use Rattle.rcv_core.specs.Skips.{IsSkip}
-use Rattle.rcv_cells.specs.Home.{AreHome, HaveBases}
-use Rattle.rcv_super.specs.Super.{HasWatches, IsAlone}
-use Rattle.rcv_super.specs.Steps.{HasGoneOn}
+use Rattle.rcv_super.specs.Super.{IsAlone}
+use Rattle.rcv_super.specs.InOrder.{IsInOrderAt, HasMadeTurn, HasFailed}
 use Rattle.rcv_super.proofs.Ending.{ends, more_made, memory_wanted, step_on, grown_on, more_entries, came_some, was_before, now_before, before_away, alone_on, still_open, nothing_known, not_several}
+use Rattle.rcv_super.proofs.InOrder.{when_ok}
 use Rattle.rcv_super.proofs.session.Session.turn.Goals as goal
 
 pub returns-in_default : goal.returns-in_default
@@ -76,58 +75,49 @@ returns-in-Limited g c =
     let open_here : c.self.inside.closed ≡ false = search rules in
     ends c.args.workers c.args.self.now c.self.inside.house.book c.self.inside.closed c.self.inside.turns c.self.inside.line c.self.view_is open_here Limited c.in-Limited.ensures.0 c.args.self.now refl
 
-pub go-made-requires-clause-watched : goal.go-made-requires-clause-watched
-go-made-requires-clause-watched g c κs within =
+pub go-made-requires-clause-can : goal.go-made-requires-clause-can
+go-made-requires-clause-can g c κs within =
     let open_here : c.self.inside.closed ≡ false = search rules in
-    (c.self.invariant open_here).watched
-
-pub go-made-requires-clause-stands : goal.go-made-requires-clause-stands
-go-made-requires-clause-stands g c κs within =
-    let open_here : c.self.inside.closed ≡ false = search rules in
-    (c.self.invariant open_here).stands
-
-pub go-made-requires-clause-stable : goal.go-made-requires-clause-stable
-go-made-requires-clause-stable g c κs within =
-    let open_here : c.self.inside.closed ≡ false = search rules in
-    (c.self.invariant open_here).stable
+    let was = c.self.invariant open_here in
+    record { more = c.in-More.ensures; stands = was.stands; stable = was.stable; watched = was.watched }
 
 pub returns-then-is_err : goal.returns-then-is_err
 returns-then-is_err g c =
     let open_here : c.self.inside.closed ≡ false = search rules in
-    memory_wanted c.args.workers c.args.self.now c.self.inside.house.book c.self.inside.closed c.self.inside.turns c.self.inside.line c.self.view_is open_here c.in-More.ensures c.go-made.new.house.book (search rules) (search rules)
+    let failed : HasFailed c.args.workers c.self.inside.house.book c.go-made.new.house.book = search rules in
+    memory_wanted c.args.workers c.args.self.now c.self.inside.house.book c.self.inside.closed c.self.inside.turns c.self.inside.line c.self.view_is open_here c.in-More.ensures c.go-made.new.house.book failed.at_most failed.same
 
 pub next_turn-self-inside-requires-2 : goal.next_turn-self-inside-requires-2
 next_turn-self-inside-requires-2 g c =
     let open_here : c.self.inside.closed ≡ false = search rules in
-    let gone : HasGoneOn c.self.inside.house.book c.go-made.new.house.book = search rules in
+    let turned = when_ok c.go-made.result (HasMadeTurn c.args.workers c.self.inside.house.book c.go-made.new.house.book) (search rules) c.go-made.ensures.turned in
     let few = (c.self.invariant open_here).few in
-    let more = more_entries c.self.inside.house.book c.go-made.new.house.book gone in
+    let more = more_entries c.self.inside.house.book c.go-made.new.house.book turned.gone_on in
     omega (arith, few, more)
 
 pub keep_line-requires-2-clause-was : goal.keep_line-requires-2-clause-was
 keep_line-requires-2-clause-was g c =
     let open_here : c.self.inside.closed ≡ false = search rules in
-    let gone : HasGoneOn c.self.inside.house.book c.go-made.new.house.book = search rules in
-    record { before = c.self.inside.house.book; grown = grown_on c.self.inside.house.book c.go-made.new.house.book gone; stable = (c.self.invariant open_here).stable }
+    let turned = when_ok c.go-made.result (HasMadeTurn c.args.workers c.self.inside.house.book c.go-made.new.house.book) (search rules) c.go-made.ensures.turned in
+    record { before = c.self.inside.house.book; grown = grown_on c.self.inside.house.book c.go-made.new.house.book turned.gone_on; stable = (c.self.invariant open_here).stable }
 
 pub keep_line-requires-2-clause-home : goal.keep_line-requires-2-clause-home
 keep_line-requires-2-clause-home g c = λ e.
-    let home : AreHome c.go-made.new.house.book c.go-made.new.house.lanes.items = search rules in
-    let bases : HaveBases (roles_of c.go-made.new.house.book.setup) c.self.inside.line c.go-made.new.house.lanes.items = search rules in
-    (home, bases)
+    let order = when_ok c.go-made.result (IsInOrderAt c.self.inside.line c.go-made.new.house) (search rules) c.go-made.ensures.order in
+    (order.home, order.bases)
 
 pub invariant_of-self-2 : goal.invariant_of-self-2
 invariant_of-self-2 g c = λ not_closed.
     let open_here : c.self.inside.closed ≡ false = search rules in
-    let gone : HasGoneOn c.self.inside.house.book c.go-made.new.house.book = search rules in
-    let watched : HasWatches c.go-made.new.house.watch c.go-made.new.house.watches.items = search rules in
+    let turned = when_ok c.go-made.result (HasMadeTurn c.args.workers c.self.inside.house.book c.go-made.new.house.book) (search rules) c.go-made.ensures.turned in
+    let order = when_ok c.go-made.result (IsInOrderAt c.self.inside.line c.go-made.new.house) (search rules) c.go-made.ensures.order in
     let few = (c.self.invariant open_here).few in
-    let more = more_entries c.self.inside.house.book c.go-made.new.house.book gone in
+    let more = more_entries c.self.inside.house.book c.go-made.new.house.book turned.gone_on in
     let count = c.next_turn-self-inside-2.ensures in
     still_open c.go-made.new.house.book c.keep_line-2.new.house.book c.keep_line-2.new.house.lanes.items c.go-made.new.house.watch c.keep_line-2.new.house.watch c.go-made.new.house.watches.items c.keep_line-2.new.house.watches.items places.Home c.nothing-self-inside.result c.next_turn-self-inside-2.result c.keep_line-2.new.line
     (record {
       stands = c.keep_line-2.ensures.home refl;
-      watched = watched;
+      watched = order.watched;
       skip_is = subst (IsSkip c.go-made.new.house.book) (sym c.nothing-self-inside.ensures) (nothing_known c.go-made.new.house.book);
       stable = c.keep_line-2.ensures.stable;
       few = omega (arith, count, few, more);
@@ -137,4 +127,5 @@ invariant_of-self-2 g c = λ not_closed.
 pub returns : goal.returns
 returns g c =
     let open_here : c.self.inside.closed ≡ false = search rules in
-    more_made c.args.workers c.args.self.now c.self.inside.house.book c.self.inside.closed c.self.inside.turns c.self.inside.line c.self.view_is open_here c.in-More.ensures c.go-made.new.house.book c.keep_line-2.new.house.book c.keep_line-2.ensures.book (search rules) (search rules) (search rules) c.next_turn-self-inside-2.result c.keep_line-2.new.line c.next_turn-self-inside-2.ensures c.keep_line-2.ensures.line c.keep_line-2.ensures.stays
+    let turned = when_ok c.go-made.result (HasMadeTurn c.args.workers c.self.inside.house.book c.go-made.new.house.book) (search rules) c.go-made.ensures.turned in
+    more_made c.args.workers c.args.self.now c.self.inside.house.book c.self.inside.closed c.self.inside.turns c.self.inside.line c.self.view_is open_here c.in-More.ensures c.go-made.new.house.book c.keep_line-2.new.house.book c.keep_line-2.ensures.book turned.gone_on turned.alone turned.together c.next_turn-self-inside-2.result c.keep_line-2.new.line c.next_turn-self-inside-2.ensures c.keep_line-2.ensures.line c.keep_line-2.ensures.stays
