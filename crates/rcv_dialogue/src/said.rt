@@ -1,6 +1,6 @@
 // Words that name roles, points and messages.
 
-ghost use Rattle.std.specs.Prelude.{◌≡◌, ◌≤◌, length, IfOk, IfSome};
+ghost use Rattle.std.specs.Prelude.{◌≡◌, ◌<◌, ◌≤◌, length, IfOk, IfSome};
 ghost use Rattle.rcv_tree.specs.Names.{place_of};
 ghost use Rattle.rcv_accept.specs.Accepted.{net_for, roles_of};
 ghost use Rattle.rcv_dialogue.specs.Names.{role_in, point_said};
