@@ -19,7 +19,7 @@ fn letters_are_counted_and_not_bytes(rt: HostRuntime) -> Result<(), Fail> {
 #[test]
 fn long_names_are_cut(rt: HostRuntime) -> Result<(), Fail> {
     let whole = shortened(rt.alloc(), b"abcdefghijklmnop", LABEL)?;
-    assert!(rt; whole.as_slice() == b"abcdefghijklmnop");
+    assert!(rt; whole.as_slice() == b"abcdefghijklmnop".as_slice());
     let cut = shortened(rt.alloc(), b"abcdefghijklmnopq", LABEL)?;
     assert!(rt; cut.as_slice() == "abcdefghij…mnopq".as_bytes());
     Ok(())
@@ -38,14 +38,14 @@ fn broken(alloc: Global, name: &[u8]) -> Result<Vec<u8>, AllocError> {
 #[test]
 fn names_are_broken_at_their_last_seam(rt: HostRuntime) -> Result<(), Fail> {
     let whole = broken(rt.alloc(), b"storefrontDesk")?;
-    assert!(rt; whole.as_slice() == b"storefrontDesk/");
+    assert!(rt; whole.as_slice() == b"storefrontDesk/".as_slice());
     let desk = broken(rt.alloc(), b"storefront_Desk")?;
-    assert!(rt; desk.as_slice() == b"storefront_/Desk/");
+    assert!(rt; desk.as_slice() == b"storefront_/Desk/".as_slice());
     // The last seam is after 14 letters.
     let office = broken(rt.alloc(), b"frontAndBack__office")?;
-    assert!(rt; office.as_slice() == b"frontAndBack__/office/");
+    assert!(rt; office.as_slice() == b"frontAndBack__/office/".as_slice());
     // There is no seam.
     let letters = broken(rt.alloc(), b"abcdefghijklmnopqrst")?;
-    assert!(rt; letters.as_slice() == b"abcdefghijklmn/opqrst/");
+    assert!(rt; letters.as_slice() == b"abcdefghijklmn/opqrst/".as_slice());
     Ok(())
 }
